@@ -1,5 +1,5 @@
--- The packets of a stream were found in all bytes that came: is_at_place-start, is_at_place-next,
--- is_at_place-kept; at the end they are counted: counted-all.
+-- The packets of a stream are found in all bytes that were received: is_at_place-start,
+-- is_at_place-next, is_at_place-kept; at the end they are counted: counted-all.
 use Rattle.std.proofs.Common.{◌≡◌, ◌≤◌, ◌+◌, ◌-◌, ◌*◌, ◌∙◌, Bool, List, [], ◌∷◌, ◌++◌, ℕ, ap}
 use Rattle.std.proofs.Common.{append-nil, arith, drop, drop-drop, false, length, length-append}
 use Rattle.std.proofs.Common.{length-drop, refl, subst, sym, true}
@@ -20,14 +20,11 @@ use Rattle.ts_survey.specs.declared.recording.Kind.{Kind}
 use Rattle.ts_survey.specs.declared.recording.Kind.TheVariants.{Nothing, Pes, Stream, Unknown}
 use Rattle.ts_survey.proofs.InStepLemmas.{law_of_two_calls}
 
--- ---- whatever receives the packets
-
 runs-any : (packets : List (List ℕ)) → RunsBy {S = Unit {0}} any_pes_packet (tt {0}) packets
     (tt {0})
 runs-any [] = refl
 runs-any (p ∷ ps) = (tt, tt, runs-any ps)
 
--- They are found in any case.
 taken-any :
     (old new : PacketsInStep) (before after : Multiplex) (bytes : List ℕ) (is_end : Bool) (used : ℕ)
     → TakesAll keeps_requested old before bytes is_end used new after
@@ -48,9 +45,6 @@ taken-any old new before after bytes is_end used takes = record {
   all = takes.all;
 }
 
--- ---- more bytes came
-
--- A stream that has begun processes them.
 begun-read :
     (passed : ℕ) (first new : PacketsInStep) (start after : Multiplex)
     (received bytes buffered : List ℕ) (is_end : Bool) (used : ℕ)
@@ -74,7 +68,6 @@ begun-read passed first new start after received bytes buffered is_end used with
       left = left ∙ ap (drop used) is;
     }
 
--- So does one of which packets were processed before.
 read-on :
     (mid new : PacketsInStep) (reported after : Multiplex) (received more buffered bytes next : List
     ℕ)
@@ -110,9 +103,6 @@ read-on mid new reported after received more buffered bytes next is_end used rea
           ∙ drop-drop used read.used all;
     }
 
--- ---- the kind of a recording
-
--- A stream that began before the bytes that are processed now.
 pub takes-begun : (passed : ℕ) (mid new : Kind) (bytes : List ℕ) (is_end : Bool) (used : ℕ)
     → BeginsStream passed mid
     → TakesOn mid bytes is_end used new
@@ -136,7 +126,6 @@ takes-begun passed Nothing (Pes g) bytes is_end used begins takes on = tt
 takes-begun passed Nothing (Stream q n) bytes is_end used begins takes on = absurd on
 takes-begun passed Nothing Nothing bytes is_end used begins takes on = tt
 
--- More of a recording of unknown kind came.
 is_at_place-begun :
     (new : Kind) (skipped skipped_now used : ℕ) (received more buffered bytes next : List ℕ)
     (is_end : Bool)
@@ -186,7 +175,6 @@ is_at_place-begun
     fits
     known takes = tt
 
--- More of a recording came.
 is_at_place-on :
     (old new : Kind) (skipped skipped_now used : ℕ) (received more buffered bytes next : List ℕ)
     (is_end : Bool)
@@ -260,7 +248,6 @@ is_at_place-on
     whole left
     fits known begun on = tt
 
--- More came after the bytes that were kept, and so much of it is processed.
 pub is_at_place-next :
     (old new : Kind) (skipped skipped_now used : ℕ) (received more buffered now bytes next : List ℕ)
     (is_end : Bool)
@@ -283,7 +270,6 @@ is_at_place-next
     (same ∙ more_eq) (passed ∙ ap (drop used) (sym same)) fits known begun
     (λ is. (on is, taken is))
 
--- Nothing came.
 pub is_at_place-start : (kind : Kind) (skipped : ℕ) (buffered : List ℕ)
     → kind ≡ Unknown
     → skipped ≡ 0
@@ -293,7 +279,6 @@ is_at_place-start kind skipped buffered unknown none empty =
     subst (λ k. IsAtPlace k skipped [] buffered false) (sym unknown)
     (subst (λ n. (n ≤ 0) × (buffered ≡ drop n [])) (sym none) (omega arith, empty))
 
--- Nothing more came.
 pub is_at_place-kept :
     (old new : Kind) (skipped skipped_now : ℕ) (received buffered : List ℕ) (is_end : Bool)
     → GoesOn old new
@@ -340,8 +325,6 @@ is_at_place-kept Nothing (Stream q n) skipped skipped_now received buffered is_e
 is_at_place-kept Nothing Nothing skipped skipped_now received buffered is_end on stays same
     is_at_place = tt
 
--- ---- the end
-
 counted-stream : (received buffered : List ℕ) (packets : PacketsInStep)
     → ReadsStream received buffered true packets
     → CountsStream received packets
@@ -380,7 +363,6 @@ counted-stream received buffered packets read =
           ∙ ap (λ s. lead_size (bytes_of s) + bytes_of s * count + skipped) (sym same));
     }
 
--- All of a recording was read.
 pub counted-all : (kind : Kind) (skipped : ℕ) (received buffered : List ℕ)
     → IsAtPlace kind skipped received buffered true
     → CountsRecording received kind

@@ -7,7 +7,6 @@ use Rattle.ts_survey.specs.FilePesPackets.{CountsPesPackets, complete_size, coun
 use Rattle.ts_survey.specs.FilePesPackets.{counts_none}
 use Rattle.ts_survey.specs.InStep.{counted_on}
 
--- Another PES packet is counted.
 pub counts-next : (first old now new size : ℕ) (all bytes more rest : List ℕ)
     → ((left : List ℕ) (count : ℕ)
     → CountsPesPackets old bytes left count
@@ -23,7 +22,6 @@ counts-next first old now new size all bytes more rest before is left one counts
     (subst (λ l. CountsPesPackets (counted_on old 1) l rest new) left
     (subst (λ n. CountsPesPackets n more rest new) one counts)))
 
--- None is left.
 pub counts-end : (first new : ℕ) (all rest : List ℕ)
     → ((left : List ℕ) (count : ℕ)
     → CountsPesPackets new rest left count
@@ -32,11 +30,8 @@ pub counts-end : (first new : ℕ) (all rest : List ℕ)
     → CountsPesPackets first all rest new
 counts-end first new all rest before none = before rest new (counts_none new rest (sym none))
 
--- Bytes that have no room for a start code begin with none.
-
 pub no-size : (bytes : List ℕ) → length bytes < 6 → None ≡ complete_size bytes
 unfolding complete_size
 no-size bytes few = grind (arith, nat_tests)
 
--- For `take_complete`: `using(crate::proofs::FilePesPacketsLemmas::counted_one_by_one)`.
 pub ruleset counted_one_by_one = (counts-next, counts-end, no-size)

@@ -1,5 +1,5 @@
--- The output for a recording before its contents: found-following-head, found-with-head; after more
--- was read: reported-on, reported-kept; the bytes that came: received-all, still-buffered.
+-- The first lines of the output for a recording: found-following-head, found-with-head; after more
+-- was read: reported-on, reported-kept; the bytes received so far: received-all, still-buffered.
 use Rattle.std.proofs.Common.{◌≡◌, Bool, false, List, [], ◌++◌, ℕ, ◌∷◌, ◌∙◌, ap, append-nil}
 use Rattle.std.proofs.Common.{append_assoc, arith, refl, subst, sym, ◌≤◌, drop, length-append, take}
 use Rattle.std.proofs.Common.{true}
@@ -25,9 +25,6 @@ pub no-items : (xs : List ℕ) → length xs ≡ 0 → xs ≡ []
 no-items [] none = refl
 no-items (x ∷ xs) none = absurd (omega arith)
 
--- ---- the kind
-
--- A recording keeps its kind, and so its line.
 kinds-on : (old new : Kind)
     → GoesOn old new
     → (kind_texts new ≡ kind_texts old)
@@ -55,7 +52,6 @@ kinds-on Nothing (Pes g) on = absurd on
 kinds-on Nothing (Stream q n) on = absurd on
 kinds-on Nothing Nothing on = (refl, refl, refl)
 
--- An unknown kind has no line.
 unknown-words : (kind : Kind) → is_unknown kind ≡ true → kind_texts kind ≡ []
 unknown-words Unknown is = refl
 unknown-words (Pes f) is = absurd cc
@@ -68,7 +64,6 @@ pub adds-nothing : (kind : Kind) (text : Text)
 adds-nothing kind text is =
     subst (λ words. AddsTexts text words text) (sym (unknown-words kind is)) (adds-none text)
 
--- Before any bytes nothing is printed.
 pub reported-start : (recording : Recording)
     → recording.kind ≡ Unknown
     → recording.has_head ≡ false
@@ -89,7 +84,6 @@ same-head : (has : Bool) (head other : List ℕ)
 same-head true head other same = ap head_texts (same refl)
 same-head false head other same = refl
 
--- More was printed for a known kind.
 reported-more : (old new : Recording) (received all listing more : List ℕ)
     → IsReported old received listing
     → GoesOn old.kind new.kind
@@ -121,7 +115,6 @@ reported-more old new received all listing more reported on same begins none =
           ∙ ap begins_pes (sym (begins had));
     }
 
--- Nothing more was printed.
 pub reported-kept : (old new : Recording) (received listing : List ℕ)
     → IsReported old received listing
     → GoesOn old.kind new.kind
@@ -131,7 +124,6 @@ reported-kept old new received listing reported on same =
     subst (λ l. IsReported new received l) (append-nil listing)
     (reported-more old new received received listing [] reported on same (λ has. refl) (λ is. refl))
 
--- The head that is printed: the earlier one, or else the first bytes.
 heads : (before after : Bool) (received all bytes : List ℕ)
     → (before ≡ true → after ≡ true)
     → (before ≡ true → take head_size all ≡ take head_size received)
@@ -144,7 +136,6 @@ heads true false received all bytes stays begins first = let e = stays refl in c
 heads false after received all bytes stays begins first =
     ap (λ l. head_so_far after (take head_size l)) (first refl)
 
--- The head was printed, and then the kind: for `find_kind`.
 pub found-following-head :
     (old mid new : Recording) (bytes : List ℕ) (before between after : Text)
     → old.has_head ≡ false
@@ -176,7 +167,6 @@ found-following-head
       not_pes = λ had. not;
     }
 
--- It had been printed.
 pub found-with-head : (old new : Recording) (bytes : List ℕ) (before after : Text)
     → old.has_head ≡ true
     → new.has_head ≡ old.has_head
@@ -224,7 +214,6 @@ found-pes
     has =
     finds.pes enough had has ∙ ap (λ l. begins_pes (take head_size l)) (sym (same had))
 
--- The kind of a recording was determined, or some of it was read.
 reported-found : (old new : Recording) (received all bytes listing text : List ℕ)
     (first last : Text)
     → IsReported old received listing
@@ -300,7 +289,6 @@ reported-by
     (reported-more old new received all listing text reported on.2 on.1 begins
     (λ unknown. none ((kinds-on old.kind new.kind on.2).1 ∙ unknown)))
 
--- More of a recording was read.
 pub reported-on : (old new : Recording) (received all bytes listing text : List ℕ)
     (first last : Text)
     → IsReported old received listing
@@ -319,9 +307,7 @@ reported-on old new received all bytes listing text first last reported finds go
     reported finds
     goes enough (no-items first.bytes.items empty)
 
--- ---- the bytes that came
-
--- The bytes of the head have come, so more of them change nothing.
+-- Once the bytes of the line `head` have been received, further bytes do not change that line.
 pub begins-as : (has : Bool) (received more : List ℕ)
     → (has ≡ true → head_size ≤ length received)
     → has ≡ true
@@ -337,7 +323,7 @@ long-on true has received more long enough is =
     let e = length-append received more in omega (arith, e, long refl)
 long-on false has received more long enough is = enough refl is
 
--- While nothing is printed, what came is kept.
+-- As long as no line is printed, all bytes received stay in the buffer.
 pub received-all : (received buffered now bytes more : List ℕ)
     → buffered ≡ received
     → now ≡ buffered ++ more
@@ -346,7 +332,6 @@ pub received-all : (received buffered now bytes more : List ℕ)
 received-all received buffered now bytes more is more_eq same =
     ap (λ l. l ++ more) (sym is) ∙ sym more_eq ∙ sym same
 
--- None of it is dropped.
 pub still-buffered : (received buffered now after more : List ℕ) (used : ℕ)
     → buffered ≡ received
     → now ≡ buffered ++ more

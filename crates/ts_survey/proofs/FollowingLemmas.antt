@@ -1,5 +1,5 @@
--- Receiving in parts: for `give_ready` first-taken; and it is what the packets of a PID carry,
--- law_of_following.
+-- Receiving the bytes of a PID part by part: first-taken for each part; all parts together are what
+-- the packets of the PID carry, law_of_following.
 use Rattle.std.proofs.Common.{◌≡◌, ◌<◌, ℕ, Bool, true, false, List, [], ◌∷◌, ◌++◌, length}
 use Rattle.std.proofs.Common.{refl, sym, ap, ◌∙◌, subst, arith, length-append}
 use Rattle.std.proofs.lemmas.List.Folds.{concat-append}
@@ -13,13 +13,12 @@ use Rattle.mpeg_ts.proofs.CarriedLemmas.{carried_given}
 use Rattle.ttx_page.proofs.RunLemmas.{RunsBy-append}
 use Rattle.ts_survey.specs.Following.{FollowsNotes, GivesNext, LawOfFollowing, TakesBytes}
 
--- What was received so far, followed by the rest, is everything.
+-- If the rest of the bytes is received too, everything has been received.
 abbrev pub Continues :
     {T : Type 0} → (T → List ℕ → T → Type 0) → T → List ℕ → T → List ℕ → Type 0
 Continues {T} IsTaken old whole now left =
     (new : T) → TakesBytes IsTaken now left new → TakesBytes IsTaken old whole new
 
--- One more part.
 pub first-taken :
     {T : Type 0} (IsTaken : T → List ℕ → T → Type 0) (before after : JoiningValue)
     (old mid new : T)
@@ -32,7 +31,6 @@ first-taken IsTaken before after old mid new first more = record {
   run = (mid, first.taken, more.run);
 }
 
--- Fewer bytes are ready then.
 pub fewer_ready :
     {T : Type 0} (IsTaken : T → List ℕ → T → Type 0) (before after : JoiningValue) (old new : T)
     → GivesNext IsTaken before old after new
@@ -49,7 +47,6 @@ fewer_ready IsTaken before after old new first some =
         let sum : length all ≡ length (x ∷ (pes_packet ++ rest)) = ap length joined in
         omega (arith, sum, length-append pes_packet rest)
 
--- Some bytes followed by others.
 taken-after :
     {T : Type 0} (IsTaken : T → List ℕ → T → Type 0) (old mid new : T) (first more : List ℕ)
     → TakesBytes IsTaken old first mid
@@ -63,7 +60,6 @@ taken-after IsTaken old mid new first more one other = record {
   run = RunsBy-append IsTaken one.pes_packets other.pes_packets old mid new one.run other.run;
 }
 
--- Nothing more is given after the end.
 later_output-ended : (j : JoiningValue) (all : List Note)
     → has_ended j.part ≡ true
     → later_output j all ≡ []
@@ -71,7 +67,6 @@ unfolding later_output
 later_output-ended j [] ended = refl
 later_output-ended j (note ∷ more) ended = rw ended refl
 
--- The rest of the state stays the same.
 pub same-rest : (first before after : JoiningValue) (left : List ℕ)
     → before ≡ record first { pending = before.pending }
     → after ≡ record before { pending = left }
@@ -82,7 +77,6 @@ same-rest first before after left same passed =
     ∙ ap (λ (l : List ℕ). record first { pending = l })
     (sym (ap (λ (j : JoiningValue). j.pending) passed))
 
--- What is received for a note, and then for those after it.
 follows-note :
     {T : Type 0} (IsTaken : T → List ℕ → T → Type 0) (j : JoiningValue) (note : Note)
     (more : List Note) (old new : T) (b : Bool)
@@ -102,7 +96,8 @@ follows-note IsTaken j note more old new false begun is over going =
     let here = rw begun at is in
     rw begun (taken-after IsTaken old here.0 new _ _ here.1 (going here.0 here.2))
 
--- What is received for notes is what they give.
+-- All that is received for the events of a PID is the output of these events (by induction over the
+-- events).
 follows :
     {T : Type 0} (IsTaken : T → List ℕ → T → Type 0) (j : JoiningValue) (all : List Note)
     (old new : T)

@@ -1,5 +1,5 @@
--- Packets in bytes that come bit by bit: starts, skipped_on, found_none, found_packet and
--- found_skips; two calls find what one does: law_of_two_calls.
+-- Finding transport packets in bytes that arrive part by part: starts, skipped_on, found_none,
+-- found_packet and found_skips; two calls find what one call finds: law_of_two_calls.
 use Rattle.std.proofs.Common.{◌≡◌, ℕ, zero, suc, ◌+◌, ◌-◌, ◌*◌, ◌<◌, ◌≤◌, Bool, true, false}
 use Rattle.std.proofs.Common.{List, [], ◌∷◌, ◌++◌, ◌∙◌, drop, take, length, replicate}
 use Rattle.std.proofs.Common.{refl, sym, ap, subst, arith, append-nil, append_assoc}
@@ -23,7 +23,6 @@ use Rattle.ts_survey.specs.InStep.{skipped_in}
 use Rattle.ts_survey.specs.InStep.{reported_of}
 use Rattle.ts_survey.specs.declared.packets_in_step.PacketsInStep.{PacketsInStep}
 
--- The distance of packets.
 pub size_at_least_188 : (size : PacketSize) → 188 ≤ bytes_of size
 size_at_least_188 Plain = omega arith
 size_at_least_188 TimeStamped = omega arith
@@ -36,7 +35,8 @@ size_far ErrorCorrected = omega arith
 
 pub ruleset sizes = (size_at_least_188, size_far)
 
--- Whether a packet begins depends on the bytes that have come, and on what follows.
+-- Whether a packet begins at an offset of the bytes depends on the bytes received so far, and
+-- possibly on the byte at the distance after it.
 pub begins_by_needed_bytes : (distance place : ℕ) (in_step : Bool) (bytes more : List ℕ)
     → place < length bytes
     → begins_packet distance in_step (drop place (bytes ++ more))
@@ -45,13 +45,11 @@ pub begins_by_needed_bytes : (distance place : ℕ) (in_step : Bool) (bytes more
 begins_by_needed_bytes distance place in_step bytes more below =
     grind (arith, nat_tests, index-append, get_or-drop)
 
--- Nothing follows.
 pub append_nothing : (bytes more : List ℕ) → more ≡ [] → bytes ++ more ≡ bytes
 append_nothing bytes more none = ap (λ l. bytes ++ l) none ∙ append-nil bytes
 
 pub ruleset starts = (index-append, index-following, begins_by_needed_bytes, append_nothing)
 
--- Bytes that begin with a packet.
 prefix_packet : (distance : ℕ) (in_step : Bool) (bytes : List ℕ)
     → 188 ≤ distance
     → 188 ≤ length bytes
@@ -62,7 +60,6 @@ unfolding items_from
 prefix_packet distance in_step bytes h1 h2 h3 =
     grind (arith, nat_tests, items_packet, items_at_most_bytes, length-drop)
 
--- Bytes of which the first is skipped.
 prefix_skipped : (distance : ℕ) (in_step : Bool) (bytes : List ℕ)
     → 188 ≤ distance
     → 188 ≤ length bytes
@@ -72,20 +69,17 @@ unfolding items_from
 prefix_skipped distance in_step bytes h1 h2 h3 =
     grind (arith, nat_tests, items_skipped, items_at_most_bytes, length-drop)
 
--- Fewer bytes than a packet has.
 pub prefix_end : (distance : ℕ) (in_step : Bool) (bytes : List ℕ)
     → length bytes < 188
     → items_from distance in_step bytes ≡ []
 unfolding items_from
 prefix_end distance in_step bytes few = items_end distance in_step (length bytes) bytes few
 
--- One more of the same, before what follows.
 replicate_shift : {A : Type 0} (k : ℕ) (x : A) (rest : List A)
     → replicate k x ++ (x ∷ rest) ≡ replicate (suc k) x ++ rest
 replicate_shift zero x rest = refl
 replicate_shift (suc k) x rest = ap (λ l. x ∷ l) (replicate_shift k x rest)
 
--- One more byte is skipped.
 pub skipped_on : (distance place start : ℕ) (bytes more : List ℕ)
     → 188 ≤ distance
     → place ≤ start
@@ -108,15 +102,12 @@ skipped_on distance place start bytes more near from there skips so_far =
     ∙ ap (λ n. replicate n Skipped ++ items_from distance false (drop (start + 1) (bytes ++ more)))
     count
 
--- ---- the items that were found
-
 zero_first : (a : ℕ) → 0 + a ≡ a
 zero_first a = omega arith
 
 suc_first : (a b : ℕ) → suc a + b ≡ suc (a + b)
 suc_first a b = omega arith
 
--- Items followed by others.
 skipped_after-append : (run : ℕ) (xs ys : List Item)
     → skipped_after run (xs ++ ys) ≡ skipped_after (skipped_after run xs) ys
 unfolding skipped_after
@@ -160,7 +151,6 @@ skipped_in-append (Packet p ∷ xs) ys = skipped_in-append xs ys
 skipped_in-append (Skipped ∷ xs) ys =
     ap suc (skipped_in-append xs ys) ∙ sym (suc_first (skipped_in xs) (skipped_in ys))
 
--- Bytes that belong to no packet.
 skipped_after-skipped : (k run : ℕ)
     → run ≤ 0xFFFF_FFFF_FFFF_FFFF
     → skipped_after run (replicate k Skipped) ≡ counted_on run k
@@ -169,7 +159,7 @@ skipped_after-skipped zero run small = grind (arith, nat_tests)
 skipped_after-skipped (suc k) run small =
     grind (arith, nat_tests, skipped_after-skipped k (counted_on run 1))
 
--- A gap is reported once among them, if it ends there.
+-- A gap among skipped bytes is reported once, if it ends among them.
 reported_of-skipped : (distance k run : ℕ)
     → distance ≤ 204
     → run ≤ 0xFFFF_FFFF_FFFF_FFFF
@@ -191,7 +181,6 @@ unfolding skipped_in
 skipped_in-skipped zero = refl
 skipped_in-skipped (suc k) = ap suc (skipped_in-skipped k)
 
--- They end a gap or not: they are before its end, or after it.
 pub loss_taken :
     {T : Type 0} (IsTaken : T → List ℕ → T → Type 0) (distance k run : ℕ) (old new : T)
     → distance ≤ 204
@@ -235,7 +224,6 @@ none_taken_after IsTaken distance k run old far small after_it =
 
 pub ruleset losses = (loss_taken, none_taken_before, none_taken_after)
 
--- Nothing yet.
 pub found_none :
     {T : Type 0} (IsTaken : T → List ℕ → T → Type 0) (old : PacketsInStep) (before : T)
     (bytes : List ℕ) (is_end : Bool)
@@ -257,7 +245,6 @@ found_none IsTaken old before bytes is_end number skipped = record {
 sums : (lead d a b s t : ℕ) → ((lead + d * a + s) + d * b) + t ≡ lead + d * (a + b) + (s + t)
 sums lead d a b s t = grind arith
 
--- Items were found up to a place, and others from there on.
 module _
     {T : Type 0} (IsTaken : T → List ℕ → T → Type 0) (old mid new : PacketsInStep)
     (before reported after : T) (bytes : List ℕ) (is_end : Bool) (at place rest : ℕ)
@@ -308,7 +295,6 @@ module _
           size = size ∙ first.size;
         }
 
--- A packet.
 pub found_packet :
     {T : Type 0} (IsTaken : T → List ℕ → T → Type 0) (old mid new : PacketsInStep)
     (before reported after : T) (bytes packet : List ℕ) (is_end : Bool) (at : ℕ)
@@ -343,7 +329,6 @@ found_packet IsTaken old mid new before reported after bytes packet is_end at fi
     (omega arith)
     (after, taken, refl) refl refl (grind (arith, nat_tests)) refl)
 
--- Bytes that belong to no packet: one, and those after it.
 pub found_skips :
     {T : Type 0} (IsTaken : T → List ℕ → T → Type 0) (old mid new : PacketsInStep)
     (before reported after : T) (bytes : List ℕ) (is_end : Bool) (at next : ℕ)
@@ -398,9 +383,7 @@ found_skips IsTaken old mid new before reported after bytes is_end at next first
     (rw passed (grind (arith, nat_tests)))
     refl)
 
--- ---- bytes that come in two calls
-
--- What was found in bytes is also found in a longer list.
+-- Items that were found in bytes are also found in a longer list that begins with these bytes.
 found_ahead :
     {T : Type 0} (IsTaken : T → List ℕ → T → Type 0) (old new : PacketsInStep) (before after : T)
     (bytes more : List ℕ) (is_end : Bool) (place : ℕ)

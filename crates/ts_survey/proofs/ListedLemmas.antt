@@ -1,5 +1,5 @@
--- A recording keeps its kind and the requested options, what_goes_on and as-requested-on; and the
--- end: reported-end.
+-- Reading on changes neither the kind of a recording nor the requested options, what_goes_on and
+-- as-requested-on; the end of the output: reported-end.
 use Rattle.std.proofs.Common.{◌≡◌, Bool, false, List, [], ◌++◌, ℕ, Option, Some, None, ◌∷◌, ◌∙◌, ap}
 use Rattle.std.proofs.Common.{append-nil, append_assoc, refl, subst, sym, take, true}
 use Rattle.std.proofs.KnownBytes.{Appends-trans}
@@ -26,9 +26,6 @@ use Rattle.ts_survey.specs.declared.text.Text.{Text}
 use Rattle.ts_survey.proofs.CountedLemmas.{counted-all, takes-begun}
 use Rattle.ts_survey.proofs.FirstLinesLemmas.{no-items}
 
--- ---- the kind of a recording
-
--- A run of packets keeps what is requested, as each packet does.
 runs-keep : (old new : Multiplex) (packets : List (List ℕ))
     → RunsBy keeps_requested old packets new
     → KeepsRequested old new
@@ -38,7 +35,6 @@ runs-keep old new (p ∷ ps) run =
     let rest = runs-keep run.0 new ps run.2 in
     (rest.0 ∙ run.1.0, rest.1 ∙ run.1.1, rest.2 ∙ run.1.2)
 
--- A stream of which packets were processed stays one.
 pub goes-on :
     (packets after : PacketsInStep) (multiplex reported : Multiplex) (bytes : List ℕ)
     (is_end : Bool)
@@ -48,14 +44,12 @@ pub goes-on :
 goes-on packets after multiplex reported bytes is_end used takes =
     record { size = takes.found.size; keeps = runs-keep multiplex reported _ takes.found.taken }
 
--- What is not read stays the same.
 pub goes-same : (kind : Kind) → GoesOn kind kind
 goes-same Unknown = tt
 goes-same (Pes f) = tt
 goes-same (Stream p m) = record { size = refl; keeps = (refl, refl, refl) }
 goes-same Nothing = tt
 
--- A stream processes packets, and other kinds none: for `flush_pending`, `flush` and `pause`.
 pub ruleset what_goes_on = (goes-on, goes-same)
 
 size-on : (requested : Option PacketSize) (old new : PacketSize)
@@ -65,7 +59,6 @@ size-on : (requested : Option PacketSize) (old new : PacketSize)
 size-on requested old new same is = subst (λ one. IfSome requested (λ size. one ≡ size)) (sym same)
     is
 
--- A recording keeps the requested options.
 pub as-requested-on : (options : SurveyOptions) (old new : Kind)
     → GoesOn old new
     → IsAsRequested options old
@@ -101,12 +94,9 @@ as-requested-as options other old new same on requested =
     subst (λ (o : SurveyOptions). IsAsRequested o new) (sym same) (as-requested-on options old new
     on requested)
 
--- For `pause`, and for `take`.
 pub ruleset stays_as_requested = (as-requested-as, goes-same)
 
 pub ruleset takes_as_requested = (as-requested-as, goes-same, takes-begun)
-
--- ---- its output
 
 pub appends-kept : (old mid new : Option (List ℕ)) (bytes : List ℕ)
     → Appends old mid bytes
@@ -124,10 +114,8 @@ appends-empty None bytes none = tt
 appends-empty (Some xs) bytes none =
     sym (ap (λ l. xs ++ l) (no-items bytes none) ∙ append-nil xs)
 
--- For `flush_pending` of lines.
 pub ruleset all_reported = (appends-kept, appends-empty)
 
--- All was read.
 all-read : (start end : Option (List ℕ)) (received : List ℕ)
     → Consumes start end received
     → IsAtEnd end
@@ -137,8 +125,6 @@ all-read (Some xs) None received consumed over = absurd consumed
 all-read (Some xs) (Some ys) received consumed over =
     sym (consumed ∙ ap (λ l. received ++ l) over ∙ append-nil received)
 
--- ---- the end
-
 has-head : (is : Bool) (kind : Kind)
     → is_unknown kind ≡ false
     → (is ≡ false → is_unknown kind ≡ true)
@@ -146,7 +132,6 @@ has-head : (is : Bool) (kind : Kind)
 has-head true kind known none = refl
 has-head false kind known none = let e = sym (none refl) ∙ known in cc
 
--- Then come the two numbers.
 pub ends-reported : (recording : Recording) (mid new : Text) (skipped number : ℕ)
     → skipped ≡ skipped_of recording
     → number ≡ packets_in recording.kind
@@ -159,7 +144,6 @@ ends-reported recording mid new skipped number is are over = record {
       (subst (λ n. AddsTexts mid (over_line n number) new) is over);
 }
 
--- The recording is over.
 pub reported-end :
     (options : SurveyOptions) (left end start old out : Option (List ℕ)) (recording : Recording)
     (first last : Text) (received buffered before : List ℕ)

@@ -1,4 +1,4 @@
--- New bytes come after those that were kept, holds_more; dropped bytes are no longer kept,
+-- New bytes are appended to the buffered bytes, holds_more; dropped bytes are no longer buffered,
 -- buffered_without.
 use Rattle.std.proofs.Common.{◌≡◌, ℕ, ◌+◌, ◌-◌, ◌≤◌, List, ◌++◌, length, take, drop, Option}
 use Rattle.std.proofs.Common.{ap, sym, ◌∙◌, append_assoc, arith, length-drop, length-take-le}
@@ -9,7 +9,6 @@ use Rattle.std.proofs.lemmas.List.Edits.{take-paste}
 use lib.Seq.{paste}
 use Rattle.ts_survey.specs.ReadBuffer.{BuffersMore}
 
--- So many bytes of a part that was put after others.
 received_after : (prefix to post rest : List ℕ) (size n : ℕ)
     → length prefix + n ≤ size
     → n ≤ length to
@@ -21,7 +20,6 @@ received_after prefix to post rest size n fits some =
     ∙ ap (λ l. prefix ++ l)
     (ap (take n) (append_assoc to post rest) ∙ take-append-le n to (post ++ rest) some)
 
--- New bytes came after those that were kept.
 pub holds_more : (items slice to post rest : List ℕ) (size len n : ℕ) (left next : Option (List ℕ))
     → slice ≡ items
     → len ≤ length items
@@ -41,7 +39,6 @@ holds_more items slice to post rest size len n left next same within fits some c
       consumed = consumed;
     }
 
--- The bytes after those that are dropped were moved to the front.
 pub buffered_without : (items slice moved rest : List ℕ) (size len count : ℕ)
     → slice ≡ items
     → count ≤ len

@@ -1,12 +1,11 @@
--- The followed PIDs: after one more that is requested, one-more-requested; after a change of one,
--- one_changed, map-same.
+-- The PIDs that are followed: after one more requested PID, one-more-requested; after a change of
+-- one stream, one_changed, map-same.
 use Rattle.std.proofs.Common.{◌≡◌, zero, suc, ◌<◌, ◌++◌, ◌∙◌, ◌∷◌, [], ℕ, Bool, List, Option}
 use Rattle.std.proofs.Common.{true, ap, arith, length, map, refl}
 use Rattle.std.proofs.Common.{if◌then◌else◌, slice_index_or, slice_set}
 use Rattle.ts_survey.specs.Requested.{is_requested, not_requested, pid_followed}
 use Rattle.ts_survey.specs.declared.carrier.Carrier.{Carrier}
 
--- If an element changes but its value does not, all values stay the same.
 pub map-same : {A V : Type 0} (f : A → V) (xs : List A) (i : ℕ) (x d : A)
     → i < length xs
     → f x ≡ f (slice_index_or xs i d)
@@ -16,7 +15,6 @@ map-same f (y ∷ ys) zero x d below is = ap (λ v. v ∷ map f ys) is
 map-same f (y ∷ ys) (suc i) x d below is =
     ap (λ vs. f y ∷ vs) (map-same f ys i x d (omega arith) is)
 
--- A requested PID is not among the others, wherever it is.
 passed-over : (is : Bool) (pid : ℕ) (rest : List ℕ)
     → is ≡ true
     → (if is then rest else pid ∷ rest) ≡ rest
@@ -36,7 +34,6 @@ more-requested requested [] one known = passed-over (is_requested requested one.
 more-requested requested (c ∷ cs) one known =
     same-before (is_requested requested c.pid) c.pid _ _ (more-requested requested cs one known)
 
--- One more PID is followed, which is requested.
 pub one-more-requested : (requested : Option ℕ) (pid : ℕ) (old new : List Carrier) (one : Carrier)
     → is_requested requested pid ≡ true
     → one.pid ≡ pid
@@ -47,7 +44,6 @@ one-more-requested requested pid old new one known same more =
     ap (λ l. not_requested requested (map pid_followed l)) more
     ∙ more-requested requested old one (ap (is_requested requested) same ∙ known)
 
--- If a stream changes that keeps its PID, the PIDs stay the same.
 pub pids-kept : (carriers : List Carrier) (i : ℕ) (one other : Carrier)
     → i < length carriers
     → one.pid ≡ (slice_index_or carriers i other).pid
@@ -62,5 +58,4 @@ pub others-kept : (requested : Option ℕ) (carriers : List Carrier) (i : ℕ) (
 others-kept requested carriers i one other below same =
     ap (not_requested requested) (pids-kept carriers i one other below same)
 
--- For `carry`.
 pub ruleset one_changed = (pids-kept, others-kept)

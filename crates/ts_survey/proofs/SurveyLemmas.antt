@@ -1,18 +1,15 @@
--- The output is written to the sink after its earlier contents: for `flush_pending` and `survey`.
+-- The output of a survey is appended to the sink, in several writes.
 use Rattle.std.proofs.Common.{ℕ, List, [], ◌++◌, Option, Some, None, sym}
 use Rattle.std.proofs.Common.{append-nil}
 use Rattle.std.proofs.KnownBytes.{Appends-trans}
 use Rattle.ts_survey.specs.Survey.{Grows}
 
--- Nothing was added.
 pub grows-none : (old : Option (List ℕ)) → Grows old old
 grows-none None = ([], tt)
 grows-none (Some xs) = ([], sym (append-nil xs))
 
--- A text followed by another.
 pub grows-more : (old mid new : Option (List ℕ)) → Grows old mid → Grows mid new → Grows old new
 grows-more old mid new one more =
     (one.0 ++ more.0, Appends-trans old mid new one.0 more.0 one.1 more.1)
 
--- For `survey`: `using(crate::proofs::SurveyLemmas::growing)`.
 pub ruleset growing = (grows-none, grows-more)

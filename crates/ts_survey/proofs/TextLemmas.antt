@@ -1,4 +1,5 @@
--- Words are added one after another, for the lines: adds-word, adds-last and adds-words.
+-- Words that are added to a text one after another make up a line: adds-word, adds-last and
+-- adds-words.
 use Rattle.std.proofs.Common.{◌≡◌, ◌∙◌, true, false, Bool, List, [], ◌++◌, ℕ, sym, ap, refl}
 use Rattle.std.proofs.Common.{subst}
 use Rattle.std.proofs.Common.{append-nil}
@@ -8,19 +9,16 @@ use Rattle.ts_survey.specs.Lines.{AddsTexts}
 use Rattle.ts_survey.specs.Text.{Adds}
 use Rattle.ts_survey.specs.declared.text.Text.{Text}
 
--- A text that is complete at the end was complete before.
 was_complete : (a b : Bool) → (a ≡ true → b ≡ true) → b ≡ false → a ≡ false
 was_complete false b stays whole = refl
 was_complete true b stays whole = let e = sym (stays refl) ∙ whole in cc
 
--- No words.
 pub adds-none : (text : Text) → AddsTexts text [] text
 adds-none text = record {
   added = λ whole. sym (append-nil text.bytes.items);
   stays_lost = λ lost. lost;
 }
 
--- A word followed by others.
 pub adds-word : {old mid new : Text} {word more : List ℕ}
     → Adds old word mid
     → Adds mid more new
@@ -34,12 +32,10 @@ adds-word {old = old} {mid = mid} {new = new} {word = word} {more = more} first 
   stays_lost = λ lost. then.stays_lost (first.stays_lost lost);
 }
 
--- The last word.
 pub adds-last : {old new : Text} {word : List ℕ} → Adds old word new → Adds old (word ++ []) new
 adds-last {old = old} {new = new} {word = word} last =
     subst (λ bytes. Adds old bytes new) (sym (append-nil word)) last
 
--- Words followed by others.
 pub adds-words : {old mid new : Text} (words more : List (List ℕ))
     → AddsTexts old words mid
     → AddsTexts mid more new

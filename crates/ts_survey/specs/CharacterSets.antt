@@ -1,46 +1,49 @@
--- The reported character sets (EN 300 706, packets X/28 and M/29; docs/manual/survey.md).
+-- The character sets that `survey` reports (EN 300 706, packets X/28 and M/29;
+-- docs/manual/survey.md).
 use Rattle.std.specs.Prelude.{ℕ, ◌+◌, ◌-◌, ◌*◌, ◌/◌, ◌%◌, ◌^◌, ◌==◌, ◌&&◌, ◌||◌, not, nat_lt}
 use Rattle.std.specs.Prelude.{Bool, if◌then◌else◌, List, bit_and, bit_xor}
 use Rattle.std.specs.Prelude.{count_ones, slice_index, Option, Some, None}
 use Rattle.ttx_packet.specs.Hamming84.{decoded}
 
--- The number of a set: its seven bits, 128 for one that can't be read.
+-- The number of a character set: its seven bits, or 128 for a set that cannot be read.
 abbrev pub set_number : Option ℕ → ℕ
 set_number None = 128
 set_number (Some set) = set % 128
 
--- Each line is reported once: its index depends on the packet, 28 or 29, its designation, 0 or 4,
--- and the set.
+-- The index of the line of a character set, by the packet number 28 or 29, the designation 0 or 4,
+-- and the set. Each line is reported once.
 abbrev pub line_place : ℕ → ℕ → Option ℕ → ℕ
 line_place number designation set =
     (if number == 28 then 0 else 512) + (if designation == 0 then 0 else 256) + set_number set
 
 -- ---- Hamming 24/18 (EN 300 706, 8.3): 24 bits, counted from 1, the lowest of the first byte
 
--- A test of some bits passes if the number of ones among them is odd. If it fails, the place of the
--- wrong bit has this digit.
+-- The digit of a Hamming 24/18 test: 0 if the number of ones among the tested bits is odd, so that
+-- the test passes. If the test fails, the place of the wrong bit has this digit.
 abbrev pub digit_if_failed : ℕ → ℕ → ℕ → ℕ
 digit_if_failed word bits digit = if count_ones (bit_and word bits) % 2 == 1 then 0 else digit
 
--- The tests A to E, of the bits up to 23 whose place has the digit 1, 2, 4, 8 or 16: if one bit is
--- wrong, they give its place, or 0 for bit 24.
+-- The place of the wrong bit, from the Hamming 24/18 tests A to E of the bits up to 23 whose place
+-- has the digit 1, 2, 4, 8 or 16. If one bit is wrong, the sum of the digits is its place, or 0 for
+-- bit 24.
 abbrev pub wrong_place : ℕ → ℕ
 wrong_place word =
     digit_if_failed word 0x55_5555 1 + digit_if_failed word 0x66_6666 2
     + digit_if_failed word 0x78_7878 4 + digit_if_failed word 0x00_7F80 8
     + digit_if_failed word 0x7F_8000 16
 
--- The word with the bit at a place flipped; 0 for none.
+-- The word with the bit at a place flipped. Place 0 leaves the word unchanged.
 abbrev pub with_bit_flipped : ℕ → ℕ → ℕ
 with_bit_flipped word place = if place == 0 then word else bit_xor word (2 ^ (place - 1))
 
--- The 18 data bits, at the places 3, 5 to 7, 9 to 15 and 17 to 23.
+-- The 18 data bits of a Hamming 24/18 word, at the places 3, 5 to 7, 9 to 15 and 17 to 23.
 abbrev pub data_bits : ℕ → ℕ
 data_bits word =
     word / 4 % 2 + word / 0x10 % 8 * 2 + word / 0x100 % 0x80 * 0x10
     + word / 0x1_0000 % 0x80 * 0x800
 
--- Test F, of all bits, passes if no bit is wrong or two are. A single wrong bit is corrected.
+-- The data bits of a Hamming 24/18 word, with a single wrong bit corrected. Test F, of all bits,
+-- passes if no bit is wrong or two bits are. `None` if two bits are wrong.
 abbrev pub carried_bits : ℕ → Option ℕ
 carried_bits word =
     if count_ones word % 2 == 1
@@ -48,25 +51,26 @@ carried_bits word =
     else (if nat_lt 23 (wrong_place word) then None
     else Some (data_bits (with_bit_flipped word (wrong_place word))))
 
--- The data bits of three bytes.
+-- The data bits of the three bytes of a Hamming 24/18 word.
 abbrev pub triplet : ℕ → ℕ → ℕ → Option ℕ
 triplet first second third = carried_bits (first + second * 0x100 + third * 0x1_0000)
 
 -- ---- the contents of a packet (EN 300 706, X/28 and M/29, designations 0 and 4, triplet 1)
 
--- The set, in bits 8 to 14: of X/28 only if bits 1 to 4, the page function, are those of a page
--- that is shown.
+-- The character set in bits 8 to 14 of triplet 1. A packet X/28 has a set only if bits 1 to 4, the
+-- page function, are those of a page that is shown.
 abbrev pub set_in : ℕ → Option ℕ → Option (Option ℕ)
 set_in number None = Some None
 set_in number (Some bits) =
     if (number == 28) && not (bits % 0x10 == 0) then None else Some (Some (bits / 0x80 % 0x80))
 
--- The set with its designation.
+-- The character set together with its designation.
 abbrev pub with_designation : ℕ → Option (Option ℕ) → Option (ℕ × Option ℕ)
 with_designation designation None = None
 with_designation designation (Some set) = Some (designation, set)
 
--- The same, if the designation could be read.
+-- The designation and the character set of a packet, if its designation byte can be decoded and is
+-- 0 or 4.
 abbrev pub set_by : Option ℕ → ℕ → List ℕ → Option (ℕ × Option ℕ)
 set_by None number p = None
 set_by (Some designation) number p =
@@ -75,7 +79,8 @@ set_by (Some designation) number p =
     (set_in number (triplet (slice_index p 3) (slice_index p 4) (slice_index p 5)))
     else None
 
--- The same for a packet of the page's magazine: an X/28 counts only after a header of the page.
+-- The designation and the character set of a packet of the page's magazine. A packet X/28 counts
+-- only after a header of the page.
 abbrev pub set_stated : ℕ → Bool → List ℕ → Option (ℕ × Option ℕ)
 set_stated number is_own p =
     if (number == 29) || ((number == 28) && is_own) then set_by (decoded (slice_index p 2)) number p

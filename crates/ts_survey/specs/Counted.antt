@@ -1,5 +1,5 @@
--- A transport stream is read from a place of a recording to its end: its packets are counted, and
--- the bytes that belong to none.
+-- Counting a transport stream, which is read from an offset of a recording to its end: its packets,
+-- and the bytes that belong to no packet.
 use Rattle.std.specs.Prelude.{◌≡◌, ◌≤◌, ⊤, ℕ, ◌+◌, ◌-◌, ◌*◌, Bool, true, List, drop, length}
 use Rattle.mpeg_ts.specs.PacketSize.{bytes_of}
 use Rattle.mpeg_ts.specs.PacketsInStep.{Item, lead_size}
@@ -11,9 +11,9 @@ use Rattle.ts_survey.specs.declared.packets_in_step.PacketsInStep.{PacketsInStep
 use Rattle.ts_survey.specs.declared.recording.Kind.{Kind}
 use Rattle.ts_survey.specs.declared.recording.Kind.TheVariants.{Stream, Unknown}
 
--- ---- while it is being read
+-- ---- counting while the stream is read
 
--- The state at the beginning of a stream, after so many other bytes.
+-- The state at the beginning of a stream, after `passed` other bytes.
 pub record BeginsAt (passed : ℕ) (packets : PacketsInStep) : Type 0 where
   pub lead : packets.lead ≡ lead_size (bytes_of packets.size)
   pub in_step : packets.in_step ≡ true
@@ -21,17 +21,18 @@ pub record BeginsAt (passed : ℕ) (packets : PacketsInStep) : Type 0 where
   pub run : packets.run ≡ 0
   pub skipped : packets.skipped ≡ passed
 
--- A recording that is a stream is at that beginning.
+-- If the recording is a transport stream, its state is that at the beginning of the stream.
 abbrev pub BeginsStream : ℕ → Kind → Type 0
 BeginsStream passed (Stream packets multiplex) = BeginsAt passed packets
 BeginsStream passed _ = ⊤
 
--- The packets of these bytes were processed, by whatever receives them.
+-- The transport packets in these bytes were processed, whatever receives them.
 abbrev pub TakesAny : PacketsInStep → List ℕ → Bool → ℕ → PacketsInStep → Type 0
 TakesAny old bytes is_end used new =
     TakesAll {T = Unit {0}} any_pes_packet old (tt {0}) bytes is_end used new (tt {0})
 
--- A stream begins there, and the packets of these bytes of it were processed.
+-- A stream begins after `passed` bytes, and the transport packets in its first bytes were
+-- processed.
 pub record TakesStream
     (passed : ℕ) (bytes : List ℕ) (is_end : Bool) (used : ℕ) (packets : PacketsInStep)
     (multiplex : Multiplex)
@@ -41,14 +42,15 @@ pub record TakesStream
   pub start : Multiplex
   pub taken : TakesAll keeps_requested first start bytes is_end used packets multiplex
 
--- The same for a recording that was recognised as a stream.
+-- If the recording was recognised as a transport stream, the packets in its first bytes were
+-- processed.
 abbrev pub TakesStarted : ℕ → List ℕ → Bool → ℕ → Kind → Type 0
 TakesStarted passed bytes is_end used (Stream packets multiplex) =
     TakesStream passed bytes is_end used packets multiplex
 TakesStarted passed bytes is_end used _ = ⊤
 
--- The packets of a stream were found in the bytes that came, except for those still kept; in all of
--- them at the end.
+-- The packets of a stream were found in the bytes received, except for those still buffered; at the
+-- end, in all bytes.
 pub record ReadsStream (received buffered : List ℕ) (is_end : Bool) (packets : PacketsInStep) : Type
     0 where
   pub passed : ℕ
@@ -59,7 +61,8 @@ pub record ReadsStream (received buffered : List ℕ) (is_end : Bool) (packets :
   pub taken : TakesAny first (drop passed received) is_end used packets
   pub left : buffered ≡ drop used (drop passed received)
 
--- The same for a recording; while its kind is unknown, all bytes after the skipped ones are kept.
+-- How far a recording was read: a stream, up to the buffered bytes; while the kind of the recording
+-- is unknown, all bytes after the skipped ones are buffered.
 abbrev pub IsAtPlace : Kind → ℕ → List ℕ → List ℕ → Bool → Type 0
 IsAtPlace Unknown skipped received buffered is_end = (skipped ≤ length received) ×
     (buffered ≡ drop skipped received)
@@ -67,15 +70,15 @@ IsAtPlace (Stream packets multiplex) skipped received buffered is_end = ReadsStr
     buffered is_end packets
 IsAtPlace _ skipped received buffered is_end = ⊤
 
--- Nothing more of it was read.
+-- No more bytes of the stream were read.
 abbrev pub StaysRead : Kind → Kind → Type 0
 StaysRead (Stream packets multiplex) (Stream after reported) = after ≡ packets
 StaysRead _ _ = ⊤
 
--- ---- at its end
+-- ---- the counts at the end of the stream
 
--- All packets from that place on were counted, each once, and the bytes that belong to none: those
--- before it, between packets, and after the last one.
+-- All packets of the stream were counted, each once, and all bytes that belong to no packet: those
+-- before the stream, between packets, and after the last packet.
 pub record CountsStream (received : List ℕ) (packets : PacketsInStep) : Type 0 where
   pub passed : ℕ
   pub within : passed ≤ length received
@@ -89,7 +92,7 @@ pub record CountsStream (received : List ℕ) (packets : PacketsInStep) : Type 0
       + (length (drop passed received) - (lead_size (bytes_of packets.size)
       + bytes_of packets.size * packet_count found + skipped_in found)))
 
--- The same for a recording that is a stream.
+-- If the recording is a transport stream, all its packets and skipped bytes were counted.
 abbrev pub CountsRecording : List ℕ → Kind → Type 0
 CountsRecording received (Stream packets multiplex) = CountsStream received packets
 CountsRecording received _ = ⊤

@@ -1,23 +1,25 @@
 -- The PES packets of a file: each is as long as its PES_packet_length says (ISO/IEC 13818-1,
--- PES_packet), followed by what comes after the last complete one (own; docs/manual/survey.md).
+-- PES_packet), followed by the bytes after the last complete PES packet (own;
+-- docs/manual/survey.md).
 use Rattle.std.specs.Prelude.{◌≡◌, ℕ, ◌&&◌, ◌||◌, not, nat_le, nat_lt, Bool, if◌then◌else◌}
 use Rattle.std.specs.Prelude.{List, length, drop, Option, Some, None}
 use Rattle.ttx_pes.specs.Reading.{is_start, stated_size}
 use Rattle.ts_survey.specs.InStep.{counted_on}
 
--- The bytes have another start code.
+-- The bytes begin with another start code than that of a PES packet with private data.
 abbrev pub has_other_start_code : List ℕ → Bool
 has_other_start_code bytes = nat_le 6 (length bytes) && not (is_start bytes)
 
--- The size of the complete PES packet with which the bytes begin, if they do.
+-- The size in bytes of the complete PES packet at the front of the bytes, or `None` if they begin
+-- with no complete PES packet.
 unfoldable pub complete_size : List ℕ → Option ℕ
 complete_size bytes =
     if nat_lt (length bytes) 6 || not (is_start bytes)
     || nat_lt (length bytes) (stated_size bytes) then None
     else Some (stated_size bytes)
 
--- The complete PES packets with which the bytes begin were counted, in order, each once. The rest
--- of the bytes begins with none.
+-- The complete PES packets at the front of the bytes were counted, in order, each once. The rest of
+-- the bytes begins with no complete PES packet.
 pub data CountsPesPackets : ℕ → List ℕ → List ℕ → ℕ → Type 0 where
   counts_none :
       (count : ℕ) (rest : List ℕ)

@@ -1,5 +1,5 @@
--- The first lines of a survey: the kind of the recording, and the requested PID (own;
--- docs/manual/survey.md).
+-- The first lines of a survey: the first bytes and the kind of the recording, and the requested PID
+-- (own; docs/manual/survey.md).
 use Rattle.std.specs.Prelude.{◌≡◌, ◌==◌, ◌&&◌, ◌||◌, not, nat_le, nat_lt, ℕ, Bool, true, false}
 use Rattle.std.specs.Prelude.{if◌then◌else◌, List, [], ◌∷◌, ◌++◌, Option, Some, None, codes, length}
 use Rattle.std.specs.Prelude.{slice_index, take}
@@ -12,35 +12,37 @@ use Rattle.ts_survey.specs.declared.recording.Kind.TheVariants.{Nothing, Pes, St
 use Rattle.ts_survey.specs.declared.recording.Recording.{Recording}
 use Rattle.ts_survey.specs.declared.text.Text.{Text}
 
--- ---- the lines
+-- ---- the text of the first lines
 
--- The number of bytes of a recording that are printed.
+-- The number of first bytes of a recording that are printed.
 abbrev pub head_size : ℕ
 head_size = 11
 
--- A space before a word, if there is one.
+-- A space, unless the word after it is empty.
 abbrev pub space_of : List ℕ → List ℕ
 space_of word = if length word == 0 then [] else codes " "
 
--- `survey 1`, and `head HEX`: the first bytes of the recording.
+-- The line `survey 1`, and the line `head HEX` with the first bytes of the recording.
 abbrev pub head_texts : List ℕ → List (List ℕ)
 head_texts head =
     codes "survey 1\nhead" ∷ space_of head ∷ hex_word head ∷ line_end ∷ []
 
--- `size N`: the distance of packets.
+-- The line `size N` with the distance of transport packets.
 abbrev pub size_line : ℕ → List (List ℕ)
 size_line size = codes "size" ∷ number_word size ∷ line_end ∷ []
 
--- `teletext PID`: a PID is followed from here on.
+-- The line `teletext PID`, printed when a PID is first followed.
 abbrev pub teletext_line : ℕ → List (List ℕ)
 teletext_line pid = codes "teletext" ∷ number_word pid ∷ line_end ∷ []
 
--- The requested PID is followed from the first packet on.
+-- The line of the requested PID, which is followed from the first packet on. Empty if no PID is
+-- requested.
 abbrev pub requested_texts : Option ℕ → List (List ℕ)
 requested_texts None = []
 requested_texts (Some pid) = teletext_line pid
 
--- The kind of a recording: a file of PES packets, a transport stream, or neither.
+-- The lines that report the kind of a recording: a file of PES packets, a transport stream, or
+-- neither.
 abbrev pub kind_texts : Kind → List (List ℕ)
 kind_texts Unknown = []
 kind_texts (Pes file) = codes "size 0\n" ∷ []
@@ -48,31 +50,31 @@ kind_texts (Stream packets multiplex) =
     size_line (bytes_of packets.size) ++ requested_texts multiplex.requested
 kind_texts Nothing = codes "nothing\n" ∷ []
 
--- ---- when they are printed
+-- ---- when the first lines are printed
 
--- A file of PES packets begins with packet_start_code_prefix and the stream_id of private_stream_1
--- (EN 300 472). A time stamp before the first transport packet may do so, too; then the sync byte
--- follows.
+-- The recording begins like a file of PES packets: with packet_start_code_prefix and the stream_id
+-- of private_stream_1 (EN 300 472). A time stamp before the first transport packet may look the
+-- same, but the sync byte follows it.
 abbrev pub begins_pes : List ℕ → Bool
 begins_pes head =
     nat_le 4 (length head) && (slice_index head 0 == 0) && (slice_index head 1 == 0)
     && (slice_index head 2 == 1) && (slice_index head 3 == 0xBD)
     && (nat_lt (length head) 5 || not (slice_index head 4 == 0x47))
 
--- A recording is such a file.
+-- The recording is a file of PES packets.
 abbrev pub is_pes : Kind → Bool
 is_pes (Pes file) = true
 is_pes _ = false
 
--- `survey 1` and `head` are printed as soon as their bytes have come.
+-- The lines `survey 1` and `head`, once the first bytes of the recording have come.
 abbrev pub head_so_far : Bool → List ℕ → List (List ℕ)
 head_so_far has_head head = if has_head then head_texts head else []
 
--- They are printed only once.
+-- The lines `survey 1` and `head`, unless they were printed before.
 abbrev pub head_reported : Bool → List ℕ → Bool → List (List ℕ)
 head_reported before bytes after = if before then [] else head_so_far after (take head_size bytes)
 
--- After the kind of a recording was determined, exactly its lines were printed.
+-- Determining the kind of a recording printed exactly the lines of that kind.
 pub record FindsKind (old : Recording) (bytes : List ℕ) (before after : Text) (new : Recording)
     : Type 0 where
   pub reported :

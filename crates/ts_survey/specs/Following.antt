@@ -1,4 +1,5 @@
--- What the packets of a PID carry is received in parts: the joined parts are all of it.
+-- Everything that the packets of a PID carry is received, part by part: the joined parts are all of
+-- it.
 use Rattle.std.specs.Prelude.{◌≡◌, ℕ, List, [], ◌∷◌, ◌++◌, MatchBool}
 use Rattle.std.specs.List.{concat}
 use Rattle.mpeg_ts.specs.Carried.{carried}
@@ -7,11 +8,11 @@ use Rattle.mpeg_ts.specs.Joining.{JoiningValue, after_note, delivered, has_ended
 use Rattle.mpeg_ts.specs.PacketsInStep.{items_of}
 use Rattle.ttx_page.specs.Receiver.{RunsBy}
 
--- Any state before, any part, any state afterwards.
+-- A receiver with `any_pes_packet` specifies nothing about its state.
 abbrev pub any_pes_packet : {T : Type 0} → T → List ℕ → T → Type 0
 any_pes_packet old pes_packet new = Unit {0}
 
--- Bytes were received in parts.
+-- A receiver received these bytes in parts.
 pub record TakesBytes
     {T : Type 0} (IsTaken : T → List ℕ → T → Type 0) (old : T) (bytes : List ℕ) (new : T)
     : Type 0 where
@@ -19,7 +20,7 @@ pub record TakesBytes
   pub joined : concat pes_packets ≡ bytes
   pub run : RunsBy IsTaken old pes_packets new
 
--- The next part of the bytes that are ready was received; nothing, if none were.
+-- A receiver received the next part of the bytes that are ready, or nothing if no byte is ready.
 pub record GivesNext
     {T : Type 0} (IsTaken : T → List ℕ → T → Type 0) (before : JoiningValue) (old : T)
     (after : JoiningValue) (new : T)
@@ -30,8 +31,8 @@ pub record GivesNext
   pub some : pes_packet ≡ [] → before.pending ≡ []
   pub taken : IsTaken old pes_packet new
 
--- The notes of a PID are processed one after another: after each, everything that it completes is
--- received, until nothing more is ready.
+-- The events of a PID are processed one after another: after each event, everything that it
+-- completes is received, until nothing more is ready.
 abbrev pub FollowsNotes :
     {T : Type 0} → (T → List ℕ → T → Type 0) → JoiningValue → T → List Note → T → Type 0
 FollowsNotes IsTaken j old [] new = new ≡ old
@@ -41,7 +42,7 @@ FollowsNotes {T} IsTaken j old (note ∷ more) new =
     ((mid : T) × TakesBytes IsTaken old (after_note j note).pending mid
     × FollowsNotes IsTaken (delivered (after_note j note)) mid more new)
 
--- What is received of the packets of a PID is what they carry in the recording.
+-- What is received from the transport packets of a PID is what they carry in the recording.
 abbrev pub LawOfFollowing : {T : Type 0} → (T → List ℕ → T → Type 0) → Type 0
 LawOfFollowing {T} IsTaken =
     (number distance : ℕ) (recording : List ℕ) (old new : T)

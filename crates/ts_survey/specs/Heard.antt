@@ -1,25 +1,26 @@
 -- The Teletext packets of a PES packet, whatever else it contains (EN 300 472, data field syntax):
--- those of its data units, one after another, each unit after the end of the one before.
+-- those of its data units, one after another.
 use Rattle.std.specs.Prelude.{ℕ, ◌+◌, ◌==◌, ◌&&◌, ◌||◌, nat_lt, Bool}
 use Rattle.std.specs.Prelude.{if◌then◌else◌, List, [], ◌∷◌, length, drop, map}
 use Rattle.std.specs.Prelude.{slice_index, Option, Some, None}
 use Rattle.std.specs.Borrow.{Bor}
 use Rattle.ttx_packet.specs.BitOrder.{mirror}
 
--- The place of the first data unit: after the header and data_identifier.
+-- The offset of the first data unit in a PES packet: after the header and data_identifier.
 abbrev pub first_place : List ℕ → ℕ
 first_place pes = if nat_lt 9 (length pes) then 10 + slice_index pes 8 else length pes
 
--- data_unit_id says that it is Teletext, and data_unit_length that it is a packet.
+-- The data unit carries a Teletext packet: data_unit_id says that it is Teletext, and
+-- data_unit_length is that of a packet.
 abbrev pub is_teletext_unit : List ℕ → Bool
 is_teletext_unit unit =
     (slice_index unit 1 == 0x2C) && ((slice_index unit 0 == 2) || (slice_index unit 0 == 3))
 
--- The packet of a data unit, if it has one, with the bits of each byte reversed.
+-- The Teletext packet of a data unit, if it carries one, with the bits of each byte reversed.
 unfoldable pub unit_packets : List ℕ → List (List ℕ)
 unit_packets unit = if is_teletext_unit unit then map mirror (drop 4 unit) ∷ [] else []
 
--- A borrowed packet in the bit order of the data unit, if there is one.
+-- The borrowed Teletext packet, if any, with the bits of each byte reversed.
 unfoldable pub borrowed_packets : Option (Bor (List ℕ)) → List (List ℕ)
 borrowed_packets None = []
 borrowed_packets (Some packet) = map mirror packet.now ∷ []

@@ -1,5 +1,6 @@
--- Finding packets in bytes of a transport stream that come bit by bit: packets in step, and bytes
--- that belong to none, as in mpeg_ts.specs.PacketsInStep; and what is passed on of them.
+-- Finding the packets of a transport stream in bytes that arrive part by part: packets in step, and
+-- bytes that belong to no packet, as in mpeg_ts.specs.PacketsInStep; and what is passed on to the
+-- receiver.
 use Rattle.std.specs.Prelude.{◌≡◌, ℕ, suc, ◌+◌, ◌-◌, ◌*◌, ◌<◌, ◌≤◌, ◌==◌, min, Bool, true, false}
 use Rattle.std.specs.Prelude.{if◌then◌else◌, List, [], ◌∷◌, ◌++◌, length, drop}
 use Rattle.mpeg_ts.specs.GoodPackets.{loss_size}
@@ -8,53 +9,57 @@ use Rattle.mpeg_ts.specs.PacketsInStep.{Item, Packet, Skipped, bytes_needed, ite
 use Rattle.ttx_page.specs.Receiver.{RunsBy}
 use Rattle.ts_survey.specs.declared.packets_in_step.PacketsInStep.{PacketsInStep}
 
--- A count plus some more, which stays at the greatest number of 64 bits.
+-- Adds `more` to a count, saturating at 64 bits.
 abbrev pub counted_on : ℕ → ℕ → ℕ
 counted_on number more = min (number + more) 0xFFFF_FFFF_FFFF_FFFF
 
--- The items with which the bytes begin.
+-- The items at the front of the bytes.
 unfoldable pub items_from : ℕ → Bool → List ℕ → List Item
 items_from distance in_step bytes = items distance in_step (length bytes) bytes
 
--- The number of packets among items.
+-- The number of transport packets among the items.
 unfoldable pub packet_count : List Item → ℕ
 packet_count [] = 0
 packet_count (Packet p ∷ more) = suc (packet_count more)
 packet_count (Skipped ∷ more) = packet_count more
 
--- The number of bytes that belong to none.
+-- The number of bytes among the items that belong to no transport packet.
 unfoldable pub skipped_in : List Item → ℕ
 skipped_in [] = 0
 skipped_in (Packet p ∷ more) = skipped_in more
 skipped_in (Skipped ∷ more) = suc (skipped_in more)
 
--- How many bytes in a row are skipped at the end of these items, after `run` before them.
+-- The number of bytes skipped in a row at the end of these items, if `run` bytes were skipped
+-- directly before them.
 unfoldable pub skipped_after : ℕ → List Item → ℕ
 skipped_after run [] = run
 skipped_after run (Packet p ∷ more) = skipped_after 0 more
 skipped_after run (Skipped ∷ more) = skipped_after (counted_on run 1) more
 
--- Missing packets are reported at the last byte of a gap, as []. 15 packets of a PID may have been
--- there unseen. Fewer show in the next continuity_counter (4 bits; ISO/IEC 13818-1, 2.4.3.3): it is
--- neither the last one, as for a repeat, nor the one after it.
+-- Missing packets are reported at the last byte of a gap, as []. In a gap of the size of 15
+-- packets, packets of a PID may be missing unseen. A shorter loss shows in the next
+-- continuity_counter (4 bits; ISO/IEC 13818-1, 2.4.3.3): it is neither the last counter, as in a
+-- repeat, nor the one after it.
 abbrev pub loss_reported : ℕ → ℕ → List (List ℕ)
 loss_reported distance run = if run == loss_size distance then [] ∷ [] else []
 
--- What is passed on for items, after `run` skipped bytes: each packet, and each gap.
+-- What is passed on to the receiver for these items, after `run` skipped bytes: each transport
+-- packet, and [] for each gap.
 unfoldable pub reported_of : ℕ → ℕ → List Item → List (List ℕ)
 reported_of distance run [] = []
 reported_of distance run (Packet p ∷ more) = p ∷ reported_of distance 0 more
 reported_of distance run (Skipped ∷ more) =
     loss_reported distance (counted_on run 1) ++ reported_of distance (counted_on run 1) more
 
--- At the end, the bytes after the place up to which the search came belong to no packet.
+-- At the end of the recording, the number of bytes after `place`, which belong to no packet; 0
+-- before the end.
 abbrev pub following : Bool → List ℕ → ℕ → ℕ
 following is_end bytes place = if is_end then length bytes - place else 0
 
--- Items were found in the bytes, from the start of the search up to `place`: whatever bytes follow
--- (at the end none do), the bytes begin with these items, followed by those from `place` on. The
--- packets and gaps among them were processed. They are counted, and so are the bytes that belong to
--- none, with `rest` more after them.
+-- Items were found in the bytes, from the start of the search up to `place`: whatever bytes follow,
+-- the bytes begin with these items, followed by those from `place` on. The packets and gaps among
+-- them were processed, and counted together with the bytes that belong to no packet and `rest` more
+-- bytes after them.
 pub record ItemsFound
     {T : Type 0} (IsTaken : T → List ℕ → T → Type 0) (old : PacketsInStep) (before : T)
     (bytes : List ℕ) (is_end : Bool) (place rest : ℕ) (new : PacketsInStep) (after : T)
@@ -72,7 +77,7 @@ pub record ItemsFound
   pub skipped : new.skipped ≡ counted_on old.skipped (skipped_in found + rest)
   pub size : new.size ≡ old.size
 
--- The packets of the bytes were processed, and `used` bytes are no longer needed. Too few bytes are
+-- The packets in the bytes were processed, and `used` bytes are no longer needed. Too few bytes are
 -- left to decide what comes next; at the end no packet is left.
 pub record TakesAll
     {T : Type 0} (IsTaken : T → List ℕ → T → Type 0) (old : PacketsInStep) (before : T)
@@ -87,8 +92,8 @@ pub record TakesAll
       is_end ≡ true
       → items_from (bytes_of new.size) new.in_step (drop (used + new.lead) bytes) ≡ []
 
--- Bytes that come in two calls, with the rest of the first ones before the others, are processed as
--- in one. So the output depends on all packets, whatever parts a recording comes in.
+-- Bytes that arrive in two calls are processed as in one call, if the rest of the first bytes is
+-- put before the others. So the output is the same, whatever parts a recording arrives in.
 abbrev pub LawOfTwoCalls : {T : Type 0} → (T → List ℕ → T → Type 0) → Type 0
 LawOfTwoCalls {T} IsTaken =
     (old mid new : PacketsInStep) (before reported after : T) (bytes more : List ℕ) (is_end : Bool)

@@ -1,19 +1,18 @@
--- The lines of which something is kept back until all of it is known, word by word (own;
--- docs/manual/survey.md).
+-- The words of the lines of a survey (own; docs/manual/survey.md).
 use Rattle.std.specs.Prelude.{ℕ, List, [], ◌∷◌}
 use Rattle.std.specs.Prelude.{decimal}
 use Rattle.std.specs.List.{concat}
 use Rattle.ts_survey.specs.Text.{Adds}
 use Rattle.ts_survey.specs.declared.text.Text.{Text}
 
--- Words were added, one after another.
+-- These words were added to the text, one after another.
 abbrev pub AddsTexts : Text → List (List ℕ) → Text → Type 0
 AddsTexts old words new = Adds old (concat words) new
 
--- A number.
+-- A space and a number in decimal.
 abbrev pub number_word : ℕ → List ℕ
 number_word number = 0x20 ∷ decimal number
 
--- The end of a line.
+-- The end of a line of output.
 abbrev pub line_end : List ℕ
 line_end = 0x0A ∷ []

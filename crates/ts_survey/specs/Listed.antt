@@ -1,5 +1,5 @@
--- The output of `survey` begins with the kind of the recording, with the requested options, and
--- ends with the number of its packets and of the bytes that belong to none (own;
+-- The output of `survey` begins with the kind of the recording and the requested options, and ends
+-- with the number of its packets and of the bytes that belong to no packet (own;
 -- docs/manual/survey.md).
 use Rattle.std.specs.Prelude.{◌≡◌, ⊤, true, false, ℕ, List, [], ◌∷◌, ◌++◌, Option, IfSome}
 use Rattle.std.specs.Prelude.{codes, take}
@@ -19,10 +19,10 @@ use Rattle.ts_survey.specs.declared.recording.Kind.TheVariants.{Nothing, Pes, St
 use Rattle.ts_survey.specs.declared.recording.Recording.{Recording}
 use Rattle.ts_survey.specs.declared.text.Text.{Text}
 
--- ---- what is followed
+-- ---- the requested options
 
--- The packets of a stream have the requested distance, the requested PID and page are followed and
--- searched for, and no other PID is followed.
+-- If the recording is a transport stream, its packets have the requested distance, the requested
+-- PID and page are followed, and no other PID is followed.
 abbrev pub IsAsRequested : SurveyOptions → Kind → Type 0
 IsAsRequested options (Stream packets multiplex) =
     (IfSome options.packet_size (λ size. packets.size ≡ size))
@@ -31,13 +31,14 @@ IsAsRequested options (Stream packets multiplex) =
     × (others_followed multiplex ≡ [])
 IsAsRequested options _ = ⊤
 
--- Packets of a stream were processed.
+-- More packets of a stream were processed, with the same distance of packets and the same requested
+-- options.
 pub record TakesMore (packets : PacketsInStep) (multiplex : Multiplex) (after : PacketsInStep)
     (reported : Multiplex) : Type 0 where
   pub size : after.size ≡ packets.size
   pub keeps : KeepsRequested multiplex reported
 
--- More of a recording was read, whose kind stays the same.
+-- More of a recording was read, and its kind did not change.
 abbrev pub GoesOn : Kind → Kind → Type 0
 GoesOn Unknown Unknown = ⊤
 GoesOn (Pes file) (Pes after) = ⊤
@@ -46,37 +47,37 @@ GoesOn (Stream packets multiplex) (Stream after reported) =
 GoesOn Nothing Nothing = ⊤
 GoesOn _ _ = ⊥
 
--- ---- the end
+-- ---- the last line of the output
 
--- The number of packets; 0 if it is no stream.
+-- The number of packets of a recording, or 0 if the recording is no transport stream.
 abbrev pub packets_in : Kind → ℕ
 packets_in (Stream packets multiplex) = packets.number
 packets_in _ = 0
 
--- The number of bytes that belong to no packet: all of what is neither a stream nor a file of PES
--- packets.
+-- The number of bytes that belong to no packet. If the recording is neither a transport stream nor
+-- a file of PES packets, these are all its bytes.
 abbrev pub skipped_by : Kind → ℕ → ℕ
 skipped_by (Pes file) skipped = 0
 skipped_by (Stream packets multiplex) skipped = packets.skipped
 skipped_by _ skipped = skipped
 
--- `over SKIPPED PACKETS`.
+-- The line `over SKIPPED PACKETS`.
 abbrev pub over_line : ℕ → ℕ → List (List ℕ)
 over_line skipped number =
     codes "over" ∷ number_word skipped ∷ number_word number ∷ line_end ∷ []
 
--- The bytes of a recording that belong to no packet.
+-- The number of bytes of a recording that belong to no packet.
 abbrev pub skipped_of : Recording → ℕ
 skipped_of r = skipped_by r.kind r.skipped
 
--- Whatever was printed before, the last line says that the recording is over.
+-- The last line of the output is `over` with the counts of the recording.
 pub record ReportsEnd (r : Recording) (new : Text) : Type 0 where
   pub before : Text
   pub over : AddsTexts before (over_line (skipped_of r) (packets_in r.kind)) new
 
 -- ---- the lines of a recording
 
--- What was printed for a recording after these bytes: its kind, and then its contents.
+-- The output for a recording after the bytes received: the lines of its kind, followed by others.
 pub record IsReported (recording : Recording) (received listing : List ℕ) : Type 0 where
   pub more : List ℕ
   pub reported :
@@ -87,9 +88,9 @@ pub record IsReported (recording : Recording) (received listing : List ℕ) : Ty
   pub pes :
       recording.has_head ≡ true → is_pes recording.kind ≡ begins_pes (take head_size received)
 
--- The lines of a recording after all its bytes: the first ones; its kind, with the requested
--- options; others; and at the end how many bytes belong to no packet, and how many packets there
--- are.
+-- The output for a complete recording: the first lines; the lines of its kind, with the requested
+-- options; others; and a last line with the number of bytes that belong to no packet and the number
+-- of packets.
 pub record IsSurveyed
     (options : SurveyOptions) (recording : Option (List ℕ)) (listing : List ℕ) : Type 0 where
   pub received : List ℕ
@@ -104,7 +105,7 @@ pub record IsSurveyed
       listing ≡ concat (head_texts (take head_size received) ++ kind_texts last.kind) ++ between
       ++ concat (over_line (skipped_of last) (packets_in last.kind))
 
--- They were printed after what was there.
+-- The output for a recording was appended to the sink.
 abbrev pub ReportsSurvey :
     SurveyOptions → Option (List ℕ) → Option (List ℕ) → Option (List ℕ) → Type 0
 ReportsSurvey options recording old new =

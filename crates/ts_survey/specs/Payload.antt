@@ -1,9 +1,9 @@
--- What begins in the payload of a packet.
+-- What begins in the payload of a transport packet.
 use Rattle.std.specs.Prelude.{ℕ, ◌+◌, ◌/◌, ◌==◌, ◌&&◌, nat_le, nat_lt, Bool, List, length}
 use Rattle.std.specs.Prelude.{slice_index}
 
--- A PES packet of Teletext: private_stream_1, whose first data byte is a data_identifier of EBU
--- data, 10 to 1F (EN 300 472, data field).
+-- The payload begins a PES packet with Teletext: private_stream_1, whose first data byte is a
+-- data_identifier of EBU data, 10 to 1F (EN 300 472, data field).
 abbrev pub begins_teletext : List ℕ → Bool
 begins_teletext payload =
     nat_le 10 (length payload) && (slice_index payload 0 == 0) && (slice_index payload 1 == 0)

@@ -21,42 +21,44 @@ use Rattle.ts_survey.specs.declared.section.Programme.{Programme}
 use Rattle.ts_survey.specs.declared.section.SectionName.{SectionName}
 use Rattle.ts_survey.specs.declared.section.Stream.{Stream}
 
--- A number of sixteen bits.
+-- The 16-bit number at an offset of the bytes.
 abbrev pub number_at : List ℕ → ℕ → ℕ
 number_at bytes place = slice_index bytes place * 0x100 + slice_index bytes (place + 1)
 
--- A length of twelve bits.
+-- The 12-bit length at an offset of the bytes.
 abbrev pub length_at : List ℕ → ℕ → ℕ
 length_at bytes place = slice_index bytes place % 0x10 * 0x100 + slice_index bytes (place + 1)
 
--- A PID: thirteen bits.
+-- The PID, 13 bits, at an offset of the bytes.
 abbrev pub pid_at : List ℕ → ℕ → ℕ
 pid_at bytes place = slice_index bytes place % 0x20 * 0x100 + slice_index bytes (place + 1)
 
--- The size of a section, from its first bytes.
+-- The size of a section in bytes, from its first bytes. `None` if fewer than three bytes are
+-- available.
 abbrev pub section_size : List ℕ → Option ℕ
 section_size bytes = if nat_lt (length bytes) 3 then None else Some (3 + length_at bytes 1)
 
 -- ---- CRC_32 (annex A): the polynomial 04C11DB7, from FFFFFFFF on
 
--- After one more bit.
+-- The CRC_32 after one more bit.
 unfoldable pub crc_shifted : ℕ → ℕ
 crc_shifted crc =
     if nat_le 0x8000_0000 crc then bit_xor (2 * (crc - 0x8000_0000)) 0x04C1_1DB7 else 2 * crc
 
--- After one more byte.
+-- The CRC_32 after one more byte.
 unfoldable pub crc_after : ℕ → ℕ → ℕ
 crc_after crc byte =
     crc_shifted (crc_shifted (crc_shifted (crc_shifted (crc_shifted (crc_shifted (crc_shifted
     (crc_shifted (bit_xor crc (byte * 0x100_0000)))))))))
 
--- The CRC_32 of bytes.
+-- The CRC_32 of a list of bytes.
 abbrev pub crc_of : List ℕ → ℕ
 crc_of bytes = fold crc_after 0xFFFF_FFFF bytes
 
 -- ---- the contents of sections
 
--- What distinguishes a section from others.
+-- The name of a section, which distinguishes it from other sections: table_id, the number after it,
+-- and section_number.
 abbrev pub name_of : List ℕ → Option SectionName
 name_of s =
     if nat_lt (length s) 12 then None
@@ -66,17 +68,19 @@ name_of s =
       section = slice_index s 6;
     })
 
--- current_next_indicator: the section is in force, and not only the next one that will be.
+-- The bit current_next_indicator of a section: the section is in force now, and not only the next
+-- one to be in force.
 abbrev pub is_current : List ℕ → Bool
 is_current s = nat_le 6 (length s) && (slice_index s 5 % 2 == 1)
 
--- The PID of the PMT that a PAT names at a place; 1FFF if it names a network.
+-- The PID of the PMT that a PAT names at an offset; 1FFF if the entry names a network. `None` after
+-- the last entry.
 abbrev pub pmt_pid_at : List ℕ → ℕ → Option ℕ
 pmt_pid_at s place =
     if nat_lt (length s) (place + 8) then None
     else (if number_at s place == 0 then Some 0x1FFF else Some (pid_at s (place + 2)))
 
--- The programme of a PMT.
+-- The programme that a PMT describes.
 abbrev pub programme_of : List ℕ → Option Programme
 programme_of s =
     if nat_lt (length s) 16 then None
@@ -86,7 +90,7 @@ programme_of s =
       first = 12 + length_at s 10;
     })
 
--- The stream of a PMT at a place.
+-- The stream that a PMT describes at an offset.
 abbrev pub stream_at : List ℕ → ℕ → Option Stream
 stream_at s place =
     if nat_lt (length s) (place + 9) then None
@@ -97,7 +101,8 @@ stream_at s place =
       end = place + 5 + length_at s (place + 3);
     })
 
--- The descriptor at a place, cut at an end: descriptor_tag, descriptor_length, and so many bytes.
+-- The descriptor at an offset, cut off at `end`: descriptor_tag, descriptor_length, and that many
+-- bytes.
 abbrev pub descriptor_at : List ℕ → ℕ → ℕ → Option Descriptor
 descriptor_at bytes place end =
     if nat_lt (min end (length bytes)) (place + 2) then None
@@ -112,8 +117,8 @@ descriptor_at bytes place end =
 abbrev pub is_of_teletext : Descriptor → Bool
 is_of_teletext d = (d.tag == 0x46) || (d.tag == 0x56)
 
--- The page that a teletext_descriptor names at a place (ETSI EN 300 468): ISO_639_language_code (24
--- bits), teletext_type (5), teletext_magazine_number (3), teletext_page_number (8).
+-- The page that a teletext_descriptor names at an offset (ETSI EN 300 468): ISO_639_language_code
+-- (24 bits), teletext_type (5), teletext_magazine_number (3), teletext_page_number (8).
 abbrev pub page_at : List ℕ → ℕ → ℕ → Option Announced
 page_at bytes place end =
     if nat_lt end (place + 5) then None

@@ -10,8 +10,8 @@ abbrev pub is_unknown : Kind → Bool
 is_unknown Unknown = true
 is_unknown _ = false
 
--- The packets of these bytes of a stream were processed, in order, each once, and `used` bytes are
--- no longer needed.
+-- If the recording is a transport stream, its packets in these bytes were processed, in order, each
+-- once, and `used` bytes are no longer needed.
 abbrev pub TakesOn : Kind → List ℕ → Bool → ℕ → Kind → Type 0
 TakesOn (Stream packets multiplex) bytes is_end used (Stream after reported) =
     TakesAll keeps_requested packets multiplex bytes is_end used after reported

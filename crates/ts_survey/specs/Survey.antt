@@ -1,19 +1,19 @@
--- The output for a recording is written to a sink, after its earlier contents.
+-- The output of `survey` is appended to a sink.
 use Rattle.std.specs.Prelude.{ℕ, Bool, true, false, List, Option}
 use Rattle.std.specs.Io.KnownBytes.{Appends}
 use Rattle.ts_survey.specs.declared.reporting.SurveyFault.{SurveyFault}
 use Rattle.ts_survey.specs.declared.reporting.SurveyFault.TheVariants.{Read, Write}
 
--- A text was added.
+-- Some text was appended to the sink.
 abbrev pub Grows : Option (List ℕ) → Option (List ℕ) → Type 0
 Grows old new = (text : List ℕ) × Appends old new text
 
--- The recording failed.
+-- The fault is that the source of the recording failed.
 abbrev pub is_survey_read : SurveyFault → Bool
 is_survey_read Read = true
 is_survey_read _ = false
 
--- The sink failed.
+-- The fault is that the sink failed.
 abbrev pub is_survey_write : SurveyFault → Bool
 is_survey_write Write = true
 is_survey_write _ = false

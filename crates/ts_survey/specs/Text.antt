@@ -1,14 +1,14 @@
--- The words of a line.
+-- The text of lines that are not written yet.
 use Rattle.std.specs.Prelude.{◌≡◌, ℕ, true}
 use Rattle.std.specs.Prelude.{false, List, ◌++◌}
 use Rattle.hex.specs.Hex.{encode_lower}
 use Rattle.ts_survey.specs.declared.text.Text.{Text}
 
--- Bytes were added to a text, or memory ran out: then nothing more is added.
+-- The bytes were added to a text. If memory runs out, the text is lost, and nothing more is added.
 pub record Adds (old : Text) (bytes : List ℕ) (new : Text) : Type 0 where
   pub added : new.is_lost ≡ false → new.bytes.items ≡ old.bytes.items ++ bytes
   pub stays_lost : old.is_lost ≡ true → new.is_lost ≡ true
 
--- Bytes in hexadecimal.
+-- The bytes in hexadecimal, in lower case.
 abbrev pub hex_word : List ℕ → List ℕ
 hex_word bytes = encode_lower bytes

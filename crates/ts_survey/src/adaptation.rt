@@ -7,29 +7,31 @@ ghost use Rattle.ts_survey.specs.Adaptation.{time_at};
 
 use mpeg_ts::{PACKET, has_adaptation, has_payload, is_wrong, payload_of};
 
-/// Returns random_access_indicator: a picture that can be shown alone begins here.
+/// Returns random_access_indicator of a transport packet: a picture that can be shown alone begins
+/// in it.
 pub fn begins_access(packet: &[u8; PACKET]) -> bool
     ensures { result ≡ begins_access packet.now }
 {
     has_adaptation(packet) && packet[4] != 0 && packet[5] / 0x40 % 2 == 1
 }
 
-/// Returns whether transport_scrambling_control is not 00.
+/// Returns whether a transport packet is scrambled: transport_scrambling_control is not 00.
 pub fn is_scrambled(packet: &[u8; PACKET]) -> bool
     ensures { result ≡ is_scrambled packet.now }
 {
     packet[3] / 0x40 != 0
 }
 
-/// Returns whether a packet has an adaptation field that can be used: transport_error_indicator is
-/// not set.
+/// Returns whether a transport packet has an adaptation field that can be used:
+/// transport_error_indicator is not set.
 pub fn has_usable_adaptation(packet: &[u8; PACKET]) -> bool
     ensures { result ≡ has_usable_adaptation packet.now }
 {
     has_adaptation(packet) && packet[1] / 0x80 == 0
 }
 
-/// Returns program_clock_reference_base, 33 bits, if the packet has one that can be used.
+/// Returns program_clock_reference_base, 33 bits, if the adaptation field of the transport packet
+/// has it and can be used.
 pub fn pcr_base(packet: &[u8; PACKET]) -> Option<u64>
     ensures value { result ≡ pcr_base packet.now }
     ensures range { IfSome result (λ pcr. pcr < 2 ^ 33) }
@@ -46,7 +48,7 @@ pub fn pcr_base(packet: &[u8; PACKET]) -> Option<u64>
     )
 }
 
-/// Returns the payload of a packet; empty if it has none, or if the packet is wrong.
+/// Returns the payload of a transport packet. Empty if the packet has no payload or is unusable.
 pub fn payload_in(packet: &[u8; PACKET]) -> &[u8]
     ensures { result.now ≡ payload_in packet.now }
 {
@@ -57,8 +59,8 @@ pub fn payload_in(packet: &[u8; PACKET]) -> &[u8]
     }
 }
 
-/// Returns the PTS in the first bytes of a PES packet (ISO/IEC 13818-1, PES_packet); `None` if the
-/// header has none, or for a gap marker. Marker bits are not checked.
+/// Returns the PTS in the first bytes of a PES packet (ISO/IEC 13818-1, PES_packet). Returns `None`
+/// if the header has no PTS, and for a gap marker. Marker bits are not checked.
 pub fn pts_stated(pes: &[u8]) -> Option<u64>
     ensures value { result ≡ pts_stated pes.now }
     ensures range { IfSome result (λ pts. pts < 2 ^ 33) }
@@ -69,7 +71,7 @@ pub fn pts_stated(pes: &[u8]) -> Option<u64>
     Some(time_at(pes, 9))
 }
 
-// Returns the time at a place of a PES header, 33 bits of a clock of 90 kHz.
+// Returns the time at an offset of a PES header, 33 bits of a clock of 90 kHz.
 fn time_at(pes: &[u8], place: usize) -> u64
     requires { place + 5 ≤ length pes.now }
     ensures value { result ≡ time_at pes.now place }
@@ -82,8 +84,8 @@ fn time_at(pes: &[u8], place: usize) -> u64
         + (pes[place + 4] / 2) as u64
 }
 
-/// Returns when the first picture of a PES packet is decoded: its DTS, or its PTS if it has no DTS;
-/// `None` if the first bytes do not contain it.
+/// Returns when the first picture of a PES packet is decoded: its DTS, or its PTS if it has no DTS.
+/// Returns `None` if the first bytes do not contain that time.
 pub fn decoding_time(pes: &[u8]) -> Option<u64>
     ensures value { result ≡ decoding_time pes.now }
     ensures range { IfSome result (λ time. time < 2 ^ 33) }

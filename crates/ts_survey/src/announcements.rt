@@ -1,4 +1,5 @@
-//! Prints the contents of a PMT: its programme, its streams, and the pages that they announce.
+//! Prints the contents of a PMT: its programme, its streams, and the Teletext pages that the
+//! streams announce.
 ghost use Rattle.std.specs.Prelude.{◌≤◌, length};
 
 use crate::section::{
@@ -22,8 +23,8 @@ pub fn report_stream(stream: &Stream, text: &mut Text) {
     text.put(b"\n");
 }
 
-/// Prints the pages that a stream announces, and returns whether there are any. A section has at
-/// most 4,098 bytes.
+/// Prints the Teletext pages that a stream announces, and returns whether it announces any. A
+/// section has at most 4,098 bytes.
 pub fn report_pages(section: &[u8], stream: &Stream, text: &mut Text) -> bool {
     let end = stream.end.min(section.len());
     let mut has_pages = false;
@@ -39,7 +40,7 @@ pub fn report_pages(section: &[u8], stream: &Stream, text: &mut Text) -> bool {
     has_pages
 }
 
-// Prints the pages of a descriptor, and returns whether there are any.
+// Prints the Teletext pages of a descriptor, and returns whether it has any.
 fn report_named(section: &[u8], descriptor: &Descriptor, pid: u16, text: &mut Text) -> bool
     requires { descriptor.now.end ≤ length section.now }
 {
@@ -49,7 +50,7 @@ fn report_named(section: &[u8], descriptor: &Descriptor, pid: u16, text: &mut Te
     report_from(section, descriptor.first, descriptor.end, pid, text)
 }
 
-// Prints the pages between two places, and returns whether there are any.
+// Prints the Teletext pages between two offsets of a section, and returns whether any were found.
 fn report_from(section: &[u8], first: usize, end: usize, pid: u16, text: &mut Text) -> bool
     requires { end ≤ length section.now }
 {
@@ -66,7 +67,7 @@ fn report_from(section: &[u8], first: usize, end: usize, pid: u16, text: &mut Te
     has_pages
 }
 
-// Prints the line of an announced page.
+// Prints the line of an announced Teletext page.
 fn report_page(pid: u16, page: &Announced, text: &mut Text) {
     text.put(b"announce");
     text.number(pid as u64);

@@ -1,4 +1,4 @@
-//! Compares a PTS that began in a PID with Teletext with the pictures and the clock.
+//! Compares a PTS of a PID with Teletext with the pictures and the clock of its programme.
 ghost use Rattle.std.specs.Prelude.{◌≡◌};
 
 use crate::carrier::Carrier;
@@ -6,7 +6,7 @@ use crate::clock::Clock;
 use crate::lead::Picture;
 use crate::text::Text;
 
-/// Compares a PTS that began in the packet with this number of a PID with the last picture of its
+/// Compares a PTS that began in packet number `number` of a PID with the last picture of its
 /// programme, and with the PCR of its clock.
 pub fn begin_pts(
     carrier: &mut Carrier,
@@ -26,7 +26,7 @@ pub fn begin_pts(
     carrier.note_pts(pts, pcr, text);
 }
 
-// Returns the PCR close to a PTS of a PID, if they are to be compared.
+// Returns the PCR close to a PTS of a PID, if the two are to be compared.
 fn pcr_to_compare(
     carrier: &Carrier,
     clocks: &[Clock],

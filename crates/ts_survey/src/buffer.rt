@@ -1,4 +1,4 @@
-//! Room for bytes of a recording that are to be examined.
+//! The buffer for the bytes of a recording that are to be examined.
 ghost use Rattle.std.specs.Prelude.{◌≡◌, ◌≤◌, ◌<◌, ◌-◌, length, vec_len, take, drop, IfOk, IfSome};
 ghost use Rattle.std.specs.Prelude.{true};
 ghost use Rattle.std.specs.Io.KnownBytes.{IsAtEnd};
@@ -9,23 +9,25 @@ use crate::text::Text;
 use std::alloc::Global;
 use sub_io::{Failed, Source};
 
-/// Room for the longest PES packet of a file, 65,541 bytes, and for what is read at once.
+/// The size of the buffer in bytes: room for the longest PES packet of a file, 65,541 bytes, and
+/// for all that is read at once.
 const BUFFER_SIZE: usize = 135_168;
 
-/// The number of bytes that are read at once; fewer come from a feed. A source that reads ahead at
-/// most as many puts them here directly from its device.
+/// The number of bytes that are read at once; a feed returns fewer. A source that reads ahead at
+/// most this many bytes writes them from its device directly into the buffer.
 const READ_SIZE: usize = 65_536;
 
-/// The result of reading.
+/// The result of reading from the source.
 #[derive(Clone, Copy)]
 pub struct Received {
-    /// Nothing came: the recording is at its end.
+    /// Whether no byte was read, which means that the recording is at its end.
     pub is_end: bool,
-    /// Less than requested came: no more data is there for now.
+    /// Whether fewer bytes than requested were read, which means that no more data is available for
+    /// now.
     pub has_no_more: bool,
 }
 
-/// Bytes that were read and are still to be examined.
+/// The bytes that were read and are still to be examined.
 #[derive(Drop)]
 pub struct ReadBuffer {
     bytes: Vec<u8>,
@@ -35,7 +37,7 @@ pub struct ReadBuffer {
 }
 
 impl ReadBuffer {
-    /// Returns an empty room; `None` if memory runs out.
+    /// Creates an empty buffer. Returns `None` if memory runs out.
     pub fn new(alloc: Global) -> Option<ReadBuffer>
         ensures { IfSome result
             (λ buffer. (buffer.len ≡ 0) × (vec_len buffer.bytes ≡ read_buffer_size)) }
@@ -46,11 +48,11 @@ impl ReadBuffer {
         }
     }
 
-    /// Reads once. All lines have been flushed before.
+    /// Reads once from the source. All lines have been flushed before.
     ///
     /// # Errors
     ///
-    /// Returns `Failed` if the source failed.
+    /// Returns `Failed` if the source fails.
     pub fn pull<S: Source>(
         &mut self,
         source: &mut S,
@@ -62,11 +64,11 @@ impl ReadBuffer {
         requires none { length _text.now.bytes.items ≡ 0 }
         ensures count { CountsFailure (S.failure_count source.old) result
             (S.failure_count source.new) }
-        // New bytes come after those that were kept.
+        // New bytes are appended to the buffered bytes.
         ensures buffered { IfOk result (λ _. BuffersMore
             (take self.old.len self.old.bytes.items) (take self.new.len self.new.bytes.items)
             (S.remaining source.old) (S.remaining source.new)) }
-        // It is the end only if nothing is left to be read.
+        // The result is the end only if the source has no bytes left.
         ensures end { IfOk result (λ received. received.is_end ≡ true
             → self.old.len < vec_len self.old.bytes → IsAtEnd (S.remaining source.new)) }
         ensures size { vec_len self.new.bytes ≡ vec_len self.old.bytes }
@@ -82,7 +84,7 @@ impl ReadBuffer {
         })
     }
 
-    /// Returns the bytes.
+    /// Returns the buffered bytes.
     pub fn buffered(&self) -> &[u8]
         ensures bytes { result.now ≡ take self.now.len self.now.bytes.items }
         ensures len { length result.now ≡ self.now.len }
@@ -91,7 +93,7 @@ impl ReadBuffer {
         buffered
     }
 
-    /// Drops the first bytes, which are no longer needed.
+    /// Drops the first `count` bytes, which are no longer needed.
     pub fn skip_bytes(&mut self, count: usize)
         requires { count ≤ self.old.len }
         ensures buffered { take self.new.len self.new.bytes.items

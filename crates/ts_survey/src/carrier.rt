@@ -1,4 +1,4 @@
-//! A PID with Teletext that is followed: what its packets carry, and what is missing.
+//! A PID with Teletext that is followed: what its transport packets carry, and what is missing.
 ghost use Rattle.std.specs.Prelude.{◌≡◌, IfSome};
 
 use crate::adaptation::is_scrambled;
@@ -18,10 +18,11 @@ use ttx_packet::PageId;
 /// The maximum number of irregular PCRs that wait for more data.
 const PENDING: usize = 4;
 
-/// The number of packets after an irregular PCR up to which counters show what happened.
+/// The number of packets after an irregular PCR up to which the counters of other PIDs show what
+/// happened.
 pub const INSPECTED_PACKETS: u64 = 5000;
 
-/// An irregular PCR, and the PTS around it.
+/// An irregular PCR, and the PTS before and after it.
 #[derive(Clone, Copy, Default)]
 struct Pending {
     strange: IrregularPcr,
@@ -29,19 +30,19 @@ struct Pending {
     after: Option<u64>,
 }
 
-/// A PID that is followed.
+/// A PID with Teletext that is followed.
 #[derive(Drop)]
 pub struct Carrier {
     pid: u16,
     packets_of: PidPackets<Given>,
-    // The counter of the last good packet, and whether a jump was announced since then.
+    // The counter of the last good packet, and whether a jump was announced after that packet.
     counter: Option<u8>,
     has_jump: bool,
     packets: u64,
     scrambled: u64,
     header: PesHeader,
-    // PTS: of the last PES packet that began, of the last that was compared with the clock, and of
-    // the one that had begun before the last PCR.
+    // The PTS of the last PES packet that began, of the last PES packet that was compared with the
+    // clock, and of the PES packet that began last before the last PCR.
     begun: Option<u64>,
     sampled: Option<u64>,
     before_pcr: Option<u64>,
@@ -50,7 +51,7 @@ pub struct Carrier {
 }
 
 impl Carrier {
-    /// Returns the state before the first packet; `None` if memory runs out.
+    /// Creates the state before the first packet of a PID. Returns `None` if memory runs out.
     pub fn new(alloc: Global, pid: u16, page: PageId) -> Option<Carrier>
         ensures { IfSome result (λ carrier. carrier.pid ≡ pid) }
     {
@@ -71,12 +72,12 @@ impl Carrier {
         })
     }
 
-    /// Returns its PID.
+    /// Returns the PID that is followed.
     pub fn pid(&self) -> u16 {
         self.pid
     }
 
-    /// Processes a packet of the PID, and returns the PTS that begins in it, if one does.
+    /// Processes a packet of the PID, and returns the PTS that begins in it, if any.
     pub fn take(&mut self, packet: &[u8; PACKET], text: &mut Text) -> Option<u64>
         ensures { self.new.pid ≡ self.old.pid }
     {
@@ -88,7 +89,7 @@ impl Carrier {
         begun
     }
 
-    // Counts a packet if it is scrambled.
+    // Counts a transport packet if it is scrambled.
     fn note_scrambled(&mut self, packet: &[u8; PACKET])
         ensures { self.new.pid ≡ self.old.pid }
     {
@@ -98,8 +99,9 @@ impl Carrier {
         }
     }
 
-    // Counts what is lost before a packet, and notes a seam before it. Returns the PTS whose PES
-    // header is complete with the packet. A repeat of the last good packet changes nothing.
+    // Counts packets that are lost before a packet, and notes a seam before it. Returns the PTS
+    // whose PES header becomes complete with the packet. A repeat of the last good packet changes
+    // nothing.
     fn note(&mut self, packet: &[u8; PACKET]) -> Option<u64>
         ensures { self.new.pid ≡ self.old.pid }
     {
@@ -127,7 +129,7 @@ impl Carrier {
         }
     }
 
-    // Returns the PTS of a PES packet that began, if it has one and is of private_stream_1.
+    // Returns the PTS of the PES packet that began, if it has a PTS and is of private_stream_1.
     fn begin(&mut self) -> Option<u64>
         ensures { self.new.pid ≡ self.old.pid }
     {
@@ -139,8 +141,8 @@ impl Carrier {
         Some(pts)
     }
 
-    // Counts what is lost before a good packet, by its counter. Returns whether the packet follows
-    // the last one.
+    // Counts packets that are lost before a good packet, by its counter. Returns whether the packet
+    // follows the last good packet.
     fn count_lost(&mut self, packet: &[u8; PACKET]) -> bool
         ensures { self.new.pid ≡ self.old.pid }
     {
@@ -152,14 +154,15 @@ impl Carrier {
         lost == 0 && !is_jump
     }
 
-    /// Notes that packets may be missing, since so many bytes were skipped.
+    /// Records that packets of the PID may be missing, since many bytes were skipped.
     pub fn note_loss(&mut self)
         ensures { self.new.pid ≡ self.old.pid }
     {
         self.packets_of.note_loss();
     }
 
-    /// Notes a PCR of its programme: the next one is compared with what has begun.
+    /// Records a PCR of the PID's programme. The next PCR is compared with the PTS that began
+    /// before it.
     pub fn note_pcr(&mut self, strange: Option<IrregularPcr>, pids: &Pids, text: &mut Text)
         ensures { self.new.pid ≡ self.old.pid }
     {
@@ -169,7 +172,7 @@ impl Carrier {
         self.before_pcr = self.begun;
     }
 
-    // Keeps an irregular PCR. If there is no room, the oldest is printed at once.
+    // Stores an irregular PCR. If no room is left, prints the oldest stored PCR at once.
     fn add_pending(&mut self, strange: IrregularPcr, pids: &Pids, text: &mut Text)
         ensures { self.new.pid ≡ self.old.pid }
     {
@@ -183,8 +186,8 @@ impl Carrier {
         });
     }
 
-    /// Notes a PTS that began in a packet: irregular PCRs before it use it, and if a second has
-    /// passed since the last comparison, it is compared with the clock.
+    /// Records a PTS that began in a packet. Irregular PCRs before the packet use this PTS, and if
+    /// a second has passed since the last comparison, the PTS is compared with the clock.
     pub fn note_pts(&mut self, pts: u64, pcr: Option<u64>, text: &mut Text)
         ensures { self.new.pid ≡ self.old.pid }
     {
@@ -200,8 +203,8 @@ impl Carrier {
         }
     }
 
-    /// Returns whether a PTS is a second from the last one that was compared with the clock, and
-    /// nothing is missing before it.
+    /// Returns whether a PTS is a second or more from the last PTS that was compared with the
+    /// clock, and no data is missing before it.
     pub fn is_due(&self, pts: u64) -> bool {
         if self.packets_of.to.is_broken() {
             return false;
@@ -212,15 +215,15 @@ impl Carrier {
         }
     }
 
-    /// Notes a PTS that began in a packet after a picture of its programme.
+    /// Records a PTS that began in a packet after a picture of the same programme.
     pub fn take_lead(&mut self, pts: u64, picture: &Picture, text: &mut Text)
         ensures { self.new.pid ≡ self.old.pid }
     {
         self.lead.take(self.pid, pts, picture, text);
     }
 
-    /// Prints the irregular PCRs for which no more data is needed at the packet with this number;
-    /// or all.
+    /// Prints the irregular PCRs that need no more data at packet number `number`; all of them if
+    /// `number` is `None`.
     pub fn settle(&mut self, number: Option<u64>, pids: &Pids, text: &mut Text)
         ensures { self.new.pid ≡ self.old.pid }
     {
@@ -231,7 +234,7 @@ impl Carrier {
         }
     }
 
-    // Prints the first irregular PCR if no more data is needed for it, and returns whether it did.
+    // Prints the first irregular PCR if it needs no more data, and returns whether it was printed.
     fn settle_first(&mut self, number: Option<u64>, pids: &Pids, text: &mut Text) -> bool
         ensures { self.new.pid ≡ self.old.pid }
     {
@@ -249,7 +252,7 @@ impl Carrier {
         is_known_section
     }
 
-    // Prints the first irregular PCR, if there is one.
+    // Prints the first irregular PCR, if any is stored.
     fn report_first(&mut self, pids: &Pids, text: &mut Text)
         ensures { self.new.pid ≡ self.old.pid }
     {
@@ -261,25 +264,25 @@ impl Carrier {
         let _ = self.pending.remove(0);
     }
 
-    /// Returns whether an irregular PCR waits.
+    /// Returns whether an irregular PCR is waiting for more data.
     pub fn is_waiting(&self) -> bool {
         !self.pending.is_empty()
     }
 
-    /// Prints the PES packets that were not printed yet, since no more data is there for now.
+    /// Prints the PES packets that were not printed yet, since no more data is available for now.
     pub fn flush(&mut self, text: &mut Text)
         ensures { self.new.pid ≡ self.old.pid }
     {
         self.packets_of.to.flush(text);
     }
 
-    /// Ends the recording: the line of the PID is the last one.
+    /// Ends the recording: prints what is left of the PID, with the line of its counts last.
     pub fn end(&self, text: &mut Text) {
         self.packets_of.to.end(text);
         self.report_end(text);
     }
 
-    // Prints how many packets came, and what they gave.
+    // Prints how many packets the PID had, and how many PES packets and gap markers resulted.
     fn report_end(&self, text: &mut Text) {
         let given = &self.packets_of.to;
         text.put(b"end");
@@ -295,7 +298,7 @@ impl Carrier {
     }
 }
 
-// Returns how many packets are lost before a good one that is no repeat.
+// Returns how many packets are lost before a good packet that is no repeat.
 fn lost_before(counter: Option<u8>, is_jump: bool, packet: &[u8; PACKET]) -> u8 {
     match counter {
         Some(last) if !is_jump => {
@@ -305,7 +308,7 @@ fn lost_before(counter: Option<u8>, is_jump: bool, packet: &[u8; PACKET]) -> u8 
     }
 }
 
-// Prints how far a PTS is ahead of a PCR.
+// Prints by how much a PTS is ahead of a PCR.
 fn report_ahead(pid: u16, pts: u64, pcr: u64, text: &mut Text) {
     text.put(b"ahead");
     text.number(pid as u64);
@@ -314,7 +317,7 @@ fn report_ahead(pid: u16, pts: u64, pcr: u64, text: &mut Text) {
     text.put(b"\n");
 }
 
-// Prints an irregular PCR, with what the counters of other PIDs show.
+// Prints an irregular PCR, with what the counters of other PIDs show about it.
 fn report_clock(pid: u16, one: &Pending, reported: &[u8], text: &mut Text) {
     text.put(b"clock");
     text.number(pid as u64);
@@ -328,7 +331,7 @@ fn report_clock(pid: u16, one: &Pending, reported: &[u8], text: &mut Text) {
     text.put(b"\n");
 }
 
-// Returns as a word whether the PES packet that began last is incomplete.
+// Returns a word that says whether the PES packet that began last is incomplete.
 fn cut_word(is_cut: bool) -> &'static [u8] {
     if is_cut { b" 1" } else { b" 0" }
 }

@@ -6,25 +6,25 @@ ghost use Rattle.ts_survey.specs.CharacterSets as specs;
 use crate::text::Text;
 use ttx_packet::{Packet, unham};
 
-/// Each line is printed once: packet 28 or 29, designation 0 or 4, 128 sets or one that can't be
-/// read.
+/// The number of possible lines, each of which is printed once: packet 28 or 29, designation 0 or
+/// 4, 128 character sets or one that cannot be read.
 const LINES: usize = 1024;
 
-/// The lines that were printed.
+/// The lines of character sets that were printed.
 #[derive(Drop)]
 pub struct CharacterSets {
     reported: [bool; LINES],
 }
 
 // Returns the 18 data bits of three Hamming 24/18 bytes (EN 300 706, 8.3), with one wrong bit
-// corrected; `None` if two are wrong.
+// corrected. Returns `None` if two bits are wrong.
 fn triplet(first: u8, second: u8, third: u8) -> Option<u32>
     ensures { result ≡ specs.triplet first second third }
 {
     carried_bits(first as u32 + second as u32 * 0x100 + third as u32 * 0x1_0000)
 }
 
-// Returns the data bits of the 24 bits.
+// Returns the data bits of a Hamming 24/18 word of 24 bits, or `None` if two bits are wrong.
 fn carried_bits(word: u32) -> Option<u32>
     ensures { result ≡ specs.carried_bits word }
 {
@@ -42,7 +42,7 @@ fn carried_bits(word: u32) -> Option<u32>
     Some(data_bits(with_bit_flipped(word, wrong)))
 }
 
-// Returns the place of a single wrong bit, 0 for the last.
+// Returns the place of a single wrong bit in a Hamming 24/18 word, or 0 for the last bit.
 fn wrong_place(word: u32) -> u32
     ensures { result ≡ specs.wrong_place word }
 {
@@ -53,7 +53,7 @@ fn wrong_place(word: u32) -> u32
         + failed(word, 0x7F_8000, 16)
 }
 
-// Returns the digit if the test of some bits fails, otherwise 0.
+// Returns `digit` if the Hamming 24/18 test of these bits fails, and otherwise 0.
 fn failed(word: u32, bits: u32, digit: u32) -> u32
     ensures value { result ≡ specs.digit_if_failed word bits digit }
     ensures range { result ≤ digit }
@@ -65,7 +65,7 @@ fn failed(word: u32, bits: u32, digit: u32) -> u32
     }
 }
 
-// Returns a word with the bit at a place flipped.
+// Returns a word with the bit at a place flipped. Place 0 leaves the word unchanged.
 fn with_bit_flipped(word: u32, place: u32) -> u32
     requires { place ≤ 23 }
     ensures { result ≡ specs.with_bit_flipped word place }
@@ -77,15 +77,16 @@ fn with_bit_flipped(word: u32, place: u32) -> u32
     }
 }
 
-// Returns the data bits of a word: those at no power of two, counted from 1.
+// Returns the data bits of a Hamming 24/18 word: those at places that are no powers of two, counted
+// from 1.
 fn data_bits(word: u32) -> u32
     ensures { result ≡ specs.data_bits word }
 {
     word / 4 % 2 + word / 0x10 % 8 * 2 + word / 0x100 % 0x80 * 0x10 + word / 0x1_0000 % 0x80 * 0x800
 }
 
-// Returns the set in the bits; `None` if they are of another page function than that of rows that
-// are shown.
+// Returns the character set in the bits of triplet 1. Returns `None` if the bits belong to a page
+// function other than that of pages that are shown.
 fn set_in(number: u8, bits: Option<u32>) -> Option<Option<u32>>
     ensures { result ≡ specs.set_in number bits }
 {
@@ -100,7 +101,7 @@ fn set_in(number: u8, bits: Option<u32>) -> Option<Option<u32>>
     }
 }
 
-// Returns the designation of a packet, and its set.
+// Returns the designation of a packet, and its character set.
 fn set_stated(packet: &Packet, number: u8, is_own: bool) -> Option<(u8, Option<u32>)>
     ensures { result ≡ specs.set_stated number is_own packet.now }
 {
@@ -120,7 +121,7 @@ fn none_reported() -> [bool; LINES] {
     [false; LINES]
 }
 
-// Returns the index of a line among all possible ones.
+// Returns the index of the line of a character set among all possible lines.
 fn line_place(number: u8, designation: u8, set: Option<u32>) -> usize
     ensures value { result ≡ specs.line_place number designation set }
     ensures range { result < 1024 }
@@ -133,7 +134,7 @@ fn line_place(number: u8, designation: u8, set: Option<u32>) -> usize
     }
 }
 
-// Prints the line of a set.
+// Prints the line of a character set.
 fn report_set(number: u8, designation: u8, set: Option<u32>, pid: u16, text: &mut Text) {
     text.put(b"set");
     text.number(pid as u64);
@@ -142,7 +143,7 @@ fn report_set(number: u8, designation: u8, set: Option<u32>, pid: u16, text: &mu
     end_set(set, text);
 }
 
-// Prints the region and option of a set at the end of its line.
+// Prints the region and option of a character set at the end of its line.
 fn end_set(set: Option<u32>, text: &mut Text) {
     match set {
         Some(set) => {
@@ -155,7 +156,7 @@ fn end_set(set: Option<u32>, text: &mut Text) {
 }
 
 impl CharacterSets {
-    /// Returns the state before the first line.
+    /// Creates the state before the first line.
     pub fn new() -> CharacterSets {
         CharacterSets {
             reported: none_reported(),
@@ -163,14 +164,14 @@ impl CharacterSets {
     }
 
     /// Processes a packet of the page's magazine that is no header. `is_own`: the last header of
-    /// the magazine is one of the page.
+    /// the magazine is a header of the page.
     pub fn hear(&mut self, packet: &Packet, number: u8, is_own: bool, pid: u16, text: &mut Text) {
         if let Some((designation, set)) = set_stated(packet, number, is_own) {
             self.report(number, designation, set, pid, text);
         }
     }
 
-    // Prints a set, unless it was printed before.
+    // Prints the line of a character set, unless it was printed before.
     fn report(&mut self, number: u8, designation: u8, set: Option<u32>, pid: u16, text: &mut Text) {
         let place = line_place(number, designation, set);
         let was_reported = self.reported[place];

@@ -1,20 +1,20 @@
-//! The clock of a programme: its PCRs, and the irregular ones among them.
+//! The clock of a programme: its PCRs, and which of them are irregular.
 
 use crate::text::{CLOCK, Text, forward};
 use mpeg_ts::{PACKET, announces_jump};
 
-/// The ticks of a second.
+/// The number of ticks of a PTS or PCR base in a second.
 pub const SECOND: u64 = 90_000;
 
-/// A PCR is never late before so many ticks: 0.1 s (ISO/IEC 13818-1).
+/// The shortest interval in ticks after which a PCR may count as late: 0.1 s (ISO/IEC 13818-1).
 const LEAST_LATENESS: u64 = 9_000;
 
-/// The number of intervals whose median is the usual one; fewer say nothing.
+/// The number of intervals whose median is the usual interval; fewer intervals determine none.
 const MEDIAN_INTERVALS: usize = 100;
 
 const FEWEST: usize = 5;
 
-/// The last numbers of a kind.
+/// The last numbers of a kind, such as intervals in ticks.
 #[derive(Clone, Copy)]
 struct Numbers {
     kept: [u64; MEDIAN_INTERVALS],
@@ -23,7 +23,7 @@ struct Numbers {
 }
 
 impl Numbers {
-    // Returns an empty list.
+    // Creates an empty list of numbers.
     fn new() -> Numbers {
         Numbers {
             kept: [0; MEDIAN_INTERVALS],
@@ -32,7 +32,7 @@ impl Numbers {
         }
     }
 
-    // Adds a number, in place of the oldest if the list is full.
+    // Adds a number, in place of the oldest number if the list is full.
     fn add(&mut self, number: u64) {
         put_at(&mut self.kept, self.next, number);
         self.next = (self.next % MEDIAN_INTERVALS + 1) % MEDIAN_INTERVALS;
@@ -41,7 +41,7 @@ impl Numbers {
         }
     }
 
-    // Returns the median, the upper of two; 0 if there are no numbers.
+    // Returns the median of the numbers, the upper one of two; 0 if the list is empty.
     fn middle(&self) -> u64 {
         let mut sorted = self.kept;
         let (some, _) = sorted.split_at_mut(self.count.min(MEDIAN_INTERVALS));
@@ -49,14 +49,14 @@ impl Numbers {
     }
 }
 
-// Puts a number at a place, if there is that place.
+// Stores a number at an index, if the index is within the array.
 fn put_at(kept: &mut [u64; MEDIAN_INTERVALS], place: usize, number: u64) {
     if place < MEDIAN_INTERVALS {
         kept[place] = number;
     }
 }
 
-// Returns the median of numbers, which it sorts; 0 if there are none.
+// Returns the median of numbers, which it sorts; 0 if the slice is empty.
 fn median_of(numbers: &mut [u64]) -> u64 {
     numbers.sort_unstable();
     match numbers.get(numbers.len() / 2) {
@@ -65,7 +65,7 @@ fn median_of(numbers: &mut [u64]) -> u64 {
     }
 }
 
-// Returns whether an interval of so many ticks is usual, given the number of known intervals and
+// Returns whether an interval of this many ticks is usual, given the number of known intervals and
 // their median.
 fn is_usual(ticks: u64, count: usize, middle: u64) -> bool {
     if ticks >= CLOCK / 2 {
@@ -74,7 +74,8 @@ fn is_usual(ticks: u64, count: usize, middle: u64) -> bool {
     ticks <= LEAST_LATENESS || count < FEWEST || ticks <= middle.saturating_mul(3)
 }
 
-/// A PCR that comes late, or goes back: the packets of the two, and what is usual.
+/// An irregular PCR, which comes late or goes back: the packets of this PCR and the PCR before it,
+/// and the usual interval.
 #[derive(Clone, Copy, Default)]
 pub struct IrregularPcr {
     pub first: u64,
@@ -96,7 +97,7 @@ pub struct Clock {
 }
 
 impl Clock {
-    /// Returns the state of a PID before the first PCR.
+    /// Creates the state of a PID before its first PCR.
     pub fn new(pid: u16) -> Clock {
         Clock {
             pid,
@@ -108,18 +109,18 @@ impl Clock {
         }
     }
 
-    /// Returns its PID.
+    /// Returns the PID of the clock.
     pub fn pid(&self) -> u16 {
         self.pid
     }
 
-    /// Notes a packet of the PID, which may announce that the clock continues elsewhere.
+    /// Records a packet of the PID, which may announce a jump of the clock.
     pub fn note(&mut self, packet: &[u8; PACKET]) {
         self.is_announced = self.is_announced || announces_jump(packet);
     }
 
-    /// Processes a PCR in the packet with this number, and prints it once a second. Returns in
-    /// which way it is irregular, if it is.
+    /// Processes a PCR in packet number `number`, and prints the PCR once a second. Returns how the
+    /// PCR is irregular, if it is.
     pub fn take(&mut self, pcr: u64, number: u64, text: &mut Text) -> Option<IrregularPcr> {
         let is_due = match self.reported {
             None => true,
@@ -138,7 +139,7 @@ impl Clock {
         strange
     }
 
-    // Compares a PCR with the one before.
+    // Compares a PCR with the PCR before it.
     fn compare(&mut self, last: u64, at: u64, pcr: u64, number: u64) -> Option<IrregularPcr> {
         let ticks = forward(last, pcr);
         let packets = number.saturating_sub(at);
@@ -156,13 +157,14 @@ impl Clock {
         })
     }
 
-    // Returns whether the interval of a PCR is usual; the first ones determine what that means.
+    // Returns whether the interval before a PCR is usual. The first intervals determine which
+    // intervals are usual.
     fn is_usual(&self, ticks: u64) -> bool {
         is_usual(ticks, self.ticks.count, self.ticks.middle())
     }
 
-    /// Returns the last PCR, if it is recent: fewer packets ago than four times the usual number
-    /// between two, or than 256 if that is more.
+    /// Returns the last PCR, if it is recent: fewer packets ago than four times the usual number of
+    /// packets between two PCRs, or than 256 packets if that is more.
     pub fn near(&self, number: u64) -> Option<u64> {
         let Some((pcr, at)) = self.last else {
             return None;
@@ -182,7 +184,7 @@ impl Clock {
         text.put(b"\n");
     }
 
-    /// Ends the recording: prints the last PCR.
+    /// Ends the recording: prints the last PCR of the PID.
     pub fn end(&self, text: &mut Text) {
         if let Some((pcr, _)) = self.last {
             self.report(pcr, text);

@@ -1,8 +1,8 @@
-//! Whether the pictures that are shown before the flagged one of a group can be decoded without the
-//! group before, from the first bytes of the flagged one.
+//! Finds out whether the pictures that are shown before the flagged picture of a group can be
+//! decoded without the group before, from the first bytes of the flagged picture.
 ghost use Rattle.std.specs.Prelude.{◌≤◌, length};
 
-/// stream_type (ISO/IEC 13818-1, table 2-34) of MPEG-1, MPEG-2, H.264 and HEVC.
+/// The stream_type values (ISO/IEC 13818-1, table 2-34) of MPEG-1, MPEG-2, H.264 and HEVC.
 const MPEG_1: u8 = 0x01;
 
 const MPEG_2: u8 = 0x02;
@@ -11,14 +11,14 @@ const H_264: u8 = 0x1B;
 
 const HEVC: u8 = 0x24;
 
-/// The form of a group of pictures.
+/// The form of a group of pictures: whether it can be decoded without the group before.
 #[derive(Clone, Copy, PartialEq, Eq)]
 pub enum Form {
-    /// They can be decoded, if there are any.
+    /// All pictures of the group can be decoded without the group before.
     Closed,
-    /// They can't.
+    /// Pictures before the flagged picture may need the group before.
     Open,
-    /// Unknown.
+    /// The form of the group is unknown.
     Unknown,
 }
 
@@ -26,15 +26,15 @@ pub enum Form {
 #[derive(Clone, Copy, Drop)]
 pub struct FormReader {
     kind: u8,
-    // The last eight bytes.
+    // The last eight bytes of the picture that were read.
     window: [u8; 8],
-    // The form, once it is found.
+    // The form of the group, once it is known.
     form: Option<Form>,
 }
 
 impl FormReader {
-    /// Returns the state before the first byte of a picture of this stream_type; 0 if it is
-    /// unknown.
+    /// Creates the state before the first byte of a picture with this stream_type; 0 if the
+    /// stream_type is unknown.
     pub fn new(kind: u8) -> FormReader {
         FormReader {
             kind,
@@ -43,7 +43,7 @@ impl FormReader {
         }
     }
 
-    /// Returns the form.
+    /// Returns the form of the group.
     pub fn form(&self) -> Form {
         match self.form {
             Some(form) => form,
@@ -51,7 +51,7 @@ impl FormReader {
         }
     }
 
-    /// Reads more bytes.
+    /// Reads more bytes of the picture.
     pub fn read(&mut self, bytes: &[u8]) {
         for byte in bytes {
             *self = reader_after(self, *byte);
@@ -59,7 +59,8 @@ impl FormReader {
     }
 }
 
-// Returns the form that stream_type alone determines: in H.264 nothing says that a group is closed.
+// Returns the form of a group that stream_type alone determines: no field of H.264 says that a
+// group is closed.
 fn known_form(kind: u8) -> Option<Form> {
     match kind {
         MPEG_1 | MPEG_2 | HEVC => None,
@@ -68,7 +69,7 @@ fn known_form(kind: u8) -> Option<Form> {
     }
 }
 
-// Returns the reader after one more byte; it reads no more after the form is found.
+// Returns the reader after one more byte. Once the form is known, the reader does not change.
 fn reader_after(reader: &FormReader, byte: u8) -> FormReader {
     if reader.form.is_some() {
         return *reader;
@@ -84,7 +85,7 @@ fn reader_after(reader: &FormReader, byte: u8) -> FormReader {
     }
 }
 
-// Returns the form that the last eight bytes determine.
+// Returns the form that the last eight bytes of the picture determine, if any.
 fn form_at(kind: u8, window: &[u8; 8]) -> Option<Form> {
     if kind == HEVC {
         form_of_unit(&[window[4], window[5], window[6], window[7]])
@@ -100,9 +101,9 @@ fn has_prefix(bytes: &[u8]) -> bool
     bytes[0] == 0 && bytes[1] == 0 && bytes[2] == 1
 }
 
-// MPEG-1 and MPEG-2 (ISO/IEC 13818-2, 6.2.2.6): group_start_code 00 00 01 B8, time_code (25 bits),
-// closed_gop. A picture without it before leaves the form unknown: picture_start_code is 00 00 01
-// 00.
+// Returns the form of a group of MPEG-1 or MPEG-2 pictures (ISO/IEC 13818-2, 6.2.2.6), from
+// group_start_code 00 00 01 B8, time_code (25 bits), and closed_gop. If a picture begins without a
+// group header (picture_start_code 00 00 01 00), the form is unknown.
 fn form_of_group(bytes: &[u8; 8]) -> Option<Form> {
     if !has_prefix(bytes) {
         return None;
@@ -120,8 +121,8 @@ fn form_of_group(bytes: &[u8; 8]) -> Option<Form> {
     None
 }
 
-// HEVC (ISO/IEC 23008-2, 7.3.1.2): 00 00 01, forbidden_zero_bit, nal_unit_type (6 bits): of the
-// first slice, a number below 32.
+// Returns the form of a group of HEVC pictures (ISO/IEC 23008-2, 7.3.1.2), from the first slice: 00
+// 00 01, forbidden_zero_bit, and nal_unit_type (6 bits), a number below 32.
 fn form_of_unit(bytes: &[u8; 4]) -> Option<Form> {
     if !has_prefix(bytes) {
         return None;
@@ -133,8 +134,9 @@ fn form_of_unit(bytes: &[u8; 4]) -> Option<Form> {
     Some(form_of_slice(kind))
 }
 
-// BLA_W_RADL, BLA_N_LP, IDR_W_RADL and IDR_N_LP (17 to 20) have no pictures before them that need
-// others; BLA_W_LP (16) and CRA_NUT (21) may.
+// Returns the form of a group by nal_unit_type: BLA_W_RADL, BLA_N_LP, IDR_W_RADL and IDR_N_LP (17
+// to 20) have no pictures before them that need others; BLA_W_LP (16) and CRA_NUT (21) may have
+// such pictures.
 fn form_of_slice(kind: u8) -> Form {
     if kind >= 17 && kind <= 20 {
         Form::Closed

@@ -1,4 +1,4 @@
-//! What the packets of a PID carry, one after another: PES packets, gap markers, and bytes that are
+//! Receives what the transport packets of a PID carry: PES packets, gap markers, and bytes that are
 //! neither.
 
 use crate::pes_lines::PesLines;
@@ -6,29 +6,29 @@ use crate::pid_packets::TakesPesPackets;
 use crate::text::Text;
 use ttx_pes::{is_gap_marker, size_of};
 
-/// What came from a PID.
+/// What was received from a PID so far.
 #[derive(Drop)]
 pub struct Given {
     lines: PesLines,
-    // Whether a gap marker came since the last PES packet; and whether one had come when the last
-    // packet came, or with it.
+    // Whether a gap marker came after the last PES packet; and whether a gap marker had come when
+    // the last transport packet came, or came with it.
     is_after_gap: bool,
     is_broken: bool,
-    // Since the last PES packet: whether a gap marker for missing packets is pending, and the
-    // packets that were lost or scrambled.
+    // After the last PES packet: whether a gap marker for missing packets is pending, and the
+    // numbers of packets that were lost or scrambled.
     has_gap_marker: bool,
     lost: u64,
     scrambled: u64,
-    // Whether there is a seam after the last PES packet.
+    // Whether a jump of the counter was announced after the last PES packet.
     has_seam: bool,
     // Whether the PES packet that began last is incomplete.
     is_cut: bool,
-    // Why nothing more comes; 0 if something may.
+    // The number of the fault for which nothing more is received; 0 if no fault was found.
     refusal: u16,
 }
 
 impl Given {
-    /// Returns the state before the first packet.
+    /// Creates the state before the first packet of a PID.
     pub fn new(lines: PesLines) -> Given {
         Given {
             lines,
@@ -43,17 +43,17 @@ impl Given {
         }
     }
 
-    /// Adds lost packets.
+    /// Adds to the number of lost packets.
     pub fn add_lost(&mut self, count: u64) {
         self.lost = self.lost.saturating_add(count);
     }
 
-    /// Notes whether a packet came after a seam.
+    /// Records that a jump of the counter was announced before a packet, if `is_seam` is set.
     pub fn note_seam(&mut self, is_seam: bool) {
         self.has_seam = self.has_seam || is_seam;
     }
 
-    /// Notes that a PES packet begins in a packet.
+    /// Records that a PES packet begins in a transport packet, if `begins` is set.
     pub fn note_begin(&mut self, begins: bool) {
         self.is_cut = self.is_cut || begins;
     }
@@ -63,27 +63,27 @@ impl Given {
         self.is_cut
     }
 
-    /// Counts a scrambled packet.
+    /// Counts a scrambled transport packet of the PID.
     pub fn add_scrambled(&mut self) {
         self.scrambled = self.scrambled.saturating_add(1);
     }
 
-    /// Returns why nothing more comes; 0 if something may.
+    /// Returns the number of the fault for which nothing more is received; 0 if no fault was found.
     pub fn refusal(&self) -> u16 {
         self.refusal
     }
 
-    /// Notes another packet.
+    /// Records that the next packet has come.
     pub fn go_on(&mut self) {
         self.is_broken = self.is_after_gap;
     }
 
-    /// Returns whether something is missing before what the last packet carries.
+    /// Returns whether data is missing before the contents of the last packet.
     pub fn is_broken(&self) -> bool {
         self.is_broken
     }
 
-    // Prints a pending gap marker.
+    // Prints a pending gap marker, if any.
     fn report_gap_marker(&mut self, text: &mut Text) {
         if !self.has_gap_marker {
             return;
@@ -92,7 +92,7 @@ impl Given {
         self.lines.gap_marker(self.lost, self.scrambled, text);
     }
 
-    // Prints the seams before a PES packet, if there are any.
+    // Prints that a jump of the counter was announced before a PES packet, if one was announced.
     fn report_seam(&mut self, text: &mut Text) {
         if !self.has_seam {
             return;
@@ -101,15 +101,15 @@ impl Given {
         self.lines.report_seam(text);
     }
 
-    // Processes a gap marker for missing packets: it is printed before the next PES packet.
+    // Processes a gap marker for missing packets, which is printed before the next PES packet.
     fn take_missing(&mut self) {
         self.has_gap_marker = true;
         self.is_after_gap = true;
         self.is_broken = true;
     }
 
-    // Processes a PES packet, or a gap marker that the PID carries. What came before is printed
-    // first.
+    // Processes a PES packet, or a gap marker that the PID itself carries. Prints a pending gap
+    // marker before it.
     fn take_known(&mut self, pes_packet: &[u8], text: &mut Text) {
         self.report_gap_marker(text);
         self.is_cut = false;
@@ -130,7 +130,7 @@ impl Given {
         self.lines.flush(text);
     }
 
-    /// Ends the recording: prints what was kept back.
+    /// Ends the recording: prints everything that is still to be printed for the PID.
     pub fn end(&self, text: &mut Text) {
         if self.has_gap_marker {
             self.lines
@@ -140,14 +140,14 @@ impl Given {
         }
     }
 
-    /// Returns the number of PES packets and gap markers, with a pending one.
+    /// Returns the number of PES packets and gap markers, including a pending gap marker.
     pub fn count(&self) -> u64 {
         self.lines
             .count()
             .saturating_add(self.has_gap_marker as u64)
     }
 
-    /// Returns how many of them are gap markers.
+    /// Returns the number of gap markers, including a pending gap marker.
     pub fn gap_markers(&self) -> u64 {
         self.lines
             .gap_markers()
@@ -156,7 +156,7 @@ impl Given {
 }
 
 impl TakesPesPackets for Given {
-    /// Processes a PES packet, a gap marker, or other bytes, after which nothing comes.
+    /// Processes a PES packet, a gap marker, or other bytes, after which nothing more is received.
     fn take(&mut self, pes_packet: &[u8], is_missing: bool, text: &mut Text) {
         if is_missing {
             self.take_missing();
@@ -173,8 +173,8 @@ impl TakesPesPackets for Given {
     }
 }
 
-// Returns the refusal of bytes that are no PES packet with Teletext; `None` for one, and for a gap
-// marker.
+// Returns the fault of bytes that are no PES packet with Teletext. Returns `None` for a PES packet
+// with Teletext and for a gap marker.
 fn refusal_of(bytes: &[u8]) -> Option<u16> {
     let head = bytes.first_chunk()?;
     match size_of(head) {

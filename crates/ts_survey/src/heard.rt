@@ -1,25 +1,26 @@
-//! What happened in a PES packet: letters, and the numbers of its headers.
+//! The events of a PES packet as they are printed: characters for events, and the numbers of its
+//! page headers.
 ghost use Rattle.std.specs.Prelude.{◌<◌, IfSome};
 
 use crate::text::{Text, upper_digit};
 use arrayvec::ArrayVec;
 use ttx_packet::unham;
 
-/// The events of a PES packet, which are compared with those of the one before.
+/// The events of a PES packet, which are compared with those of the PES packet before.
 #[derive(Drop)]
 pub struct Heard {
-    /// Letters: `c`, `h`, `e` in order, then `o`, `b`, `s`.
+    /// The characters of the events: `c`, `h`, `e` in order of the packets, then `o`, `b`, `s`.
     characters: ArrayVec<u8, 160>,
-    /// The eight numbers of each header of the page.
+    /// The eight numbers of each header of the page in the PES packet.
     control: ArrayVec<u8, 640>,
-    /// The number of Teletext packets.
+    /// The number of Teletext packets in the PES packet.
     units: u64,
-    /// The refusal of the PES packet; 0 for none.
+    /// The number of the fault of the PES packet; 0 if it has no fault.
     fault: u16,
 }
 
 impl Heard {
-    /// Returns an empty value.
+    /// Creates a value without events.
     pub fn new() -> Heard {
         Heard {
             characters: ArrayVec::new(),
@@ -29,7 +30,7 @@ impl Heard {
         }
     }
 
-    /// Begins the next PES packet; `fault` is its refusal, or 0.
+    /// Begins the next PES packet. `fault` is the number of its fault, or 0.
     pub fn begin(&mut self, fault: u16) {
         self.characters.clear();
         self.control.clear();
@@ -37,7 +38,7 @@ impl Heard {
         self.fault = fault;
     }
 
-    /// Prints the fields.
+    /// Prints the events of the PES packet as fields of its line.
     pub fn report(&self, text: &mut Text) {
         text.put(b" ");
         text.put(self.reported_characters());
@@ -48,7 +49,7 @@ impl Heard {
         text.put(b"\n");
     }
 
-    // Returns the letters as they are printed.
+    // Returns the characters of the events as they are printed.
     fn reported_characters(&self) -> &[u8] {
         if self.characters.is_empty() {
             b"-"
@@ -57,38 +58,38 @@ impl Heard {
         }
     }
 
-    /// Adds a letter.
+    /// Adds the character of an event.
     pub fn add(&mut self, character: u8) {
         let _ = self.characters.try_push(character);
     }
 
-    /// Adds a letter if the condition holds.
+    /// Adds the character of an event if `is_so` is set.
     pub fn add_if(&mut self, is_so: bool, character: u8) {
         if is_so {
             self.add(character);
         }
     }
 
-    /// Counts a Teletext packet.
+    /// Counts a Teletext packet of the PES packet.
     pub fn add_unit(&mut self) {
         self.units = self.units.saturating_add(1);
     }
 
-    /// Begins the numbers of a header, after those of another.
+    /// Begins the numbers of a header of the page, after those of another header.
     pub fn begin_header(&mut self) {
         if !self.control.is_empty() {
             let _ = self.control.try_push(b'+');
         }
     }
 
-    /// Adds the numbers of the header, from its coded bytes.
+    /// Adds the numbers of a header of the page, from its coded bytes.
     pub fn add_numbers(&mut self, bytes: &[u8]) {
         for byte in bytes {
             self.add_number(unham(*byte));
         }
     }
 
-    // Adds the next number, if its byte can be decoded.
+    // Adds the next number of a header, if its byte can be decoded.
     fn add_number(&mut self, number: Option<u8>)
         requires { IfSome number (λ n. n < 16) }
     {
@@ -97,12 +98,12 @@ impl Heard {
         }
     }
 
-    // Adds a digit.
+    // Adds a hexadecimal digit of a number.
     fn add_digit(&mut self, digit: u8) {
         let _ = self.control.try_push(digit);
     }
 
-    /// Returns whether both are the same.
+    /// Returns whether two PES packets have the same events.
     pub fn is_same(&self, other: &Heard) -> bool {
         self.units == other.units
             && self.fault == other.fault
@@ -110,7 +111,7 @@ impl Heard {
             && self.control.as_slice() == other.control.as_slice()
     }
 
-    /// Copies another value.
+    /// Copies the events of another PES packet.
     pub fn copy(&mut self, other: &Heard) {
         self.begin(other.fault);
         let _ = self

@@ -1,9 +1,9 @@
-//! How far the Teletext of a PID is ahead of the pictures of its programme, once a second.
+//! Prints once a second how far the Teletext of a PID is ahead of the pictures of its programme.
 
 use crate::clock::SECOND;
 use crate::text::{Text, forward};
 
-/// The last picture of a video PID with a decoding time, and the number of its PES packet.
+/// The last picture of a video PID that has a decoding time, and the number of its PES packet.
 #[derive(Clone, Copy)]
 pub struct Picture {
     pub video: u16,
@@ -11,17 +11,18 @@ pub struct Picture {
     pub number: u64,
 }
 
-/// What was printed of the lead of a PID.
+/// What was printed so far about how far a PID is ahead of the pictures.
 #[derive(Drop)]
 pub struct Lead {
-    // The video PID, and its PES packet after which one with Teletext began last.
+    // The video PID, and the number of its PES packet after which a PES packet with Teletext began
+    // last.
     following: Option<(u16, u64)>,
-    // The PTS of the last line.
+    // The PTS in the last line that was printed.
     last: Option<u64>,
 }
 
 impl Lead {
-    /// Returns the state before the first line.
+    /// Creates the state before the first line.
     pub fn new() -> Lead {
         Lead {
             following: None,
@@ -29,8 +30,8 @@ impl Lead {
         }
     }
 
-    /// Processes a PES packet of the PID with this PTS, after a picture. It is printed if it is the
-    /// first one after that picture, and a second from the last line.
+    /// Processes a PES packet of the PID with this PTS, after a picture. Prints a line if the PES
+    /// packet is the first after that picture, and a second has passed since the last line.
     pub fn take(&mut self, pid: u16, pts: u64, picture: &Picture, text: &mut Text) {
         if !self.go_to(picture) || !self.is_due(pts) {
             return;
@@ -39,8 +40,8 @@ impl Lead {
         put_lead(pid, pts, picture, text);
     }
 
-    // Moves to a picture, and returns whether it is another one than before. After a change of the
-    // video PID the next line is printed at once.
+    // Moves to a picture, and returns whether it differs from the picture before. After a change of
+    // the video PID the next line is printed at once.
     fn go_to(&mut self, picture: &Picture) -> bool {
         let before = self.following;
         self.following = Some((picture.video, picture.number));
@@ -53,7 +54,7 @@ impl Lead {
         }
     }
 
-    // Returns whether a PTS is a second or more after the last line, or before it.
+    // Returns whether a PTS is a second or more after the PTS of the last line, or before it.
     fn is_due(&self, pts: u64) -> bool {
         match self.last {
             Some(last) => forward(last, pts) >= SECOND,
@@ -62,7 +63,7 @@ impl Lead {
     }
 }
 
-// Prints how far a PES packet of Teletext is ahead of a picture.
+// Prints how far a PES packet with Teletext is ahead of a picture.
 fn put_lead(pid: u16, pts: u64, picture: &Picture, text: &mut Text) {
     text.put(b"lead");
     text.number(pid as u64);

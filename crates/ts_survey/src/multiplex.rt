@@ -1,4 +1,4 @@
-//! Follows everything in a transport stream, one packet after another.
+//! Follows all that `survey` reports of a transport stream, one packet after another.
 ghost use Rattle.std.specs.Prelude.{◌≡◌, ◌<◌, [], IfSome};
 ghost use Rattle.std.specs.Prelude.{length, true};
 ghost use Rattle.ts_survey.specs.Requested.{KeepsRequested, is_requested, keeps_requested};
@@ -27,16 +27,17 @@ use ttx_packet::PageId;
 /// The maximum number of PIDs with Teletext, of clocks and of video PIDs that are followed.
 const MOST: usize = 64;
 
-/// A transport stream.
+/// The state of following a transport stream.
 #[derive(Drop)]
 pub struct Multiplex {
     alloc: Global,
     page: PageId,
-    // The requested PID, which alone is followed.
+    // The number of the requested PID, which is the only one followed. `None` follows every PID
+    // with Teletext.
     requested: Option<u16>,
-    // The number of the last packet.
+    // The number of the last transport packet.
     number: u64,
-    // The packet at which irregular PCRs are examined again.
+    // The number of the packet at which irregular PCRs are examined again.
     settle_at: u64,
     out_of_memory: bool,
     pids: Pids,
@@ -47,7 +48,8 @@ pub struct Multiplex {
 }
 
 impl Multiplex {
-    /// Returns the state before the first packet; `None` if memory runs out.
+    /// Creates the state before the first packet of a transport stream. Returns `None` if memory
+    /// runs out.
     pub fn new(
         alloc: Global,
         page: PageId,
@@ -56,7 +58,7 @@ impl Multiplex {
     ) -> Option<Multiplex>
         ensures requested { IfSome result (λ multiplex. (multiplex.requested ≡ requested)
             × (multiplex.page ≡ page) × (others_followed multiplex ≡ [])) }
-        // The requested PID is followed from here on.
+        // If a PID is requested, the line `teletext` of that PID is printed.
         ensures reported { IfSome result (λ multiplex. AddsTexts text.old
             (requested_texts multiplex.requested) text.new) }
     {
@@ -88,7 +90,7 @@ impl Multiplex {
         self.out_of_memory
     }
 
-    // Starts to read the sections of a PID.
+    // Starts to read the sections of a PID with tables.
     fn add_table(&mut self, pid: u16)
         ensures requested { KeepsRequested self.old self.new }
     {
@@ -102,7 +104,7 @@ impl Multiplex {
         }
     }
 
-    // Follows a PID with Teletext, unless it is followed already or another one is requested.
+    // Follows a PID with Teletext, unless the PID is followed already or another PID is requested.
     fn follow(&mut self, pid: u16, text: &mut Text)
         ensures requested { KeepsRequested self.old self.new }
     {
@@ -119,7 +121,7 @@ impl Multiplex {
         }
     }
 
-    // Follows a PID with Teletext from here on; `None` if memory runs out.
+    // Follows a PID with Teletext from now on. Returns `None` if memory runs out.
     fn add_carrier(&mut self, pid: u16, text: &mut Text) -> Option<()>
         requires { length self.old.carriers.items < 64 }
         ensures requested { is_requested self.old.requested pid ≡ true → KeepsRequested self.old
@@ -229,8 +231,8 @@ impl Multiplex {
         }
     }
 
-    // Processes a packet of interest: few are, and doing this out of line takes no registers of the
-    // loop over all packets.
+    // Processes a packet of interest. Few packets are of interest, and this function is not
+    // inlined, so that it takes no registers of the loop over all packets.
     #[inline(never)]
     fn show_on(
         &mut self,
@@ -248,8 +250,8 @@ impl Multiplex {
         pictures.take(packet, kind, link, text);
     }
 
-    // Returns the last picture of the programme with this PCR_PID, from its video PID that began
-    // first.
+    // Returns the last picture of the programme with this PCR_PID, from the video PID of the
+    // programme that began first.
     fn last_picture(&self, clock_pid: u16) -> Option<Picture> {
         if clock_pid == NULL_PID {
             return None;
@@ -285,7 +287,7 @@ impl Multiplex {
         self.note_pcr(pid, strange, text);
     }
 
-    // Passes a PCR of this PCR_PID to each PID of its programme.
+    // Passes a PCR of this PCR_PID to each followed PID of the programme.
     fn note_pcr(&mut self, clock_pid: u16, strange: Option<IrregularPcr>, text: &mut Text)
         ensures requested { KeepsRequested self.old self.new }
     {
@@ -294,7 +296,7 @@ impl Multiplex {
         }
     }
 
-    // Prints the irregular PCRs for which no more data is needed at the packet with this number.
+    // Prints the irregular PCRs that need no more data at packet number `number`.
     fn settle(&mut self, number: u64, text: &mut Text)
         ensures requested { KeepsRequested self.old self.new }
     {
@@ -310,7 +312,7 @@ impl Multiplex {
         };
     }
 
-    // Prints all irregular PCRs, so that none waits.
+    // Prints all irregular PCRs that are waiting for more data.
     fn settle_all(&mut self, text: &mut Text)
         ensures requested { KeepsRequested self.old self.new }
     {
@@ -320,7 +322,8 @@ impl Multiplex {
         self.settle_at = u64::MAX;
     }
 
-    // Processes a packet of a PID: reads its sections and its clock, and examines what begins.
+    // Processes a packet of a PID: reads its sections and its clock, and examines which data begins
+    // in it.
     #[inline(always)]
     fn read(&mut self, pid: u16, state: &PidState, packet: &[u8; PACKET], text: &mut Text)
         ensures requested { KeepsRequested self.old self.new }
@@ -336,8 +339,8 @@ impl Multiplex {
         }
     }
 
-    // Reads a packet that begins something or whose PID is followed, and processes it if its PID
-    // has pictures or Teletext.
+    // Reads a packet in which data begins or whose PID is followed, and processes the packet if its
+    // PID has pictures or Teletext.
     #[inline(always)]
     fn read_on(&mut self, pid: u16, state: &PidState, packet: &[u8; PACKET], text: &mut Text)
         ensures requested { KeepsRequested self.old self.new }
@@ -360,8 +363,8 @@ impl Multiplex {
         }
     }
 
-    // Examines what begins in an unknown PID. If a PES packet does not show its data_identifier, a
-    // later one may.
+    // Examines which data begins in a PID with unknown contents. If a PES packet does not show its
+    // data_identifier, a later PES packet may.
     fn inspect(&mut self, pid: u16, packet: &[u8; PACKET], text: &mut Text)
         ensures requested { KeepsRequested self.old self.new }
     {
@@ -394,7 +397,7 @@ impl Multiplex {
         }
     }
 
-    // Reads the complete sections.
+    // Reads all complete sections of a PID.
     fn read_tables(&mut self, table: u8, text: &mut Text)
         ensures requested { KeepsRequested self.old self.new }
     {
@@ -405,7 +408,7 @@ impl Multiplex {
         }
     }
 
-    // Reads the next complete section, and returns whether there is one.
+    // Reads the next complete section of a PID, and returns whether one was found.
     fn read_table(&mut self, table: u8, text: &mut Text) -> bool
         ensures requested { KeepsRequested self.old self.new }
     {
@@ -419,7 +422,7 @@ impl Multiplex {
         true
     }
 
-    // Reads a new section: of the PAT, which has the first index, or of a PMT.
+    // Reads a new section: of the PAT, whose PID has the first index, or of a PMT.
     fn read_section(&mut self, table: u8, section: &[u8], text: &mut Text)
         ensures requested { KeepsRequested self.old self.new }
     {
@@ -468,7 +471,7 @@ impl Multiplex {
         }
     }
 
-    // Prints a stream, and the pages that it announces.
+    // Prints a stream of a programme, and the Teletext pages that it announces.
     fn read_stream(&mut self, section: &[u8], stream: &Stream, clock_pid: u16, text: &mut Text)
         ensures requested { KeepsRequested self.old self.new }
     {
@@ -479,7 +482,7 @@ impl Multiplex {
         }
     }
 
-    /// Prints what was not printed yet, since no more data is there for now.
+    /// Prints everything that was not printed yet, since no more data is available for now.
     pub fn flush(&mut self, text: &mut Text)
         ensures requested { KeepsRequested self.old self.new }
     {
@@ -488,8 +491,8 @@ impl Multiplex {
         }
     }
 
-    /// Prints what is known at the end of the recording: of pictures, of each PID with Teletext,
-    /// and of clocks. No irregular PCR waits any more.
+    /// Prints what is known at the end of the recording: the pictures, each PID with Teletext, and
+    /// the clocks. No irregular PCR is waiting afterwards.
     pub fn end(&mut self, text: &mut Text)
         ensures requested { KeepsRequested self.old self.new }
     {
@@ -505,7 +508,7 @@ impl Multiplex {
         }
     }
 
-    // Prints what is known of the followed PIDs, one after another.
+    // Prints what is known about the followed PIDs, one after another.
     fn end_pids(&self, text: &mut Text) {
         for pid in 0..NULL_PID {
             self.end_pid(pid, text);
@@ -527,11 +530,11 @@ impl Multiplex {
 }
 
 impl TakesPackets for Multiplex {
-    // The requested PID and page stay the same, and no further PID is followed that is not
-    // requested.
+    // The requested PID and page stay the same, and no further PID that is not requested is
+    // followed.
     ghost is_taken = { keeps_requested };
 
-    /// Processes the packet with this number.
+    /// Processes transport packet number `number`.
     fn take(&mut self, number: u64, packet: &[u8; PACKET], text: &mut Text)
         ensures { keeps_requested self.old packet.now self.new }
     {
@@ -551,7 +554,7 @@ impl TakesPackets for Multiplex {
         }
     }
 
-    /// Notes that packets of any PID may be missing, since so many bytes were skipped.
+    /// Records that packets of any PID may be missing, since many bytes were skipped.
     fn note_loss(&mut self)
         ensures taken { keeps_requested self.old [] self.new }
     {
@@ -561,7 +564,7 @@ impl TakesPackets for Multiplex {
     }
 }
 
-// Passes a PCR of this PCR_PID to a PID, if it is that of its programme.
+// Passes a PCR to a followed PID, if the PCR_PID is that of the PID's programme.
 fn note_pcr_of(
     carrier: &mut Carrier,
     pids: &Pids,
@@ -576,19 +579,20 @@ fn note_pcr_of(
     }
 }
 
-// Returns whether the sections, the clock, the pictures or the PES packets of a PID are followed:
-// one test in place of four, since each packet of a recording comes here.
+// Returns whether the sections, the clock, the pictures or the PES packets of a PID are followed.
+// One test replaces four, since the function runs for each packet of a recording.
 #[inline(always)]
 fn is_followed(state: &PidState) -> bool {
     state.table & state.clock & state.video & state.carrier != NO_INDEX
 }
 
-// Returns whether it is unknown what a PID carries.
+// Returns whether the contents of a PID are unknown.
 fn is_unknown(state: &PidState) -> bool {
     state.carrier == NO_INDEX && state.table == NO_INDEX && !state.is_other
 }
 
-// Returns whether the first data byte of a PES packet is in the payload in which it begins.
+// Returns whether the first data byte of a PES packet is in the payload in which the PES packet
+// begins.
 fn has_data_identifier(payload: &[u8]) -> bool {
     payload.len() > 9 && 9 + (payload[8] as usize) < payload.len()
 }

@@ -1,4 +1,4 @@
-//! What is reported of the packets that a receiver of the page gets.
+//! Records what `survey` reports about the Teletext packets that a receiver of the page receives.
 ghost use Rattle.std.specs.Prelude.{◌≡◌, ◌≤◌, ◌<◌, ℕ};
 ghost use Rattle.ttx_page.specs.PacketKind.{kind};
 
@@ -11,30 +11,31 @@ use std::alloc::Global;
 use ttx_packet::{Control, Header, Packet, PageId};
 use ttx_page::{Blank, PacketKind, Page, Receiver};
 
-/// The number of pages: eight magazines of 256.
+/// The number of Teletext pages: eight magazines of 256 pages.
 const PAGES: usize = 2048;
 
-/// The notes.
+/// What was recorded about the Teletext packets of a PID.
 #[derive(Drop)]
 pub struct Notes {
-    // The rows that the receiver got, with their hits; and those that were printed last.
+    // The rows that the receiver received, with the cells that were hit; and the rows that were
+    // printed last.
     rows: Rows,
     reported: Option<Rows>,
-    // Rows that came in this PES packet after the end of the page; and those that were printed
+    // Rows that came in this PES packet after the end of the page; and such rows that were printed
     // last.
     strays: Rows,
     reported_strays: Rows,
     has_stray: bool,
     // Whether a header of the page came in this PES packet.
     is_opened: bool,
-    // Whether the last header of the magazine is one of the page.
+    // Whether the last header of the magazine is a header of the page.
     is_own: bool,
     subtitles: Vec<u64>,
     sets: CharacterSets,
 }
 
 impl Notes {
-    /// Returns the state before the first packet; `None` if memory runs out.
+    /// Creates the state before the first Teletext packet. Returns `None` if memory runs out.
     pub fn new(alloc: Global) -> Option<Notes> {
         let Ok(subtitles) = vec![in alloc; 0u64; PAGES] else {
             return None;
@@ -52,7 +53,7 @@ impl Notes {
         })
     }
 
-    /// Begins a PES packet.
+    /// Begins the next PES packet.
     pub fn begin(&mut self) {
         self.is_opened = false;
         if self.has_stray {
@@ -61,7 +62,7 @@ impl Notes {
         }
     }
 
-    /// Ends a PES packet, and adds the state of the receiver after it.
+    /// Ends a PES packet, and adds the state of the receiver after it to the events.
     pub fn end(&self, receiver: &Blank, heard: &mut Heard) {
         let is_blank = is_blank(receiver.page());
         heard.add_if(receiver.open(), b'o');
@@ -69,7 +70,7 @@ impl Notes {
         heard.add_if(self.has_stray, b's');
     }
 
-    /// Notes a packet, before the receiver gets it.
+    /// Records a Teletext packet, before the receiver receives it.
     pub fn note(
         &mut self,
         receiver: &Blank,
@@ -85,7 +86,7 @@ impl Notes {
         self.note_any_packet(watched, packet, header, pid, text);
     }
 
-    // Notes a packet of this kind for a receiver of the page.
+    // Records a Teletext packet by its kind for a receiver of the page.
     fn note_kind(&mut self, kind: &PacketKind, is_open: bool, packet: &Packet, heard: &mut Heard)
         requires { (row : ℕ) → kind.now ≡ PacketKind.Row row → (1 ≤ row) × (row ≤ 24) }
     {
@@ -97,7 +98,7 @@ impl Notes {
         }
     }
 
-    // Notes a packet, with its header of any page, if it has one.
+    // Records a Teletext packet with its header of any page, if it has one.
     fn note_any_packet(
         &mut self,
         watched: PageId,
@@ -120,7 +121,7 @@ impl Notes {
         }
     }
 
-    // Notes a row of the page's magazine.
+    // Records a row of the page's magazine.
     fn note_row(&mut self, row: u8, is_open: bool, packet: &Packet)
         requires first { 1 ≤ row }
         requires last { row ≤ 24 }
@@ -133,7 +134,7 @@ impl Notes {
         }
     }
 
-    // Notes a header of the page.
+    // Records a header of the page.
     fn note_header(&mut self, packet: &Packet, header: &Header, heard: &mut Heard) {
         self.is_opened = true;
         heard.add(b'h');
@@ -147,7 +148,7 @@ impl Notes {
         heard.add_numbers(coded);
     }
 
-    // Counts a header of any page if it is one of subtitles.
+    // Counts a header of any page if it has the subtitle bit C6 set.
     fn count_header(&mut self, magazine: u8, header: &Header, pid: u16, text: &mut Text)
         requires { magazine < 8 }
     {
@@ -159,7 +160,7 @@ impl Notes {
         report_first(before, pid, magazine, header.page, text);
     }
 
-    /// Returns whether the rows differ from those printed last, or none were printed.
+    /// Returns whether the rows differ from the rows printed last, or no rows were printed yet.
     pub fn is_changed(&self) -> bool {
         match &self.reported {
             None => true,
@@ -167,7 +168,7 @@ impl Notes {
         }
     }
 
-    /// Returns whether stray rows have to be printed.
+    /// Returns whether rows that came after the end of the page have to be printed.
     pub fn has_new_strays(&self) -> bool {
         self.has_stray && self.strays != self.reported_strays
     }
@@ -178,13 +179,13 @@ impl Notes {
         self.rows.report_buffered(receiver.page(), text);
     }
 
-    /// Prints the stray rows.
+    /// Prints the rows that came after the end of the page.
     pub fn report_strays(&mut self, text: &mut Text) {
         self.reported_strays = self.strays;
         self.strays.report(text);
     }
 
-    /// Prints how many headers with the subtitle bit came for each page.
+    /// Prints for each page how many headers with the subtitle bit came.
     pub fn report_pages(&self, pid: u16, text: &mut Text) {
         let counts = self.subtitles.as_slice();
         for place in 0..counts.len() {
@@ -198,7 +199,8 @@ fn is_blank(page: &Page) -> bool {
     page.first_difference(&Page::blank()).is_none()
 }
 
-// Counts one more at a place, and returns the count before; `None` if there is no such place.
+// Adds one to the count at an index, and returns the count before. Returns `None` if the index is
+// out of range.
 fn count_at(counts: &mut Vec<u64>, place: usize) -> Option<u64> {
     let count = counts.get_mut(place)?;
     let before = *count;
@@ -206,7 +208,7 @@ fn count_at(counts: &mut Vec<u64>, place: usize) -> Option<u64> {
     Some(before)
 }
 
-// Prints a page at its first header with the subtitle bit.
+// Prints the line of a page at its first header with the subtitle bit.
 fn report_first(before: Option<u64>, pid: u16, magazine: u8, page: u8, text: &mut Text)
     requires { magazine < 8 }
 {
@@ -224,7 +226,7 @@ fn report_sub(pid: u16, magazine: u8, page: u8, text: &mut Text)
     text.put(b"\n");
 }
 
-// Prints how many headers with the subtitle bit came for a page, if any did.
+// Prints how many headers with the subtitle bit came for a page, if any came.
 fn report_count(pid: u16, place: usize, count: u64, text: &mut Text) {
     if count == 0 {
         return;

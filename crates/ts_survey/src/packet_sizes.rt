@@ -1,11 +1,12 @@
-//! Detects the distance of packets in the first bytes of a recording.
+//! Detects the distance of transport packets from the first bytes of a recording.
 
 use mpeg_ts::{PACKET, PacketSize, SYNC_BYTE};
 
-/// The number of packets in a row that determine the distance.
+/// The number of transport packets in a row that determine the distance.
 const IN_A_ROW: usize = 5;
 
-// Returns whether a packet may be at a place, or the recording ended before it.
+// Returns whether a transport packet may begin at an offset, or the recording ended before that
+// offset.
 fn may_be_packet_at(bytes: &[u8], place: usize, is_end: bool) -> bool {
     if place >= bytes.len() {
         return is_end;
@@ -13,8 +14,8 @@ fn may_be_packet_at(bytes: &[u8], place: usize, is_end: bool) -> bool {
     bytes[place] == SYNC_BYTE
 }
 
-// Returns whether packets are at a place and after it at this distance, as many as determine it, or
-// up to the end of the recording.
+// Returns whether transport packets begin at an offset and at this distance after it, as many as
+// determine the distance, or up to the end of the recording.
 fn is_at(bytes: &[u8], place: usize, distance: usize, is_end: bool) -> bool {
     let mut at = place;
     for _ in 0..IN_A_ROW {
@@ -26,7 +27,8 @@ fn is_at(bytes: &[u8], place: usize, distance: usize, is_end: bool) -> bool {
     true
 }
 
-// Returns the distance of the packets from a place on; `None` if there are none.
+// Returns the distance of the transport packets from an offset on, or `None` if no packets begin
+// there.
 fn size_at(bytes: &[u8], place: usize, is_end: bool) -> Option<PacketSize> {
     if !may_be_packet_at(bytes, place, is_end) {
         return None;
@@ -43,7 +45,8 @@ fn size_at(bytes: &[u8], place: usize, is_end: bool) -> Option<PacketSize> {
     None
 }
 
-/// Returns the distance at the first place with such packets; `None` if there is none yet.
+/// Returns the distance at the first offset with transport packets, or `None` if no distance is
+/// found yet.
 pub fn find_size(bytes: &[u8], is_end: bool) -> Option<PacketSize> {
     for place in 0..bytes.len().saturating_sub(PACKET - 1) {
         match size_at(bytes, place, is_end) {

@@ -1,9 +1,9 @@
-//! Finds the packets of a transport stream in bytes that come bit by bit; bytes that belong to none
-//! are skipped and counted.
+//! Finds the packets of a transport stream in bytes that arrive part by part. Bytes that belong to
+//! no packet are skipped and counted.
 //!
 //! `Stream` of `mpeg_ts` finds the packets of one PID by a search of its own. A common search would
-//! look at the byte after a packet without consuming it, and break the clause that what `extract`
-//! took gives what came.
+//! look at the byte after a packet without consuming it, and would break the clause that the bytes
+//! which `extract` consumed contain what it returned.
 ghost use Rattle.std.specs.Prelude.{◌≡◌, ◌≤◌, ◌<◌, ◌+◌, ◌-◌, List, [], ◌++◌, ℕ, length};
 ghost use Rattle.std.specs.Prelude.{IfNone, IfSome, drop, false, replicate, take, true};
 ghost use Rattle.mpeg_ts.specs.PacketSize.{bytes_of};
@@ -17,49 +17,49 @@ ghost use Rattle.ts_survey.specs.ReadBuffer.{most_retained_bytes};
 use crate::text::Text;
 use mpeg_ts::{PACKET, PacketSize, SYNC_BYTE};
 
-/// If as many bytes in a row are skipped as so many packets have, packets of any PID may be
-/// missing.
+/// The number of packets that may be missing of any PID if this many packet sizes are skipped in a
+/// row.
 const LOSS: u64 = 15;
 
 /// Processes the packets of a transport stream, one after another.
 pub trait TakesPackets {
-    // The relation of its state before a call, the packet or [] for missing ones, and its state
-    // afterwards.
+    // How a call changes the receiver: its state before the call, the packet, or [] for missing
+    // packets, and its state afterwards.
     ghost is_taken: { Self → List ℕ → Self → Type 0 } = { any_pes_packet };
 
-    /// Processes the packet with this number, and prints what there is to report.
+    /// Processes transport packet number `number`, and prints what is to be reported.
     fn take(&mut self, number: u64, packet: &[u8; PACKET], text: &mut Text)
         ensures { is_taken self.old packet.now self.new };
 
-    /// Notes that packets of any PID may be missing, since so many bytes were skipped.
+    /// Records that packets of any PID may be missing, since many bytes were skipped.
     fn note_loss(&mut self)
         ensures { is_taken self.old [] self.new };
 }
 
-/// How far packets were found.
+/// How far the packets of a transport stream were found.
 #[derive(Drop)]
 pub struct PacketsInStep {
     size: PacketSize,
-    // So many bytes are skipped before the next one that is examined.
+    // How many bytes are skipped before the next byte that is examined.
     lead: usize,
     in_step: bool,
-    // The number of packets so far.
+    // The number of transport packets found so far.
     number: u64,
-    // Bytes that were skipped in a row, and in all.
+    // The number of bytes skipped in a row, and the number of all bytes skipped.
     run: u64,
     skipped: u64,
 }
 
-/// Whether a packet begins.
+/// Whether a transport packet begins at an offset.
 #[derive(Clone, Copy)]
 enum Begins {
     Yes,
     No,
-    // The bytes that decide it have not come.
+    // The bytes that show whether a packet begins have not arrived yet.
     Unknown,
 }
 
-// Returns the packet at a place, if it is complete.
+// Returns the transport packet at an offset, if it is complete.
 #[inline(always)]
 fn packet_at(bytes: &[u8], place: usize) -> Option<&[u8; PACKET]>
     ensures some { IfSome result (λ packet. (place + 188 ≤ length bytes.now)
@@ -74,8 +74,8 @@ fn packet_at(bytes: &[u8], place: usize) -> Option<&[u8; PACKET]>
 }
 
 impl PacketsInStep {
-    /// Returns the state at the start of a stream with this distance of packets, after so many
-    /// skipped bytes.
+    /// Creates the state at the start of a stream with this distance of packets, after `skipped`
+    /// bytes that belong to no packet.
     pub fn new(size: PacketSize, skipped: u64) -> PacketsInStep
         ensures size { result.size ≡ size }
         ensures lead { result.lead ≡ lead_size (bytes_of size) }
@@ -96,7 +96,7 @@ impl PacketsInStep {
         }
     }
 
-    /// Returns the number of packets so far.
+    /// Returns the number of transport packets found so far.
     pub fn number(&self) -> u64
         ensures { result ≡ self.now.number }
     {
@@ -110,7 +110,7 @@ impl PacketsInStep {
         self.skipped
     }
 
-    // Returns the distance of packets.
+    // Returns the distance of transport packets in bytes.
     #[inline(always)]
     #[tactic(auto, using(crate::proofs::InStepLemmas::sizes))]
     fn distance(&self) -> usize
@@ -121,8 +121,8 @@ impl PacketsInStep {
         self.size.bytes()
     }
 
-    // Returns whether a packet begins at a place of the bytes: in step, at a sync byte; otherwise
-    // at one with another sync byte at the distance after it.
+    // Returns whether a transport packet begins at an offset of the bytes: in step, at a sync byte;
+    // out of step, at a sync byte with another sync byte at the distance after it.
     #[inline(always)]
     #[tactic(auto, using(crate::proofs::InStepLemmas::starts))]
     fn begins(&self, bytes: &[u8], place: usize, is_end: bool) -> Begins
@@ -153,7 +153,7 @@ impl PacketsInStep {
         }
     }
 
-    /// Processes the packets of the bytes, and returns how many bytes are no longer needed.
+    /// Processes the packets in the bytes, and returns how many bytes are no longer needed.
     pub fn take<M: TakesPackets>(
         &mut self,
         bytes: &[u8],
@@ -161,8 +161,8 @@ impl PacketsInStep {
         to: &mut M,
         text: &mut Text,
     ) -> usize
-        // Exactly the packets of the bytes are processed, in order, each once, and the gaps; they
-        // and the skipped bytes are counted.
+        // Exactly the packets and gaps in the bytes are processed, in order, each once, and the
+        // packets and skipped bytes are counted.
         ensures all { TakesAll M.is_taken self.old to.old bytes.now is_end result self.new to.new }
         ensures kept { length bytes.now ≤ result + most_retained_bytes }
     {
@@ -176,7 +176,7 @@ impl PacketsInStep {
         used
     }
 
-    // Processes the packets of the bytes, and returns the place after them.
+    // Processes the packets in the bytes, and returns the offset after them.
     #[inline(always)]
     fn find<M: TakesPackets>(
         &mut self,
@@ -209,7 +209,7 @@ impl PacketsInStep {
         at
     }
 
-    // Processes a packet.
+    // Processes a transport packet.
     #[inline(always)]
     fn take_packet<M: TakesPackets>(&mut self, packet: &[u8; PACKET], to: &mut M, text: &mut Text)
         ensures same { self.new ≡ record self.old {
@@ -225,8 +225,8 @@ impl PacketsInStep {
         to.take(self.number, packet, text);
     }
 
-    // Skips a byte, and those up to where the next packet may begin or none has room. Returns the
-    // place after them.
+    // Skips a byte, and further bytes up to the next offset at which a packet may begin, or at
+    // which no packet fits. Returns that offset.
     #[inline(never)]
     fn skip<M: TakesPackets>(&mut self, bytes: &[u8], place: usize, to: &mut M) -> usize
         requires { place + 188 ≤ length bytes.now }
@@ -253,7 +253,7 @@ impl PacketsInStep {
         next
     }
 
-    // Notes missing packets if so many skipped bytes complete a gap.
+    // Records missing packets if the skipped bytes complete a gap.
     #[inline(always)]
     #[tactic(auto, using(crate::proofs::InStepLemmas::losses))]
     fn note_skipped<M: TakesPackets>(&self, count: u64, to: &mut M)
@@ -272,8 +272,8 @@ impl PacketsInStep {
     }
 }
 
-// Returns the first place from `place` on at which a packet may begin out of step, as far as one
-// has room; `place` itself if none has.
+// Returns the first offset from `place` on at which a packet may begin out of step, as long as a
+// packet fits after it; `place` itself if no packet fits.
 fn next_start(bytes: &[u8], place: usize, distance: usize) -> usize
     requires near { 188 ≤ distance }
     requires far { distance ≤ 204 }
@@ -296,8 +296,8 @@ fn next_start(bytes: &[u8], place: usize, distance: usize) -> usize
     limit
 }
 
-// Returns whether a packet may begin at a place out of step: at a sync byte with another one at the
-// distance after it, or after which that byte has not come.
+// Returns whether a packet may begin at an offset out of step: at a sync byte with another sync
+// byte at the distance after it, or if that byte has not arrived yet.
 #[inline(always)]
 #[tactic(auto, using(crate::proofs::InStepLemmas::starts))]
 fn may_begin(bytes: &[u8], place: usize, distance: usize) -> bool

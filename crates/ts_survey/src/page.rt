@@ -1,4 +1,4 @@
-//! A receiver of the page for PES packets, and what it decodes.
+//! Passes PES packets to a receiver of the page, and prints what the receiver decodes.
 
 use crate::heard::Heard;
 use crate::notes::Notes;
@@ -8,7 +8,7 @@ use std::alloc::Global;
 use ttx_packet::{PageId, SentPacket};
 use ttx_page::{Blank, Page, Receiver};
 
-/// A page that is followed: a receiver of it, and the notes of what it gets.
+/// A receiver of the page, and what was recorded about the packets that it received.
 #[derive(Drop)]
 pub struct Following {
     receiver: Blank,
@@ -16,7 +16,7 @@ pub struct Following {
 }
 
 impl Following {
-    /// Returns the state before the first packet; `None` if memory runs out.
+    /// Creates the state before the first packet. Returns `None` if memory runs out.
     pub fn new(alloc: Global, page: PageId) -> Option<Following> {
         let notes = Notes::new(alloc)?;
         Some(Following {
@@ -25,7 +25,7 @@ impl Following {
         })
     }
 
-    /// Processes a PES packet of a PID.
+    /// Passes a PES packet of a PID to the receiver.
     pub fn hear(&mut self, pes: &[u8], pid: u16, heard: &mut Heard, text: &mut Text) {
         self.notes.begin();
         let mut rest = units_of(pes);
@@ -39,7 +39,7 @@ impl Following {
         self.notes.end(&self.receiver, heard);
     }
 
-    // Processes the packet of a data unit, if it has one.
+    // Passes the Teletext packet of a data unit to the receiver, if the data unit carries one.
     fn hear_unit(&mut self, sent: Option<&[u8; 42]>, pid: u16, heard: &mut Heard, text: &mut Text) {
         match sent {
             None => {}
@@ -51,13 +51,13 @@ impl Following {
         }
     }
 
-    /// Returns whether rows have to be printed after a PES packet: at the first header of the page,
-    /// and if they differ from those printed last.
+    /// Returns whether the decoded rows have to be printed after a PES packet: at the first header
+    /// of the page, and if the rows differ from those printed last.
     pub fn is_changed(&self) -> bool {
         self.receiver.heard() && self.notes.is_changed()
     }
 
-    /// Returns the notes.
+    /// Returns what was recorded about the packets of the page.
     pub fn notes(&self) -> &Notes {
         &self.notes
     }
@@ -67,7 +67,7 @@ impl Following {
         self.notes.report_rows(&self.receiver, text);
     }
 
-    /// Prints rows that came after the end of the page.
+    /// Prints the rows that came after the end of the page.
     pub fn report_strays(&mut self, text: &mut Text) {
         self.notes.report_strays(text);
     }

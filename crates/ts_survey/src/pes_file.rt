@@ -1,4 +1,4 @@
-//! A file of PES packets.
+//! Reads a file of PES packets for `survey`.
 ghost use Rattle.std.specs.Prelude.{◌≡◌, ◌≤◌, ◌<◌, ◌+◌, IfNone, IfSome, false};
 ghost use Rattle.std.specs.Prelude.{length};
 ghost use Rattle.ttx_pes.specs.Reading as reading;
@@ -28,14 +28,16 @@ fn is_start(bytes: &[u8]) -> bool
     bytes[0] == 0 && bytes[1] == 0 && bytes[2] == 1 && bytes[3] == 0xBD
 }
 
-// Returns whether the bytes begin with another start code.
+// Returns whether the bytes begin with another start code than that of a PES packet with private
+// data.
 fn has_other_start_code(bytes: &[u8]) -> bool
     ensures { result ≡ pes_packets.has_other_start_code bytes.now }
 {
     bytes.len() >= 6 && !is_start(bytes)
 }
 
-// Returns the size of the complete PES packet at the beginning of the bytes, from its length field.
+// Returns the size in bytes of the complete PES packet at the front of the bytes, from its length
+// field.
 #[tactic(auto, unfolding(crate::specs::FilePesPackets::complete_size))]
 fn complete_size(bytes: &[u8]) -> Option<usize>
     ensures value { result ≡ pes_packets.complete_size bytes.now }
@@ -57,7 +59,7 @@ fn complete_size(bytes: &[u8]) -> Option<usize>
 }
 
 impl PesFile {
-    /// Returns the state before the first PES packet; `None` if memory runs out.
+    /// Creates the state before the first PES packet. Returns `None` if memory runs out.
     pub fn new(alloc: Global, page: PageId) -> Option<PesFile> {
         let lines = PesLines::new(alloc, 0, page)?;
         Some(PesFile {
@@ -66,7 +68,7 @@ impl PesFile {
         })
     }
 
-    /// Processes the PES packets of the bytes, and returns how many bytes are no longer needed.
+    /// Processes the PES packets in the bytes, and returns how many bytes are no longer needed.
     pub fn take(&mut self, bytes: &[u8], is_end: bool, text: &mut Text) -> usize
         ensures within { result ≤ length bytes.now }
         ensures kept { length bytes.now ≤ result + most_retained_bytes }
@@ -83,20 +85,21 @@ impl PesFile {
         bytes.len() - rest.len()
     }
 
-    // Prints that the file can't be read on if bytes are left at its end.
+    // Prints that the file cannot be read on, if bytes are left at its end.
     fn end_at(&mut self, rest: &[u8], is_end: bool, text: &mut Text) {
         if is_end && !rest.is_empty() {
             self.report_damage(b" cut\n", text);
         }
     }
 
-    // Processes the complete PES packets at the beginning of the bytes, and returns the rest.
+    // Processes the complete PES packets at the front of the bytes, and returns the remaining
+    // bytes.
     #[tactic(auto, using(crate::proofs::FilePesPacketsLemmas::counted_one_by_one))]
     fn take_complete<'a>(&mut self, bytes: &'a [u8], text: &mut Text) -> &'a [u8]
         ensures unfinished { pes_packets.has_other_start_code result.now ≡ false
             → length result.now < most_retained_bytes }
         ensures within { length result.now ≤ length bytes.now }
-        // They are counted in order, each once.
+        // The PES packets of the file are counted in order, each once.
         ensures taken { CountsPesPackets self.old.lines.count bytes.now result.now
             self.new.lines.count }
     {
@@ -123,7 +126,7 @@ impl PesFile {
         self.lines.take(pes_packet, text);
     }
 
-    // Prints that the file can't be read on.
+    // Prints that the file cannot be read on.
     fn report_damage(&mut self, why: &[u8], text: &mut Text) {
         self.is_damaged = true;
         self.lines.flush(text);
@@ -132,18 +135,18 @@ impl PesFile {
         text.put(why);
     }
 
-    /// Prints what was not printed yet, since no more data is there for now.
+    /// Prints everything that was not printed yet, since no more data is available for now.
     pub fn flush(&mut self, text: &mut Text) {
         self.lines.flush(text);
     }
 
-    /// Ends the file.
+    /// Ends the file: prints everything that is left to print.
     pub fn end(&self, text: &mut Text) {
         self.lines.end(text);
         self.report_end(text);
     }
 
-    // Prints how many PES packets came.
+    // Prints how many PES packets the file had.
     fn report_end(&self, text: &mut Text) {
         text.put(b"end 0");
         text.number(self.lines.count());

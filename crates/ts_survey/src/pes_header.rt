@@ -1,22 +1,22 @@
-//! The header of a PES packet up to its times, which may be spread over several TS packets (ISO/IEC
-//! 13818-1, PES_packet).
+//! The header of a PES packet up to its times, which may be spread over several transport packets
+//! (ISO/IEC 13818-1, PES_packet).
 
 use crate::adaptation::{decoding_time, pts_stated};
 use arrayvec::ArrayVec;
 
-/// The number of bytes of a header up to the end of its DTS.
+/// The number of bytes of a PES header up to the end of its DTS.
 const MOST: usize = 19;
 
 /// The header of the PES packet that began last in a PID.
 #[derive(Drop)]
 pub struct PesHeader {
     bytes: ArrayVec<u8, MOST>,
-    // Whether more bytes of it are needed.
+    // Whether more bytes of the header are needed.
     is_open: bool,
 }
 
 impl PesHeader {
-    /// Returns the state before the first PES packet.
+    /// Creates the state before the first PES packet.
     pub fn new() -> PesHeader {
         PesHeader {
             bytes: ArrayVec::new(),
@@ -24,24 +24,26 @@ impl PesHeader {
         }
     }
 
-    /// Returns whether more bytes of it are needed.
+    /// Returns whether more bytes of the header are needed.
     pub fn is_open(&self) -> bool {
         self.is_open
     }
 
-    /// Returns how many bytes of it have come: all of them, as long as it is open.
+    /// Returns how many bytes of the header were received. As long as more bytes are needed, these
+    /// are all bytes received.
     pub fn len(&self) -> usize {
         self.bytes.len()
     }
 
-    /// Drops the header: its bytes can't be read, or the rest of them is lost.
+    /// Drops the header, because its bytes cannot be read or the rest of them is lost.
     pub fn clear(&mut self) {
         self.bytes.clear();
         self.is_open = false;
     }
 
-    /// Processes the payload of the next packet, and returns whether the header is complete with
-    /// it: once for each PES packet, and never if its rest does not follow.
+    /// Processes the payload of the next packet, and returns whether the header becomes complete
+    /// with it. Returns `true` once for each PES packet, and never if the rest of the header is
+    /// lost.
     pub fn take(&mut self, payload: &[u8], begins: bool, follows: bool) -> bool {
         if begins || !follows {
             self.clear();
@@ -54,22 +56,22 @@ impl PesHeader {
         !self.is_open
     }
 
-    /// Returns stream_id; `None` if the bytes are no PES packet.
+    /// Returns stream_id of the PES packet, or `None` if the bytes begin no PES packet.
     pub fn stream_id(&self) -> Option<u8> {
         stream_id_in(self.bytes.as_slice())
     }
 
-    /// Returns its PTS.
+    /// Returns the PTS of the PES packet, if it has one.
     pub fn pts(&self) -> Option<u64> {
         pts_stated(self.bytes.as_slice())
     }
 
-    /// Returns its DTS, or its PTS if it has no DTS.
+    /// Returns the DTS of the PES packet, or its PTS if it has no DTS.
     pub fn decoding_time(&self) -> Option<u64> {
         decoding_time(self.bytes.as_slice())
     }
 
-    /// Returns the size of the whole header, from PES_header_data_length.
+    /// Returns the size in bytes of the complete header, from PES_header_data_length.
     pub fn size(&self) -> usize {
         match self.bytes.as_slice().get(8) {
             Some(more) => 9 + *more as usize,
@@ -78,14 +80,14 @@ impl PesHeader {
     }
 }
 
-// Adds the first bytes of a payload, as many as there is room for.
+// Adds the first bytes of a payload, as many as fit.
 fn add_prefix(bytes: &mut ArrayVec<u8, MOST>, payload: &[u8]) {
     let buffer = MOST - bytes.len();
     let (prefix, _) = payload.split_at(payload.len().min(buffer));
     let _ = bytes.try_extend_from_slice(prefix);
 }
 
-// Returns how many bytes a header needs up to its times, by PTS_DTS_flags if they are there.
+// Returns how many bytes a header needs up to its times, by PTS_DTS_flags if these were received.
 fn needed(bytes: &[u8]) -> usize {
     if bytes.len() < 9 || bytes[7] < 0x80 {
         9
@@ -96,8 +98,8 @@ fn needed(bytes: &[u8]) -> usize {
     }
 }
 
-/// Returns stream_id of the PES packet with these first bytes; `None` if they do not begin with
-/// packet_start_code_prefix, 00 00 01.
+/// Returns stream_id of the PES packet with these first bytes. Returns `None` if the bytes do not
+/// begin with packet_start_code_prefix, 00 00 01.
 pub fn stream_id_in(bytes: &[u8]) -> Option<u8> {
     if bytes.len() > 3 && bytes[0] == 0 && bytes[1] == 0 && bytes[2] == 1 {
         Some(bytes[3])

@@ -1,4 +1,5 @@
-//! The lines of the PES packets of a PID: runs of them, gap markers, and the decoded page.
+//! Prints the lines of the PES packets of a PID: runs of PES packets, gap markers, and the decoded
+//! page.
 ghost use Rattle.std.specs.Prelude.{◌≡◌, IfSome};
 ghost use Rattle.ts_survey.specs.InStep.{counted_on};
 
@@ -11,7 +12,7 @@ use sub_io::MemSource;
 use ttx_packet::PageId;
 use ttx_pes::{PesFrame, PesReader};
 
-/// Consecutive PES packets with the same step and the same events.
+/// A run: consecutive PES packets with the same step of the PTS and the same events.
 #[derive(Drop)]
 struct Run {
     first: u64,
@@ -22,7 +23,7 @@ struct Run {
     heard: Heard,
 }
 
-/// The PES packets of a PID.
+/// The state of printing the PES packets of a PID.
 #[derive(Drop)]
 pub struct PesLines {
     pid: u16,
@@ -36,7 +37,7 @@ pub struct PesLines {
     last: Option<u64>,
 }
 
-// Returns the refusal of a PES packet; 0 for none.
+// Returns the number of the fault of a PES packet; 0 if it has no fault.
 fn refusal(pes: &[u8], frame: &mut PesFrame) -> u16 {
     let mut source = MemSource::new(pes);
     let mut reader = PesReader::new();
@@ -47,7 +48,7 @@ fn refusal(pes: &[u8], frame: &mut PesFrame) -> u16 {
 }
 
 impl PesLines {
-    /// Returns the state before the first PES packet; `None` if memory runs out.
+    /// Creates the state before the first PES packet. Returns `None` if memory runs out.
     pub fn new(alloc: Global, pid: u16, page: PageId) -> Option<PesLines>
         ensures { IfSome result (λ lines. lines.count ≡ 0) }
     {
@@ -78,7 +79,7 @@ impl PesLines {
         self.count
     }
 
-    /// Returns how many of them are gap markers.
+    /// Returns the number of gap markers so far.
     pub fn gap_markers(&self) -> u64 {
         self.gap_markers
     }
@@ -88,7 +89,7 @@ impl PesLines {
         self.last
     }
 
-    /// Processes a PES packet.
+    /// Processes a PES packet of the PID.
     pub fn take(&mut self, pes: &[u8], text: &mut Text)
         ensures { self.new.count ≡ counted_on self.old.count 1 }
     {
@@ -100,17 +101,17 @@ impl PesLines {
         self.last = pts.or(self.last);
     }
 
-    // Returns whether rows have to be printed after a PES packet with this PTS.
+    // Returns whether the decoded rows have to be printed after a PES packet with this PTS.
     fn reports_rows(&self, pts: Option<u64>) -> bool {
         pts.is_some() && self.page.is_changed()
     }
 
-    // Returns whether stray rows have to be printed.
+    // Returns whether rows that came after the end of the page have to be printed.
     fn reports_strays(&self, pts: Option<u64>) -> bool {
         pts.is_some() && self.page.notes().has_new_strays()
     }
 
-    // Passes a PES packet with a PTS to the receiver.
+    // Passes a PES packet that has a PTS to the receiver of the page.
     fn hear(&mut self, pes: &[u8], pts: Option<u64>, text: &mut Text)
         ensures { self.new.count ≡ self.old.count }
     {
@@ -120,7 +121,7 @@ impl PesLines {
         }
     }
 
-    // Adds a PES packet to the run, or prints it if rows or stray rows follow it.
+    // Adds a PES packet to the run, or prints the packet if rows are printed after it.
     fn put(&mut self, pts: Option<u64>, is_changed: bool, has_strays: bool, text: &mut Text)
         ensures { self.new.count ≡ counted_on self.old.count 1 }
     {
@@ -135,7 +136,8 @@ impl PesLines {
         }
     }
 
-    // Prints the run, then a PES packet on its own, then the decoded page and stray rows after it.
+    // Prints the run, then a PES packet on its own line, then the decoded page and the rows that
+    // came after the end of the page.
     fn report_alone(
         &mut self,
         number: u64,
@@ -152,7 +154,7 @@ impl PesLines {
         self.report_page(number, is_changed, has_strays, text);
     }
 
-    // Adds a PES packet to the run if it continues it, and returns whether it does.
+    // Adds a PES packet to the run if the packet continues the run, and returns whether it does.
     fn join(&mut self, pts: Option<u64>) -> bool
         ensures { self.new.count ≡ self.old.count }
     {
@@ -172,7 +174,7 @@ impl PesLines {
         true
     }
 
-    // Begins a run.
+    // Begins a run of PES packets.
     fn begin(&mut self, number: u64, pts: Option<u64>)
         ensures { self.new.count ≡ self.old.count }
     {
@@ -184,7 +186,7 @@ impl PesLines {
         self.run.heard.copy(&self.heard);
     }
 
-    /// Prints the run, if there is one.
+    /// Prints the run of PES packets, if any.
     pub fn flush(&mut self, text: &mut Text)
         ensures { self.new.count ≡ self.old.count }
     {
@@ -192,7 +194,8 @@ impl PesLines {
         self.run.count = 0;
     }
 
-    // Prints the decoded page and stray rows after the PES packet.
+    // Prints the decoded page, and the rows that came after the end of the page, after the line of
+    // the PES packet.
     fn report_page(&mut self, number: u64, is_changed: bool, has_strays: bool, text: &mut Text)
         ensures { self.new.count ≡ self.old.count }
     {
@@ -200,7 +203,7 @@ impl PesLines {
         self.report_strays(number, has_strays, text);
     }
 
-    // Prints the decoded page, if it has to be printed.
+    // Prints the decoded page, if `is_reported` is set.
     fn report_rows(&mut self, number: u64, is_reported: bool, text: &mut Text)
         ensures { self.new.count ≡ self.old.count }
     {
@@ -213,7 +216,7 @@ impl PesLines {
         self.page.report_rows(text);
     }
 
-    // Prints stray rows, if they have to be printed.
+    // Prints the rows that came after the end of the page, if `is_reported` is set.
     fn report_strays(&mut self, number: u64, is_reported: bool, text: &mut Text)
         ensures { self.new.count ≡ self.old.count }
     {
@@ -234,7 +237,7 @@ impl PesLines {
         text.put(b"\n");
     }
 
-    /// Prints a gap marker: so many packets were lost and scrambled.
+    /// Prints a gap marker with the numbers of lost and of scrambled packets.
     pub fn gap_marker(&mut self, lost: u64, scrambled: u64, text: &mut Text)
         ensures { self.new.count ≡ counted_on self.old.count 1 }
     {
@@ -244,20 +247,21 @@ impl PesLines {
         self.gap_markers = self.gap_markers.saturating_add(1);
     }
 
-    /// Ends the PES packets: prints the run, if there is one, and the pages with subtitles.
+    /// Ends the PES packets: prints the run, if any, and the pages with subtitles.
     pub fn end(&self, text: &mut Text) {
         self.report_kept(text);
         self.page.notes().report_pages(self.pid, text);
     }
 
-    /// Ends the PES packets with a pending gap marker: so many packets were lost and scrambled.
+    /// Ends the PES packets with a pending gap marker, which has the numbers of lost and of
+    /// scrambled packets.
     pub fn end_at_gap_marker(&self, lost: u64, scrambled: u64, text: &mut Text) {
         self.report_kept(text);
         report_gap(self.pid, self.count, lost, scrambled, text);
         self.page.notes().report_pages(self.pid, text);
     }
 
-    // Prints the run, if there is one.
+    // Prints the run of PES packets, if any.
     fn report_kept(&self, text: &mut Text) {
         if self.run.count == 0 {
             return;
@@ -266,7 +270,7 @@ impl PesLines {
     }
 }
 
-// Prints a run of PES packets.
+// Prints the line of a run of PES packets.
 fn report_run(pid: u16, run: &Run, text: &mut Text) {
     text.put(b"pes");
     text.number(pid as u64);
@@ -277,7 +281,7 @@ fn report_run(pid: u16, run: &Run, text: &mut Text) {
     run.heard.report(text);
 }
 
-// Prints a gap marker.
+// Prints the line of a gap marker.
 fn report_gap(pid: u16, number: u64, lost: u64, scrambled: u64, text: &mut Text) {
     text.put(b"gap");
     text.number(pid as u64);

@@ -1,5 +1,5 @@
-//! The pictures of a video PID: the first ones, from one that can be shown alone to the next such
-//! one, and the decoding time of the last one.
+//! The pictures of a video PID: the first pictures, from one that can be shown alone to the next
+//! such picture, and the decoding time of the last picture.
 
 use crate::adaptation::{begins_access, is_scrambled, payload_in};
 use crate::clock::SECOND;
@@ -10,49 +10,50 @@ use crate::pid_state::PacketLink;
 use crate::text::{CLOCK, Text, forward};
 use mpeg_ts::{PACKET, announces_jump, begins, has_adaptation, has_payload, is_wrong};
 
-/// How far the first pictures have come.
+/// How far the first pictures have been received.
 #[derive(Clone, Copy, PartialEq, Eq)]
 enum Reach {
     /// No picture that can be shown alone has begun.
     Before,
-    /// One has.
+    /// A picture that can be shown alone has begun, and the next such picture has not.
     Within,
-    /// The next one has, or ten seconds have passed.
+    /// The next picture that can be shown alone has begun, or ten seconds have passed.
     Over,
 }
 
-/// The pictures of a PID.
+/// The pictures of a video PID.
 #[derive(Drop)]
 pub struct Pictures {
     pid: u16,
     reach: Reach,
-    // Whether each packet is of interest, not only one in which a PES packet begins.
+    // Whether each packet of the PID is of interest, not only packets in which a PES packet begins.
     needs_each: bool,
     // The last packet that was processed, and whether it was sent twice.
     packet: [u8; PACKET],
     has_repeat: bool,
     // Of the PES packet that began last: its header, and whether random_access_indicator was set;
-    // and whether a packet without a payload has set it for the next one.
+    // and whether a packet without a payload has set that indicator for the next packet.
     header: PesHeader,
     is_flagged: bool,
     flags_next: bool,
-    // PES packets that began, and the last one with a decoding time.
+    // The number of PES packets that began, and the last picture with a decoding time.
     count: u64,
     last: Option<Picture>,
-    // Whether the flagged picture continues, and the bytes up to the end of its header.
+    // Whether the flagged picture continues, and how many bytes are left of its PES header.
     is_first: bool,
     header_left: usize,
     passed: u64,
     lost: u64,
     scrambled: u64,
-    // Of the group: the PTS of the flagged picture, the least PTS, and what its bytes say.
+    // Of the group of pictures: the PTS of the flagged picture, the least PTS, and the form that
+    // its bytes show.
     flagged: Option<u64>,
     first: Option<u64>,
     reader: FormReader,
 }
 
 impl Pictures {
-    /// Returns the state of a PID before the first picture.
+    /// Creates the state of a PID before its first picture.
     pub fn new(pid: u16) -> Pictures {
         Pictures {
             pid,
@@ -76,18 +77,18 @@ impl Pictures {
         }
     }
 
-    /// Returns its PID.
+    /// Returns the PID of the pictures.
     pub fn pid(&self) -> u16 {
         self.pid
     }
 
-    /// Returns the last picture with a decoding time.
+    /// Returns the last picture that has a decoding time.
     pub fn last(&self) -> Option<Picture> {
         self.last
     }
 
-    /// Returns whether each packet is of interest. After the first pictures, only the headers of
-    /// PES packets are.
+    /// Returns whether each packet of the PID is of interest. After the first pictures, only the
+    /// headers of PES packets are of interest.
     #[inline(always)]
     pub fn needs_each(&self) -> bool {
         self.needs_each
@@ -124,7 +125,7 @@ impl Pictures {
         self.needs_each = !is_over(self.reach) || self.header.is_open();
     }
 
-    // Returns whether a packet repeats the last one.
+    // Returns whether a packet repeats the last packet.
     fn is_repeat(&self, packet: &[u8; PACKET], link: PacketLink) -> bool {
         match link {
             PacketLink::Same => {}
@@ -138,7 +139,7 @@ impl Pictures {
             && after_adaptation(packet) == after_adaptation(&self.packet)
     }
 
-    // Counts breaks of the counter and scrambled packets among the pictures.
+    // Counts breaks of the counter and scrambled packets among the first pictures.
     fn count_lost(&mut self, packet: &[u8; PACKET], link: PacketLink) {
         match self.reach {
             Reach::Within => {
@@ -149,7 +150,7 @@ impl Pictures {
         }
     }
 
-    // Processes a packet that continues a picture, or begins one.
+    // Processes a packet that continues a picture or begins one.
     fn go_on(&mut self, packet: &[u8; PACKET], kind: u8, link: PacketLink, text: &mut Text) {
         if begins(packet) {
             self.is_flagged = self.flags_next || begins_access(packet);
@@ -163,8 +164,8 @@ impl Pictures {
         }
     }
 
-    // Processes a payload that can't be read. If it is scrambled, a picture may begin in it,
-    // without a time.
+    // Processes a payload that cannot be read. If the payload is scrambled, a picture may begin in
+    // it, without a time.
     fn process_unreadable(&mut self, packet: &[u8; PACKET], kind: u8, text: &mut Text) {
         self.header.clear();
         self.header_left = 0;
@@ -173,7 +174,7 @@ impl Pictures {
         }
     }
 
-    // A picture begins once the header of its PES packet is complete.
+    // Reads the header of a PES packet. A picture begins once the header is complete.
     fn read_header(&mut self, packet: &[u8; PACKET], kind: u8, link: PacketLink, text: &mut Text) {
         let payload = payload_in(packet);
         let before = if begins(packet) { 0 } else { self.header.len() };
@@ -187,7 +188,7 @@ impl Pictures {
         self.read_on(payload);
     }
 
-    // Begins a picture.
+    // Records that a picture begins.
     fn begin_picture(&mut self, kind: u8, text: &mut Text) {
         self.count = self.count.saturating_add(1);
         if let Some(time) = self.header.decoding_time() {
@@ -216,7 +217,7 @@ impl Pictures {
         }
     }
 
-    // Processes a payload with more of the flagged picture, if no other one has begun.
+    // Processes a payload with more bytes of the flagged picture, if no other picture has begun.
     fn read_on(&mut self, payload: &[u8]) {
         if !self.is_first {
             return;
@@ -226,7 +227,7 @@ impl Pictures {
         self.reader.read(picture);
     }
 
-    // Begins the flagged picture, and prints it.
+    // Begins the flagged picture, and prints the lines `video` and `picture`.
     fn begin(&mut self, kind: u8, text: &mut Text) {
         self.report_video(text);
         self.show(text);
@@ -242,7 +243,7 @@ impl Pictures {
         text.put(b"\n");
     }
 
-    // Begins a picture, and prints it.
+    // Records one of the first pictures, and prints its line.
     fn show(&mut self, text: &mut Text) {
         self.reach = Reach::Within;
         let pts = self.header.pts();
@@ -259,7 +260,7 @@ impl Pictures {
         text.put(b"\n");
     }
 
-    // Keeps the least PTS, and ends the pictures ten seconds after it.
+    // Stores the least PTS, and ends the first pictures ten seconds after it.
     fn move_to(&mut self, now: u64, text: &mut Text) {
         let first = least_of(self.first, now);
         self.first = Some(first);
@@ -276,7 +277,7 @@ impl Pictures {
         text.put(b"\n");
     }
 
-    // Prints the beginning of both lines of pictures.
+    // Prints the beginning that both lines about pictures have in common.
     fn report_counts(&self, text: &mut Text) {
         text.put(b"pictures");
         text.number(self.pid as u64);
@@ -293,7 +294,7 @@ impl Pictures {
         text.put(form_word(self.reader.form()));
     }
 
-    /// Ends the recording: prints what has not ended.
+    /// Ends the recording: prints the first pictures if they have not ended.
     pub fn end(&self, text: &mut Text) {
         match self.reach {
             Reach::Over => {}
@@ -319,7 +320,7 @@ fn is_over(reach: Reach) -> bool {
     }
 }
 
-// Returns whether a packet is known to be the next one of its PID.
+// Returns whether a packet is known to be the next packet of its PID.
 fn follows(link: PacketLink) -> bool {
     match link {
         PacketLink::Next => true,
@@ -327,7 +328,7 @@ fn follows(link: PacketLink) -> bool {
     }
 }
 
-// Returns whether something is lost before a packet that is no repeat.
+// Returns whether data is lost before a packet that is no repeat.
 fn is_after_loss(packet: &[u8; PACKET], link: PacketLink) -> bool {
     match link {
         PacketLink::Broken => true,
@@ -336,7 +337,7 @@ fn is_after_loss(packet: &[u8; PACKET], link: PacketLink) -> bool {
     }
 }
 
-// Returns whether stream_id is that of video: E0 to EF.
+// Returns whether stream_id is that of a video stream: E0 to EF.
 fn is_video(stream_id: Option<u8>) -> bool {
     match stream_id {
         Some(id) => id / 0x10 == 0xE,
@@ -355,7 +356,7 @@ fn after_adaptation(packet: &[u8; PACKET]) -> &[u8] {
     following
 }
 
-// Adds one if the condition holds.
+// Returns the number plus one if `is_so` is set, and otherwise the number.
 fn counted_if(is_so: bool, number: u64) -> u64 {
     if is_so {
         number.saturating_add(1)
@@ -364,8 +365,8 @@ fn counted_if(is_so: bool, number: u64) -> u64 {
     }
 }
 
-// Returns the lesser of the least PTS so far and a new one: a PTS is less if it is before the other
-// on the shorter way around the clock.
+// Returns the lesser of the least PTS so far and a new PTS. A PTS is less than another if it comes
+// before the other on the shorter way around the clock.
 fn least_of(first: Option<u64>, now: u64) -> u64 {
     match first {
         Some(first) => {
@@ -379,7 +380,7 @@ fn least_of(first: Option<u64>, now: u64) -> u64 {
     }
 }
 
-// Returns the form of a group, as a word.
+// Returns the form of a group of pictures as a word of the output.
 fn form_word(form: Form) -> &'static [u8] {
     match form {
         Form::Closed => b" closed\n",

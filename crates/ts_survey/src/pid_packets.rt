@@ -1,4 +1,4 @@
-//! The packets of a PID, and the receiver of what they carry.
+//! Reassembles the packets of a PID, and passes what they carry to a receiver.
 ghost use Rattle.std.specs.Prelude.{◌≡◌, List, ℕ, [], false, true};
 ghost use Rattle.mpeg_ts.specs.GoodPackets.{Loss, note_of};
 ghost use Rattle.mpeg_ts.specs.Joining.{after_note, delivered, has_ended, initial_joining};
@@ -13,16 +13,18 @@ use mpeg_ts::{Joining, Next, PACKET};
 /// Receives what the packets of a PID carry: PES packets and gap markers; and at the end perhaps
 /// bytes that are neither.
 pub trait TakesPesPackets {
-    // The relation of its state before a call, the bytes, and its state afterwards.
+    // How a call changes the receiver: its state before the call, the bytes, and its state
+    // afterwards.
     ghost is_taken: { Self → List ℕ → Self → Type 0 } = { any_pes_packet };
 
-    /// Processes a PES packet, a gap marker or other bytes, and prints what there is to report.
-    /// `is_missing` if the gap marker is for missing packets, and not one that the PID carries.
+    /// Processes a PES packet, a gap marker or other bytes, and prints what is to be reported.
+    /// `is_missing`: the gap marker replaces missing packets, and is not one that the PID itself
+    /// carries.
     fn take(&mut self, pes_packet: &[u8], is_missing: bool, text: &mut Text)
         ensures { is_taken self.old pes_packet.now self.new };
 }
 
-/// The packets of a PID, which come one after another.
+/// The packets of a PID, which arrive one after another.
 #[derive(Drop)]
 pub struct PidPackets<T> {
     joining: Joining,
@@ -32,7 +34,7 @@ pub struct PidPackets<T> {
 }
 
 impl<T: TakesPesPackets> PidPackets<T> {
-    /// Returns the state before the first packet.
+    /// Creates the state before the first packet of a PID.
     pub fn new(to: T) -> Self
         ensures joining { result.joining ≡ initial_joining }
         ensures to { result.to ≡ to }
@@ -43,7 +45,7 @@ impl<T: TakesPesPackets> PidPackets<T> {
         }
     }
 
-    /// Returns whether a packet repeats the last good one.
+    /// Returns whether a packet repeats the last good packet.
     pub fn is_repeat(&self, packet: &[u8; PACKET]) -> bool
         requires payload { has_payload packet.now ≡ true }
         requires valid { is_wrong packet.now ≡ false }
@@ -53,14 +55,14 @@ impl<T: TakesPesPackets> PidPackets<T> {
     }
 
     /// Returns whether a jump of the counter was announced between the last good packet and this
-    /// one, and nothing is known to be lost.
+    /// packet, and no data is known to be lost.
     pub fn is_after_seam(&self, packet: &[u8; PACKET]) -> bool
         ensures { result ≡ is_seam (link_after self.now.joining self.now.joining.last packet.now) }
     {
         self.joining.is_after_seam(packet)
     }
 
-    /// Notes that packets may be missing, since so many bytes were skipped.
+    /// Records that packets of the PID may be missing, since many bytes were skipped.
     pub fn note_loss(&mut self)
         ensures joining { self.new.joining ≡ after_note self.old.joining Loss }
         ensures to { self.new.to ≡ self.old.to }
@@ -68,8 +70,8 @@ impl<T: TakesPesPackets> PidPackets<T> {
         self.joining.note_loss();
     }
 
-    /// Processes a packet. Everything that it completes is passed on at once; after bytes that are
-    /// no PES packet nothing is.
+    /// Processes a packet of the PID. Everything that the packet completes is passed on at once;
+    /// after bytes that are no PES packet nothing more is passed on.
     pub fn take(&mut self, packet: &[u8; PACKET], text: &mut Text)
         ensures ended { has_ended self.old.joining.part ≡ true → self.new ≡ self.old }
         ensures joining { has_ended self.old.joining.part ≡ false → self.new.joining
@@ -86,7 +88,7 @@ impl<T: TakesPesPackets> PidPackets<T> {
     }
 }
 
-// Passes on everything that is ready.
+// Passes everything that is ready on to the receiver.
 #[tactic(auto, using(crate::proofs::FollowingLemmas::fewer_ready))]
 fn give_ready<T: TakesPesPackets>(joining: &mut Joining, to: &mut T, text: &mut Text)
     ensures joining { joining.new ≡ delivered joining.old }
@@ -97,7 +99,7 @@ fn give_ready<T: TakesPesPackets>(joining: &mut Joining, to: &mut T, text: &mut 
     }
 }
 
-// Passes on the next part of what is ready.
+// Passes the next part of what is ready on to the receiver.
 fn give_next<T: TakesPesPackets>(joining: &mut Joining, to: &mut T, text: &mut Text)
     ensures { GivesNext T.is_taken joining.old to.old joining.new to.new }
 {
@@ -105,7 +107,7 @@ fn give_next<T: TakesPesPackets>(joining: &mut Joining, to: &mut T, text: &mut T
     to.take(joining.taken(next), is_gap(next), text);
 }
 
-// Returns whether what is ready is a gap marker for missing packets.
+// Returns whether the item that is ready is a gap marker for missing packets.
 fn is_gap(next: Next) -> bool {
     match next {
         Next::GapMarker => true,

@@ -1,57 +1,59 @@
-//! The state of every PID: its counter, and what it carries.
+//! The state of every PID: its continuity counter, and what it carries.
 
 use mpeg_ts::{PACKET, announces_jump, counter_of, has_payload};
 use std::alloc::Global;
 
-/// The number of PIDs: 13 bits.
+/// The number of PIDs, which have 13 bits.
 pub const PIDS: usize = 8192;
 
 /// The PID of null packets.
 pub const NULL_PID: u16 = 0x1FFF;
 
-/// The index of nothing.
+/// The index that stands for nothing, for example for a PID without a clock.
 pub const NO_INDEX: u8 = 0xFF;
 
-/// A flag of a counter: a jump was announced after its packet (discontinuity_indicator), by one
-/// without a payload.
+/// A flag of a stored counter: a jump was announced after its packet (discontinuity_indicator), by
+/// a packet without a payload.
 const JUMP: u8 = 0x80;
 
-/// How a packet follows the one before it in its PID, by continuity_counter.
+/// How a packet follows the packet before it in its PID, by continuity_counter.
 #[derive(Clone, Copy, PartialEq, Eq)]
 pub enum PacketLink {
-    /// The counter continues, or nothing came before.
+    /// The counter continues, or no packet came before.
     Next,
-    /// A jump of the counter is announced, here or since the one before.
+    /// A jump of the counter is announced, in this packet or after the packet before.
     Announced,
-    /// The counter is the same: a repeat, or 15 packets are missing.
+    /// The counter is the same: the packet is a repeat, or 15 packets are missing.
     Same,
-    /// Packets are missing.
+    /// Packets are missing before this packet.
     Broken,
 }
 
 /// The state of a PID.
 #[derive(Clone, Copy)]
 pub struct PidState {
-    /// The counter of the last packet with a payload, perhaps with `JUMP`, and of the one before.
+    /// The counter of the last packet with a payload, possibly with `JUMP`, and the counter of the
+    /// packet before it.
     pub counter: u8,
     pub before: u8,
-    /// The numbers of the first and the last packet with a payload; 0 for none.
+    /// The numbers of the first and the last packet with a payload; 0 if no such packet came.
     pub first: u64,
     pub last: u64,
-    /// The PCR_PID of the programme that named it last, and stream_type there; 0 for none.
+    /// The PCR_PID of the programme whose PMT named this PID last, and the stream_type in that PMT;
+    /// 0 if no PMT named it.
     pub clock_pid: u16,
     pub kind: u8,
-    /// The indices of its sections, its clock, its pictures and its PES packets; `NO_INDEX` for
-    /// none.
+    /// The indices of the sections, the clock, the pictures and the PES packets of this PID;
+    /// `NO_INDEX` if it has none of a kind.
     pub table: u8,
     pub clock: u8,
     pub video: u8,
     pub carrier: u8,
-    /// Whether something other than Teletext began in it.
+    /// Whether data other than Teletext began in this PID.
     pub is_other: bool,
 }
 
-/// A break of a counter, between the packets with these two numbers.
+/// A break of a continuity counter, between the packets with these two numbers.
 #[derive(Clone, Copy)]
 pub struct Break {
     pub pid: u16,
@@ -59,10 +61,10 @@ pub struct Break {
     pub at: u64,
 }
 
-/// The number of last breaks that are kept.
+/// The number of last breaks that are stored.
 const BREAKS: usize = 256;
 
-/// All PIDs, and the last breaks of their counters.
+/// The states of all PIDs, and the last breaks of their counters.
 #[derive(Drop)]
 pub struct Pids {
     states: Vec<PidState>,
@@ -70,7 +72,7 @@ pub struct Pids {
     next: usize,
 }
 
-// Returns the state of an unknown PID.
+// Returns the state of a PID without any packets.
 fn unknown() -> PidState {
     PidState {
         counter: 0,
@@ -87,7 +89,7 @@ fn unknown() -> PidState {
     }
 }
 
-// Returns so many unknown PIDs; `None` if memory runs out.
+// Returns this many PIDs without any packets. Returns `None` if memory runs out.
 fn unknown_pids(alloc: Global, count: usize) -> Option<Vec<PidState>> {
     let mut states = Vec::new(alloc);
     for _ in 0..count {
@@ -108,11 +110,11 @@ fn no_breaks() -> [Break; BREAKS] {
     [none; BREAKS]
 }
 
-// Notes a packet with a payload and this number, in place, since most packets of a recording come
-// here.
+// Records packet number `number` with a payload. The state is changed in place, since the function
+// runs for most packets of a recording.
 #[inline(always)]
 fn note_packet(state: &mut PidState, packet: &[u8; PACKET], number: u64) {
-    // Read before anything is written, so that its byte is read once.
+    // The counter is read before anything is written, so that its byte is read once.
     let counter = counter_of(packet);
     if state.last == 0 {
         state.first = number;
@@ -122,7 +124,7 @@ fn note_packet(state: &mut PidState, packet: &[u8; PACKET], number: u64) {
     state.last = number;
 }
 
-// Notes a packet whose counter does not count: it may announce a jump.
+// Records a packet whose counter does not count. Such a packet may announce a jump.
 #[inline(never)]
 fn note_jump(state: &mut PidState, packet: &[u8; PACKET]) {
     if packet[1] < 0x80 && announces_jump(packet) {
@@ -130,21 +132,21 @@ fn note_jump(state: &mut PidState, packet: &[u8; PACKET]) {
     }
 }
 
-// Returns whether the counter of a packet counts: it is not damaged, and has a payload.
+// Returns whether the counter of a packet counts: the packet is usable and has a payload.
 #[inline(always)]
 fn is_counted(packet: &[u8; PACKET]) -> bool {
     packet[1] < 0x80 && has_payload(packet)
 }
 
-/// Returns how far the counter of a PID went from one packet to the next: 1 if it continues, 0 if
-/// it is the same; otherwise packets are missing.
+/// Returns how far the counter of a PID went from one packet to the next: 1 if the counter
+/// continues, 0 if it is the same; otherwise packets are missing.
 #[inline(always)]
 pub fn counter_distance(last: u8, next: u8) -> u8 {
     (next % 0x10 + 0x10 - last % 0x10) % 0x10
 }
 
 // Returns whether the counter of a PID breaks at a packet with a payload, given the state before
-// it.
+// the packet.
 #[inline(always)]
 fn is_break(before: &PidState, packet: &[u8; PACKET]) -> bool {
     counter_distance(before.counter, counter_of(packet)) > 1
@@ -153,7 +155,8 @@ fn is_break(before: &PidState, packet: &[u8; PACKET]) -> bool {
         && !announces_jump(packet)
 }
 
-/// Returns how the last packet with a payload, which is this one, follows the one before.
+/// Returns how this packet, which is the last packet with a payload of its PID, follows the packet
+/// before.
 pub fn link_of(state: &PidState, packet: &[u8; PACKET]) -> PacketLink {
     let distance = counter_distance(state.before, state.counter);
     if state.first == state.last {
@@ -172,7 +175,7 @@ pub fn link_of(state: &PidState, packet: &[u8; PACKET]) -> PacketLink {
 }
 
 impl Pids {
-    /// Returns the state with all PIDs unknown; `None` if memory runs out.
+    /// Creates the state in which all PIDs are unknown. Returns `None` if memory runs out.
     pub fn new(alloc: Global) -> Option<Pids> {
         let states = unknown_pids(alloc, PIDS)?;
         Some(Pids {
@@ -199,7 +202,7 @@ impl Pids {
         }
     }
 
-    /// Notes that a PMT names a PID, with the PCR_PID of its programme, and stream_type.
+    /// Records that a PMT names a PID, with the PCR_PID of its programme, and stream_type.
     pub fn note_stream(&mut self, pid: u16, clock_pid: u16, kind: u8) {
         let mut state = self.get(pid);
         state.clock_pid = clock_pid;
@@ -207,7 +210,7 @@ impl Pids {
         self.set(pid, state);
     }
 
-    /// Follows the counter of a PID. Only this packet has the number.
+    /// Follows the counter of a PID at packet number `number`.
     #[inline(always)]
     pub fn count(&mut self, pid: u16, packet: &[u8; PACKET], number: u64) {
         let Some(state) = self.states.get_mut(pid as usize) else {
@@ -222,7 +225,8 @@ impl Pids {
         }
     }
 
-    // Does the same for a packet before which others are missing; out of line, since few are.
+    // Follows the counter of a PID at a packet before which other packets are missing. Not inlined,
+    // since few packets are of this kind.
     #[inline(never)]
     fn count_break(&mut self, pid: u16, packet: &[u8; PACKET], number: u64) {
         let mut state = self.get(pid);
@@ -235,15 +239,15 @@ impl Pids {
         self.set(pid, state);
     }
 
-    // Keeps a break, in place of the oldest.
+    // Stores a break, in place of the oldest stored break.
     fn add_break(&mut self, one: Break) {
         let place = self.next % BREAKS;
         self.breaks[place] = one;
         self.next = (place + 1) % BREAKS;
     }
 
-    /// Returns what the counters of other PIDs show of the packets between two: `broken`, `whole`,
-    /// or nothing.
+    /// Returns what the counters of other PIDs show about the packets between two numbers:
+    /// `broken`, `whole`, or nothing.
     pub fn reported_between(&self, pid: u16, first: u64, second: u64) -> &'static [u8] {
         if is_broken_between(&self.breaks, pid, first, second) {
             return b" broken";
@@ -255,7 +259,7 @@ impl Pids {
     }
 }
 
-// Returns whether the counter of another PID broke between two packets.
+// Returns whether the counter of another PID broke between two packet numbers.
 fn is_broken_between(breaks: &[Break], pid: u16, first: u64, second: u64) -> bool {
     breaks.iter().any(|one| one.pid != pid
         && one.before != 0
@@ -263,7 +267,7 @@ fn is_broken_between(breaks: &[Break], pid: u16, first: u64, second: u64) -> boo
         && first < one.at)
 }
 
-// Returns whether packets of another PID came up to a packet, and after it.
+// Returns whether packets of another PID came both up to a packet number and after it.
 fn others_span_packet(states: &[PidState], pid: usize, first: u64) -> bool {
     if pid >= states.len() {
         return spans_packet(states, first);
@@ -273,7 +277,7 @@ fn others_span_packet(states: &[PidState], pid: usize, first: u64) -> bool {
     spans_packet(before, first) || spans_packet(following, first)
 }
 
-// Returns whether packets of one of these PIDs came up to a packet, and after it.
+// Returns whether packets of one of these PIDs came both up to a packet number and after it.
 fn spans_packet(states: &[PidState], first: u64) -> bool {
     states.iter().any(|state| state.first != 0 && state.first <= first && first < state.last)
 }

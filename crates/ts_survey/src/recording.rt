@@ -1,4 +1,4 @@
-//! A recording of any kind: bytes come, and lines are made.
+//! Processes the bytes of a recording of any kind, and prints its lines.
 ghost use Rattle.std.specs.Prelude.{◌≡◌, ◌≤◌, ◌+◌, ◌++◌, IfSome, false, length, take, true};
 ghost use Rattle.mpeg_ts.specs.PacketSize.{bytes_of};
 ghost use Rattle.ts_survey.specs.Counted.{BeginsStream, StaysRead, TakesStarted};
@@ -18,33 +18,33 @@ use crate::text::Text;
 use mpeg_ts::{PacketSize, Pid, SurveyOptions};
 use std::alloc::Global;
 
-/// The number of first bytes that are printed.
+/// The number of first bytes of a recording that are printed.
 const HEAD: usize = 11;
 
-/// The number of bytes that are examined together for the distance of packets; and how many at
-/// most.
+/// The number of bytes that are examined together to detect the distance of packets.
+/// `MOST_INSPECTED` limits how many bytes are examined in all.
 const INSPECTED_PACKETS: usize = 65_536;
 
 const MOST_INSPECTED: u64 = 0x100_0000;
 
-// Bytes in which no distance was found are not needed again, except for the last ones, which may
-// begin one.
+// The number of last bytes that are examined again, if no distance was found in the bytes. Packets
+// may begin in these bytes.
 const RETAINED_BYTES: usize = 1024;
 
 /// The kind of a recording.
 #[derive(Drop)]
 enum Kind {
-    /// Not known yet.
+    /// The kind of the recording is not known yet.
     Unknown,
-    /// A file of PES packets.
+    /// The recording is a file of PES packets.
     Pes(PesFile),
-    /// A transport stream.
+    /// The recording is a transport stream.
     Stream(PacketsInStep, Multiplex),
-    /// Neither.
+    /// The recording is neither a file of PES packets nor a transport stream.
     Nothing,
 }
 
-/// A recording, as far as it has come.
+/// The state of a recording, as far as it has been received.
 #[derive(Drop)]
 pub struct Recording {
     alloc: Global,
@@ -56,7 +56,7 @@ pub struct Recording {
 }
 
 impl Recording {
-    /// Returns the state before the first byte.
+    /// Creates the state before the first byte of a recording.
     pub fn new(alloc: Global, requested: SurveyOptions) -> Recording
         ensures requested { result.requested ≡ requested }
         ensures kind { result.kind ≡ Kind.Unknown }
@@ -84,13 +84,13 @@ impl Recording {
             }
     }
 
-    /// Processes bytes: those that are still needed, and those that have come. Returns how many are
-    /// no longer needed. The first lines of a survey go to a text of their own, since they come
-    /// first.
+    /// Processes bytes: those that are still needed, and those that have arrived. Returns how many
+    /// of them are no longer needed. The first lines of a survey go to the text `first`, since they
+    /// are written before the others.
     #[tactic(auto, using(crate::proofs::ListedLemmas::takes_as_requested))]
     pub fn take(&mut self, bytes: &[u8], is_end: bool, first: &mut Text, text: &mut Text) -> usize
         ensures within { result ≤ length bytes.now }
-        // Few bytes are kept, so there is room for more.
+        // Few bytes stay in the buffer, so it has room for more.
         ensures kept { self.new.out_of_memory ≡ false → length bytes.now ≤ result +
             most_retained_bytes }
         ensures requested { self.new.requested ≡ self.old.requested }
@@ -98,11 +98,12 @@ impl Recording {
             → IsAsRequested self.new.requested self.new.kind }
         ensures finds { is_unknown self.old.kind ≡ true
             → FindsKind self.old bytes.now first.old first.new self.new }
-        // Until the kind is known, nothing else is printed; at the end it is known.
+        // Until the kind of the recording is known, nothing else is printed. At the end the kind is
+        // known.
         ensures unknown { is_unknown self.new.kind ≡ true → text.new ≡ text.old }
         ensures known { is_end ≡ true → self.new.out_of_memory ≡ false
             → is_unknown self.new.kind ≡ false }
-        // The first bytes are printed once, when all of them have come.
+        // The first bytes of the recording are printed once, when all of them have arrived.
         ensures stays { self.old.has_head ≡ true → self.new.has_head ≡ true }
         ensures is_waiting { is_unknown self.new.kind ≡ true → self.new.has_head ≡ false
             → result ≡ 0 }
@@ -161,13 +162,15 @@ impl Recording {
         0
     }
 
-    // Passes the contents of the bytes on, and returns how many of them are no longer needed.
+    // Processes the contents of the bytes by the kind of the recording, and returns how many bytes
+    // are no longer needed.
     #[inline(always)]
     #[tactic(auto, using(crate::proofs::ListedLemmas::what_goes_on))]
     fn flush_pending(&mut self, bytes: &[u8], is_end: bool, text: &mut Text) -> usize
         ensures within { result ≤ length bytes.now }
         ensures kept { length bytes.now ≤ result + most_retained_bytes }
-        // For a stream these are all its packets, in order, each once; at the end none is left.
+        // All packets of a stream in the bytes are processed, in order, each once; at the end no
+        // packet is left.
         ensures taken { TakesOn self.old.kind bytes.now is_end result self.new.kind }
         ensures kind { GoesOn self.old.kind self.new.kind }
         ensures requested { self.new.requested ≡ self.old.requested }
@@ -184,7 +187,7 @@ impl Recording {
         }
     }
 
-    // Prints the first bytes, and what they show.
+    // Prints the first bytes of the recording, and its kind if they show it.
     fn report_head(&mut self, bytes: &[u8], first: &mut Text)
         ensures requested { self.new.requested ≡ self.old.requested }
         ensures as_requested { IsAsRequested self.old.requested self.old.kind
@@ -213,7 +216,8 @@ impl Recording {
         }
     }
 
-    // Searches for the distance of packets. Returns how many bytes need not be examined again.
+    // Searches the bytes for the distance of packets. Returns how many bytes need not be examined
+    // again.
     fn inspect(&mut self, bytes: &[u8], is_end: bool, first: &mut Text) -> usize
         ensures within { result ≤ length bytes.now }
         ensures kept { is_unknown self.new.kind ≡ true → self.new.out_of_memory ≡ false
@@ -252,7 +256,7 @@ impl Recording {
         used
     }
 
-    // Begins a transport stream.
+    // Begins a transport stream with this distance of packets, and prints its lines.
     fn begin(&mut self, size: PacketSize, first: &mut Text)
         ensures known { self.new.out_of_memory ≡ false → is_unknown self.new.kind ≡ false }
         ensures same { self.new.requested ≡ self.old.requested }
@@ -279,7 +283,8 @@ impl Recording {
         }
     }
 
-    /// Prints what was not printed yet, if no more data is there for now, or none will come.
+    /// Prints everything that was not printed yet, if no more data is available for now, or the
+    /// recording is at its end.
     #[tactic(auto, using(crate::proofs::ListedLemmas::stays_as_requested))]
     pub fn pause(&mut self, is_end: bool, has_no_more: bool, text: &mut Text)
         ensures end { is_end ≡ true → ReportsEnd self.old text.new }
@@ -300,7 +305,7 @@ impl Recording {
         }
     }
 
-    // Prints what was not printed yet, since no more data is there for now.
+    // Prints everything that was not printed yet, since no more data is available for now.
     #[tactic(auto, using(crate::proofs::ListedLemmas::what_goes_on))]
     fn flush(&mut self, text: &mut Text)
         ensures kind { GoesOn self.old.kind self.new.kind }
@@ -318,7 +323,7 @@ impl Recording {
         }
     }
 
-    // Ends the recording.
+    // Ends the recording: prints everything that is left, and the line `over`.
     fn end(&mut self, text: &mut Text)
         ensures reported { ReportsEnd self.old text.new }
         ensures requested { self.new.requested ≡ self.old.requested }
@@ -328,8 +333,8 @@ impl Recording {
         put_over(skipped, number, text);
     }
 
-    // Prints everything that was kept until then. Returns how many bytes belong to no packet, and
-    // how many packets came.
+    // Prints everything that is left. Returns how many bytes belong to no packet, and how many
+    // packets the recording had.
     fn report_last(&mut self, text: &mut Text) -> (u64, u64)
         ensures skipped { result.0 ≡ skipped_of self.old }
         ensures packets { result.1 ≡ packets_in self.old.kind }
@@ -370,7 +375,7 @@ fn put_head(head: &[u8], text: &mut Text)
     text.put(b"\n");
 }
 
-// Returns a space if something follows it.
+// Returns a space, unless the word after it is empty.
 fn space_before(word: &[u8]) -> &'static [u8]
     ensures { result.now ≡ space_of word.now }
 {
@@ -389,7 +394,7 @@ fn put_size(size: PacketSize, text: &mut Text)
     text.put(b"\n");
 }
 
-// Prints that a recording is over: the bytes that belong to no packet, and its packets.
+// Prints the line `over`: the number of bytes that belong to no packet, and the number of packets.
 fn put_over(skipped: u64, number: u64, text: &mut Text)
     ensures { AddsTexts text.old (over_line skipped number) text.new }
 {
@@ -399,7 +404,7 @@ fn put_over(skipped: u64, number: u64, text: &mut Text)
     text.put(b"\n");
 }
 
-// Returns the distance of packets: the requested one, or else the one that is found.
+// Returns the distance of packets: the requested distance, or else the distance that is detected.
 fn size_in(requested: Option<PacketSize>, bytes: &[u8], is_end: bool) -> Option<PacketSize>
     ensures found { IfSome result (λ size. IfSome requested (λ other. size ≡ other)) }
 {
@@ -409,7 +414,7 @@ fn size_in(requested: Option<PacketSize>, bytes: &[u8], is_end: bool) -> Option<
     }
 }
 
-// Returns the number of a PID.
+// Returns the number of a PID, if one is given.
 fn number_of(pid: Option<Pid>) -> Option<u16>
     ensures { result ≡ pid }
 {
@@ -420,7 +425,7 @@ fn number_of(pid: Option<Pid>) -> Option<u16>
 }
 
 // Returns whether a recording is a file of PES packets, from its first bytes. A time stamp before
-// the first packet may look the same.
+// the first transport packet may look the same, but the sync byte follows it.
 fn is_pes_file(head: &[u8]) -> bool
     ensures { result ≡ begins_pes head.now }
 {

@@ -1,4 +1,4 @@
-//! `survey`: reads a recording once, and prints a line for each fact.
+//! The function `survey`, which reads a recording once, and prints a line for each fact.
 ghost use Rattle.std.specs.Prelude.{◌≡◌, ◌++◌, IfErr, OnOk, false, length};
 ghost use Rattle.std.specs.Io.KnownBytes.{Appends, IsAtEnd};
 ghost use Rattle.sub_io.specs.Device.{CanFail, CountsIf, failed};
@@ -15,23 +15,23 @@ use sub_io::{Flush, Source, put_all};
 /// Why a recording was not read to its end.
 #[derive(Clone, Copy, Debug, PartialEq, Eq)]
 pub enum SurveyFault {
-    /// The recording failed.
+    /// The source of the recording failed.
     Read,
     /// The sink failed.
     Write,
-    /// Memory ran out.
+    /// Memory ran out during the survey.
     Memory,
 }
 
 /// Reads a recording to its end, and writes a line for each fact (own; `docs/manual/survey.md`).
 ///
-/// All output is flushed before more of the recording is read. Memory does not grow with the
-/// recording.
+/// All output is flushed before more of the recording is read. The memory needed does not grow with
+/// the recording.
 ///
 /// # Errors
 ///
-/// Returns `Read` if the recording failed; the lines known until then were written. Returns `Write`
-/// if the sink failed, which has a prefix. Returns `Memory` if memory ran out.
+/// Returns `Read` if the source fails; the lines known until then were written. Returns `Write` if
+/// the sink fails, which then has a prefix of the output. Returns `Memory` if memory runs out.
 #[tactic(auto, using(crate::proofs::SurveyLemmas::growing))]
 pub fn survey<S: Source, K: Flush>(
     alloc: Global,
@@ -45,14 +45,14 @@ pub fn survey<S: Source, K: Flush>(
     ensures source_count { CountsIf S.failure_count source.old (failed is_survey_read result)
         source.new }
     ensures out_count { CountsIf K.failure_count out.old (failed is_survey_write result) out.new }
-    // Before the source may ask its device, which may fail, all output is flushed.
+    // All output is flushed before the source may call its device, which may fail.
     ensures followed { K.buffered out.old ≡ 0
         → failed is_survey_write result ≡ false
         → K.buffered out.new ≡ 0 }
-    // It is read to its end, and all of it is examined.
+    // The recording is read to its end, and all of it is examined.
     ensures ended { OnOk result (IsAtEnd (S.remaining source.new)) }
-    // Then all lines were written: the first ones have its first bytes and its kind, with the
-    // requested packet size and PID, and the last one says that it is over.
+    // If the recording was read to its end, all lines were written: the first lines have its first
+    // bytes and its kind, with the requested packet size and PID, and the last line is `over`.
     ensures listed { OnOk result (ReportsSurvey options (S.remaining source.old)
         (K.contents out.old) (K.contents out.new)) }
 {
@@ -77,11 +77,11 @@ pub fn survey<S: Source, K: Flush>(
             return Ok(());
         }
     }
-    // No recording is read so often.
+    // No recording needs that many reads.
     Err(SurveyFault::Memory)
 }
 
-// Writes all lines, the first ones before the others, and flushes them.
+// Writes all lines, the first lines before the others, and flushes them.
 #[tactic(auto, using(crate::proofs::SurveyLemmas::growing))]
 fn flush_pending<K: Flush>(
     first: &mut Text,

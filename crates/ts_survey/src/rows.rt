@@ -1,4 +1,4 @@
-//! Rows of a page with the cells that were hit.
+//! The rows of a page, with marks for cells that were hit.
 ghost use Rattle.std.specs.Prelude.{◌≤◌, ◌<◌};
 
 use crate::text::Text;
@@ -8,21 +8,22 @@ use ttx_page::Page;
 /// The mark of a space whose byte had even parity.
 pub const HIT: u8 = 0xA0;
 
-/// A row without text.
+/// A row of 40 spaces.
 const SPACES: [u8; 40] = [0x20; 40];
 
-/// Rows 1 to 24: each cell has its code, or `HIT`.
+/// Rows 1 to 24 of a page: each cell has its code, or `HIT`.
 #[derive(Clone, Copy, PartialEq, Eq)]
 pub struct Rows {
     cells: [[u8; 40]; 24],
 }
 
-/// Returns the cells of a row from its packet: each code, or `HIT` if the parity is even.
+/// Returns the cells of a row from its packet: the code of each byte, or `HIT` if the byte has even
+/// parity.
 pub fn cells_of(packet: &Packet) -> [u8; 40] {
     cells_of_bytes(packet.data())
 }
 
-// Returns the cells for the bytes of a row.
+// Returns the cells for the 40 bytes of a row.
 fn cells_of_bytes(bytes: &[u8; 40]) -> [u8; 40] {
     let mut cells = *bytes;
     for column in 0..40usize {
@@ -31,20 +32,20 @@ fn cells_of_bytes(bytes: &[u8; 40]) -> [u8; 40] {
     cells
 }
 
-// Returns the cell for a byte.
+// Returns the cell for a byte of a row: its code, or `HIT` if the byte has even parity.
 fn cell_of(byte: u8) -> u8 {
     if is_odd(byte) { byte % 0x80 } else { HIT }
 }
 
 impl Rows {
-    /// Returns blank rows.
+    /// Creates 24 blank rows.
     pub fn none() -> Rows {
         Rows {
             cells: [SPACES; 24],
         }
     }
 
-    /// Sets a row.
+    /// Replaces the cells of a row, 1 to 24.
     pub fn set(&mut self, row: u8, cells: [u8; 40])
         requires first { 1 ≤ row }
         requires last { row ≤ 24 }
@@ -52,7 +53,7 @@ impl Rows {
         self.cells[row as usize - 1] = cells;
     }
 
-    /// Prints the rows.
+    /// Prints the rows that are not blank.
     pub fn report(&self, text: &mut Text) {
         let mut sign = b' ';
         for row in 0..24usize {
@@ -61,7 +62,7 @@ impl Rows {
         text.put(end_word(sign));
     }
 
-    /// Prints the page of a receiver that got these rows.
+    /// Prints the page of a receiver that received these rows.
     pub fn report_buffered(&self, page: &Page, text: &mut Text) {
         let mut sign = b' ';
         for row in 0..24usize {
@@ -72,8 +73,8 @@ impl Rows {
     }
 }
 
-// Returns what is printed of a row: its codes in the receiver, with `HIT` for spaces whose bytes
-// were hit.
+// Returns the cells of a row as they are printed: the codes of the receiver's page, with `HIT` for
+// spaces whose bytes were hit.
 fn reported_cells(stored: &[u8; 40], heard: &[u8; 40]) -> [u8; 40] {
     let mut cells = *stored;
     for column in 0..40usize {
@@ -82,7 +83,8 @@ fn reported_cells(stored: &[u8; 40], heard: &[u8; 40]) -> [u8; 40] {
     cells
 }
 
-// Returns what is printed of a cell: the receiver's code, or `HIT` for a space whose byte was hit.
+// Returns a cell as it is printed: the code of the receiver's page, or `HIT` for a space whose byte
+// was hit.
 fn reported_cell(stored: u8, heard: u8) -> u8 {
     if stored == 0x20 && heard == HIT {
         HIT
@@ -91,7 +93,7 @@ fn reported_cell(stored: u8, heard: u8) -> u8 {
     }
 }
 
-// Prints a row after a sign, unless it is blank; returns the sign for the next one.
+// Prints a row after a separator, unless the row is blank. Returns the separator for the next row.
 fn report_row(sign: u8, row: usize, cells: &[u8; 40], text: &mut Text) -> u8
     requires { row < 24 }
 {
@@ -107,7 +109,7 @@ fn is_blank(cells: &[u8; 40]) -> bool {
     *cells == [0x20; 40]
 }
 
-// Prints the cells of a row after a sign.
+// Prints the cells of a row after a separator.
 fn report_cells(sign: u8, row: usize, cells: &[u8; 40], text: &mut Text)
     requires { row < 24 }
 {
@@ -116,7 +118,7 @@ fn report_cells(sign: u8, row: usize, cells: &[u8; 40], text: &mut Text)
     text.hex(cells);
 }
 
-// Returns the end of the line, if this sign would come next.
+// Returns the end of a line of rows, with a hyphen before it if no row was printed.
 fn end_word(sign: u8) -> &'static [u8] {
     if sign == b' ' { b" -\n" } else { b"\n" }
 }

@@ -1,20 +1,22 @@
-//! Sections of tables, and the contents of those of a PAT and of a PMT (ISO/IEC 13818-1, 2.4.4).
+//! Sections of tables, and the contents of the sections of a PAT and of a PMT (ISO/IEC 13818-1,
+//! 2.4.4).
 ghost use Rattle.std.specs.Prelude.{◌≡◌, ◌≤◌, ◌<◌, ◌+◌, length, IfSome};
 ghost use Rattle.ts_survey.specs.Section.{crc_after, crc_of, crc_shifted, descriptor_at, length_at};
 ghost use Rattle.ts_survey.specs.Section.{name_of, number_at, page_at, pid_at, pmt_pid_at};
 ghost use Rattle.ts_survey.specs.Section.{is_current, is_of_teletext, programme_of, section_size};
 ghost use Rattle.ts_survey.specs.Section.{stream_at};
 
-/// The number of bytes before the first entry of a PAT, and before the descriptors of a PMT.
+/// The number of bytes before the first entry of a PAT section, and before the descriptors of a PMT
+/// section.
 const PAT_HEAD: usize = 8;
 
 const PMT_HEAD: usize = 12;
 
-/// The bytes of a CRC_32.
+/// The number of bytes of a CRC_32.
 const CRC: usize = 4;
 
-/// Returns the size of the section at the beginning of the bytes, from its section_length, 3 to
-/// 4098; `None` if there are fewer than three bytes.
+/// Returns the size in bytes of the section at the front of the bytes, from its section_length, 3
+/// to 4098. Returns `None` if fewer than three bytes are available.
 pub fn section_size(bytes: &[u8]) -> Option<usize>
     ensures value { result ≡ section_size bytes.now }
     ensures range { IfSome result (λ size. (3 ≤ size) × (size ≤ 4098)) }
@@ -26,7 +28,7 @@ pub fn section_size(bytes: &[u8]) -> Option<usize>
     Some(3 + length_at(bytes, 1))
 }
 
-// Returns a length of twelve bits.
+// Returns the 12-bit length at an offset.
 fn length_at(bytes: &[u8], place: usize) -> usize
     requires { place + 2 ≤ length bytes.now }
     ensures value { result ≡ length_at bytes.now place }
@@ -35,7 +37,7 @@ fn length_at(bytes: &[u8], place: usize) -> usize
     (bytes[place] % 0x10) as usize * 0x100 + bytes[place + 1] as usize
 }
 
-// Returns a PID: thirteen bits.
+// Returns the PID, 13 bits, at an offset.
 fn pid_at(bytes: &[u8], place: usize) -> u16
     requires { place + 2 ≤ length bytes.now }
     ensures value { result ≡ pid_at bytes.now place }
@@ -44,7 +46,7 @@ fn pid_at(bytes: &[u8], place: usize) -> u16
     (bytes[place] % 0x20) as u16 * 0x100 + bytes[place + 1] as u16
 }
 
-// Returns a number of sixteen bits.
+// Returns the 16-bit number at an offset.
 fn number_at(bytes: &[u8], place: usize) -> u16
     requires { place + 2 ≤ length bytes.now }
     ensures { result ≡ number_at bytes.now place }
@@ -52,7 +54,7 @@ fn number_at(bytes: &[u8], place: usize) -> u16
     bytes[place] as u16 * 0x100 + bytes[place + 1] as u16
 }
 
-/// Returns the CRC_32 of bytes (ISO/IEC 13818-1, annex A): 0 for a correct section.
+/// Returns the CRC_32 of bytes (ISO/IEC 13818-1, annex A). The CRC_32 of a correct section is 0.
 pub fn crc_of(bytes: &[u8]) -> u32
     ensures { result ≡ crc_of bytes.now }
 {
@@ -61,7 +63,7 @@ pub fn crc_of(bytes: &[u8]) -> u32
         .fold(0xFFFF_FFFF, |crc, byte| crc_after(crc, *byte))
 }
 
-// Returns the CRC after one more byte.
+// Returns the CRC_32 after one more byte.
 #[tactic(auto, unfolding(crate::specs::Section::crc_after))]
 fn crc_after(crc: u32, byte: u8) -> u32
     ensures { result ≡ crc_after crc byte }
@@ -70,7 +72,7 @@ fn crc_after(crc: u32, byte: u8) -> u32
     crc_shifted(crc_shifted(crc_shifted(crc_shifted(half))))
 }
 
-// Returns the CRC after one more bit.
+// Returns the CRC_32 after one more bit.
 #[tactic(auto, unfolding(crate::specs::Section::crc_shifted))]
 fn crc_shifted(crc: u32) -> u32
     ensures { result ≡ crc_shifted crc }
@@ -82,8 +84,8 @@ fn crc_shifted(crc: u32) -> u32
     }
 }
 
-/// What distinguishes a section from others: table_id, the number after it (of a programme in a
-/// PMT), and section_number. Its version is known by its CRC_32.
+/// The name of a section, which distinguishes it from other sections: table_id, the number after it
+/// (program_number in a PMT), and section_number. The version of a section is known by its CRC_32.
 #[derive(Clone, Copy, PartialEq, Eq)]
 pub struct SectionName {
     pub table: u8,
@@ -91,7 +93,7 @@ pub struct SectionName {
     pub section: u8,
 }
 
-/// Returns the name of a section; `None` if it is too short to have one and a CRC.
+/// Returns the name of a section, or `None` if the section is too short to have a name and a CRC.
 pub fn name_of(section: &[u8]) -> Option<SectionName>
     ensures value { result ≡ name_of section.now }
     ensures there { IfSome result (λ _. 12 ≤ length section.now) }
@@ -106,15 +108,16 @@ pub fn name_of(section: &[u8]) -> Option<SectionName>
     })
 }
 
-/// Returns current_next_indicator: the section is in force, and not only the next one that will be.
+/// Returns current_next_indicator of a section: whether the section is in force now, and not only
+/// the next one to be in force.
 pub fn is_current(section: &[u8]) -> bool
     ensures { result ≡ is_current section.now }
 {
     section.len() >= 6 && section[5] % 2 == 1
 }
 
-/// Returns the PID of the PMT at a place of a PAT section, 8 and then each fourth byte; `None`
-/// after the last, and `NULL_PID` if the entry is a network instead of a programme.
+/// Returns the PID of the PMT at an offset of a PAT section, 8 and then each fourth byte. Returns
+/// `None` after the last entry, and `NULL_PID` if the entry is a network instead of a programme.
 pub fn pmt_pid_at(section: &[u8], place: usize) -> Option<u16>
     requires { place < 4096 }
     ensures value { result ≡ pmt_pid_at section.now place }
@@ -129,10 +132,10 @@ pub fn pmt_pid_at(section: &[u8], place: usize) -> Option<u16>
     Some(pid_at(section, place + 2))
 }
 
-/// The first place of a PAT section with a PMT.
+/// The offset of the first entry of a PAT section.
 pub const FIRST_PMT: usize = PAT_HEAD;
 
-/// The programme of a PMT section: program_number, PCR_PID, and the place of its first stream.
+/// The programme of a PMT section: program_number, PCR_PID, and the offset of its first stream.
 #[derive(Clone, Copy)]
 pub struct Programme {
     pub number: u16,
@@ -140,7 +143,7 @@ pub struct Programme {
     pub first: usize,
 }
 
-/// Returns the programme of a PMT section; `None` if it is too short.
+/// Returns the programme of a PMT section, or `None` if the section is too short.
 pub fn programme_of(section: &[u8]) -> Option<Programme>
     ensures value { result ≡ programme_of section.now }
     ensures range { IfSome result (λ p. (p.clock_pid < 8192) × (p.first < 4200)) }
@@ -155,7 +158,8 @@ pub fn programme_of(section: &[u8]) -> Option<Programme>
     })
 }
 
-/// A stream of a PMT: stream_type, elementary_PID, and the beginning and end of its descriptors.
+/// A stream of a PMT: stream_type, elementary_PID, and the offsets at which its descriptors begin
+/// and end.
 #[derive(Clone, Copy)]
 pub struct Stream {
     pub kind: u8,
@@ -164,7 +168,7 @@ pub struct Stream {
     pub end: usize,
 }
 
-/// Returns the stream at a place of a PMT section; `None` after the last.
+/// Returns the stream at an offset of a PMT section, or `None` after the last stream.
 pub fn stream_at(section: &[u8], place: usize) -> Option<Stream>
     requires { place < 0x1_0000 }
     ensures value { result ≡ stream_at section.now place }
@@ -183,7 +187,7 @@ pub fn stream_at(section: &[u8], place: usize) -> Option<Stream>
     })
 }
 
-/// A descriptor: descriptor_tag, and the beginning and end of what follows its length.
+/// A descriptor: descriptor_tag, and the offsets at which its contents begin and end.
 #[derive(Clone, Copy)]
 pub struct Descriptor {
     pub tag: u8,
@@ -191,8 +195,8 @@ pub struct Descriptor {
     pub end: usize,
 }
 
-/// Returns the descriptor at a place of bytes, up to an end, where it is cut if it is longer;
-/// `None` if there is no room for one.
+/// Returns the descriptor at an offset of bytes. A descriptor that extends beyond `end` is cut off
+/// there. Returns `None` if no descriptor fits.
 pub fn descriptor_at(bytes: &[u8], place: usize, end: usize) -> Option<Descriptor>
     requires { place < 0x1_0000 }
     ensures value { result ≡ descriptor_at bytes.now place end }
@@ -219,8 +223,8 @@ pub fn names_pages(descriptor: &Descriptor) -> bool
     descriptor.tag == 0x46 || descriptor.tag == 0x56
 }
 
-/// A page in a descriptor: ISO_639_language_code, teletext_type, teletext_magazine_number and
-/// teletext_page_number.
+/// A Teletext page in a descriptor: ISO_639_language_code, teletext_type, teletext_magazine_number
+/// and teletext_page_number.
 #[derive(Clone, Copy)]
 pub struct Announced {
     pub language: [u8; 3],
@@ -229,7 +233,7 @@ pub struct Announced {
     pub page: u8,
 }
 
-/// Returns the page at a place of bytes, up to an end; `None` after the last.
+/// Returns the Teletext page at an offset of bytes, up to `end`, or `None` after the last page.
 pub fn page_at(bytes: &[u8], place: usize, end: usize) -> Option<Announced>
     requires place { place < 0x1_0000 }
     requires end { end ≤ length bytes.now }

@@ -1,4 +1,4 @@
-//! The tables of a recording: joins sections, and finds the new ones.
+//! The tables of a recording: joins sections from packets, and finds those that are new.
 ghost use Rattle.std.specs.Prelude.{◌≤◌, IfSome};
 ghost use Rattle.std.specs.Prelude.{length};
 
@@ -12,27 +12,27 @@ const MOST_PIDS: usize = 128;
 
 const MOST_SECTIONS: usize = 1024;
 
-/// Room for the longest section and one more payload.
+/// The size in bytes of a buffer for the longest section and one more payload.
 pub const SECTION_CAPACITY: usize = 4288;
 
-/// A section.
+/// The bytes of a section.
 pub type Section = ArrayVec<u8, SECTION_CAPACITY>;
 
-/// The sections of a PID, as far as they have come.
+/// The sections of a PID, as far as they have been received.
 #[derive(Drop)]
 struct Partial {
     is_open: bool,
     bytes: Section,
 }
 
-/// A section that is known.
+/// A section that was read before.
 #[derive(Clone, Copy)]
 struct KnownSection {
     name: SectionName,
     crc: [u8; 4],
 }
 
-/// The state of the tables.
+/// The state of all tables of a recording.
 #[derive(Drop)]
 pub struct Tables {
     partials: Vec<Partial>,
@@ -40,20 +40,20 @@ pub struct Tables {
 }
 
 impl Partial {
-    // Begins a section, and drops what came before it.
+    // Begins a section, and drops the bytes received before.
     fn open(&mut self) {
         self.is_open = true;
         self.bytes.clear();
     }
 
-    // Adds bytes after those that came before.
+    // Appends bytes to those received before.
     fn add(&mut self, bytes: &[u8]) {
         if self.is_open {
             add_to(&mut self.bytes, bytes);
         }
     }
 
-    // Puts the next complete section into the room, and returns whether there is one.
+    // Moves the next complete section into `buffer`, and returns whether one was complete.
     fn next(&mut self, buffer: &mut Section) -> bool {
         match next_size(self.bytes.as_slice()) {
             Some(size) => {
@@ -67,7 +67,7 @@ impl Partial {
         }
     }
 
-    // Ends the sections if stuffing comes next.
+    // Ends the sections of a payload if stuffing comes next.
     fn end_at_stuffing(&mut self) {
         if has_stuffing(self.bytes.as_slice()) {
             self.is_open = false;
@@ -76,7 +76,7 @@ impl Partial {
     }
 }
 
-// Adds bytes, if there is room for them.
+// Appends bytes, if they fit.
 fn add_to(received: &mut Section, bytes: &[u8]) {
     if bytes.len() > SECTION_CAPACITY - received.len() {
         return;
@@ -84,12 +84,12 @@ fn add_to(received: &mut Section, bytes: &[u8]) {
     let _ = received.try_extend_from_slice(bytes);
 }
 
-// Returns whether there is stuffing instead of a section: FF as table_id.
+// Returns whether stuffing comes next instead of a section: FF as table_id.
 fn has_stuffing(received: &[u8]) -> bool {
     received.len() >= 3 && received[0] == 0xFF
 }
 
-// Returns the size of the next section, if it is complete.
+// Returns the size in bytes of the next section, if it is complete.
 fn next_size(received: &[u8]) -> Option<usize>
     ensures { IfSome result (λ size. size ≤ length received.now) }
 {
@@ -103,7 +103,7 @@ fn next_size(received: &[u8]) -> Option<usize>
     Some(size)
 }
 
-// Moves so many of the first bytes into the room.
+// Moves the first `size` bytes into `buffer`.
 fn move_out(received: &mut Section, size: usize, buffer: &mut Section)
     requires { size ≤ length received.old.items }
 {
@@ -116,7 +116,7 @@ fn move_out(received: &mut Section, size: usize, buffer: &mut Section)
 }
 
 impl Tables {
-    /// Returns the state before the first section.
+    /// Creates the state before the first section.
     pub fn new(alloc: Global) -> Tables {
         Tables {
             partials: Vec::new(alloc),
@@ -124,8 +124,8 @@ impl Tables {
         }
     }
 
-    /// Makes room for the sections of one more PID, and returns its index; `None` if there is no
-    /// room.
+    /// Makes room for the sections of one more PID, and returns its index. Returns `None` if no
+    /// room is left.
     pub fn add(&mut self) -> Option<u8> {
         let place = self.partials.as_slice().len();
         if place >= MOST_PIDS {
@@ -141,7 +141,7 @@ impl Tables {
         }
     }
 
-    /// Adds bytes of a PID: after those that came before, or at the start of a section.
+    /// Appends bytes of a PID: to the bytes received before, or at the start of a section.
     pub fn take(&mut self, place: u8, bytes: &[u8], begins: bool) {
         let Some(partial) = self.partials.get_mut(place as usize) else {
             return;
@@ -152,7 +152,8 @@ impl Tables {
         partial.add(bytes);
     }
 
-    /// Puts the next complete section into the room, and returns whether there is one.
+    /// Moves the next complete section of a PID into `buffer`, and returns whether one was
+    /// complete.
     pub fn next(&mut self, place: u8, buffer: &mut Section) -> bool {
         match self.partials.get_mut(place as usize) {
             Some(partial) => partial.next(buffer),
@@ -160,7 +161,7 @@ impl Tables {
         }
     }
 
-    /// Returns whether a complete section is new and in force, and keeps it then.
+    /// Returns whether a complete section is new and in force. Stores such a section.
     pub fn is_new(&mut self, section: &[u8]) -> bool {
         let Some(name) = name_of(section) else {
             return false;
@@ -178,7 +179,7 @@ impl Tables {
         self.keep(name, *crc, is_there)
     }
 
-    // Keeps a section, in place of the one with its name; returns whether there was room.
+    // Stores a section, in place of the section with its name; returns whether it was stored.
     fn keep(&mut self, name: SectionName, crc: [u8; 4], is_there: bool) -> bool {
         if is_there {
             self.replace(name, crc);
@@ -190,7 +191,7 @@ impl Tables {
         self.known.push(KnownSection { name, crc }).is_ok()
     }
 
-    // Replaces the section with this name.
+    // Replaces the stored section with this name.
     fn replace(&mut self, name: SectionName, crc: [u8; 4]) {
         for section in self.known.iter_mut() {
             set_crc(section, name, crc);
@@ -222,8 +223,8 @@ fn is_known_section(known: &[KnownSection], name: SectionName, crc: &[u8; 4]) ->
         .any(|one| is_same_name(one.name, name) && one.crc == *crc)
 }
 
-/// Returns the two parts of a payload with sections: the end of those that began before, and what
-/// begins here, if anything does (ISO/IEC 13818-1, pointer_field).
+/// Returns the two parts of a payload with sections: the end of the sections that began before, and
+/// the sections that begin in this payload, if any (ISO/IEC 13818-1, pointer_field).
 pub fn parts_of<'a>(packet: &[u8; PACKET], payload: &'a [u8]) -> (&'a [u8], Option<&'a [u8]>) {
     if !begins(packet) || payload.is_empty() {
         return (payload, None);
@@ -233,7 +234,7 @@ pub fn parts_of<'a>(packet: &[u8; PACKET], payload: &'a [u8]) -> (&'a [u8], Opti
     (before, Some(following))
 }
 
-// Splits the bytes at a place.
+// Splits the bytes at an offset.
 fn split_at_length(bytes: &[u8], place: u8) -> (&[u8], &[u8]) {
     bytes.split_at((place as usize).min(bytes.len()))
 }

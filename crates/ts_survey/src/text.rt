@@ -1,17 +1,19 @@
-//! Lines in memory that are not written yet.
+//! Lines of output in memory that are not written yet.
 ghost use Rattle.std.specs.Prelude.{◌≡◌, ◌≤◌, ◌<◌, ◌∷◌, decimal, false, length, true};
 ghost use Rattle.ts_survey.specs.Text.{Adds, hex_word};
 
 use arrayvec::ArrayVec;
 use std::alloc::Global;
 
-/// Ticks of the 33-bit clock of a PTS and of a PCR's base, 90,000 a second (ISO/IEC 13818-1).
+/// The number of ticks of the 33-bit clock of a PTS and of a PCR's base, which has 90,000 ticks per
+/// second (ISO/IEC 13818-1).
 pub const CLOCK: u64 = 1 << 33;
 
-// Room for a space, a sign and a number in decimal.
+// The characters of a space, a sign and a number in decimal.
 type Word = ArrayVec<u8, 32>;
 
-/// Lines in memory. If memory ran out, what was to be added is lost, and so is everything after it.
+/// Lines of output in memory. If memory runs out, the text that was to be added is lost, and so is
+/// all later text.
 #[derive(Drop)]
 pub struct Text {
     bytes: Vec<u8>,
@@ -19,7 +21,7 @@ pub struct Text {
 }
 
 impl Text {
-    /// Returns an empty text.
+    /// Creates an empty text.
     pub fn new(alloc: Global) -> Text
         ensures empty { length result.bytes.items ≡ 0 }
         ensures whole { result.is_lost ≡ false }
@@ -30,28 +32,28 @@ impl Text {
         }
     }
 
-    /// Returns whether memory ran out.
+    /// Returns whether memory ran out, so that text is lost.
     pub fn is_lost(&self) -> bool
         ensures { result ≡ self.now.is_lost }
     {
         self.is_lost
     }
 
-    /// Returns whether there are no lines.
+    /// Returns whether the text is empty.
     pub fn is_empty(&self) -> bool
         ensures { result ≡ true → length self.now.bytes.items ≡ 0 }
     {
         self.bytes.is_empty()
     }
 
-    /// Returns the bytes.
+    /// Returns the bytes of the text.
     pub fn as_slice(&self) -> &[u8]
         ensures { result.now ≡ self.now.bytes.items }
     {
         self.bytes.as_slice()
     }
 
-    /// Drops the lines, which were written.
+    /// Drops all lines, which have been written.
     pub fn clear(&mut self)
         ensures empty { length self.new.bytes.items ≡ 0 }
         ensures same { self.new.is_lost ≡ self.old.is_lost }
@@ -59,7 +61,7 @@ impl Text {
         self.bytes.clear();
     }
 
-    /// Adds bytes.
+    /// Adds bytes to the text.
     pub fn put(&mut self, bytes: &[u8])
         ensures { Adds self.old bytes.now self.new }
     {
@@ -90,8 +92,8 @@ impl Text {
         self.put(word.as_slice());
     }
 
-    /// Adds a space and ticks that are counted forward around the clock, as the distance on the
-    /// shorter way: half the clock and more is negative.
+    /// Adds a space and a distance in ticks around the clock, on the shorter way: `forward` of half
+    /// the clock or more is printed as a negative number.
     pub fn ticks(&mut self, forward: u64) {
         if forward < CLOCK / 2 || forward > CLOCK {
             return self.number(forward);
@@ -103,7 +105,7 @@ impl Text {
         self.put(word.as_slice());
     }
 
-    /// Adds a space and a time, or a hyphen if there is none.
+    /// Adds a space and a time, or a hyphen if the time is `None`.
     pub fn time(&mut self, time: Option<u64>) {
         match time {
             Some(time) => self.number(time),
@@ -122,7 +124,7 @@ impl Text {
         self.put(digits);
     }
 
-    /// Adds a space and a page; magazine 0 is 8.
+    /// Adds a space and a Teletext page; magazine 0 is printed as 8.
     pub fn page(&mut self, magazine: u8, page: u8)
         requires { magazine < 8 }
     {
@@ -142,7 +144,7 @@ pub fn upper_digit(number: u8) -> u8
     }
 }
 
-/// Returns how many ticks a time is after another, forward around the clock.
+/// Returns how many ticks `second` is after `first`, forward around the clock.
 pub fn forward(first: u64, second: u64) -> u64 {
     second.wrapping_sub(first) % CLOCK
 }

@@ -3,17 +3,17 @@ ghost use Rattle.std.specs.Prelude.{◌≡◌, ◌+◌, ◌≤◌, ◌<◌, leng
 ghost use Rattle.std.specs.Prelude.{take};
 ghost use Rattle.ts_survey.specs.Heard.{first_place, borrowed_packets, unit_packets};
 
-/// The size of a data unit with a Teletext packet.
+/// The size in bytes of a data unit with a Teletext packet.
 const UNIT: usize = 46;
 
-/// Returns the data units of a PES packet: what follows its header and data_identifier.
+/// Returns the data units of a PES packet, which follow its header and data_identifier.
 pub fn units_of(pes: &[u8]) -> &[u8]
     ensures { result.now ≡ drop (first_place pes.now) pes.now }
 {
     following(pes, first_place(pes))
 }
 
-// Returns the place of the first data unit.
+// Returns the offset of the first data unit in a PES packet.
 fn first_place(pes: &[u8]) -> usize
     ensures { result ≡ first_place pes.now }
 {
@@ -24,7 +24,7 @@ fn first_place(pes: &[u8]) -> usize
     }
 }
 
-/// Returns what follows the first `count` bytes.
+/// Returns the bytes after the first `count` bytes.
 pub fn following(bytes: &[u8], count: usize) -> &[u8]
     ensures { result.now ≡ drop count bytes.now }
 {
@@ -32,14 +32,16 @@ pub fn following(bytes: &[u8], count: usize) -> &[u8]
     rest
 }
 
-/// A data unit: its size, and its packet in the bit order of the data unit, if it has one.
+/// A data unit: its size in bytes, and its Teletext packet in the bit order of the data unit, if it
+/// carries one.
 #[derive(Clone, Copy)]
 pub struct DataUnit<'a> {
     pub size: usize,
     pub packet: Option<&'a [u8; 42]>,
 }
 
-/// Returns the data unit at the beginning of the bytes, if these have room for one with Teletext.
+/// Returns the data unit at the front of the bytes, if the bytes have room for a data unit with
+/// Teletext.
 pub fn unit_of(bytes: &[u8]) -> Option<DataUnit<'_>>
     ensures none { IfNone result (length bytes.now < 46) }
     ensures some { IfSome result (λ _. 46 ≤ length bytes.now) }
@@ -57,7 +59,7 @@ pub fn unit_of(bytes: &[u8]) -> Option<DataUnit<'_>>
     })
 }
 
-// Returns the packet of a data unit, if it has one.
+// Returns the Teletext packet of a data unit, if it carries one.
 #[tactic(auto, unfolding(crate::specs::Heard::borrowed_packets, crate::specs::Heard::unit_packets))]
 fn packet_of(unit: &[u8]) -> Option<&[u8; 42]>
     requires { length unit.now ≡ 46 }

@@ -1,4 +1,4 @@
--- The law: law_of_two_calls.
+-- The law of two calls is proved in InStepLemmas.
 use Rattle.ts_survey.proofs.InStepLemmas.{law_of_two_calls}
 use Rattle.ts_survey.proofs.laws.law_of_two_calls.Goals as goal
 

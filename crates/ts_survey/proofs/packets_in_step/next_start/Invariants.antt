@@ -1,4 +1,4 @@
--- All bytes so far belong to no packet.
+-- In each iteration of `next_start`, all bytes so far belong to no packet.
 use Rattle.std.proofs.Common.{◌≡◌, ◌-◌, List, ◌++◌, ℕ, drop, false, replicate}
 use Rattle.mpeg_ts.specs.PacketsInStep.{Skipped}
 use Rattle.ts_survey.specs.InStep.{items_from}

@@ -1,4 +1,4 @@
--- One more part was received: first-taken, same-rest.
+-- Each iteration of `give_ready` passes on one part: first-taken, same-rest.
 use Rattle.ts_survey.proofs.FollowingLemmas.{first-taken, same-rest}
 use Rattle.ts_survey.proofs.pid_packets.give_ready.Goals as goal
 

@@ -1,4 +1,5 @@
--- The first lines followed by the others: grows-more; what is flushed stays: appends-kept.
+-- The first lines are written before the others: grows-more; flushing does not change what was
+-- written: appends-kept.
 use Rattle.ts_survey.proofs.ListedLemmas.{appends-kept}
 use Rattle.ts_survey.proofs.SurveyLemmas.{grows-more}
 use Rattle.ts_survey.proofs.reporting.flush_pending.Goals as goal

@@ -1,4 +1,4 @@
--- There are forty.
+-- In each iteration of `reported_cells`, the row has forty cells.
 use Rattle.std.proofs.Common.{◌≡◌, length}
 use Rattle.ts_survey.proofs.rows.reported_cells.Given as goal
 

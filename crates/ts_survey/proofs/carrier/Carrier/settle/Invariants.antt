@@ -1,4 +1,4 @@
--- Its PID stays the same.
+-- In each iteration of `settle`, the PID that is followed stays the same.
 use Rattle.std.proofs.Common.{◌≡◌}
 use Rattle.ts_survey.proofs.carrier.Carrier.settle.Given as goal
 

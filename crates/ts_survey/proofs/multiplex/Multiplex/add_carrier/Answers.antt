@@ -1,4 +1,5 @@
--- The new PID is requested, one-more-requested; word by word, adds-word.
+-- The PID that `add_carrier` follows is requested, one-more-requested; its line is printed word by
+-- word, adds-word.
 use Rattle.std.proofs.Common.{refl, rules}
 use Rattle.ts_survey.proofs.RequestedLemmas.{one-more-requested}
 use Rattle.ts_survey.proofs.TextLemmas.{adds-last, adds-word}

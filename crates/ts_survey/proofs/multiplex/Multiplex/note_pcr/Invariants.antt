@@ -1,4 +1,4 @@
--- Each keeps its PID.
+-- In each iteration of `note_pcr`, the followed PIDs stay the same.
 use Rattle.std.proofs.Common.{◌≡◌, map}
 use Rattle.ts_survey.specs.Requested.{pid_followed}
 use Rattle.ts_survey.proofs.multiplex.Multiplex.note_pcr.Given as goal

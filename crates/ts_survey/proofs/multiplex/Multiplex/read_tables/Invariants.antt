@@ -1,4 +1,4 @@
--- The requested PID and page stay the same.
+-- In each iteration of `read_tables`, the requested PID and page stay the same.
 use Rattle.ts_survey.specs.Requested.{KeepsRequested}
 use Rattle.ts_survey.proofs.multiplex.Multiplex.read_tables.Given as goal
 

@@ -1,4 +1,4 @@
--- Each keeps its PID.
+-- In each iteration of `settle_all`, the followed PIDs stay the same.
 use Rattle.std.proofs.Common.{◌≡◌, map}
 use Rattle.ts_survey.specs.Requested.{pid_followed}
 use Rattle.ts_survey.proofs.multiplex.Multiplex.settle_all.Given as goal

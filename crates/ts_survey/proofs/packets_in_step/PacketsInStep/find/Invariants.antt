@@ -1,4 +1,5 @@
--- The items found so far; each turn processes at least one more byte.
+-- In each iteration of `find`, the items up to `place` were found; each iteration processes at
+-- least one more byte.
 use Rattle.std.proofs.Common.{◌≤◌}
 use Rattle.ts_survey.specs.InStep.{ItemsFound}
 use Rattle.ts_survey.proofs.packets_in_step.PacketsInStep.find.Given as goal

@@ -1,4 +1,5 @@
--- Each turn processes at least one byte, and what the turns after it count is counted in all.
+-- Each iteration of `take_complete` processes at least one byte; counting the PES packets in the
+-- rest of the bytes then gives the count for all bytes.
 use Rattle.std.proofs.Common.{◌+◌, ◌≤◌, List, ℕ, length}
 use Rattle.ts_survey.specs.FilePesPackets.{CountsPesPackets}
 use Rattle.ts_survey.proofs.pes_file.PesFile.take_complete.Given as goal

@@ -1,4 +1,5 @@
--- The head was printed now, found-following-head, or before, found-with-head.
+-- The line `head` is printed in this call, found-following-head, or was printed before,
+-- found-with-head.
 use Rattle.std.proofs.Common.{◌≡◌, ◌∙◌, ap, false, rules, subst}
 use Rattle.ts_survey.specs.FirstLines.{kind_texts}
 use Rattle.ts_survey.specs.Lines.{AddsTexts}

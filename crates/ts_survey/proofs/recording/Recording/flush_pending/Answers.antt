@@ -1,4 +1,4 @@
--- A stream of which packets were processed stays one: goes-on.
+-- Processing the packets of a transport stream does not change the kind of the recording: goes-on.
 use Rattle.ts_survey.proofs.ListedLemmas.{goes-on}
 use Rattle.ts_survey.proofs.recording.Recording.flush_pending.Goals as goal
 
