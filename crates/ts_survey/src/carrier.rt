@@ -242,14 +242,14 @@ impl Carrier {
             return false;
         };
         let second = one.strange.second;
-        let is_known_section = match number {
+        let is_settled = match number {
             Some(number) => number > second.saturating_add(INSPECTED_PACKETS),
             None => true,
         };
-        if is_known_section {
+        if is_settled {
             self.report_first(pids, text);
         }
-        is_known_section
+        is_settled
     }
 
     // Prints the first irregular PCR, if any is stored.
