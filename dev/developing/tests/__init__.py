@@ -1,18 +1,20 @@
-"""The tests of dev/check-tools, a module `test_..` for a tool or an idea; `runner` runs them.
+"""Tests of the tools, run by dev/check-tools: each module `test_..` tests a tool or one task.
 
-What they share, each module on those above it alone:
+Helper modules, each of which imports only those above it:
 
-bench      the program, a folder for each test, calls of tools
-sent       subtitle files, page transmissions and feeds of them, and what may be wrong there
-muxed      transport streams: what is sent beside video
-judged     pairs judged in process by the words of a call, and all that is said of them
-parts      values between the tools' packages, without files: answers, parts, requests
-results    JSON results, and what is wrong in one by the schema
-programmes programmes made for tests, and what is sent of them
-air        segments and schedules for the tests of tools/air
-scenario   pairs at random, by numbers: at_random calls qc with them
-at_random  all output of a random call, or of a named one; many_at_random of a folder of pairs
-snapshots  outputs that are stored in dev/snapshots/, and what differs from them
-runner     finds tests and runs them side by side
-table      which of them are of which module of the tools
+failures           the text of a failed check
+bench              the base class of tests: folders, calls of tools, checks
+transmissions      subtitle files, page transmissions, pipes
+streams            transport streams
+judged             pairs judged in this process
+parts              values that the tools' packages exchange: answers, parts, requests
+results            JSON results, and a validator of their schema
+programmes         subtitle files and transmissions of whole programmes
+air                segments and schedules for the tests of tools/air
+scenario           random pairs by their seeds; wide_scenario adds more faults and options
+random_calls       random and named calls of qc; random_folders for many pairs in one folder
+snapshots          stored outputs in dev/snapshots/
+planted            programmes with one planted fault
+table              which tests belong to which module of the tools
+runner             finds tests and runs several at once
 """

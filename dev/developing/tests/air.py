@@ -1,5 +1,7 @@
-"""Segments and schedules for the tests of tools/air, and a checker that needs no program. Times are
-seconds of one day, and each second of the feed is a byte."""
+"""Segments and schedules for the tests of tools/air, and a fake checker.
+
+Times are seconds of one day, and each second of the feed is a byte.
+"""
 from __future__ import annotations
 
 import argparse
@@ -22,7 +24,7 @@ MARGIN = 60
 
 
 class Sent(NamedTuple):
-    """When a programme is really sent, and whether all of it is right."""
+    """When a programme is really on air, and whether its subtitles are correct."""
 
     begin: float
     end: float
@@ -30,7 +32,7 @@ class Sent(NamedTuple):
 
 
 class FakeChecker:
-    """Judges a stretch by what is really sent in it, as the program does."""
+    """Judge a stretch by the programmes that are really on air in it."""
 
     def __init__(self, sent: dict[str, Sent], fails: Callable[[], bool] = lambda: False) -> None:
         self.sent, self.fails, self.work, self.calls = sent, fails, os.devnull, list[str]()
@@ -54,11 +56,11 @@ class FakeChecker:
         return refused._replace(is_finished=sent.end < last)
 
     def clear(self) -> None:
-        """Delete nothing: there is no work."""
+        """Delete nothing: there is no work folder."""
 
 
 def outcome(name: str, verdict: str, reason: str) -> Outcome:
-    """Return the outcome of a programme that was judged."""
+    """Return the outcome of a judged programme."""
     return Outcome({**unjudged(name, reason), "verdict": verdict, "inputs": {"recording": {}}},
                    reason)
 
@@ -82,7 +84,7 @@ class Air(Case):
         return read_options(main.judge_parser(), line, {}, {})
 
     def make_judge(self, checker: FakeChecker, *more: str) -> judge.Judge:
-        """Return a judge that asks a checker of tests, and does not look at disks."""
+        """Return a judge with a fake checker that does not monitor disks."""
         made = judge.Judge(self.args(*more), "qc")
         made.checker = checker  # type: ignore
         made.monitor.look = lambda *_: None  # type: ignore
@@ -90,7 +92,7 @@ class Air(Case):
         return made
 
     def write_schedule(self, *lines: str) -> None:
-        """Write a schedule of some lines."""
+        """Write a schedule."""
         self.write("schedule", "".join(f"{line}\n" for line in lines).encode())
 
     def put_segment(self, begin: float, end: float, data: bytes = b"", is_new: bool = False
@@ -103,13 +105,14 @@ class Air(Case):
         return path
 
     def put_segments(self, begin: int, end: int, missing: Sequence[tuple[int, int]] = ()) -> None:
-        """Write segments from one second to another, but those that have a missing second."""
+        """Write segments from one second to another, without those that overlap a missing stretch.
+        """
         for at in range(begin, end, LENGTH):
             if not any(at < last and at + LENGTH > first for first, last in missing):
                 self.put_segment(at, min(at + LENGTH, end))
 
     def verdicts(self) -> dict[str, str]:
-        """Return the verdicts in the folder of results."""
+        """Return the verdicts by the names of their results."""
         names = (name[:-5] for name in os.listdir(self.path("out")) if name.endswith(".json"))
         return {name: str(self.result(name)["verdict"]) for name in names if name != "state"}
 
@@ -119,7 +122,7 @@ class Air(Case):
         return found
 
     def delete_all(self, *folders: str) -> None:
-        """Delete the files of some folders."""
+        """Delete all files in some folders."""
         for folder in folders:
             for name in os.listdir(self.path(folder)):
                 os.unlink(self.path(f"{folder}/{name}"))

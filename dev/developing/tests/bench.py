@@ -1,8 +1,7 @@
-"""The program and the folders of tests, the tools that they call, and what the machine lacks.
+"""The base class of tests: folders, calls of the program and the tools, checks.
 
-A test is a method `test_..` of a `Case`, by Python's own unittest. It has a folder of its own, and
-goes on where something does not hold. From dev/ it runs also as `python3 -m unittest
-developing.tests.test_clocks`.
+Each test of a `Case` has its own folder, and continues after a failed check. From dev/, `python3 -m
+unittest developing.tests.test_clock_clocks` runs a module too.
 """
 from __future__ import annotations
 
@@ -27,15 +26,15 @@ from subtitles.common.program import TOP, built_program
 from .failures import Mismatch, calling_frame, comparison, explained, lines_of, place_of, shortened
 
 EXAMPLES = os.path.join(TOP, "examples")
-MOST_OF_NAME = 160  # characters that a failure prints
-SECONDS = 600  # for one call, or what is waited for, on a machine that does other things too
+MOST_OF_NAME = 160  # characters of a check's name in a failure
+SECONDS = 600  # time limit of a call or a wait, also on a busy machine
 
 
 Row = Tuple[Tuple[Any, ...], object]  # of a table: arguments, and the expected value
 
 
 class Done(NamedTuple):
-    """How a call ended: its status, what it printed, and its lines on standard error."""
+    """The status, standard output and lines on standard error of a finished call."""
 
     status: int
     out: bytes
@@ -43,8 +42,11 @@ class Done(NamedTuple):
 
 
 class Bench:
-    """What all tests share: the program that is tried, a folder for theirs, whether speed is
-    measured, whether stored outputs are written again, and in `over` what the machine lacks."""
+    """Settings of a test run:
+
+    the program, the folder of the tests, whether to measure speed or to update stored outputs, and
+    which tests this machine skips.
+    """
 
     def __init__(self) -> None:
         self.folder, self.is_timed, self.is_updated = "", False, False
@@ -53,13 +55,13 @@ class Bench:
 
     @property
     def program(self) -> str:
-        """The path of the program: the chosen one, or the one that ./subttx runs."""
+        """Return the path of the program under test; the default is the one that ./subttx runs."""
         if self.chosen is None:
             self.chosen = os.path.realpath(built_program(None))
         return self.chosen
 
     def make_top(self) -> str:
-        """The folder of those of all tests, which another user can look into."""
+        """Create the folder for all tests, readable by other users, unless it exists."""
         if not self.folder:
             self.folder = tempfile.mkdtemp()
             os.chmod(self.folder, 0o755)
@@ -67,7 +69,7 @@ class Bench:
         return self.folder
 
     def make_folder(self, name: str) -> str:
-        """Makes the folder of a test."""
+        """Create the folder of a test."""
         made = os.path.join(self.make_top(), name)
         os.mkdir(made)
         return made
@@ -77,7 +79,7 @@ BENCH = Bench()
 
 
 class Case(unittest.TestCase):
-    """Tests; the files of each stand in a folder of its own."""
+    """A test with its own folder."""
 
     bench = BENCH
     folder = ""
@@ -86,8 +88,11 @@ class Case(unittest.TestCase):
         self.folder = self.bench.make_folder(self.id().rpartition("tests.")[2])
 
     def must(self, name: str, is_right: object, told: object = "") -> bool:
-        """Check that a condition is true, and go on. A failure names the caller's line and the
-        first fact of the condition that is false. Prefer `check`, which has an expected value."""
+        """Check that a condition is true, and continue.
+
+        A failure shows the caller's line and the first fact of the condition that is false. Prefer
+        `check`, which has an expected value.
+        """
         with self.subTest(name):
             if not is_right:
                 frame = calling_frame()
@@ -97,7 +102,7 @@ class Case(unittest.TestCase):
         return bool(is_right)
 
     def check(self, name: str, found: object, expected: object) -> bool:
-        """Compare one value, and go on. A failure shows the caller's line and both values."""
+        """Compare a value with its expected value, and continue."""
         with self.subTest(name):
             if found != expected:
                 raise Mismatch(f"{name[:MOST_OF_NAME]}\n  {place_of(calling_frame())}\n"
@@ -105,37 +110,38 @@ class Case(unittest.TestCase):
         return found == expected
 
     def check_each(self, function: Callable[..., object], rows: Mapping[str, Row]) -> None:
-        """Call a function for each named row, with its arguments, and compare what it returns."""
+        """Call a function with the arguments of each named row, and compare what it returns."""
         for name, (arguments, expected) in rows.items():
             self.check(f"{name}: {getattr(function, '__name__', 'call')}"
                        f"({', '.join(map(repr, arguments))})", function(*arguments), expected)
 
     def path(self, name: str) -> str:
-        """A file of the test."""
+        """Return the path of a file in the test's folder."""
         return os.path.join(self.folder, name)
 
     def write(self, name: str, data: bytes | bytearray) -> str:
-        """Writes a file of the test; answers its path."""
+        """Write a file in the test's folder; return its path."""
         with open(self.path(name), "wb") as file:
             file.write(data)
         return self.path(name)
 
     def write_program(self, name: str, text: str) -> str:
-        """Writes a program; answers its path."""
+        """Write an executable file; return its path."""
         path = self.write(name, text.encode())
         os.chmod(path, 0o755)
         return path
 
     def read(self, name: str) -> bytes:
-        """The bytes of a file of the test."""
+        """Return the content of a file in the test's folder."""
         with open(self.path(name), "rb") as file:
             return file.read()
 
     def call(self, command: Sequence[str], data: bytes | None = None,
              env: dict[str, str] | None = None, user: int | None = None, folder: str = "") -> Done:
-        """Runs a command in the folder, or one in it; what it prints, and its lines on standard
-        error. Of a tool a process is forked that has all loaded, unless it is to have another
-        environment."""
+        """Run a command in the test's folder or a folder below it.
+
+        Python tools run in a fork with all modules loaded, unless `env` or `user` is given.
+        """
         does = loaded(command) if env is None and user is None else None
         done = subprocess.run(command, cwd=os.path.join(self.folder, folder), check=False,
                               stdout=subprocess.PIPE, stderr=subprocess.PIPE, timeout=SECONDS,
@@ -144,36 +150,36 @@ class Case(unittest.TestCase):
                     done.stderr.decode("utf-8", "surrogateescape").splitlines())
 
     def tool(self, name: str, *words: str, data: bytes | None = None) -> Done:
-        """Runs one of the tools."""
+        """Run one of the tools."""
         return self.call([tool_path(name), *words], data)
 
     def program(self, *words: str) -> tuple[int, list[str]]:
-        """The status of the program, and its lines."""
+        """Run the program; return its status and output lines."""
         done = self.call([self.bench.program, *words])
         return done.status, done.out.decode().splitlines()
 
     def program_but(self, when: str, does: str) -> str:
-        """A program that does something where its words are like a pattern of the shell, and what
-        it should at all others."""
+        """Write a program that runs the shell command `does` if its arguments match the pattern
+        `when`, and the real program otherwise."""
         return self.write_program("program", f"#!/bin/sh\ncase $* in {when}) {does} ;; esac\nexec "
                                              f"'{self.bench.program}' \"$@\"\n")
 
     def schedule(self, stl: str, name: str, *options: str) -> str:
-        """The program's own transmission of a subtitle file."""
+        """Write the transmission that `schedule` makes of a subtitle file; return its path."""
         done = self.call([self.bench.program, "schedule", stl, self.path(name), *options])
         assert done.status == 0, done
         return self.path(name)
 
 
 def tool_path(name: str) -> str:
-    """The file of a tool, of tools/ where it has one there, else of dev/."""
+    """Return the path of a tool in tools/, or else in dev/."""
     path = os.path.join(TOP, "tools", name)
     return path if os.path.exists(path) else os.path.join(TOP, "dev", name)
 
 
 @functools.lru_cache(None)
 def is_python(path: str) -> bool:
-    """Whether a file is a tool of this repository, in Python."""
+    """Return whether a file is one of this repository's Python tools."""
     if os.path.dirname(path) not in (TOOLS, DEV):
         return False
     with open(path, "rb") as file:
@@ -181,18 +187,18 @@ def is_python(path: str) -> bool:
 
 
 def loaded(command: Sequence[str]) -> Callable[[], NoReturn] | None:
-    """What a process that is forked for a command does in its place, where that is a tool of this
-    repository, which has all loaded."""
+    """Return a function that replaces a forked process by a Python tool; `None` for other commands.
+    """
     sys.__stdout__.flush()
     return functools.partial(become, command) if is_python(command[0]) else None
 
 
 def become(command: Sequence[str]) -> NoReturn:
-    """Does in a process that was forked for it what a tool does."""
+    """Run a Python tool in this forked process."""
     status: object = 1
     try:
         for number in (signal.SIGPIPE, signal.SIGXFSZ):
-            signal.signal(number, signal.SIG_IGN)  # as Python does when it begins
+            signal.signal(number, signal.SIG_IGN)  # as Python does at its start
         if signal.getsignal(signal.SIGINT) == signal.SIG_DFL:
             signal.signal(signal.SIGINT, signal.default_int_handler)
         for name in os.listdir("/proc/self/fd"):
@@ -216,21 +222,22 @@ def become(command: Sequence[str]) -> NoReturn:
 
 
 def script(name: str) -> Any:
-    """A tool as a module."""
+    """Import a tool as a module."""
     loader = importlib.machinery.SourceFileLoader(name, tool_path(name))
     spec = importlib.util.spec_from_loader(name, loader)
     assert spec
-    made = sys.modules[name] = importlib.util.module_from_spec(spec)  # for its data classes
+    # data classes look up their module there
+    made = sys.modules[name] = importlib.util.module_from_spec(spec)
     loader.exec_module(made)
     return made
 
 
 def example(name: str) -> str:
-    """The file of an example."""
+    """Return the path of an example."""
     return os.path.join(EXAMPLES, name)
 
 
 def example_bytes(name: str) -> bytes:
-    """The bytes of an example."""
+    """Return the content of an example."""
     with open(example(name), "rb") as file:
         return file.read()

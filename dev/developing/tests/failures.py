@@ -1,4 +1,4 @@
-"""What a failed check prints: the caller's line, what was expected, what was found, and a diff."""
+"""Explain a failed check: the caller's line, the expected and the found value, and a diff."""
 from __future__ import annotations
 
 import ast
@@ -10,13 +10,13 @@ import sys
 from types import FrameType
 from typing import Iterator
 
-HELPERS = ("bench.py", "failures.py", "snapshots.py")  # never the line that a failure names
-MOST = 60  # lines of a diff, and of a value
+HELPERS = ("bench.py", "failures.py", "snapshots.py")  # files that a failure never points to
+MOST = 60  # lines of a diff or a value
 WIDTH = 96
 
 
 class Mismatch(AssertionError):
-    """A failed check. Its text says all; the runner prints no traceback behind it."""
+    """A failed check, whose text needs no traceback."""
 
 
 def calling_frame() -> FrameType:
@@ -29,26 +29,26 @@ def calling_frame() -> FrameType:
 
 
 def place_of(frame: FrameType) -> str:
-    """Return file, line and source text of the line that a frame runs."""
+    """Return file, line number and source text of the line that a frame runs."""
     path = frame.f_code.co_filename
     line = linecache.getline(path, frame.f_lineno).strip()
     return f"{os.path.basename(path)}:{frame.f_lineno}: {line}"
 
 
 def shortened(lines: list[str]) -> str:
-    """Join lines; leave out what is behind MOST of them."""
+    """Join the first MOST lines, and count the others."""
     more = [f"  .. {len(lines) - MOST} more lines"] * (len(lines) > MOST)
     return "\n".join([*lines[:MOST], *more])
 
 
 def lines_of(value: object) -> list[str]:
-    """Return a value as lines: a text as it is, anything else as Python prints it."""
+    """Split a text into lines; format any other value as Python prints it."""
     return value.splitlines() if isinstance(value, str) and "\n" in value else \
         pprint.pformat(value, width=WIDTH, compact=True).splitlines()
 
 
 def comparison(found: object, expected: object) -> str:
-    """Show two values that should be equal; long ones as a diff."""
+    """Show two different values; long ones as a diff."""
     own, wanted = lines_of(found), lines_of(expected)
     if len(own) == 1 and len(wanted) == 1:
         return f"  expected: {wanted[0]}\n  found:    {own[0]}"
@@ -57,7 +57,7 @@ def comparison(found: object, expected: object) -> str:
 
 
 def condition_in(frame: FrameType, helper: str) -> ast.expr | None:
-    """Find the condition of the call of a helper that a frame runs: its second argument."""
+    """Find the condition in a frame's call of a helper: its second argument."""
     source = "".join(linecache.getlines(frame.f_code.co_filename))
     calls = [one for one in ast.walk(ast.parse(source)) if isinstance(one, ast.Call)
              and isinstance(one.func, ast.Attribute) and one.func.attr == helper
@@ -67,7 +67,7 @@ def condition_in(frame: FrameType, helper: str) -> ast.expr | None:
 
 
 def facts_in(condition: ast.expr) -> Iterator[ast.expr]:
-    """Return the facts that `and` joins, each alone."""
+    """Split a condition at `and`."""
     if isinstance(condition, ast.BoolOp) and isinstance(condition.op, ast.And):
         for one in condition.values:
             yield from facts_in(one)
@@ -76,8 +76,8 @@ def facts_in(condition: ast.expr) -> Iterator[ast.expr]:
 
 
 def explained(frame: FrameType, helper: str = "must") -> str:
-    """Evaluate a failed condition again, and name the first of its facts that is false, with both
-    sides of a comparison. What an expression changes when it is evaluated twice is not undone."""
+    """Evaluate a failed condition again; show its first false fact, with both sides of a
+    comparison. Side effects of a second evaluation remain."""
     condition = condition_in(frame, helper)
     names = {**frame.f_globals, **frame.f_locals}
 

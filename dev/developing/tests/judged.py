@@ -1,5 +1,4 @@
-"""Pairs judged in process: what is said of one, in its order, its verdict and its JSON result; and
-tests of what is sent of one programme."""
+"""Run qc on a pair in this process, and return what it printed, its verdict and its JSON result."""
 from __future__ import annotations
 
 import json
@@ -21,22 +20,25 @@ from subtitles.request.lines import read_options
 from subtitles.request.request import request_of
 from subtitles.results.files import found, object_of
 from .bench import Case
-from .muxed import Packet, stream
-from .sent import Sent, joined, packets, programme, sendings, times
+from .streams import Packet, stream
+from .transmissions import Sent, joined, packets, programme, sendings, times
 
 FEW = "are too few to measure a pace"  # the end of a note
 
 
 class Heard(Unprinted):
-    """What is said, and told with `! ` before it, in its order."""
+    """Record the printed lines; those for standard error begin with `! `."""
 
     def tell(self, line: str) -> None:
         self.lines.append(f"! {line}")
 
 
 class Judged(NamedTuple):
-    """A pair that was judged: its verdict, all that was said, its JSON result, the lists of its
-    parts, and the files that commands may name."""
+    """A judged pair:
+
+    its verdict, printed lines, JSON result, the fault lists of its parts, and the files that
+    printed commands may name.
+    """
 
     verdict: Verdict
     said: list[str]
@@ -46,11 +48,11 @@ class Judged(NamedTuple):
 
     @property
     def word(self) -> str:
-        """The verdict as it would be with a clock, since most tests are about something else."""
+        """Return the verdict word as if a clock was given."""
         return decide(self.verdict.seen()._replace(has_clock=True)).word
 
     def is_timed(self) -> bool:
-        """Whether nothing says `accepted`, or has status 0, unless a clock was given."""
+        """Return whether `accepted`, `waived` and status 0 occur only if a clock was given."""
         request, said = self.verdict.request, (
             self.verdict.word, self.result["verdict"], self.said[-1].split(" ")[0])
         return request.has_clock or not {"accepted", "waived", "waived:"} & {*said} and (
@@ -58,21 +60,23 @@ class Judged(NamedTuple):
 
     @property
     def told(self) -> list[str]:
-        """What goes to standard error."""
+        """Return the lines for standard error."""
         return [line[2:] for line in self.said if line.startswith("! ")]
 
     def lines(self, begin: str) -> list[str]:
-        """The lines that begin with some words, without these."""
+        """Return the lines that begin with a prefix, without the prefix."""
         return [line[len(begin):] for line in self.said if line.startswith(begin)]
 
     def parts(self, *names: str) -> list[tuple[Any, ...]]:
-        """Some members of each part."""
+        """Return some members of each part."""
         return [tuple(part[name] for name in names) for part in self.result["parts"]]
 
 
 def judged(case: Case, *words: str, by: str | None = None, heard: Heard | None = None) -> Judged:
-    """A pair judged by the words of a command line, and by the program or another one. The commands
-    that are printed name its files alone."""
+    """Judge a pair by the arguments of a command line.
+
+    Check that printed commands name only its files.
+    """
     found = judged_by(by or case.bench.program, *words, heard=heard)
     case.must("a clock", found.is_timed(), found.said)
     for line in found.verdict.commands:
@@ -81,7 +85,7 @@ def judged(case: Case, *words: str, by: str | None = None, heard: Heard | None =
 
 
 def judged_by(program: str, *words: str, heard: Heard | None = None) -> Judged:
-    """A pair judged by the words of a command line, by a program."""
+    """Judge a pair by the arguments of a command line, with a program."""
     heard = heard or Heard()
     known = read_options(make_parser(""), ["-p", program, *words], {}, {})
     asked, typed = request_of(known), CommandWords("tools/qc", program)
@@ -99,7 +103,7 @@ def judged_by(program: str, *words: str, heard: Heard | None = None) -> Judged:
         report_pair(verdict, heard, files)
         result = json.loads("".join(object_of(verdict, MadeWith("1", "0" * 64, None))))
         listed = [line for part in verdict.parts for line in part.answer.lines()]
-        # Of what comes through a pipe what is kept stands for the recording.
+        # For a pipe, the stored copy is the recording.
         known_files = {asked.stl, asked.recording, os.devnull}
         if pair.recording:
             known_files.add(pair.recording.shown)
@@ -107,14 +111,14 @@ def judged_by(program: str, *words: str, heard: Heard | None = None) -> Judged:
 
 
 class OfProgramme(Case):
-    """Tests of what is sent of one programme, whose subtitles are `due` in some frames: `stl` is
-    its file, `sent` the program's own transmission, and `pes` this as PES packets. What is made of
-    them is judged by the `words` of each call."""
+    """Tests with a subtitle file (`stl`) of the frames `due`, its transmission `transmissions` and its PES
+    packets `pes`. `words` are the arguments of each call."""
 
     due: Sequence[tuple[int, int]] = times(10)
     words: Sequence[str] = ("--origin", "0")
-    text, lines, first = b"Number %d", 1, 1  # the line of each, how often, the number of the first
-    origin, every = 0, 25  # of the transmission, whose PTS do not wrap
+    # text of each line, lines of a subtitle, first subtitle number
+    text, lines, first = b"Number %d", 1, 1
+    origin, every = 0, 25  # of the transmission; its PTS don't wrap
 
     def setUp(self) -> None:
         super().setUp()
@@ -123,18 +127,17 @@ class OfProgramme(Case):
         self.pes = packets(joined(self.sent))
 
     def judge(self, sent: Sent, *words: str) -> Judged:
-        """What is said of a file of PES packets."""
+        """Judge a transmission as a file of PES packets."""
         return judged(self, self.stl, self.write("one.pes", joined(sent)), *self.words, *words)
 
     def judge_stream(self, made: bytes | Iterable[Packet], *words: str) -> Judged:
-        """What is said of a transport stream."""
+        """Judge a transport stream."""
         data = made if isinstance(made, bytes) else stream(made)
         return judged(self, self.stl, self.write("one.ts", data), *self.words, *words)
 
 
 def shown_files(line: str) -> list[str]:
-    """The files that a printed command names: its words behind `check`, but for options with their
-    values."""
+    """Return the files that a printed command names after `check`."""
     words = shlex.split(line)[2:]
     return [word for before, word in zip(["", *words], words) if not word.startswith("-")
             and (not before.startswith("-") or before in ("--all", "--complete"))]

@@ -1,4 +1,4 @@
-"""Values of tests in process: parts with answers, carriers, sendings."""
+"""Make the values that the tools' packages exchange, without files: answers, parts, requests."""
 from __future__ import annotations
 
 import argparse
@@ -24,13 +24,13 @@ from subtitles.stream.packets import Packets
 from subtitles.stream.receiver import Timeline
 from subtitles.stream.survey import Survey, survey
 from .bench import Case
-from .sent import PAGE
+from .transmissions import PAGE
 
 MEANINGS = {number: Meaning("", f"it means `{number}`", f"do {number}") for number in range(93)}
 
 
 def fault_of(line: str) -> FaultLine:
-    """A line of `check --all` that tells a fault."""
+    """Parse a fault line of `check --all`."""
     told = fault_of_line(line)
     assert told, line
     return told
@@ -38,7 +38,9 @@ def fault_of(line: str) -> FaultLine:
 
 def answer(lines: Sequence[str] = ("accepted 10 frames 2 transmissions",),
            status: int | None = None, path: str = os.devnull) -> Answer:
-    """What `check --all` answered, by its lines, which stand in a file where they are read again.
+    """Return what `check --all` answered, from its lines.
+
+    If `path` is given, the lines are stored there.
     """
     made = Answer(path)
     for line in lines:
@@ -50,8 +52,7 @@ def answer(lines: Sequence[str] = ("accepted 10 frames 2 transmissions",),
 def part_with(begin: int | None, end: int | None, origin: int | None,
               said: Answer | None = None, number: int = 1, source: str = GIVEN,
               packets: Packets | None = None, places: Sequence[Place] = (), **more: Any) -> Part:
-    """A part of some frames; with PES packets or places at which something is missing of a
-    recording that has these."""
+    """Return a part of some frames, with the PES packets and the losses of its recording."""
     alignment = None if begin is None or end is None or origin is None else \
         Found(begin, end, Clock(origin, source))
     names = Names("a", "", None)
@@ -70,7 +71,7 @@ def part_with(begin: int | None, end: int | None, origin: int | None,
 
 
 def surveyed(*lines: str) -> Survey:
-    """What lines of `survey` tell."""
+    """Parse lines of `survey`."""
     survey = Survey()
     for line in lines:
         survey.take(line)
@@ -78,44 +79,45 @@ def surveyed(*lines: str) -> Survey:
 
 
 def asked_for(stl: str, recording: str | None, *words: str) -> Request:
-    """What is asked of two files, by the words of a command line."""
+    """Return the request of a command line with two files."""
     return request_with(stl, recording, defaults(*words))
 
 
 def defaults(*words: str) -> argparse.Namespace:
-    """The options of a call that has these."""
+    """Return the parsed options of a command line."""
     parser = Words("")
     add_options(parser)
     return read_options(parser, words, {}, {})
 
 
 def call_words(asked: Request) -> list[str]:
-    """A pair as the words of a call."""
+    """Return a request as arguments of a command line."""
     return [*itertools.chain(*option_words(asked)), "--", asked.stl,
             *([asked.recording] if asked.recording else [])]
 
 
 def qc(words: Sequence[str]) -> int:
-    """What tools/qc does with these words; its status."""
+    """Run tools/qc in this process; return its status."""
     return ended(lambda line: main("", os.path.join(TOP, "tools", "qc"), line), words)
 
 
 def packets_told(case: Case, data: bytes, page: Page = PAGE) -> Packets:
-    """What `survey` tells of a file of PES packets."""
+    """Run `survey` on PES packets; return the packets of the page."""
     return survey(case.bench.program, case.write("held.pes", data), page).by_pid.get(0, Packets(0))
 
 
 def timeline_of(case: Case, data: bytes, origin: int = 0, within: int = 0) -> Timeline:
-    """What is held of PES packets."""
+    """Return the decoded pages of PES packets."""
     return Timeline(packets_told(case, data), PAGE, origin, within)
 
 
 def in_page(*values: Value) -> str:
-    """What stands in a page of values that are put there one after another."""
+    """Return values as the HTML text of a page."""
     return joined(values).source
 
 
 def script(lines: list[str], status: int) -> str:
-    """A shell's program that prints lines and ends with a status, or below 0 by a signal."""
+    """Return a shell command that prints lines, then ends with a status, or by a signal if it is
+    negative."""
     said = "".join(f"echo '{line}'; " for line in lines)
     return said + (f"exit {status}" if status >= 0 else f"kill {status} $$")

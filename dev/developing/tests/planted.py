@@ -1,5 +1,5 @@
-"""Programmes as inserters send them, by a number: late by chance, repeating, with one planted fault
-or none; and by which subtitle and which words a sentence names that fault."""
+"""Random programmes sent by simulated inserters, with one planted fault or none, and how a sentence
+should name that fault."""
 from __future__ import annotations
 
 import random
@@ -10,20 +10,20 @@ from developing.pes import address_of, odd, packet
 from subtitles.common.times import TICKS, time_of
 from subtitles.formats.stl import NEW_LINE
 from .bench import Case
-from .sent import CLOSING, HEADER, PAGE, Sent, sendings, subtitle_file
+from .transmissions import CLOSING, HEADER, PAGE, Sent, sendings, subtitle_file
 from .test_judging_reasons import KEEPING_HEADER
 from .test_right_recordings import SHARES
 
-FIRST = 900_000  # the frame of the first TCI, at least
-QUIET = 80  # frames before the first and behind the last subtitle, with repeats of a blank page
+FIRST = 900_000  # the earliest frame of the first TCI
+QUIET = 80  # frames before the first and after the last subtitle with only blank pages
 WORDS = "boats harbour light mother never often quiet river stairs storm turns under window".split()
-Page = Optional[Sequence[bytes]]  # rows, `None` of a blank page
+Page = Optional[Sequence[bytes]]  # row packets; `None` for a blank page
 Times = Sequence[tuple[int, int]]
 
 EARLY, LATE, MISSING, EXCHANGED = "early", "late", "missing", "exchanged"
 CHARACTER, ROW, COLOUR = "wrong character", "wrong row", "wrong colour"
 STAYS, ERASED = "not erased", "erased too soon"
-# What a sentence says of each, behind the subtitle and its text.
+# What the sentence says of each fault after the subtitle's text.
 SAID = {
     EARLY: r"is \d+ frames? early", LATE: r"is \d+ frames? late", MISSING: "was never sent",
     CHARACTER: "has a wrong text", ROW: "stands in a wrong place",
@@ -32,9 +32,11 @@ SAID = {
 
 
 class Inserter(NamedTuple):
-    """How a site sends: by how many frames its in-cues and its out-cues are late, by chance, the
-    frames from a repeat to the next, whether repeats keep the page, how many PES packets a frame
-    has, and in which frames none comes that need not."""
+    """How an inserter sends:
+
+    possible delays of in-cues and out-cues in frames, frames between repeats, whether repeats keep
+    the page, PES packets a frame, and which frames have none.
+    """
 
     name: str
     begins: Sequence[int] = (0,)
@@ -46,22 +48,22 @@ class Inserter(NamedTuple):
 
     @property
     def within(self) -> int:
-        """The frames by which pages may be late."""
+        """Return the largest delay in frames."""
         return max(*self.begins, *self.ends, int(self.each > 1))
 
     def options(self) -> list[str]:
-        """The options that judge it."""
+        """Return the options that tolerate its delays."""
         return ["--every", f"{self.every + self.within}", *["--keeping"] * self.keeps,
                 *["--within", f"{self.within}"] * (self.within > 0)]
 
 
 def is_rare(chance: random.Random) -> bool:
-    """Return whether one frame of twenty is it."""
+    """Return true once in twenty calls."""
     return chance.randrange(20) == 0
 
 
-# The inserters of the right recordings, with one PES packet a frame, none in some frames, and two a
-# frame; repeats that erase the page, and that keep it.
+# The inserters of the right recordings: one PES packet a frame, some frames without one, or two a
+# frame; with repeats that erase the page or keep it.
 INSERTERS = [Inserter(name, begins, ends, 12 if keeps else 25, keeps, each, is_left_out)
              for name, (begins, ends) in SHARES.items() for keeps in (False, True)
              for each, is_left_out in ((1, lambda chance: False), (1, is_rare),
@@ -69,7 +71,10 @@ INSERTERS = [Inserter(name, begins, ends, 12 if keeps else 25, keeps, each, is_l
 
 
 class Fault(NamedTuple):
-    """What is wrong with a subtitle by its place: by how many frames, or with which other one."""
+    """A fault of the subtitle at a place:
+
+    by how many frames, or swapped with which other subtitle.
+    """
 
     kind: str
     place: int
@@ -78,7 +83,7 @@ class Fault(NamedTuple):
 
 
 class Programme:
-    """Subtitles, and what is on air of them."""
+    """Subtitles and their transmission."""
 
     def __init__(self, case: Case, number: int, inserter: Inserter, count: int = 0) -> None:
         self.case, self.inserter, self.number = case, inserter, number
@@ -92,7 +97,7 @@ class Programme:
         self.fault: Fault | None = None
 
     def some_times(self, count: int) -> list[tuple[int, int]]:
-        """From when to when each is due; some adjoin."""
+        """Return the frames of the subtitles; some adjoin."""
         frame, times = FIRST + self.chance.randrange(5000), list[tuple[int, int]]()
         for _ in range(count):
             end = frame + self.chance.randrange(30, 90)
@@ -101,23 +106,24 @@ class Programme:
         return times
 
     def some_text(self, at: int) -> bytes:
-        """One or two lines of words, most often with a number that no other one has."""
+        """Return one or two lines of words, usually with a unique number."""
         lines = [" ".join(self.chance.sample(WORDS, self.chance.randrange(1, 4)))
                  for _ in range(self.chance.choice((1, 1, 2)))]
         lines[0] = f"{at} {lines[0]}" if self.chance.randrange(10) else lines[0]
         return (NEW_LINE * 2).join(line.encode() for line in lines)
 
-    # What goes wrong.
+    # The fault.
 
     def plant(self, kind: str) -> bool:
-        """Plants a fault of a kind beyond what is allowed; whether there is room for it."""
+        """Plant a fault of a kind that exceeds the tolerance; return whether some subtitle has room
+        for it."""
         places = [*range(len(self.times))]
         self.chance.shuffle(places)
         self.fault = next(filter(None, (self.fault_at(kind, place) for place in places)), None)
         return self.fault is not None
 
     def fault_at(self, kind: str, place: int) -> Fault | None:
-        """A fault of one subtitle, if there is room for it."""
+        """Return a fault of one subtitle if there is room for it."""
         least, (begin, end) = self.inserter.within + 1, self.times[place]
         before = self.times[place - 1][0] if place else begin - QUIET
         after = self.times[place + 1][0] if place + 1 < len(self.times) else end + QUIET
@@ -134,7 +140,7 @@ class Programme:
             if most[kind] >= first else None
 
     def shown_pages(self) -> list[Sequence[bytes]]:
-        """The page that is sent of each subtitle."""
+        """Return the transmitted page of each subtitle."""
         pages, fault = list[Sequence[bytes]](self.pages), self.fault
         if fault and fault.kind == EXCHANGED:
             pages[fault.place], pages[fault.other] = pages[fault.other], pages[fault.place]
@@ -143,7 +149,7 @@ class Programme:
         return pages
 
     def changes(self) -> dict[int, Page]:
-        """What is on air from when on: of two at one frame the later one."""
+        """Return the page on air from each frame of a change."""
         found, fault, inserter = dict[int, Page](), self.fault, self.inserter
         pages = self.shown_pages()
         begins = [begin + self.chance.choice(inserter.begins) for begin, _ in self.times]
@@ -169,7 +175,7 @@ class Programme:
         return found
 
     def sent(self) -> Sent:
-        """The page transmissions with their repeats, and the PES packets between."""
+        """Return the page transmissions with their repeats, and the PES packets between them."""
         changes, inserter, chance = self.changes(), self.inserter, self.chance
         begin, end = self.times[0][0] - QUIET, max(max(changes), self.times[-1][1]) + QUIET
         sent, page, repeated = Sent(), None, begin
@@ -186,10 +192,10 @@ class Programme:
                          for at in range(inserter.each)]
         return sent
 
-    # What a sentence should say of it.
+    # The expected sentence.
 
     def is_named(self, sentence: str) -> bool:
-        """Whether a sentence names the subtitle and the kind of the fault first."""
+        """Return whether a sentence names the subtitle and the kind of fault."""
         fault = self.fault
         assert fault
         place, other = min(fault.place, fault.other), max(fault.place, fault.other)
@@ -200,19 +206,19 @@ class Programme:
                              rf'".*", {SAID[fault.kind]}\b', sentence))
 
     def time(self, place: int) -> str:
-        """The TCI of a subtitle."""
+        """Return the TCI of a subtitle."""
         return time_of(self.times[place][0])
 
 
 def with_character(page: Sequence[bytes]) -> list[bytes]:
-    """A page with another letter."""
+    """Replace the last character of a page."""
     first = page[0]
     at = max(at for at in range(2, 42) if chr(first[at] & 0x7F).isalnum())
     return [first[:at] + bytes([odd(0x58)]) + first[at + 1:], *page[1:]]
 
 
 def with_row(page: Sequence[bytes]) -> list[bytes]:
-    """A page two rows higher."""
+    """Move a page two rows up."""
     made = []
     for one in page:
         address = address_of(one)
@@ -222,7 +228,7 @@ def with_row(page: Sequence[bytes]) -> list[bytes]:
 
 
 def with_colour(page: Sequence[bytes]) -> list[bytes]:
-    """A page whose first row is yellow: of the space before its box."""
+    """Make the first row of a page yellow."""
     first = page[0]
     at = first.index(odd(0x0B)) - 1
     return [first[:at] + bytes([odd(0x03)]) + first[at + 1:], *page[1:]]
@@ -234,7 +240,7 @@ KINDS = (*SAID, EXCHANGED)
 
 
 def planted(case: Case, number: int) -> Programme:
-    """Return a programme with one fault, by a number."""
+    """Return the programme of a seed, with one fault."""
     chance = random.Random(number)
     made = Programme(case, number, chance.choice(INSERTERS))
     assert made.plant(chance.choice(KINDS))

@@ -1,4 +1,4 @@
-"""Programmes, made for tests, and what is sent of them."""
+"""Subtitle files and transmissions of whole programmes."""
 from __future__ import annotations
 
 import time
@@ -8,16 +8,16 @@ from developing.pes import pts_bytes
 from developing.stl import boxed, gsi_block, subtitle_blocks
 from subtitles.common.times import CLOCK, FRAMES_A_SECOND, TICKS
 from .bench import Case, SECONDS
-from .sent import packets
+from .transmissions import packets
 
 SECOND = TICKS * FRAMES_A_SECOND
-BEGIN = CLOCK - 30 * SECOND  # of a feed, so that PTS begin again soon
-LASTS = 12  # seconds of a programme of four subtitles
-SHOWN, EACH = 50, 75  # frames of a subtitle, and from one to the next
+BEGIN = CLOCK - 30 * SECOND  # of a feed; its PTS wrap soon
+LASTS = 12  # seconds of a programme with four subtitles
+SHOWN, EACH = 50, 75  # frames of a subtitle, and from one TCI to the next
 
 
 def make_subtitles(case: Case, name: str, first: int, texts: Sequence[str]) -> str:
-    """A subtitle file with a subtitle for each text, from the frame `first` on."""
+    """Write a subtitle file with a subtitle for each text, from a first frame on."""
     blocks = [subtitle_blocks(number, first + EACH * number, first + EACH * number + SHOWN, 20, 2,
                               boxed(text.encode())) for number, text in enumerate(texts)]
     return case.write(f"{name}.stl", gsi_block(name.encode(), len(texts), len(texts), first)
@@ -25,7 +25,7 @@ def make_subtitles(case: Case, name: str, first: int, texts: Sequence[str]) -> s
 
 
 def make_programme(case: Case, name: str, first: int, words: str, pts: int) -> bytes:
-    """The same, and its transmission, which begins at a PTS."""
+    """Write a subtitle file; return its transmission, which begins at a PTS."""
     stl = make_subtitles(case, name, first, words.split())
     origin = (pts - TICKS * first) % CLOCK
     case.schedule(stl, f"{name}.pes", "--origin", str(origin), "--every", "25")
@@ -33,14 +33,14 @@ def make_programme(case: Case, name: str, first: int, words: str, pts: int) -> b
 
 
 def blank(data: bytes, pts: int, count: int, step: int = SECOND) -> bytes:
-    """The last sending of a transmission again, so often from a PTS on: once a second."""
+    """Repeat the last page transmission `count` times from a PTS on."""
     last = packets(data)[-1]
     return b"".join(last[:9] + pts_bytes((pts + step * at) % CLOCK) + last[14:]
                     for at in range(count))
 
 
 def until(holds: Callable[[], object]) -> bool:
-    """Waits until something holds; whether it does in time."""
+    """Wait for a condition; return whether it became true in time."""
     end = time.monotonic() + SECONDS
     while not holds() and time.monotonic() < end:
         time.sleep(0.02)

@@ -1,6 +1,5 @@
-"""JSON results for tests: a plain one of a pair, with other members where a test gives some; and
-the schema as somebody else reads it, who knows nothing of the table from which it is made.
-"""
+"""JSON results for tests, and a validator of docs/verdict.schema.json that does not use the tools'
+own table."""
 from __future__ import annotations
 
 import functools
@@ -20,14 +19,14 @@ from .bench import Case
 SCHEMA = os.path.join(TOP, "docs", "verdict.schema.json")
 KINDS: dict[str, Any] = {"object": dict, "array": list, "string": str, "null": type(None),
                          "boolean": bool, "integer": int, "number": (int, float)}
-# The words of schemas that are used here, and those of the bounds of each kind.
+# The keywords of our schema, and the keywords of limits by type.
 WORDS = frozenset("""description $schema $comment title definitions $ref type const enum anyOf oneOf
     allOf required additionalProperties properties items minItems maxItems pattern minLength
     maxLength minimum maximum""".split())
 ENDS: dict[type, tuple[str, str]] = {
     str: ("minLength", "maxLength"), list: ("minItems", "maxItems"),
     int: ("minimum", "maximum"), float: ("minimum", "maximum")}
-SOME = 20  # of a list are all read by the other reader, then one of 50
+SOME = 20  # items of a list that the second validator reads first; then each 50th
 REQUEST = {
     "stl": "one.stl", "recording": "one.ts", "page": "888", "every": 250, "option": "english",
     "origin": 0, "complete": True, "pid": None, "allow_lost": False, "severity": None, "breaks": 0,
@@ -42,7 +41,7 @@ FAULT = {**dict.fromkeys((
 
 
 def result(verdict: str = "refused", **more: Any) -> dict[str, Any]:
-    """A result of a pair."""
+    """Return the JSON result of a pair, with some members replaced."""
     is_judged = verdict != NOT_JUDGED
     return {
         "format": FORMAT, "verdict": verdict, "status": STATUSES[verdict],
@@ -60,14 +59,14 @@ def result(verdict: str = "refused", **more: Any) -> dict[str, Any]:
 
 @functools.lru_cache(maxsize=None)
 def schema() -> dict[str, Any]:
-    """The schema as it stands."""
+    """Load the schema."""
     with open(SCHEMA, encoding="utf-8") as file:
         known: dict[str, Any] = json.load(file)
     return known
 
 
 def wrong_in(value: Any, known: dict[str, Any], at: str = "") -> Iterator[str]:
-    """Where a value is not as a schema has it, as far as that has words that are used here."""
+    """Return how a value violates a schema that uses only the keywords above."""
     assert known.keys() <= WORDS, known.keys() - WORDS
     if "$ref" in known:
         yield from wrong_in(value, schema()["definitions"][known["$ref"].rpartition("/")[2]], at)
@@ -95,7 +94,7 @@ def wrong_in(value: Any, known: dict[str, Any], at: str = "") -> Iterator[str]:
 
 
 def wrong_inside(value: Any, known: dict[str, Any], at: str) -> Iterator[str]:
-    """The same of what is in it."""
+    """Return how the members of an object or the items of a list violate a schema."""
     if isinstance(value, dict):
         members, is_closed = known.get("properties", {}), known.get("additionalProperties") is False
         yield from (f"{at}: no {name}" for name in known.get("required", ()) if name not in value)
@@ -110,13 +109,13 @@ def wrong_inside(value: Any, known: dict[str, Any], at: str) -> Iterator[str]:
 
 
 def is_of_kind(value: Any, kind: str) -> bool:
-    """Whether a value is of a kind, as JSON has them."""
+    """Return whether a value has a JSON type."""
     is_bool = isinstance(value, bool)
     return isinstance(value, KINDS[kind]) and is_bool == (kind == "boolean")
 
 
 def wrong_choices(known: dict[str, Any], lines: Sequence[str]) -> Iterator[object]:
-    """What a result chose without a line that was printed, or took without a choice."""
+    """Return choices that were not printed, and values that were used without a choice."""
     printed = {line.removeprefix("qc: ").removeprefix("! ") for line in lines}
     chosen = {(one["option"], one["value"]) for one in known["choices"]}
     own = {(one["option"], one["value"], one["part"]) for one in known["choices"]}
@@ -138,9 +137,9 @@ def wrong_choices(known: dict[str, Any], lines: Sequence[str]) -> Iterator[objec
 
 @functools.lru_cache(maxsize=None)
 def second_reader() -> Any:
-    """Another reader of schemas, where the machine has it: `None` where it has not."""
+    """Return the validator of python3-jsonschema, or `None` if it is not installed."""
     try:
-        jsonschema = importlib.import_module("jsonschema")  # of which mypy need not know types
+        jsonschema = importlib.import_module("jsonschema")  # without type stubs
     except ImportError:
         return None
     jsonschema.Draft7Validator.check_schema(schema())
@@ -148,16 +147,15 @@ def second_reader() -> Any:
 
 
 def wrong_by_schema(value: Any) -> list[str]:
-    """All that is wrong in a result, by both readers; the other one, which takes its time, reads of
-    a long list some."""
+    """Return all violations that both validators find in a result; the slow second one reads a
+    sample of long lists."""
     reader = second_reader()
     others = [error.message for error in reader.iter_errors(some_of(value))] if reader else []
     return [*wrong_in(value, schema()), *others]
 
 
 def some_of(value: dict[str, Any]) -> dict[str, Any]:
-    """A result with some of what its long lists have; those of each pair, where it is of several.
-    """
+    """Return a result with a sample of its long lists."""
     lists = {one.name: [*value[one.name][:SOME], *value[one.name][SOME::50]]
              for one in LISTS if one.name in value}
     return {**value, **lists, **({"pairs": list(map(some_of, value["pairs"]))}
@@ -165,14 +163,13 @@ def some_of(value: dict[str, Any]) -> dict[str, Any]:
 
 
 def row(name: str, verdict: str, line: str = "", hint: str = "", faults: int = 0) -> Row:
-    """A row of a table."""
+    """Return a table row."""
     made = row_of_object(result(verdict, fault_count=faults), name)
     return made._replace(line=line, hint=hint)
 
 
 def agrees(case: Case, verdict: Any, name: str = "the schema") -> None:
-    """Tests an object against the schema, by one reader of it, and by two where there is another.
-    """
+    """Check an object against the schema by both validators."""
     over = "a second reader of docs/verdict.schema.json, since there is no python3-jsonschema"
     if second_reader() is None and over not in case.bench.over:
         case.bench.over.append(over)

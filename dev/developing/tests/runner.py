@@ -1,4 +1,4 @@
-"""Finds the tests of this folder and runs them side by side."""
+"""Find the tests of this folder and run several at once."""
 from __future__ import annotations
 
 import gc
@@ -19,34 +19,34 @@ from .table import tests_of
 
 FOLDER = os.path.dirname(os.path.realpath(__file__))
 PATTERN = "test_*.py"
-# What takes long is begun first, so that none of it is left alone in the end.
-LONG = ("test_dev_layers.Hints", "test_snapshots", "test_cli_houses",
+# Start the longest tests first, so that none of them runs alone at the end.
+LONG = ("test_dev_layers.Hints", "test_snapshots", "test_cli_install",
         "test_clock_clocks.OfFfprobe", "test_dev_clones", "test_dev_gate.Gate",
-        "test_stream_layouts", "test_cli_strangers")
+        "test_stream_layouts", "test_cli_folders")
 Error = Union[Tuple[Type[BaseException], BaseException, TracebackType], Tuple[None, None, None]]
 Several = Sequence[unittest.TestCase]
 
 
 class Counts(unittest.TestResult):
-    """Counts what holds, also of each part of a test, and tells of each thing that does not."""
+    """Count passed and failed checks, including subtests, and print each failure."""
 
     def __init__(self, is_verbose: bool) -> None:
         super().__init__()
         self.is_verbose = is_verbose
-        self.out = sys.stdout  # a test may take what is printed meanwhile
+        self.out = sys.stdout  # a test may redirect sys.stdout
         self.passed = self.failed = 0
-        self.over: list[str] = []  # what was passed over, and why
-        self.in_parts: set[str] = set()  # tests of which a part was counted
+        self.over: list[str] = []  # skipped tests, with reasons
+        self.in_parts: set[str] = set()  # tests with counted subtests
 
     def count(self, test: unittest.TestCase, error: Error | None) -> None:
-        """Counts a test, or a part of one."""
+        """Count the result of a test or subtest."""
         self.passed += error is None
         self.failed += error is not None
         if error is not None:
             told = str(error[1]) if isinstance(error[1], Mismatch) else \
                 self._exc_info_to_string(error, test)  # type: ignore[attr-defined]
             whole = test.test_case if isinstance(error[1], Mismatch) and hasattr(
-                test, "test_case") else test  # the text begins with the name of the part
+                test, "test_case") else test  # the message names the subtest
             print(f"FAILED: {name_of(whole)}: {told}", file=self.out, flush=True)
         elif self.is_verbose:
             print(f"passed: {name_of(test)}", file=self.out, flush=True)
@@ -71,12 +71,12 @@ class Counts(unittest.TestResult):
 
 
 def name_of(test: unittest.TestCase) -> str:
-    """The name of a test, or of a part of one: module, class, method, then what it is about."""
+    """Return the name of a test or subtest: module, class, method, parameters."""
     return test.id().replace("developing.tests.", "")
 
 
 def flattened(tests: unittest.TestSuite) -> Iterator[unittest.TestCase]:
-    """The tests of a suite one by one."""
+    """Return the tests of a suite, including nested suites."""
     for one in tests:
         if isinstance(one, unittest.TestSuite):
             yield from flattened(one)
@@ -85,8 +85,11 @@ def flattened(tests: unittest.TestSuite) -> Iterator[unittest.TestCase]:
 
 
 def found(names: Sequence[str]) -> list[unittest.TestCase]:
-    """All tests, or those that are of one of some words: in whose names it is, or which are of the
-    module of the tools, or the script, that it names; each word has to be of one."""
+    """Select tests by names, or return all.
+
+    Each name is part of a test's name, or a module or script of the tools. Raises `Stop` if a name
+    selects no test.
+    """
     everything = list(flattened(unittest.TestLoader().discover(FOLDER, PATTERN, DEV)))
     of_names = [[one for one in everything if name in one.id() or name_of(one).startswith(
         tuple(f"{each}." for each in tests_of(name)))] for name in names]
@@ -98,12 +101,12 @@ def found(names: Sequence[str]) -> list[unittest.TestCase]:
 
 
 def has_fixture(kind: Type[unittest.TestCase]) -> bool:
-    """Whether the tests of a class share something that is made for them once."""
+    """Return whether the tests of a class share a fixture."""
     return "setUpClass" in kind.__dict__
 
 
 def in_units(tests: Several) -> Iterator[Several]:
-    """What runs in one go: a test, or those of a class that share something."""
+    """Group tests that must run in one process: the tests of a class with a shared fixture."""
     for kind, several in itertools.groupby(tests, type):
         if has_fixture(kind):
             yield list(several)
@@ -112,8 +115,8 @@ def in_units(tests: Several) -> Iterator[Several]:
 
 
 class Apart:
-    """Tests in a process of their own, forked from one that has all loaded: what they replace,
-    print and leave behind is theirs, and one that dies costs nothing else."""
+    """Tests in a forked process of their own, so that patches, output and crashes affect no other
+    test."""
 
     def __init__(self, several: Several, is_verbose: bool) -> None:
         self.name = name_of(several[0])
@@ -131,11 +134,11 @@ class Apart:
         os.close(said)
 
     def fileno(self) -> int:
-        """What can be waited for: it has ended once there is something to read, or nothing more."""
+        """Return the file descriptor that becomes readable when the process ends."""
         return self.said
 
     def add_to(self, whole: Counts) -> None:
-        """Adds what came of them; that they ended before they said so is a failure."""
+        """Add the results of the process; a crash counts as a failure."""
         said = os.read(self.said, 1 << 16)
         os.close(self.said)
         _, status = os.waitpid(self.process, 0)
@@ -147,11 +150,11 @@ class Apart:
 
 
 def run_all(tests: Several, at_once: int, is_verbose: bool) -> Counts:
-    """Runs tests, some at once."""
+    """Run tests, `at_once` of them in parallel."""
     whole, running = Counts(is_verbose), list[Apart]()
     waiting = sorted(in_units(tests), key=lambda one: name_of(one[0]).startswith(LONG))
     BENCH.make_top()
-    gc.freeze()  # what all of them have is neither looked at nor given back
+    gc.freeze()  # keep garbage collection in the forked processes off objects that all share
     while running or waiting:
         while waiting and len(running) < at_once:
             running.append(Apart(waiting.pop(), is_verbose))

@@ -1,5 +1,7 @@
-"""Pairs at random, each made by a number: a programme, how it is sent and recorded, what goes wrong
-on the way, and the options of a call."""
+"""Random pairs, each made by a seed:
+
+a programme, its transmission and recording, its faults, and the options of a call.
+"""
 from __future__ import annotations
 
 import os
@@ -12,20 +14,20 @@ from developing.pes import (
 from developing.stl import boxed, gsi_block, subtitle_blocks
 from subtitles.common.times import CLOCK, FRAMES_OF_A_DAY, TICKS, ticks_between, time_of
 from subtitles.formats.stl import NEW_LINE
-from .muxed import (
+from .streams import (
     AHEAD, MPEG_2, PRIVATE, TELETEXT_PID, VIDEO_PID, Maker, filler, mpeg_2_picture, spaced,
     teletext_descriptor, video_packet)
-from .sent import feed
+from .transmissions import feed
 
 SECOND_PID = 0x102
 TEXTS = [b"Good evening.", b"Here is the news.", b"It costs \xa35, or \xa47.",
          b"Thank you, Anne.", b"No!", b"Yes."]
-Sent = list[tuple[int, bytes]]  # PTS, and the PES packet
+Sent = list[tuple[int, bytes]]  # PTS and PES packet
 Text = tuple[bytes, ...]  # the lines of a subtitle
 
 
 class Written(NamedTuple):
-    """A subtitle as it is written."""
+    """A subtitle of a subtitle file."""
 
     number: int
     begin: int
@@ -35,13 +37,13 @@ class Written(NamedTuple):
     lines: Text
 
     def blocks(self) -> bytes:
-        """Its TTI blocks."""
+        """Return the TTI blocks."""
         return subtitle_blocks(self.number, self.begin, self.end, self.row, self.justify,
                                (NEW_LINE * 2).join(self.lines))
 
 
 class Scenario:
-    """A pair of files and a call, in the folder in which the process is."""
+    """A pair of files in the current folder, and the arguments of a call."""
 
     def __init__(self, number: int, program: str) -> None:
         self.chance, self.program = random.Random(number), program
@@ -59,7 +61,7 @@ class Scenario:
         return self.chance.randrange(100) < percent
 
     def some_times(self) -> list[tuple[int, int]]:
-        """When the subtitles come and go; some touch."""
+        """Return the frames of the subtitles; some adjoin."""
         frame = self.chance.choice((100, 900_000, 900_000, FRAMES_OF_A_DAY - 2500))
         found = []
         for _ in range(24 if self.has_break else self.chance.choice((2, 3, 4, 5, 7, 9, 12))):
@@ -72,10 +74,10 @@ class Scenario:
         return boxed(self.chance.choice(TEXTS), self.chance.choice((b"", b"", b"\x03")))
 
     def some_subtitles(self) -> list[Written]:
-        """What the subtitle file has; seldom a letter that no cell has, or a TCO that is the TCI.
-        """
+        """Return the subtitles; rarely with an unsupported character, or with the TCI as TCO."""
         chance, found = self.chance, list[Written]()
-        of_none, empty = (chance.randrange(200) for _ in range(2))  # most often no subtitle
+        # a number that usually is no subtitle
+        of_none, empty = (chance.randrange(200) for _ in range(2))
         for number, (begin, end) in enumerate(self.times, chance.choice((1, 1, 7))):
             lines = [self.a_line() for _ in range(chance.choice((1, 1, 2)))]
             lines[0] += b" \xf9" * (number == of_none)
@@ -84,7 +86,7 @@ class Scenario:
         return found
 
     def others(self) -> list[Written]:
-        """What somebody else sends: one or two subtitles are other ones."""
+        """Return the subtitles with one or two of them changed, for the transmission."""
         chance, found = self.chance, list(self.subtitles)
         for _ in range(chance.choice((1, 1, 2))):
             at = chance.randrange(len(found))
@@ -111,7 +113,7 @@ class Scenario:
         return found
 
     def write(self, name: str, subtitles: list[Written]) -> None:
-        """Writes a subtitle file."""
+        """Write a subtitle file."""
         blocks = b"".join(one.blocks() for one in subtitles)
         data = gsi_block(b"At random", len(blocks) // 128 + self.some(5), len(subtitles), 0,
                          self.chance.choice((b"09", b"09", b"08")))
@@ -119,10 +121,10 @@ class Scenario:
         with open(name, "wb") as file:
             file.write(data[:256] + code + data[264:] + blocks)
 
-    # What is sent, and what goes wrong.
+    # The transmission and its faults.
 
     def scheduled(self, name: str, *words: str) -> Sent:
-        """The program's own transmission."""
+        """Return the transmission that `schedule` makes."""
         subprocess.run([self.program, "schedule", "sent.stl", name, "--every", str(self.every),
                         "--origin", str(self.origin), *words], stdout=subprocess.DEVNULL,
                        check=False)
@@ -132,7 +134,7 @@ class Scenario:
             return [(pts_in(one), one) for one in pes_packets(file)]
 
     def wrong(self, sent: Sent) -> Sent:
-        """One thing more that goes wrong."""
+        """Return the transmission with one more fault."""
         chance = self.chance
         first = chance.randrange(len(sent))
         last = min(len(sent), first + chance.choice((1, 1, 2, 5, 1000)))
@@ -165,8 +167,10 @@ class Scenario:
                 for at, (pts, one) in enumerate(sent)]
 
     def split(self, sent: Sent, first: int, last: int, kind: int) -> Sent:
-        """Some in two: the header, and what comes after it a frame, or a field, later; or without
-        the first packet, or the last."""
+        """Split PES packets in two:
+
+        the header first, the rest later; or delete their first or last packet.
+        """
         later = self.chance.choice((TICKS, TICKS, TICKS // 2, 3 * TICKS))
         found: Sent = []
         for at, (pts, one) in enumerate(sent):
@@ -181,7 +185,7 @@ class Scenario:
         return found
 
     def broken(self, sent: Sent) -> Sent:
-        """A break, before a subtitle in the middle."""
+        """Insert a break before a subtitle in the middle."""
         middle = self.origin + TICKS * (self.times[12][0] - 2)
         later = self.chance.choice((300, 700, 700, -5000)) * TICKS
         self.words += ["--breaks", "1"] if self.some(90) else []
@@ -189,7 +193,8 @@ class Scenario:
                 for pts, one in sent]
 
     def recorded(self, sent: Sent, second: Sent) -> bytes:
-        """A transport stream: video, PCR, Teletext, at times of two PIDs, in which some is lost."""
+        """Return a transport stream with video, PCR and one or two Teletext PIDs, with some packets
+        lost."""
         chance = self.chance
         own = teletext_descriptor(chance.choice((b"eng", b"eng", b"ger")), chance.choice((2, 2, 1)),
                                   chance.choice((0x88, 0x88, 0x88, 0x89)))
@@ -216,7 +221,7 @@ class Scenario:
         return spaced(data, 192) if self.some(15) else data
 
     def record(self) -> str:
-        """Writes the recording; its name."""
+        """Write the recording; return its name."""
         sent = self.scheduled("sent.pes")
         sent = self.broken(sent) if self.has_break else sent
         several = (0, 0, 1) if self.has_break else (0, 1, 1, 1, 2)
@@ -241,7 +246,7 @@ class Scenario:
     # The options.
 
     def call(self) -> list[str]:
-        """The words of the call."""
+        """Return the arguments of the call."""
         recording = self.record()
         chance, words = self.chance, ["one.stl", recording, "--every", str(self.every), *self.words]
         clock = chance.randrange(100)

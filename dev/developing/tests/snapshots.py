@@ -1,10 +1,10 @@
-"""Store the whole output of chosen calls of qc as text, and compare it line by line.
+"""Store the complete output of chosen calls of qc as text, and compare it line by line.
 
-dev/snapshots/GROUP.txt has the command, the status and the printed lines of each call, and of each
-file that the call wrote what the printed lines do not say. A seed or a name makes the call (see
-`at_random`, `many_at_random` and `test_report_at_random`). The chosen calls reach every branch of
-the tools that 900 such calls reach. `dev/check-tools --update test_snapshots` writes the files
-again; `git diff` then shows what a change means for the user.
+dev/snapshots/GROUP.txt has the arguments, status and printed lines of each call, and from each file
+what the printed lines do not repeat. Seeds and names of calls are those of `random_calls`,
+`random_folders` and `test_report_at_random`. The chosen calls reach every branch of the tools that
+900 such calls reach. `dev/check-tools --update test_snapshots` writes the files again; `git diff`
+then shows what a change means for the user.
 """
 from __future__ import annotations
 
@@ -18,13 +18,13 @@ import tempfile
 from typing import Any, Callable, Iterable, Iterator, NamedTuple
 
 from subtitles.common.program import TOP
-from . import at_random, many_at_random, test_report_at_random as reports
+from . import random_calls, random_folders, test_report_at_random as reports
 from .bench import BENCH
 
 FOLDER = os.path.join(TOP, "dev", "snapshots")
 HEAD, TAIL = 16, 4  # lines kept of a longer list
 OF_PAGE = 60  # lines kept of a page
-OF_FOLDER = 6  # lines kept of each file that a call for many pairs writes
+OF_FOLDER = 6  # lines kept of each file of a call for many pairs
 MOST = 12  # different changes that a failure shows
 WIDTH = 300  # characters kept of a line
 OMITTED = re.compile(r"date$|seconds$|^files_at_start\.|^inputs\.|^commands\b|^omitted\.|^format$")
@@ -35,7 +35,7 @@ def sha(text: str) -> str:
 
 
 def shortened(lines: Iterable[str], head: int = HEAD) -> list[str]:
-    """Keep the first and last lines of many, and the count and hash of those between."""
+    """Keep the first and last lines of a long list; replace the others by their count and hash."""
     lines = [part if len(part) <= WIDTH else f"{part[:WIDTH]}.. {sha(part)}"
              for line in lines for part in line.splitlines()]
     between = lines[head:-TAIL]
@@ -46,7 +46,7 @@ def shortened(lines: Iterable[str], head: int = HEAD) -> list[str]:
 
 
 def members(value: Any, path: str = "") -> Iterator[str]:
-    """Return the members of a JSON object as `path = value`, without those that are empty."""
+    """Return the non-empty members of a JSON object as `path = value`."""
     if isinstance(value, dict):
         for name, member in value.items():
             yield from members(member, f"{path}.{name}".lstrip("."))
@@ -59,7 +59,7 @@ def members(value: Any, path: str = "") -> Iterator[str]:
 
 
 def json_text(text: str, printed: str, head: int) -> list[str]:
-    """Return what a JSON result has that was not printed, and the hash of the whole result."""
+    """Return the members of a JSON result that were not printed, and a hash of the result."""
     found = json.loads(text.replace(" SECONDS,", ' "seconds": 0,'))  # as `plain` left it
     lines = [line for line in members(found) if "=" not in line
              or line.partition(" = ")[2].strip('"') not in printed]
@@ -67,7 +67,7 @@ def json_text(text: str, printed: str, head: int) -> list[str]:
 
 
 def page_text(text: str, head: int = OF_PAGE) -> list[str]:
-    """Return the words of a page, one line for each element, and the hash of its markup."""
+    """Return the text of a page, one line for each element, and the hash of its markup."""
     text_only = re.sub(r'<style.*?</style>|<[^<>]*?(?: aria-label="([^"]*)")?[^<>]*>',
                        lambda tag: f"\n[{tag[1]}]\n" if tag[1] else "\n", text, flags=re.DOTALL)
     lines = [" ".join(html.unescape(line).split()) for line in text_only.splitlines()
@@ -76,7 +76,7 @@ def page_text(text: str, head: int = OF_PAGE) -> list[str]:
 
 
 def file_text(name: str, text: str, printed: str, head: int) -> list[str]:
-    """Return the text that stands for a file."""
+    """Return the stored form of a file."""
     if name.endswith(".json") and text.startswith("{"):
         return json_text(text, printed, head)
     if name.endswith(".html") and text.startswith("<"):
@@ -84,8 +84,8 @@ def file_text(name: str, text: str, printed: str, head: int) -> list[str]:
     return shortened(text.splitlines(), head)
 
 
-def call_text(said: at_random.Said, head: int = HEAD) -> list[str]:
-    """Return the text of one call of qc."""
+def call_text(said: random_calls.Said, head: int = HEAD) -> list[str]:
+    """Return the stored form of one call of qc."""
     printed = "\n".join(said.lines)
     lines = [f"$ qc {' '.join(said.words)}", f"status {said.status}", *shortened(said.lines)]
     before: dict[str, str] = {}
@@ -99,8 +99,8 @@ def call_text(said: at_random.Said, head: int = HEAD) -> list[str]:
 
 
 def folder_text(number: int) -> list[str]:
-    """Return the texts of the calls of a folder; of files only those that a call changed."""
-    return [line for said in many_at_random.calls_in(number, BENCH.program)
+    """Return the stored form of the calls in a folder, with the files that each call changed."""
+    return [line for said in random_folders.calls_in(number, BENCH.program)
             for line in call_text(said, OF_FOLDER)]
 
 
@@ -108,17 +108,18 @@ def report_text(number: int) -> list[str]:
     """Return the verdict of a random pair, and the text of its report."""
     with tempfile.TemporaryDirectory() as folder:
         found, page = reports.report_made(number, folder)
-    page = at_random.plain(page, BENCH.program).replace(folder, "FOLDER")
+    page = random_calls.plain(page, BENCH.program).replace(folder, "FOLDER")
     return [found.verdict.word, *page_text(page)]
 
 
 def text_of(name: str) -> list[str]:
-    """Make a call by its name, as `call 17`, `named a list`, `report 3`, and return its text."""
+    """Make a call by its name, such as `call 17`, `named a list` or `report 3`; return its stored
+    form."""
     kind, _, rest = name.partition(" ")
     if kind == "call":
-        return call_text(at_random.said_of(int(rest), BENCH.program))
+        return call_text(random_calls.said_of(int(rest), BENCH.program))
     if kind == "named":
-        return call_text(at_random.said_of_name(rest, BENCH.program))
+        return call_text(random_calls.said_of_name(rest, BENCH.program))
     return folder_text(int(rest)) if kind == "many" else report_text(int(rest))
 
 
@@ -127,7 +128,7 @@ def path_of(group: str) -> str:
 
 
 def stored(group: str) -> dict[str, list[str]]:
-    """Return the stored texts of a group by the names of their calls, in their order."""
+    """Return the stored calls of a group by name."""
     found: dict[str, list[str]] = {}
     with open(path_of(group), encoding="utf-8") as file:
         for line in file.read().split("\n")[:-1]:
@@ -145,7 +146,7 @@ def store(group: str, texts: dict[str, list[str]]) -> None:
 
 
 class Change(NamedTuple):
-    """The words that differ in a line, as they were and as they are."""
+    """The differing words of a line, before and after."""
 
     before: str
     after: str
@@ -160,7 +161,7 @@ def change_of(before: str, after: str) -> Change:
 
 
 def changes_in(before: list[str], after: list[str]) -> Iterator[tuple[Change, str, str]]:
-    """Return each change, with the line as it was and as it is: "" if there is none."""
+    """Yield each change with the old and the new line, or "" if there is none."""
     matcher = difflib.SequenceMatcher(None, before, after, autojunk=False)
     for kind, first, end, start, stop in matcher.get_opcodes():
         if kind == "replace" and end - first == stop - start:
@@ -174,18 +175,18 @@ def changes_in(before: list[str], after: list[str]) -> Iterator[tuple[Change, st
 
 
 def is_hash(change: Change) -> bool:
-    """Return whether only a hash changed: of a file, or of lines that are left out."""
+    """Return whether a change affects only hashes."""
     return all(re.fullmatch(r"[0-9a-f]{8}", word) for word in change)
 
 
 def cropped(line: str, change: str) -> str:
-    """Return a long line from some characters before what changed."""
+    """Return part of a long line around a change."""
     at = max(0, line.find(change) - 50)
     return ".." * bool(at) + line[at:at + 150] + ".." * (len(line) > at + 150)
 
 
 def summary(changed: dict[str, list[tuple[Change, str, str]]]) -> list[str]:
-    """Return each different change once, with the first call that has it and how many have it."""
+    """Return each different change once, with its first call and the number of calls."""
     calls: dict[Change, list[str]] = {}
     lines: dict[Change, tuple[str, str]] = {}
     for name, changes in changed.items():
@@ -204,7 +205,7 @@ def summary(changed: dict[str, list[tuple[Change, str, str]]]) -> list[str]:
 
 
 def compare(group: str, make: Callable[[str], list[str]], is_updated: bool) -> str:
-    """Compare all calls of a group with what is stored; return what a failure prints, or ""."""
+    """Compare all calls of a group with the stored ones; return the text of a failure, or ""."""
     before = stored(group)
     after = {name: make(name) for name in before}
     if is_updated:

@@ -1,5 +1,4 @@
-"""Which tests are of which module of the tools, or of which script: by a table, to which dev/plant
-adds what tests call."""
+"""Map modules and scripts to their tests by dev/vectors/tests.tsv, which dev/plant extends."""
 from __future__ import annotations
 
 import inspect
@@ -12,41 +11,44 @@ from .. import DEV, TOOLS
 
 PATH = os.path.join(DEV, "vectors", "tests.tsv")
 PACKAGE = "subtitles/"
-TIMES = 3  # classes of tests that call each function, where there are so many
+TIMES = 3  # classes of tests for each function, if there are so many
 
 
 class Called(NamedTuple):
-    """The functions that a class of tests calls, as `stream/gaps.py:late_of`, and its seconds."""
+    """The functions that a class of tests calls, such as `stream/gaps.py:late_of`, and its run time
+    in seconds."""
 
     functions: AbstractSet[str]
     seconds: float
 
 
 def rows() -> dict[str, list[str]]:
-    """The classes of tests by the module, or the script, that they are of."""
+    """Return the classes of tests by module or script."""
     with open(PATH, encoding="utf-8") as file:
         found = [line.rstrip("\n").split("\t") for line in file if not line.startswith("#")]
     return {module: tests.split() for module, tests in found}
 
 
 def module_of(name: str) -> str:
-    """The module, or the script, that a path or a dotted name is of, as `stream/gaps.py` or
-    `stream.gaps`."""
+    """Return the table's name for a path or dotted name: `stream/gaps.py` for `stream.gaps`."""
     path = name.removeprefix("tools/").removeprefix(PACKAGE).removeprefix("subtitles.")
     is_path = "/" in path or path.endswith(".py") or "." not in path
     return path if is_path else path.replace(".", "/") + ".py"
 
 
 def tests_of(name: str) -> list[str]:
-    """The classes of tests of a module, or of a script; none where the table has none of it."""
+    """Return the classes of tests of a module or script."""
     return rows().get(module_of(name), [])
 
 
 def chosen(functions: Collection[str], classes: Mapping[str, Called],
            near: Collection[str] = (), standing: Collection[str] = ()) -> list[str]:
-    """The classes of tests that stand in the table, and those that call each of some functions
-    several times, where there are so many: one after another the one that calls the most, for its
-    time, that are called too seldom; those that are near before the others."""
+    """Choose classes of tests so that each function is called by `TIMES` of them, if there are so
+    many.
+
+    Those in `standing` are always chosen. Of the others choose repeatedly the one with the most
+    missing functions for its run time, those in `near` first.
+    """
     wanted = {name: min(TIMES, sum(name in one.functions for one in classes.values()))
               for name in functions}
     found = list[str]()
@@ -69,10 +71,12 @@ def chosen(functions: Collection[str], classes: Mapping[str, Called],
 
 def lines(classes: Mapping[str, Called], kinds: Collection[Type[object]],
           before: Mapping[str, Sequence[str]]) -> Iterator[str]:
-    """The rows anew: of each module those that it had before, as long as their tests exist, since
-    one that guards it through a process may call little of it; then by the functions that classes
-    of tests call, and before others those whose module takes something of it; of each script by
-    its name in their text."""
+    """Return the new rows of the table.
+
+    A module keeps its old tests that still exist, since some test it through a process and call
+    little of it. Then come classes by the functions that they call, those that import the module
+    first. A script's tests are found by its name in their source.
+    """
     names = {name_of(one) for one in kinds}
     standing = {module: {*tests} & names for module, tests in before.items()}
     functions = {one for called in classes.values() for one in called.functions
@@ -95,5 +99,5 @@ def lines(classes: Mapping[str, Called], kinds: Collection[Type[object]],
 
 
 def name_of(kind: Type[object]) -> str:
-    """The name of a class of tests."""
+    """Return the name of a class of tests."""
     return f"{kind.__module__.rpartition('.')[2]}.{kind.__name__}"

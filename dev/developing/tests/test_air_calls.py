@@ -1,4 +1,4 @@
-"""Calls of tools/air: a feed recorded and judged by the program, from the pipe to the result."""
+"""tools/air with real processes: a feed recorded and judged, from the pipe to the result."""
 from __future__ import annotations
 
 import datetime
@@ -17,17 +17,17 @@ from subtitles.air.segments import Unbroken, segment_name, segments_between, str
 from subtitles.cli.single import hold_lock
 from .air import Air, DAY
 from .bench import SECONDS, tool_path
-from .muxed import in_frames
+from .streams import in_frames
 from .programmes import BEGIN, LASTS, SECOND, blank, make_programme, until
-from .sent import packets, subtitle_file
+from .transmissions import packets, subtitle_file
 
 LEAD, TAIL = 4, 6  # seconds of the feed before and after the programme
 ALL = LEAD + LASTS + TAIL
 
 
 class Trial(NamedTuple):
-    """The seconds of the feed that are recorded; whether a PES packet is left out; the time of air
-    and the margin; the verdict, whether it is final, and the beginning of its reason."""
+    """The recorded seconds of the feed; whether two PES packets are missing; air time and margin;
+    the expected verdict, whether it is final, and the beginning of its reason."""
 
     recorded: tuple[int, int]
     is_wrong: bool
@@ -58,7 +58,7 @@ class Feeds(Air):
     """A feed with one programme."""
 
     def feed(self, is_wrong: bool = False) -> list[bytes]:
-        """Return the frames of a feed; two PES packets are left out if it is to be wrong."""
+        """Return the frames of a feed, without two PES packets if it should be wrong."""
         made = make_programme(self, "one", 1_000_000, "Alpha Beta Gamma Delta",
                               BEGIN + SECOND * LEAD)
         pes = packets(made + blank(made, BEGIN + SECOND * (LEAD + LASTS), TAIL))
@@ -68,11 +68,9 @@ class Feeds(Air):
 
 
 class Checks(Feeds):
-    """A stretch of the feed that is judged by the program."""
-
     def judged(self, frames: list[bytes], begin: int = 0, air: int = 0, margin: int = 60,
                program: str = "") -> Outcome:
-        """Return what comes of frames that are recorded from a second on."""
+        """Judge frames that are recorded from a second on."""
         self.delete_all("segments", "out")
         self.put_segment(begin, begin + len(frames) / 25, b"".join(frames))
         self.write_schedule("2026-12-01T08:00:00Z one.stl")
@@ -85,7 +83,7 @@ class Checks(Feeds):
         self.check("files that are left", os.listdir(out), [])
         return found
 
-    def test_judges_what_is_recorded(self) -> None:
+    def test_each_recording_gets_its_verdict(self) -> None:
         feeds = [self.feed(is_wrong) for is_wrong in (False, True)]
         for name, trial in TRIALS.items():
             first, last = trial.recorded
@@ -94,35 +92,34 @@ class Checks(Feeds):
             self.check(name, (found.verdict, found.is_final), (trial.verdict, trial.is_final))
             self.must(f"{name}: why", found.reason.startswith(trial.reason), found.reason)
 
-    def test_a_verdict_says_within_which_time_it_began(self) -> None:
+    def test_a_result_notes_the_margin_of_its_air_time(self) -> None:
         for is_wrong in (False, True):
             result = self.judged(self.feed(is_wrong)).result
             self.must(f"{is_wrong}", result and "begun within 60 s of 2026-12-01T08:00:00Z" in
                       result["notes"], result)
 
-    def test_a_program_that_dies_is_no_result(self) -> None:
+    def test_a_killed_program_gives_no_result(self) -> None:
         found = self.judged(self.feed(), program=self.program_but("check*", "kill -9 $$"))
         self.check("result", found.result, None)
 
-    def test_a_subtitle_file_is_refused_whatever_is_sent(self) -> None:
+    def test_refuses_an_invalid_subtitle_file_for_any_transmission(self) -> None:
         frames = self.feed()
         subtitle_file(self, [(100, 100, b"Never")])
         found = self.judged(frames[:50])
         self.check("it", (found.verdict, found.is_final), ("refused", True))
 
-    def test_ends_what_takes_too_long(self) -> None:
+    def test_stops_a_check_that_takes_too_long(self) -> None:
         program = self.program_but("check*", "sleep 60")
         with mock.patch.object(check, "LEAST_SECONDS", 0.1):
             found = self.judged(self.feed(), program=program)
         self.must("it", found.result is None and "not judged within" in found.reason, found)
 
-    def test_copies_nothing_if_there_is_no_room(self) -> None:
+    def test_copies_nothing_to_a_full_disk(self) -> None:
         with mock.patch.object(check, "SPARE", 1 << 60):
             found = self.judged(self.feed())
         self.must("no room", found.result is None and found.reason.startswith("no room"), found)
 
-    def test_a_segment_that_becomes_shorter_is_no_result(self) -> None:
-        """As if the disk lost its end."""
+    def test_a_truncated_segment_gives_no_result(self) -> None:
         real = Unbroken.read
 
         def read(stretch: Unbroken, begin: float, end: float) -> Iterator[bytes]:
@@ -135,10 +132,8 @@ class Checks(Feeds):
 
 
 class Calls(Feeds):
-    """Whole calls."""
-
     def record(self, frames: list[bytes], *words: str) -> None:
-        """Record a feed as fast as it comes."""
+        """Record a feed as fast as possible."""
         done = self.call([tool_path("air"), "record", self.path("segments"), "--free", "0", *words],
                          b"".join(frames))
         self.check("record", (done.status, done.told), (0, []))
@@ -149,20 +144,19 @@ class Calls(Feeds):
         self.write_schedule(" ".join([f"{date:%Y-%m-%dT%H:%M:%SZ}", "one.stl", *options]))
 
     def judge_command(self, *words: str) -> list[str]:
-        """Return a call of `judge`."""
+        """Return the command of a call of `judge`."""
         return [tool_path("air"), "judge", self.path("schedule"), self.path("segments"), "-o",
                 self.path("out"), "-p", self.bench.program, *words]
 
     def spread(self, begin: float, end: float) -> None:
-        """Give the segments the times at which a feed would have come."""
+        """Give the segments the modification times of a live feed."""
         names = sorted(name for name in os.listdir(self.path("segments")) if name.endswith(".ts"))
         for number, name in enumerate(names):
             path = self.path(f"segments/{segment_name(begin + number)}")
             os.rename(self.path(f"segments/{name}"), path)
             os.utime(path, (end, end))
 
-    def test_judges_what_was_recorded(self) -> None:
-        """And deletes what earlier calls have left."""
+    def test_judges_a_recording_and_deletes_old_work_folders(self) -> None:
         for is_wrong, verdict in ((False, "relative"), (True, "refused")):
             self.delete_all("segments", "out")
             os.makedirs(self.path("out/.work-of-an-earlier-call"))
@@ -178,8 +172,7 @@ class Calls(Feeds):
                        os.listdir(self.path("out"))}
             self.check(f"{verdict}: files", endings, {".json", ".html", ".txt"})
 
-    def test_outlasts_kills_of_the_judge(self) -> None:
-        """While the feed comes: there is one result."""
+    def test_writes_one_result_although_the_judge_is_killed(self) -> None:
         frames = self.feed()
         recorder = self.start(subprocess.PIPE, "record", self.path("segments"), "--length", "2",
                               "--free", "0")
@@ -214,7 +207,7 @@ class Calls(Feeds):
         return self.start(subprocess.DEVNULL, *self.judge_command(
             "--margin", "120", "--pause", "60", "--every-seconds", "1")[1:])
 
-    def test_wrong_words_are_one_line_and_status_2(self) -> None:
+    def test_reports_wrong_arguments_in_one_line_with_status_2(self) -> None:
         rows: dict[str, str] = {
             "": "give record or judge first",
             "watch": "give record or judge first",
@@ -226,7 +219,7 @@ class Calls(Feeds):
             done = self.tool("air", *line.split())
             self.check(line or "none", (done.status, done.told), (2, [f"air: {message}"]))
 
-    def test_one_call_at_a_time_writes_into_a_folder(self) -> None:
+    def test_refuses_a_folder_that_another_call_writes(self) -> None:
         self.write("schedule", b"")
         for name, folder, line in (("recorder", "segments", "record segments"),
                                    ("air", "out", "judge schedule segments -o out")):

@@ -1,4 +1,4 @@
-"""The judge: which verdict comes of which segments, when, and what may stand in its way."""
+"""The judge of tools/air: when it gives which verdict, and how it handles failures."""
 from __future__ import annotations
 
 import contextlib
@@ -15,7 +15,7 @@ from subtitles.air.state import Monitor
 from subtitles.common.files import result_file
 from .air import Air, DAY, FakeChecker, MARGIN, Sent, outcome
 from .bench import example_bytes
-from .sent import subtitle_file
+from .transmissions import subtitle_file
 
 NAME = "20261201T081000Z-one"  # on air from second 600 on, for 60 seconds
 BEGIN, END = 600, 660
@@ -23,8 +23,8 @@ OTHER = NAME.replace("one", "two")
 
 
 class Trial(NamedTuple):
-    """What is recorded, and what of it is missing; when the programme is really sent; its verdict,
-    how many seconds after its end in the schedule that is there, and the reason."""
+    """The recorded seconds and the missing ones; the real transmission; the expected verdict, how
+    many seconds after the scheduled end it comes, and the reason."""
 
     recorded: tuple[int, int]
     missing: tuple[tuple[int, int], ...]
@@ -74,8 +74,6 @@ TRIALS = {
 
 
 class Judged(Air):
-    """One programme of a minute."""
-
     now = lag = 0
 
     def setUp(self) -> None:
@@ -86,7 +84,7 @@ class Judged(Air):
 
     def run_judge(self, checker: FakeChecker, end: int, begin: int = BEGIN, *more: str
                   ) -> judging.Judge:
-        """Look each five seconds up to a time, or until a result is there; return the judge."""
+        """Look every five seconds up to a time, or until there is a result."""
         judge = self.make_judge(checker, *more)
         for self.now in range(begin, end, 5):
             while judge.look(DAY + self.now):
@@ -102,7 +100,6 @@ class Judged(Air):
         return [one._replace(end=min(one.end, now)) for one in found]
 
     def test_each_trial_has_its_verdict_in_time(self) -> None:
-        """Whether it is looked at all the time, or once long after."""
         for name, trial in TRIALS.items():
             self.delete_all("segments", "out")
             checker = FakeChecker({NAME: trial.sent} if trial.sent else {})
@@ -117,27 +114,27 @@ class Judged(Air):
             self.run_judge(checker, 2000, 1900)
             self.check(f"{name}: once", self.verdicts().get(NAME), trial.verdict)
 
-    def test_the_recorder_may_lag(self) -> None:
+    def test_waits_for_a_recorder_that_lags(self) -> None:
         self.put_segments(0, 900)
         self.lag = 9
         with mock.patch.object(judging, "segments_between", self.recorded_so_far):
             self.run_judge(FakeChecker({}), 1500, END + MARGIN)
         self.check("reason", self.result(NAME)["reason"], "no cue agrees")
 
-    def test_is_not_tried_too_often(self) -> None:
+    def test_judges_a_programme_at_most_five_times(self) -> None:
         self.put_segments(0, 900)
         checker = FakeChecker({})
         self.run_judge(checker, 1500)
         self.must("at most five times", len(checker.calls) <= 5, checker.calls)
 
-    def test_a_failure_of_the_machine_is_tried_again(self) -> None:
+    def test_tries_again_after_a_failure_of_the_machine(self) -> None:
         self.put_segments(0, 900)
         left = [*range(20)]
         self.run_judge(FakeChecker({NAME: Sent(600, 660)}, lambda: bool(left and [left.pop()])),
                        3000)
         self.check("in the end it is judged", self.verdicts(), {NAME: "relative"})
 
-    def test_a_failure_is_a_result_once_the_segments_are_deleted(self) -> None:
+    def test_writes_a_failure_once_the_segments_are_deleted(self) -> None:
         self.put_segments(0, 900)
         judge = self.run_judge(FakeChecker({}, lambda: True), 1500)
         self.check("no result yet", self.verdicts(), {})
@@ -148,8 +145,7 @@ class Judged(Air):
         self.check("reason", self.result(NAME)["reason"], "not recorded: 2026-12-01T08:09:00Z to "
                    "2026-12-01T08:12:00Z; before that: the machine failed")
 
-    def test_what_fails_slowly_takes_a_tenth_of_the_time(self) -> None:
-        """Other programmes are judged meanwhile."""
+    def test_slow_failures_take_a_tenth_of_the_time(self) -> None:
         self.put_segments(0, 900)
         checker, clock = FakeChecker({}), [0.0]
 
@@ -162,8 +158,7 @@ class Judged(Air):
             self.run_judge(checker, 700 + 10_000, 700)
         self.check("tries", clock[0] / 100, 10)
 
-    def test_waits_for_a_subtitle_file(self) -> None:
-        """As long as there are segments."""
+    def test_waits_for_a_missing_subtitle_file(self) -> None:
         self.put_segments(0, 900)
         os.rename(self.path("one.stl"), self.path("later.stl"))
         checker = FakeChecker({NAME: Sent(600, 660)})
@@ -173,14 +168,13 @@ class Judged(Air):
         self.run_judge(checker, 2100, 2000)
         self.check("once it is there", self.verdicts(), {NAME: "relative"})
 
-    def test_without_a_subtitle_file_it_is_not_judged(self) -> None:
-        """Once its own segments are deleted, whatever is recorded later."""
+    def test_gives_up_on_a_subtitle_file_once_its_segments_are_deleted(self) -> None:
         os.unlink(self.path("one.stl"))
         self.put_segments(700, 2000)
         self.run_judge(FakeChecker({}), 1000)
         self.check("reason", self.result(NAME)["reason"], f"{self.path('one.stl')} is not there")
 
-    def test_a_result_that_cannot_be_written_is_judged_again(self) -> None:
+    def test_judges_again_if_the_result_cannot_be_written(self) -> None:
         self.put_segments(0, 900)
         full = [3]
 
@@ -220,7 +214,7 @@ class Judged(Air):
         self.check("when it was written", os.stat(path).st_mtime_ns, before)
         self.check("results", self.verdicts(), {NAME: "relative"})
 
-    def test_the_last_schedule_holds_while_there_is_none(self) -> None:
+    def test_uses_the_last_schedule_while_there_is_none(self) -> None:
         self.put_segments(0, 900)
         judge = self.make_judge(FakeChecker({NAME: Sent(600, 660)}))
         judge.look(DAY + 600)
@@ -229,7 +223,7 @@ class Judged(Air):
         self.check("results", self.verdicts(), {NAME: "relative"})
         self.check("alarms", "schedule" in judge.monitor.alarms(), True)
 
-    def test_pages_share_the_segments(self) -> None:
+    def test_judges_two_pages_on_the_same_segments(self) -> None:
         self.write_schedule("2026-12-01T08:10:00Z one.stl",
                             "2026-12-01T08:10:00Z two.stl --page 889")
         self.put_segments(0, 900)
@@ -239,8 +233,7 @@ class Judged(Air):
             pass
         self.check("results", self.verdicts(), {NAME: "relative", OTHER: "refused"})
 
-    def test_a_start_of_the_recorder_is_a_gap(self) -> None:
-        """However soon it comes."""
+    def test_a_restart_of_the_recorder_is_a_gap(self) -> None:
         self.put_segments(0, 900)
         os.rename(*(self.path(f"segments/{segment_name(DAY + 630, is_new)}")
                     for is_new in (False, True)))
@@ -248,13 +241,13 @@ class Judged(Air):
         self.check("reason", self.result(NAME)["reason"], "not recorded: 2026-12-01T08:10:30Z to "
                    "2026-12-01T08:10:30Z; of the rest: refused 74")
 
-    def test_an_end_before_that_of_the_file_is_not_believed(self) -> None:
+    def test_ignores_an_end_before_the_last_subtitle(self) -> None:
         self.write_schedule("2026-12-01T08:10:00Z/2026-12-01T08:10:01Z one.stl")
         self.put_segments(0, 900)
         self.run_judge(FakeChecker({NAME: Sent(600, 660)}), 1000)
         self.check("when it was judged", self.now - END, 10)
 
-    def test_a_mistake_of_the_tool_stops_no_other_programme(self) -> None:
+    def test_a_bug_affects_no_other_programme(self) -> None:
         self.write_schedule("2026-12-01T08:10:00Z one.stl", "2026-12-01T08:10:00Z two.stl")
         self.put_segments(0, 900)
         checker = FakeChecker({OTHER: Sent(600, 660)})
@@ -263,8 +256,7 @@ class Judged(Air):
         self.run_judge(checker, 800)
         self.check("results", self.verdicts(), {OTHER: "relative"})
 
-    def test_the_files_of_a_result_come_before_it(self) -> None:
-        """Its page and its list are there when the JSON result is."""
+    def test_writes_the_page_and_the_list_before_the_result(self) -> None:
         self.put_segments(0, 900)
         checker, written = FakeChecker({}), list[str]()
         checker.work = self.path("work")
@@ -285,7 +277,6 @@ class Judged(Air):
         self.check("written and stored", written, [".html True", ".txt True", ".json True"])
 
     def test_calls_the_command_once_for_each_result(self) -> None:
-        """Its failure changes nothing."""
         self.put_segments(0, 900)
         command = self.write_program(
             "hook", f'#!/bin/sh\necho "$*" >>{self.path("calls")}\nexit 7\n')
@@ -309,9 +300,9 @@ ALARMS: dict[str, tuple[dict[str, Any], list[str]]] = {
 
 
 class State(Air):
-    """What monitoring reads."""
+    """The state for monitoring."""
 
-    def test_each_alarm(self) -> None:
+    def test_raises_each_alarm(self) -> None:
         for name, (values, expected) in ALARMS.items():
             one = Monitor()
             one.now, one.started, one.last_byte = DAY, DAY - 9999, DAY - 9
@@ -319,7 +310,7 @@ class State(Air):
             vars(one).update(values)
             self.check(name, json.loads(json.dumps(one.state()))["alarms"], expected)
 
-    def test_sees_segments_and_disks(self) -> None:
+    def test_reports_segments_and_disks(self) -> None:
         self.put_segments(0, 50)
         one, out = Monitor(), self.path("out")
         one.look(self.path("segments"), out, DAY + 60, "/bin/true", [])
@@ -327,7 +318,7 @@ class State(Air):
         one.look(self.path("nothing"), out, DAY + 60, "/bin/true", [])
         self.check("without a folder", (one.segments, one.free[0]), (0, 0))
 
-    def test_sees_headers_of_pages(self) -> None:
+    def test_reports_the_headers_of_pages(self) -> None:
         self.put_segment(0, 10, example_bytes("recording.ts"))
         one = Monitor()
         one.look(self.path("segments"), self.path("out"), DAY + 700, self.bench.program,

@@ -1,4 +1,5 @@
-"""Randomized days of tools/air against a simple model of what is recorded and sent."""
+"""Randomized days of tools/air, compared with a simple model of the recording and the transmission.
+"""
 from __future__ import annotations
 
 import os
@@ -9,17 +10,20 @@ from typing import NamedTuple, Sequence
 
 from subtitles.air.segments import segment_name
 from .air import Air, DAY, FakeChecker, LENGTH, MARGIN, Sent
-from .sent import subtitle_file
+from .transmissions import subtitle_file
 
-SECONDS = 60  # that a programme lasts
+SECONDS = 60  # length of a programme
 GAP = re.compile(r"(\S+Z) to (\S+Z)")
 Lost = Sequence["tuple[int, int]"]
 
 
 class Day(NamedTuple):
-    """What happens on a day, in seconds: which programmes are in the schedule, with the second that
-    it gives them; when each is really sent; what is lost of the feed, where a start of the recorder
-    loses nothing but time; for how long segments are kept, and when nobody judges."""
+    """A day, in seconds: the lines of the schedule, the air time of each programme, its real
+    transmission, the lost parts of the feed, how long segments are kept, and when the judge is
+    down.
+
+    A loss of length 0 is a restart of the recorder.
+    """
 
     lines: list[str]
     times: dict[str, int]
@@ -31,7 +35,7 @@ class Day(NamedTuple):
 
 
 def date(second: int) -> str:
-    """Return a second of the day as text."""
+    """Format a second of the day."""
     return time.strftime("%Y-%m-%dT%H:%M:%SZ", time.gmtime(DAY + second))
 
 
@@ -57,13 +61,13 @@ def random_day(chance: random.Random) -> Day:
 
 
 def possible(sent: Sent, time: int, lost: Lost, is_deleted: bool) -> set[str]:
-    """Return the verdicts that are right for a programme."""
+    """Return the acceptable verdicts of a programme."""
     is_cut = any(first < sent.end and last > sent.begin for first, last in lost)
     if abs(sent.begin - time) > MARGIN or is_cut:
         return {"not judged"}
-    # What is lost just before or after a programme may hide where a fault comes from.
+    # A loss just before or after a programme may hide where a fault comes from.
     is_near = any(first <= sent.end and last >= sent.begin for first, last in lost)
-    # One that ends with its window is known to have ended only if nothing of that is lost.
+    # A programme that ends with its window is known to have ended only if nothing is lost there.
     is_last = sent.begin == time + MARGIN and bool(lost)
     deserved = "relative" if sent.is_right else "refused"
     is_open = is_deleted or (is_near or is_last) and not sent.is_right
@@ -71,12 +75,9 @@ def possible(sent: Sent, time: int, lost: Lost, is_deleted: bool) -> set[str]:
 
 
 class Days(Air):
-    """Kills, edits, failures, gaps, deleted segments, and late programmes on one day."""
-
     SEEDS = range(50)
 
-    def test_each_programme_gets_a_right_result(self) -> None:
-        """One result, which never changes; what it names as not recorded was lost."""
+    def test_each_programme_gets_one_correct_result_that_never_changes(self) -> None:
         for number in range(5):
             subtitle_file(self, [(0, SECONDS * 25, b"One")], f"p{number}.stl")
         for seed in self.SEEDS:
@@ -84,7 +85,7 @@ class Days(Air):
             self.judge_day(random.Random(seed), seed)
 
     def judge_day(self, chance: random.Random, seed: int) -> None:
-        """Record and judge a day."""
+        """Record and judge one day."""
         day, first_seen = random_day(chance), dict[str, str]()
         checker = FakeChecker(day.sent, lambda: chance.random() < .1)
         judge = self.make_judge(checker)
@@ -95,8 +96,8 @@ class Days(Air):
                 self.put_segment(now, now + LENGTH, is_new=now in starts)
                 self.delete_segment(now - day.kept)
             if chance.random() < .05:
-                judge = self.make_judge(checker)  # it was killed, and started again
-            if is_half := chance.random() < .05 and now < day.end:  # it is being edited
+                judge = self.make_judge(checker)  # killed and restarted
+            if is_half := chance.random() < .05 and now < day.end:  # the schedule is being edited
                 self.write("schedule", "\n".join(chance.sample(day.lines, 3)).encode())
             elif was_half:
                 self.write_schedule(*day.lines)
@@ -117,7 +118,7 @@ class Days(Air):
             self.must(f"seed {seed}: {name}, {day.sent[name]}", verdict in right,
                       (verdict, right, lost))
             reason = self.result(name)["reason"] if verdict == "not judged" else ""
-            gaps = [(date(first), date(last)) for first, last in joined(lost)]
+            gaps = [(date(first), date(last)) for first, last in merge(lost)]
             for begin, end in GAP.findall(reason) if not is_deleted else []:
                 self.must(f"seed {seed}: {name}: {reason}", any(
                     first <= begin and end <= last for first, last in gaps), gaps)
@@ -130,8 +131,8 @@ class Days(Air):
                 os.unlink(path)
 
 
-def joined(lost: Lost) -> list[tuple[int, int]]:
-    """Return what is lost as one recorder would see it: what overlaps or touches is one gap."""
+def merge(lost: Lost) -> list[tuple[int, int]]:
+    """Merge losses that overlap or touch, as one recorder sees them."""
     found = list[tuple[int, int]]()
     for first, last in sorted(lost):
         if found and first <= found[-1][1]:

@@ -1,4 +1,4 @@
-"""The schedule: its lines, times and names, and how long a programme is."""
+"""The schedule of tools/air: its lines, times and names, and the length of a programme."""
 from __future__ import annotations
 
 import os
@@ -10,7 +10,7 @@ from .air import Air, DAY
 NO_TIME = "is not a time of air: begin the line with a date and a time that ends in Z or an " \
     "offset, as `2026-11-29T20:15:00Z news.stl`"
 
-# A line, and its result's name with its times of the day, or what is wrong with it.
+# A line, and the name and times of its result, or the error message.
 LINES = {
     "in UTC": ("2026-12-01T08:00:00Z news.stl", "20261201T080000Z-news 0 None"),
     "half a second": ("2026-12-01T08:00:00.5Z news.stl", "20261201T080000Z-news 0.5 None"),
@@ -39,7 +39,7 @@ LINES = {
                                "knows where in the segments a programme will be: leave them out"),
     "a quote": ("2026-12-01T08:00:00Z 'news.stl", "line 1: a quote does not end"),
 }
-# Both nights on which a clock of Berlin is set: the same time of the day, an hour apart.
+# Both nights on which clocks in Berlin change: the same local time an hour apart.
 NIGHTS = {"2026-10-25T02:30:00+02:00": "20261025T003000Z-a",
           "2026-10-25T02:30:00+01:00": "20261025T013000Z-a",
           "2027-03-28T01:59:59+01:00": "20270328T005959Z-a",
@@ -55,54 +55,50 @@ LENGTHS = {
 
 
 def shown(time: float | None) -> str:
-    """Return a time of the day in seconds."""
+    """Format a time in seconds of the day."""
     return "None" if time is None else f"{time - DAY:g}"
 
 
 class Lines(Air):
-    """Lines of a schedule."""
-
-    def found(self, text: str) -> list[str]:
-        """Return the programmes of a schedule, and its faults."""
+    def read_lines(self, text: str) -> list[str]:
+        """Return the programmes of a schedule, then its faults."""
         schedule = read_schedule(self.write("schedule", text.encode()), self.args())
         said = [f"{one.name} {shown(one.begin)} {shown(one.end)}" for one in schedule.programmes]
         return said + [*schedule.faults]
 
     def test_reads_each_line(self) -> None:
         for name, (line, expected) in LINES.items():
-            self.check(name, self.found(line + "\n"), [expected] * bool(expected))
+            self.check(name, self.read_lines(line + "\n"), [expected] * bool(expected))
 
-    def test_no_hour_is_there_twice(self) -> None:
+    def test_results_of_a_repeated_hour_have_different_names(self) -> None:
         for time, name in NIGHTS.items():
-            self.check(time, self.found(f"{time} a.stl\n")[0].split()[0], name)
+            self.check(time, self.read_lines(f"{time} a.stl\n")[0].split()[0], name)
 
-    def test_a_line_counts_once_it_ends(self) -> None:
+    def test_ignores_a_line_without_a_line_end(self) -> None:
         text = "".join(f"2026-12-01T08:00:00Z news{number}.stl --page 889\n" for number in range(3))
         for end in range(len(text) + 1):
             count = text[:end].count("\n")
-            self.check(f"{end} bytes", self.found(text[:end]), [
+            self.check(f"{end} bytes", self.read_lines(text[:end]), [
                 f"20261201T080000Z-news{number} 0 None" for number in range(count)])
 
-    def test_reports_a_second_line_of_the_same_name(self) -> None:
+    def test_reports_a_second_line_with_the_same_name(self) -> None:
         line = "2026-12-01T08:00:00Z a.stl\n"
-        self.check("both", self.found(line * 2), [
+        self.check("both", self.read_lines(line * 2), [
             "20261201T080000Z-a 0 None", "line 2: its result would have the name of that of line "
             "1, 20261201T080000Z-a: it is not judged"])
 
-    def test_files_are_beside_the_schedule(self) -> None:
+    def test_finds_files_in_the_folder_of_the_schedule(self) -> None:
         self.write_schedule("2026-12-01T08:00:00Z a.stl")
         one, = read_schedule(self.path("schedule"), self.args()).programmes
         self.check("its subtitle file", one.request.stl, self.path("a.stl"))
 
-    def test_an_unchanged_schedule_is_not_read_again(self) -> None:
+    def test_does_not_read_an_unchanged_schedule_again(self) -> None:
         self.write_schedule("2026-12-01T08:00:00Z a.stl")
         first = read_schedule(self.path("schedule"), self.args())
         self.must("the same", read_schedule(self.path("schedule"), self.args(), first) is first)
 
 
 class Lengths(Air):
-    """How long programmes are."""
-
     def length(self, options: str = "") -> float:
         self.write_schedule(f"2026-12-01T08:00:00Z one.stl {options}")
         one, = read_schedule(self.path("schedule"), self.args()).programmes
@@ -118,8 +114,7 @@ class Lengths(Air):
             self.write_stl(*times)
             self.check(name, self.length(options), expected)
 
-    def test_a_file_that_cannot_be_read_has_no_length(self) -> None:
-        """It is refused by itself. One that is not there is an error."""
+    def test_an_invalid_file_has_no_length(self) -> None:
         self.write("one.stl", b"no subtitle file")
         self.check("length", self.length(), 0.0)
         os.unlink(self.path("one.stl"))

@@ -1,4 +1,4 @@
-"""Segments: their names and times, stretches without a gap, the recorder and its limits."""
+"""Segments of tools/air: their names and times, gaps between them, the recorder and its limits."""
 from __future__ import annotations
 
 import errno
@@ -12,7 +12,7 @@ from subtitles.air.recorder import Limits, Recorder
 from subtitles.air.segments import (
     Segment, Unbroken, begin_in, names_in, segment_name, segments_between, stretches_in)
 from .air import Air, DAY
-from .muxed import in_frames, spaced
+from .streams import in_frames, spaced
 from .programmes import BEGIN
 
 NAMES = {
@@ -32,7 +32,7 @@ NAMES = {
 }
 
 # Segments as begin-end, with ! if the name says that something may be missing before it; the
-# longest pause; and the stretches.
+# longest allowed pause; the expected stretches.
 STRETCHES = {
     "none": ("", 2, ""),
     "the clock was set back in one": ("10-5 12-20 20-30", 2, "10-30"),
@@ -44,8 +44,8 @@ STRETCHES = {
     "new ones": ("!0-10 10-20 !20-30 30-40", 2, "0-20 20-40"),
 }
 
-# The last two segments are of one feed: before which of its TS packets the first one ends and the
-# second one begins; the seconds of all, as above; and the stretches.
+# Two segments of one feed: the TS packet before which the first ends, and that at which the second
+# begins; the seconds of all segments, as above; the expected stretches.
 JOINTS = {
     "it goes on, without a PCR": (900.5, 900.5, "0-10 10-20", "0-20"),
     "the recorder stalled": (900.5, 900.5, "0-10 18-20", "0-20"),
@@ -62,18 +62,16 @@ JOINTS = {
     "the first is too short to tell": (3.5, 3.5, "0-10 18-20", "0-10 18-20"),
 }
 
-# A segment of 100 bytes from second 10 to 20, and the bytes of it up to a time.
+# A segment of 100 bytes from second 10 to 20: a time, and the number of its bytes up to it.
 OFFSETS = {"before it": (5, 0), "its beginning": (10, 0), "a tenth": (11, 10), "half": (15, 50),
            "its end": (20, 100), "after it": (99, 100)}
 
 
 class Segments(Air):
-    """Which files are segments, and which hold something of a time."""
-
     def test_reads_the_time_in_a_name(self) -> None:
         self.check_each(begin_in, {name: ((name,), time) for name, time in NAMES.items()})
 
-    def test_own_names_keep_time_and_order(self) -> None:
+    def test_names_keep_time_and_order(self) -> None:
         chance = random.Random(3)
         times = sorted(round(chance.uniform(0, 4e9), 3) for _ in range(500))
         for one in times:
@@ -82,12 +80,12 @@ class Segments(Air):
         names = [*map(segment_name, times)]
         self.check("order", names, sorted(names))
 
-    def test_divides_where_something_may_be_missing(self) -> None:
+    def test_splits_at_possible_losses(self) -> None:
         for name, (text, pause, expected) in STRETCHES.items():
-            self.check(name, self.divided(text, pause), expected)
+            self.check(name, self.stretches_of(text, pause), expected)
 
     @mock.patch.object(segments, "BLOCK", 100_000)
-    def test_follows_the_packets_from_one_segment_to_the_next(self) -> None:
+    def test_detects_losses_by_counters_between_segments(self) -> None:
         feed = b"".join(in_frames([], BEGIN, 110, 1))
         packets = [feed[at:at + 188] for at in range(0, len(feed), 188)]
         feeds = {"PCR": b"".join(one for one in packets if one[3] & 0x10), "tables": b"".join(
@@ -96,11 +94,11 @@ class Segments(Air):
             for size in (188, 192, 204):
                 data = spaced(feeds.get(name.split()[-1], feed), size)
                 parts = data[:int(end * size)], data[int(begin * size):]
-                found = self.divided(text, 5, *[b""] * text.count(" ", 5), *parts)
+                found = self.stretches_of(text, 5, *[b""] * text.count(" ", 5), *parts)
                 self.check(f"{name}, {size} bytes a packet", found, expected)
 
-    def divided(self, text: str, pause: float, *data: bytes) -> str:
-        """Return the stretches of some segments, perhaps with some data."""
+    def stretches_of(self, text: str, pause: float, *data: bytes) -> str:
+        """Return the stretches of segments, which may have content."""
         self.delete_all("segments")
         for number, word in enumerate(text.split()):
             begin, end = map(float, word.strip("!").split("-"))
@@ -108,8 +106,7 @@ class Segments(Air):
         found = stretches_in(segments_between(self.path("segments"), 0, DAY + 99), pause)
         return " ".join(f"{one.begin - DAY:.0f}-{one.end - DAY:.0f}" for one in found)
 
-    def test_finds_the_segments_of_a_time(self) -> None:
-        """As a plain loop does; an empty segment holds nothing."""
+    def test_finds_the_segments_of_a_time_range(self) -> None:
         chance = random.Random(4)
         at, known = 0, []
         for _ in range(60):
@@ -127,20 +124,19 @@ class Segments(Air):
             self.check(f"{first} to {last}", [(one.begin - DAY, one.end - DAY) for one in found],
                        [(begin, end) for begin, end in known if begin < last and end >= first])
 
-    def test_a_deleted_segment_was_never_there(self) -> None:
+    def test_ignores_a_segment_that_was_deleted_meanwhile(self) -> None:
         self.put_segments(0, 30)
         names = names_in(self.path("segments"))
         os.unlink(self.path(f"segments/{names[1][1]}"))
         with mock.patch.object(segments, "names_in", lambda _: names):
             self.check("segments", len(segments_between(self.path("segments"), DAY, DAY + 30)), 2)
 
-    def test_places_a_time_in_a_segment(self) -> None:
+    def test_converts_a_time_to_an_offset_in_a_segment(self) -> None:
         self.check_each(Segment("", 100, 10, 20).offset_at, {
             name: ((time,), offset) for name, (time, offset) in OFFSETS.items()})
         self.check("one of a moment", Segment("", 100, 10, 10).offset_at(10.5), 100)
 
-    def test_reads_what_came_in_a_time(self) -> None:
-        """What is read in two parts is what is read at once, and a shorter file is an error."""
+    def test_reads_the_bytes_of_a_time_range(self) -> None:
         parts = [Segment(self.put_segment(at, at + 10, bytes(range(at, at + 10))), 10,
                          DAY + at, DAY + at + 10) for at in (0, 10, 20)]
         stretch = Unbroken(tuple(parts))
@@ -157,8 +153,6 @@ class Segments(Air):
 
 
 class Recorded(Air):
-    """What a recorder writes, and what it deletes."""
-
     def setUp(self) -> None:
         super().setUp()
         self.now = DAY
@@ -175,12 +169,12 @@ class Recorded(Air):
         return Recorder(self.path("segments"), Limits(length, kept, free))
 
     def contents(self) -> list[tuple[float, bytes]]:
-        """Return when the segments begin, and what they hold."""
+        """Return the start and content of each segment."""
         return [(round(begin - DAY, 3), self.read(f"segments/{name}"))
                 for begin, name in names_in(self.path("segments"))]
 
-    def new_ones(self) -> list[bool]:
-        """Return of each segment whether something may be missing before it."""
+    def are_new(self) -> list[bool]:
+        """Return of each segment whether its name says that something may be missing before it."""
         return ["-new" in name for _, name in names_in(self.path("segments"))]
 
     def test_writes_each_byte_into_the_segment_of_its_time(self) -> None:
@@ -191,7 +185,7 @@ class Recorded(Air):
         text = bytes(range(65, 100))
         self.check("contents", self.contents(), [(0.0, text[:10]), (10.0, text[10:20]),
                                                  (20.0, text[20:30]), (30.0, text[30:])])
-        self.check("only the first is new", self.new_ones(), [True, False, False, False])
+        self.check("only the first is new", self.are_new(), [True, False, False, False])
 
     def test_each_start_begins_a_new_segment(self) -> None:
         for at in (0, 3, 3, 9):
@@ -199,7 +193,7 @@ class Recorded(Air):
             self.recorder().take(b"%d" % at)
         self.check("contents", self.contents(),
                    [(0.0, b"0"), (3.0, b"3"), (3.001, b"3"), (9.0, b"9")])
-        self.check("all are new", self.new_ones(), [True] * 4)
+        self.check("all are new", self.are_new(), [True] * 4)
 
     def test_keeps_the_order_when_the_clock_is_set(self) -> None:
         one = self.recorder(kept=10_000)
@@ -209,7 +203,7 @@ class Recorded(Air):
                 one.take(b"%d" % number)
         self.check("all of it", b"".join(data for _, data in self.contents()), b"01234567")
 
-    def test_deletes_what_is_too_old(self) -> None:
+    def test_deletes_segments_that_are_too_old(self) -> None:
         one = self.recorder(kept=50)
         for at in range(0, 200, 10):
             self.now = DAY + at
@@ -217,7 +211,7 @@ class Recorded(Air):
         self.check("begins", [begin for begin, _ in self.contents()],
                    [140.0, 150.0, 160.0, 170.0, 180.0, 190.0])
 
-    def test_deletes_as_much_as_has_to_be_free(self) -> None:
+    def test_deletes_segments_until_the_disk_has_free_space(self) -> None:
         self.put_segments(-200, 0)
         about = os.statvfs(self.path("segments"))
 
@@ -229,9 +223,7 @@ class Recorded(Air):
             self.recorder(free=5 * about.f_frsize).take(b".")
         self.check("begins", [int(one) for one, _ in self.contents()], [*range(-100, 0, 10), 0])
 
-    def test_names_what_a_full_disk_has_lost(self) -> None:
-        """The oldest makes room; if nothing is left to delete bytes are lost, and the next segment
-        is new."""
+    def test_marks_a_loss_after_a_full_disk(self) -> None:
         self.put_segments(-30, 0)
         room, real = [0], os.write
 
@@ -252,9 +244,8 @@ class Recorded(Air):
             one.take(b"more")
         self.check("what was written stays", self.contents()[0], (0.0, b"abcd"))
         self.check("what came later", self.contents()[-1][1], b"more")
-        self.check("the last one is new", self.new_ones()[-1], True)
+        self.check("the last one is new", self.are_new()[-1], True)
 
-    def test_ends_at_any_other_error(self) -> None:
-        """Its service starts it again."""
+    def test_raises_any_other_error(self) -> None:
         with mock.patch.object(os, "write", side_effect=OSError(errno.EIO, "disk")):
             self.assertRaises(OSError, self.recorder().take, b"x")

@@ -1,4 +1,4 @@
-"""The systemd units of the manual: what they may write, how often they are started again."""
+"""The manual's systemd units: the folders that they write, signals and restarts."""
 from __future__ import annotations
 
 import configparser
@@ -11,7 +11,8 @@ from .bench import Case, tool_path
 
 MANUAL = os.path.join(TOP, "docs", "manual")
 RECORD, JUDGE = "subttx-air-record.service", "subttx-air-judge.service"
-UNITS = {RECORD: "record", JUDGE: "-o", "subttx-watch.service": "-o"}  # before what is written to
+# the word before the folder that it writes
+UNITS = {RECORD: "record", JUDGE: "-o", "subttx-watch.service": "-o"}
 
 
 def read_unit(name: str) -> configparser.ConfigParser:
@@ -23,21 +24,19 @@ def read_unit(name: str) -> configparser.ConfigParser:
     return unit
 
 
-def words_of(command: str) -> list[str]:
-    """Return the words of a command; those of a shell's command line instead of it."""
+def arguments_of(command: str) -> list[str]:
+    """Split a command, or the command line of its shell, into arguments."""
     words = shlex.split(command)
     return shlex.split(words[2]) if words[:2] == ["/bin/sh", "-c"] else words
 
 
 class Units(Case):
-    """Each unit of the manual."""
-
-    def test_each_folder_that_is_written_may_be_written(self) -> None:
+    def test_allows_only_its_own_folder_to_be_written(self) -> None:
         self.check("units", {*UNITS}, {name for name in os.listdir(MANUAL)
                                        if name.endswith(".service")})
         for name, option in UNITS.items():
             unit = read_unit(name)
-            words = words_of(unit["Service"]["ExecStart"])
+            words = arguments_of(unit["Service"]["ExecStart"])
             written = words[words.index(option) + 1]
             self.check(name, unit["Service"]["ReadWritePaths"].split(), [written])
             self.check(f"{name}: all else", unit["Service"]["ProtectSystem"], "strict")
@@ -45,18 +44,18 @@ class Units(Case):
             self.must(f"{name}: its disk is there", any(
                 os.path.commonpath([written, folder]) == folder for folder in mounted), mounted)
 
-    def test_the_judge_reads_what_is_recorded(self) -> None:
-        words = {name: words_of(read_unit(name)["Service"]["ExecStart"]) for name in UNITS}
+    def test_the_judge_reads_the_recorders_folder(self) -> None:
+        words = {name: arguments_of(read_unit(name)["Service"]["ExecStart"]) for name in UNITS}
         self.must("the same folder", words[RECORD][-1] in words[JUDGE], words)
 
-    def test_a_signal_ends_what_judges(self) -> None:
+    def test_a_signal_stops_each_judge(self) -> None:
         for name in (JUDGE, "subttx-watch.service"):
             service = read_unit(name)["Service"]
             self.check(name, service["SuccessExitStatus"], "2")
         self.check("kill mode", service["KillMode"], "mixed")
         self.must("languages", "--option auto" in service["ExecStart"], service["ExecStart"])
 
-    def test_is_started_again_however_often_it_ends(self) -> None:
+    def test_is_restarted_without_a_limit(self) -> None:
         for name in UNITS:
             unit = read_unit(name)
             self.check(name, unit["Service"]["Restart"], "always")
@@ -64,8 +63,7 @@ class Units(Case):
                 self.check(f"{name}: limit", unit["Unit"]["StartLimitIntervalSec"], "0")
                 self.must(f"{name}: wait", int(unit["Service"]["RestartSec"]) > 0)
 
-    def test_systemd_takes_it(self) -> None:
-        """With the program of these sources, and the user of this test."""
+    def test_systemd_accepts_the_units(self) -> None:
         if not shutil.which("systemd-analyze"):
             self.skipTest("units, since there is no systemd-analyze")
         for name in UNITS:

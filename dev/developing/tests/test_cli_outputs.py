@@ -1,4 +1,4 @@
-"""What machines get of several pairs: lines of CSV, testcases of JUnit, members of objects."""
+"""Output files for several pairs: CSV rows, JUnit test cases, members of JSON results."""
 from __future__ import annotations
 
 import argparse
@@ -35,7 +35,7 @@ NO_CELL = {"code": "00", "character": ""}
 
 
 def fault(number: int, **more: Any) -> dict[str, Any]:
-    """A fault of an object; what is not named does not apply."""
+    """Return a fault; members that are not given are null."""
     return {**FAULT, "number": number, "line": f"refused {number}", **more}
 
 
@@ -54,15 +54,12 @@ OBJECTS: list[dict[str, Any]] = [
 
 
 class Tables(unittest.TestCase):
-    """Lines of CSV."""
-
     def rows(self, objects: list[dict[str, Any]]) -> list[dict[str, str]]:
-        """The lines, each by the names of its columns."""
+        """Return the CSV rows as dictionaries."""
         text = b"".join(csv_of(objects)).decode()
         return list(csv.DictReader(io.StringIO(text)))
 
-    def test_pairs_and_faults(self) -> None:
-        """A line for each pair, then for each of its faults; an object without faults has one."""
+    def test_has_a_row_for_each_pair_and_each_fault(self) -> None:
         found = [(row["stl"], row["recording"], row["verdict"], row["number"], row["pes"],
                   row["reason"], row["line"]) for row in self.rows(OBJECTS)]
         self.assertEqual(found, [
@@ -72,24 +69,20 @@ class Tables(unittest.TestCase):
             ("two", "", "not judged", "", "", "no file\nat all", ""),
             ("three.stl", "", "accepted", "", "", "", "accepted")])
 
-    def test_counts_of_subtitles(self) -> None:
-        """How many were judged, and how many are refused, of a pair and beside each fault, of which
-        all are there."""
+    def test_has_subtitle_counts_in_each_row(self) -> None:
         for counts, wanted in (({"judged": 9, "refused": 2}, ("9", "2")), (None, ("", ""))):
             rows = self.rows([result("refused", subtitle_counts=counts, faults=[fault(38)] * 150)])
             names = ("subtitle_counts_judged", "subtitle_counts_refused")
             self.assertEqual([tuple(row[name] for name in names) for row in rows], [wanted] * 151,
                              counts)
 
-    def test_writes_the_lines_of_each_object_under_one_head(self) -> None:
-        """The lines of objects are those of each by itself, in any order, after one head."""
+    def test_has_one_header_row(self) -> None:
         for order in ((0, 1, 2), (2, 1, 0), (1, 0, 2), (0,), ()):
             alone = [row for at in order for row in self.rows([OBJECTS[at]])]
             with self.subTest(order=order):
                 self.assertEqual(self.rows([OBJECTS[at] for at in order]), alone)
 
-    def test_columns_of_a_fault(self) -> None:
-        """The subtitle, the cells and the cause, each in the column of its name."""
+    def test_has_columns_for_subtitle_cells_and_cause(self) -> None:
         with_all, without = self.rows(OBJECTS[:1])[1:]
         names = ("subtitle_number", "subtitle_begin", "subtitle_end", "expected", "decoded",
                  "cause_name", "cause_frames", "cause_subtitle_number", "cause_expected_text",
@@ -101,13 +94,10 @@ class Tables(unittest.TestCase):
 
 
 class Testcases(unittest.TestCase):
-    """Testcases of JUnit."""
-
     CASES = [("accepted", 0), ("refused", 1), ("lost", 1), ("waived", 0), ("not judged", 2),
              ("refused", 1), ("warned", 1), ("not judged", 2)]
 
     def test_counts_failures_by_status_1_and_errors_by_status_2(self) -> None:
-        """Of the first so many pairs: failures are those with status 1, errors those with 2."""
         for count in range(len(self.CASES) + 1):
             cases = [TestCase(f"pair {at}", verdict, status, "line", ["more"], 0.5)
                      for at, (verdict, status) in enumerate(self.CASES[:count])]
@@ -125,8 +115,7 @@ class Testcases(unittest.TestCase):
                     for verdict, status in self.CASES[:count]])
 
 
-    def test_names_pair_seconds_and_first_lines(self) -> None:
-        """The name, the seconds, and of what is not accepted its line and the first of its list."""
+    def test_has_name_time_and_first_lines(self) -> None:
         for verdict, status, tag in (("refused", 1, "failure"), ("not judged", 2, "error"),
                                      ("waived", 0, "system-out"), ("accepted", 0, None)):
             suites = ElementTree.fromstring(junit_of([TestCase(
@@ -142,20 +131,17 @@ class Testcases(unittest.TestCase):
 
 
 class Statuses(Case):
-    """The status of many pairs."""
-
     ROW = Row("one", "one.stl", "accepted", 0, "accepted", 0, {}, [], 0.0, "")
 
     def end(self, outputs: dict[str, str], *more: Any) -> int:
-        """The status where some outputs are asked for."""
+        """Return the status of a batch with some outputs."""
         self.write("one.json", b'{"format": 3, "verdict": "accepted", "status": 0, "line": "a"}')
         words = argparse.Namespace(csv=None, junit=None, json=None)
         vars(words).update(outputs)
         with contextlib.redirect_stdout(io.StringIO()), contextlib.redirect_stderr(io.StringIO()):
             return collection.write_collection(words, [self.ROW], [self.path("one.json")], *more)
 
-    def test_outputs_that_fail(self) -> None:
-        """Each of the three, whether others are written or not."""
+    def test_ends_with_status_2_if_an_output_fails(self) -> None:
         nowhere = self.path("nowhere/at/all")
         self.must("none", self.end({}) == 0)
         self.must("stopped", self.end({}, True) == 2)
@@ -171,10 +157,7 @@ class Statuses(Case):
 
 
 class Members(unittest.TestCase):
-    """Members of an object."""
-
-    def test_writes_times_in_utc_on_any_machine(self) -> None:
-        """The date, and when a file was written to, are in UTC wherever the machine stands."""
+    def test_writes_times_in_utc(self) -> None:
         self.addCleanup(time.tzset)
         with mock.patch.dict(os.environ, TZ="EAST-5"):
             time.tzset()
@@ -183,8 +166,7 @@ class Members(unittest.TestCase):
             self.assertLess(abs(date - time.time()), 600)
             self.assertEqual(modified(about), "1970-01-01T00:00:01.000000007Z")
 
-    def test_writes_a_gap_with_its_times_and_pts(self) -> None:
-        """What is before a place and what is behind it, as times and as PTS."""
+    def test_writes_a_gap_with_times_and_pts(self) -> None:
         place = Place(5, 9, 3, scrambled=2, missing=4, mark=7)
         for is_judged in (True, False):
             with self.subTest(is_judged=is_judged):
@@ -194,9 +176,7 @@ class Members(unittest.TestCase):
                     "missing_ticks": 4,
                     "judged": is_judged})
 
-    def test_writes_what_was_judged_of_a_recording(self) -> None:
-        """What is judged of a recording, and by which clock; what was judged of a feed has a name
-        where it is kept."""
+    def test_writes_the_judged_range_clock_and_file(self) -> None:
         part = part_with(25, 49, 7, number=2)
         bare = JUDGED_PART.made(PartOf(part, False))
         self.assertEqual([bare[name] for name in (
@@ -220,8 +200,7 @@ class Members(unittest.TestCase):
                              [0x101, 204, "3-9", {"name": name, "size": 5, "sha256": "sum"}, None],
                              (is_kept, name))
 
-    def test_columns_of_parts(self) -> None:
-        """What is judged, of the only part, or of that with a fault; of several a pair has none."""
+    def test_has_columns_of_the_only_part_or_the_faulty_one(self) -> None:
         parts: list[dict[str, Any]] = [
             {"part": number, "pid": pid, "pes": f"{number}-9", "packet_size": 188}
             for number, pid in ((1, 0x101), (2, None))]

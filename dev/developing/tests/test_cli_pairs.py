@@ -1,4 +1,4 @@
-"""One pair by qc: as a file, through a pipe; a folder of two batches, and ends by a signal."""
+"""Calls of tools/qc for one pair: files, pipes and signals."""
 from __future__ import annotations
 
 import json
@@ -16,10 +16,8 @@ from subtitles.recording import recording
 from .bench import Case, Done, SECONDS, example, example_bytes, tool_path
 from .programmes import until
 from .judged import judged
-from .sent import in_pipe
+from .transmissions import in_pipe
 
-
-# tools/qc on a pair: from a recording to a verdict.
 
 STORY, RECORDING = example("story.stl"), example("recording.ts")
 ACCEPTED, RELATIVE = (f"{word} 226 frames 5 transmissions" for word in ("accepted", "relative"))
@@ -27,7 +25,7 @@ TS = 188  # bytes of a packet
 
 
 def qc(case: Case, *words: str, data: bytes | None = None) -> Done:
-    """A call of qc with the program of the bench."""
+    """Run qc with the program under test."""
     return case.tool("qc", *words, "-p", case.bench.program, data=data)
 
 
@@ -36,17 +34,14 @@ def lines_of(done: Done) -> list[str]:
 
 
 def stream(case: Case, name: str, pes: bytes, pid: str = "0x101", page: str = "888") -> bytes:
-    """PES packets as a transport stream."""
+    """Convert PES packets to a transport stream."""
     done = case.tool("pes2ts", case.write(name + ".in.pes", pes), pid, "--page", page)
     assert done.status == 0, done
     return done.out
 
 
 class Pairs(Case):
-    """Pairs, feeds and subtitle files."""
-
-    def test_judges_a_recording(self) -> None:
-        """One command is said, the one that is proved; typed again it answers the same."""
+    def test_prints_the_command_that_it_ran(self) -> None:
         done = qc(self, STORY, RECORDING, "-o", "out")
         lines = lines_of(done)
         commands = [line[2:] for line in lines if line.startswith("+ ")]
@@ -63,8 +58,7 @@ class Pairs(Case):
         self.must("typed again", (again.status, again.out.decode().splitlines()) == (0, said),
                   again)
 
-    def test_takes_pes_packets(self) -> None:
-        """From a file and from standard input; the same ends of all ways."""
+    def test_judges_files_and_standard_input_the_same(self) -> None:
         pes = example_bytes("story.pes")
         for name, words, data in (("a file", [example("story.pes")], None), ("a pipe", ["-"], pes),
                                   ("a stream in a pipe", ["-"], example_bytes("recording.ts")),
@@ -82,34 +76,23 @@ class Pairs(Case):
                   part)
 
 
-# tools/qc on many pairs, and what it writes for machines.
-
-
 class Batches(Case):
-    """Batches, and files for machines: what they say is in the table of calls."""
-
-    def test_two_batches(self) -> None:
-        """Into one folder no other one judges meanwhile."""
+    def test_refuses_a_folder_that_another_batch_writes(self) -> None:
         self.write("list", f"{STORY} {RECORDING}\n".encode())
         with claim_folder(self.path("out")):
             self.must("refused", qc(self, "--batch", "list", "-o", "out") == Done(2, b"", [
                 "qc: another batch is judging into out"]))
 
-    def test_object_on_standard_output(self) -> None:
+    def test_prints_only_json_to_standard_output(self) -> None:
         done = qc(self, STORY, RECORDING, "--json", "-")
         self.must("alone", json.loads(done.out)["line"] == done.told[-1] == RELATIVE, done)
 
-
-# tools/qc on recordings that come through a pipe; signals, a reader that leaves, no room.
 
 FIVE_WORDS = ("--origin", "0", "--every", "25")
 
 
 class Piped(Case):
-    """What comes through a pipe is judged at its end, as a file is."""
-
-    def test_as_a_file(self) -> None:
-        """The verdict, what is said, and the result, of PES packets and of a stream."""
+    def test_judges_a_pipe_as_a_file(self) -> None:
         for name, data in (("one.pes", example_bytes("five-faults.pes")),
                            ("one.ts", stream(self, "five", example_bytes("five-faults.pes"))),
                            ("cut.ts", stream(self, "five", example_bytes("five-faults.pes"))[:-99]),
@@ -124,8 +107,7 @@ class Piped(Case):
                 self.must(f"{name}: {member}", one[member] == other[member],
                           (one[member], other[member]))
 
-    def test_what_does_not_end(self) -> None:
-        """A device is refused, and of a pipe no more is copied than the bound."""
+    def test_refuses_devices_and_limits_pipes(self) -> None:
         done = self.tool("qc", STORY, "/dev/zero", "-p", self.bench.program)
         self.must("a device", done.status == 2 and done.told[-1] ==
                   "qc: /dev/zero is a device: give a file or a pipe", done)
@@ -138,8 +120,7 @@ class Piped(Case):
             f" has not ended after {most:,} bytes: what does not end is recorded and judged by "
             "tools/air") and recording.MOST_PIPED == 32_000_000_000, found.told)
 
-    def test_no_room(self) -> None:
-        """Where what comes can't be kept that is said, and nothing waits."""
+    def test_reports_a_full_disk_for_a_pipe(self) -> None:
         data = stream(self, "story", example_bytes("story.pes")) * 400
         command = 'ulimit -f 200; exec "$0" "$1" - --json one.json -p "$2"'
         done = self.call(["bash", "-c", command, tool_path("qc"), STORY, self.bench.program], data)
@@ -148,10 +129,7 @@ class Piped(Case):
 
 
 class Ended(Case):
-    """Calls that somebody ends."""
-
-    def test_signals_while_it_comes(self) -> None:
-        """That is said and written, and no temporary folder is left."""
+    def test_a_signal_leaves_a_result_and_no_temporary_files(self) -> None:
         os.mkdir(self.path("temporary"))
         for one in (signal.SIGINT, signal.SIGTERM, signal.SIGHUP):
             with subprocess.Popen(
@@ -174,9 +152,7 @@ class Ended(Case):
                       sorted(os.listdir(self.path("out"))) == [
                           "story.html", "story.json"], os.listdir(self.path("out")))
 
-    def test_tells_what_was_judged_of_a_file(self) -> None:
-        """Where a signal comes while `check` judges a file: how far it had come, and what it told.
-        """
+    def test_reports_the_progress_at_a_signal(self) -> None:
         for count, faults, up_to in ((0, 0, "nothing yet"), (1, 0, "all up to 20:15:00:24"),
                                      (2, 1, "all up to 20:15:01:00"),
                                      (4, 3, "all up to 20:15:03:00")):
@@ -204,8 +180,7 @@ class Ended(Case):
                       and known["parts"][0]["verdict"] == "not judged", known)
             self.must(f"{count}: the list", self.read("out/story.txt") == b"".join(came), came)
 
-    def test_lets_a_reader_leave(self) -> None:
-        """`| head -2`: no traceback, and the object is whole."""
+    def test_writes_a_complete_result_if_its_output_is_closed(self) -> None:
         five = self.write("five.ts", stream(self, "five", example_bytes("five-faults.pes")))
         command = ('cat "$1" | "$2" "$3" "$4" --origin 0 --every 25 --json one.json -p "$5" 2>told '
                    '| head -2; echo ${PIPESTATUS[1]}')
@@ -219,19 +194,14 @@ class Ended(Case):
             self.must(f"{name}: its object", json.loads(self.read("one.json"))["fault_count"] == 5)
 
 
-# A subtitle file that comes through a pipe is judged as the same one that is a file.
-
 PES = example("story.pes")
 
 
-class Pipes(Case):
-    """The verdict, what is said, and the result."""
-
+class SubtitlePipes(Case):
     def qc(self, *words: str) -> Done:
         return self.tool("qc", *words, "-p", self.bench.program, "--json", self.path("x.json"))
 
-    def test_as_a_file(self) -> None:
-        """Accepted, refused, of the option that its GSI block names; and by -o too."""
+    def test_judges_a_subtitle_pipe_as_a_file(self) -> None:
         french = example_bytes("story.stl")[:14] + b"0F" + example_bytes("story.stl")[16:]
         rows: list[tuple[bytes, list[str]]] = [
             (example_bytes("story.stl"), [PES, "--origin", "0"]),
@@ -243,7 +213,7 @@ class Pipes(Case):
             name = self.write("one.stl", data)
             of_file = self.qc(name, *words, "-o", self.path("out"))
             known = json.loads(self.read("x.json"))
-            pipe = self.path("pipe/one.stl")  # the name of the pair
+            pipe = self.path("pipe/one.stl")  # the pipe needs the same file name
             shutil.rmtree(os.path.dirname(pipe), ignore_errors=True)
             os.mkdir(os.path.dirname(pipe))
             in_pipe(self, data, pipe)
@@ -260,8 +230,7 @@ class Pipes(Case):
                           (same[0][member], same[1][member]))
             self.must(f"{words}: option", known["request"]["option"] == other["request"]["option"])
 
-    def test_no_end(self) -> None:
-        """No more is read than `check` looks at."""
+    def test_limits_a_subtitle_pipe(self) -> None:
         done = self.call(["sh", "-c", 'mkfifo endless; (yes >endless &) ; exec "$@"', "sh",
                           tool_path("qc"), "endless", PES, "-p", self.bench.program])
         self.must("endless", done.status in (1, 2) and len(done.told) <= 3, done)

@@ -1,7 +1,6 @@
-"""Without a clock nothing is accepted, whatever the call: random pairs and options, by their seeds.
+"""No call accepts a pair without a clock: random pairs and options.
 
-From dev/, `python3 -m developing.tests.test_cli_relative PROGRAM FIRST LAST` makes the calls of
-other seeds.
+From dev/, `python3 -m developing.tests.test_cli_relative PROGRAM FIRST LAST` tries other seeds.
 """
 from __future__ import annotations
 
@@ -22,12 +21,12 @@ from subtitles.cli import batch
 from subtitles.cli.main import main as qc
 from subtitles.common.times import CLOCK, TICKS
 from .air import DAY
-from .at_random import in_process
+from .random_calls import in_process
 from .bench import BENCH, example
 from .programmes import BEGIN, SECOND
 from .test_air_calls import ALL, LEAD, Feeds
 
-SEEDS = 12  # in the gate
+SEEDS = 12  # seeds that the gate tries
 # Subtitle files, recordings, and the origins of these.
 PAIRS = [("hello", "hello.pes", 0), ("story", "story.pes", 0), ("story", "recording.ts", 5 * 10**9),
          ("story", "five-faults.pes", 0), ("story", "late-rows.pes", 0),
@@ -38,22 +37,18 @@ GOOD = {"accepted", "waived"}
 
 
 class Given(NamedTuple):
-    """What is given for a pair: whether its clock is, and whether `relative` has status 0."""
+    """Whether a pair has a clock, and whether `relative` has status 0."""
 
     has_clock: bool
     is_allowed: bool
 
     def may_be(self, verdict: str, status: int) -> bool:
-        """Return whether a pair may have a verdict and a status."""
+        """Return whether a verdict and a status are allowed."""
         return self.has_clock or verdict not in GOOD and (status != 0 or self.is_allowed)
 
 
 class Clocks(Feeds):
-    """Calls of all kinds."""
-
-    def test_nothing_is_accepted_without_a_clock(self) -> None:
-        """Neither a last line, a line of a batch, a CSV row nor a JSON result says so, and no
-        status is 0 without `--relative`."""
+    def test_accepts_nothing_without_a_clock(self) -> None:
         for seed in range(SEEDS):
             self.try_seed(seed)
 
@@ -68,10 +63,10 @@ class Clocks(Feeds):
             kinds[kind](f"{seed}, {kind}", chance, given)
         self.air(f"{seed}, air", chance) if seed % 3 == 0 else None
 
-    # What there is.
+    # The pairs.
 
     def make_pairs(self, chance: random.Random) -> dict[str, int]:
-        """Make pairs in a folder; return the origin of each by its name."""
+        """Write pairs into a folder; return the origin of each by its name."""
         shutil.rmtree(self.path("in"), ignore_errors=True)
         os.mkdir(self.path("in"))
         self.write("severity", b"others warning\n")
@@ -84,7 +79,7 @@ class Clocks(Feeds):
         return origins
 
     def options(self, chance: random.Random, origin: int | None) -> tuple[list[str], Given]:
-        """Return random options, some of them in a profile, and what they give."""
+        """Return random options, some of them in a profile, and what they allow."""
         given = Given(origin is not None and chance.random() < .3, chance.random() < .3)
         clock = ["--origin", f"{origin}"] * given.has_clock
         allowed = ["--relative"] * given.is_allowed
@@ -102,16 +97,16 @@ class Clocks(Feeds):
         return [self.path(f"in/{one}") for one in sorted(os.listdir(self.path("in")), key=lambda
                 one: not one.endswith(".stl")) if one.startswith(f"{name}.")]
 
-    # Calls.
+    # The calls.
 
     def qc(self, *words: str) -> tuple[int, list[str]]:
-        """Call qc in this process; return its status, and what it prints on standard output."""
+        """Run qc in this process; return its status and output lines."""
         status, out, _ = in_process(lambda line: qc("", "tools/qc", line), [
             "tools/qc", *words, "-p", self.bench.program])
         return status, out.splitlines()
 
     def check_results(self, name: str, given: dict[str, Given], folder: str = "out") -> None:
-        """Check the JSON results of pairs, those that are collected, and the CSV rows."""
+        """Check the JSON results of pairs, the collected ones, and the CSV rows."""
         found = dict[str, tuple[str, int]]()
         for one in given:
             known = self.object(f"{folder}/{one}.json")
@@ -124,12 +119,12 @@ class Clocks(Feeds):
         self.check_lines(f"{name}: rows", self.read("all.csv").decode().splitlines(), given)
 
     def check_status(self, name: str, status: int, given: dict[str, Given]) -> None:
-        """Check that the status is 0 only if each pair may have it."""
+        """Check that the status is 0 only if it is allowed for each pair."""
         is_zero_allowed = all(one.has_clock or one.is_allowed for one in given.values())
         self.must(f"{name}: status", status != 0 or is_zero_allowed, given)
 
     def check_lines(self, name: str, lines: list[str], given: dict[str, Given]) -> None:
-        """Check that no line of a pair without a clock says that it is accepted."""
+        """Check that no line says `accepted` or `waived` of a pair without a clock."""
         self.check(name, [line for line in lines for one, some in given.items()
                           if re.search(rf"\b{one}(  |,|\.(stl|pes|ts),)", line)
                           and re.search(r"\b(accepted|(?<!relative, )waived)\b", line)
@@ -141,7 +136,7 @@ class Clocks(Feeds):
         return known
 
     def single(self, name: str, chance: random.Random, origins: dict[str, int]) -> None:
-        """A call for one pair."""
+        """Judge one pair."""
         one = chance.choice([*origins])
         words, given = self.options(chance, origins[one])
         status, lines = self.qc(*self.paths(one), *words, "-o", self.path("out"))
@@ -151,7 +146,7 @@ class Clocks(Feeds):
         self.check_results(name, {one: given})
 
     def folder_call(self, name: str, chance: random.Random, origins: dict[str, int]) -> None:
-        """A batch of a folder, whose pairs have the same options."""
+        """Judge a folder, with the same options for all pairs."""
         words, given = self.options(chance, None)
         status, lines = self.qc("--batch", self.path("in"), "-o", self.path("out"), *words)
         several = dict.fromkeys(origins, given)
@@ -160,7 +155,7 @@ class Clocks(Feeds):
         self.check_results(name, several)
 
     def list_call(self, name: str, chance: random.Random, origins: dict[str, int]) -> None:
-        """A batch of a list, in which each pair has its own; some have a clock."""
+        """Judge a list, with different options for each pair."""
         lines, given = list[str](), dict[str, Given]()
         common = ["--relative"] * (chance.random() < .2)
         for one, origin in origins.items():
@@ -174,7 +169,7 @@ class Clocks(Feeds):
         self.check_results(name, given)
 
     def watch(self, name: str, chance: random.Random, origins: dict[str, int]) -> None:
-        """A folder that is watched until its pairs are judged."""
+        """Watch a folder until its pairs are judged."""
         words, given = self.options(chance, None)
         real, looks = time.sleep, list[float]()
 
@@ -192,7 +187,7 @@ class Clocks(Feeds):
         self.check_results(name, several)
 
     def air(self, name: str, chance: random.Random) -> None:
-        """A programme on air."""
+        """Judge a programme on air."""
         frames = self.feed()
         self.delete_all("segments", "out")
         self.put_segment(0, ALL, b"".join(frames))
@@ -210,7 +205,7 @@ class Clocks(Feeds):
 
 
 def main(program: str, first: int, last: int) -> None:
-    """Makes the calls of some seeds."""
+    """Try some seeds."""
     BENCH.chosen = program
     case = Clocks("test_nothing_is_accepted_without_a_clock")
     case.setUp()

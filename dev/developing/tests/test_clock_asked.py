@@ -9,7 +9,7 @@ from subtitles.clock.origin import Origin, Sought, find, subtitles_between
 from subtitles.common.command_line import Lateness
 from subtitles.common.times import ALL_DAY, Between, TICKS
 from .bench import Case
-from .sent import programme
+from .transmissions import programme
 from .test_clock_laws import packets_of
 from .test_clock_tables import EACH
 

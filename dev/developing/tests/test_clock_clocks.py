@@ -10,8 +10,8 @@ from developing.stl import boxed
 from subtitles.common.times import CLOCK, TICKS, time_of
 from .bench import Case, example, example_bytes
 from .judged import Judged, OfProgramme, judged
-from .muxed import HEVC, H_264, MPEG_2, SLICES, mpeg_2_picture, with_pictures
-from .sent import Sent, in_pipe, in_two_parts, joined, late, moved, programme, sendings
+from .streams import HEVC, H_264, MPEG_2, SLICES, mpeg_2_picture, with_pictures
+from .transmissions import Sent, in_pipe, in_two_parts, joined, late, moved, programme, sendings
 from .test_cli_pairs import TS, lines_of, qc
 
 FIRST, EACH, LASTS = 900_000, 125, 60  # frames: of the first subtitle, from one to the next, of one

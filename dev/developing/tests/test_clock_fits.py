@@ -22,7 +22,7 @@ from subtitles.stream.packets import Change
 from .bench import Case
 from .judged import Judged, judged
 from .parts import part_with
-from .sent import joined, late, programme, sendings
+from .transmissions import joined, late, programme, sendings
 from .test_clock_clocks import FIRST, evenly
 from .test_clock_laws import found, packets_of, programme as random_programme, sent
 

@@ -17,7 +17,7 @@ from subtitles.common.times import ALL_DAY, Between, CLOCK, TICKS, time_of
 from subtitles.stream.packets import Change
 from .bench import Case, example, example_bytes
 from .parts import asked_for, packets_told
-from .sent import CLOSING, HEADER, Shown, moved, random_subtitles, row, scheduled, subtitle_file
+from .transmissions import CLOSING, HEADER, Shown, moved, random_subtitles, row, scheduled, subtitle_file
 from .test_clock_laws import packets_of
 
 FIRST, COUNT = 1_000_000, 12  # the frame of the first subtitle; how many there are

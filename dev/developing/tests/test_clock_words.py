@@ -20,9 +20,9 @@ from subtitles.stream.packets import Change, Mark, Packets, Run
 from subtitles.stream.receiver import national_option
 from subtitles.stream.survey import Survey
 from .judged import OfProgramme
-from .muxed import HEVC, H_264, MPEG_2
+from .streams import HEVC, H_264, MPEG_2
 from .parts import asked_for
-from .sent import Sent, late, programme, sendings
+from .transmissions import Sent, late, programme, sendings
 
 
 # What is said of an origin that was found, by tables: how a part agrees, from when on subtitles

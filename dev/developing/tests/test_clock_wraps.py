@@ -10,8 +10,8 @@ from developing.pes import pts_in
 from subtitles.common.times import CLOCK, TICKS, time_of
 from .bench import Case, example_bytes
 from .judged import judged
-from .muxed import OLD, Packet, Shape, TELETEXT_PID, in_frames, in_turn, multiplexed, with_pictures
-from .sent import (
+from .streams import OLD, Packet, Shape, TELETEXT_PID, in_frames, in_turn, multiplexed, with_pictures
+from .transmissions import (
     EACH, LASTS, ORIGIN, apart, joined, one_late, packets, programme, sendings, times)
 from .test_clock_clocks import EARLIER, FIRST_PTS, STARTED, STORY
 from .test_judging_paced import large, lost

@@ -195,7 +195,7 @@ class Found(Case):
         for module, tests in known.items():
             self.must(module, tests and {*tests} <= classes, {*tests} - classes)
         for name, test in (("stream.layout", "test_stream_layouts."),
-                           ("tools/qc", "test_cli_earlier_calls.")):
+                           ("tools/qc", "test_cli_earlier_results.")):
             self.must(name, any(test in one for one in table.tests_of(name)))
             self.must(f"{name}: those alone", {runner.name_of(one).rpartition(".")[0]
                                                for one in runner.found([name])} ==

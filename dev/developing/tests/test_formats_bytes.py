@@ -10,7 +10,7 @@ from developing import pes, stl
 from subtitles.common import times
 from subtitles.common.command_line import page_in
 from subtitles.formats import teletext
-from .sent import CLOSING, HEADER, row
+from .transmissions import CLOSING, HEADER, row
 
 CLOCK, DAY = 8_589_934_592, 2_160_000
 START = b"\0\0\1\xbd"

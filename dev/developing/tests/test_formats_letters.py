@@ -25,7 +25,7 @@ from subtitles.request.request import Request
 from .bench import Case, Done, example_bytes
 from .parts import packets_told
 from .results import agrees
-from .sent import packets
+from .transmissions import packets
 from .test_cli_pairs import STORY, lines_of, qc
 
 

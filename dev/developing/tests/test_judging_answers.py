@@ -26,9 +26,9 @@ from subtitles.stream.packets import Change
 from subtitles.stream.receiver import Timeline, pauses_in, timeline_near
 from .bench import Case, example, example_bytes
 from .judged import judged
-from .muxed import TELETEXT_PID, in_stream
+from .streams import TELETEXT_PID, in_stream
 from .parts import asked_for, in_page, packets_told, part_with, script
-from .sent import CLOSING, HEADER, PAGE, in_pipe, programme, row
+from .transmissions import CLOSING, HEADER, PAGE, in_pipe, programme, row
 from .test_judging_verdicts import verdict_of
 
 

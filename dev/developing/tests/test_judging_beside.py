@@ -32,7 +32,7 @@ from subtitles.stream.receiver import national_option
 from .bench import Case, example_bytes
 from .judged import Judged, judged
 from .parts import answer, fault_of
-from .sent import Shown, joined, late, moved, packets, sendings, times
+from .transmissions import Shown, joined, late, moved, packets, sendings, times
 from .test_judging_pairs import UNREAD, broken
 from .test_judging_reasons import KEEPING_HEADER
 from .test_judging_verdicts import verdict_of

@@ -21,8 +21,8 @@ from subtitles.stream.packets import Packets
 from subtitles.stream.receiver import BLANK_PAGE, Meeting, Rows, Timeline
 from .. import DEV
 from .judged import Judged, OfProgramme
-from .muxed import Shape, multiplexed, of_teletext
-from .sent import CLOSING, HEADER, PAGE, Sent, row
+from .streams import Shape, multiplexed, of_teletext
+from .transmissions import CLOSING, HEADER, PAGE, Sent, row
 
 
 # Causes of what nobody is to blame for but who sent it: a text of others in a pause, a header

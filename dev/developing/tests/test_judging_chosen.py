@@ -19,10 +19,10 @@ from subtitles.stream.pace import PAUSED, Pace, REGULAR
 from subtitles.stream.repeats import Repeats
 from .bench import Case, example, tool_path
 from .judged import Judged, OfProgramme, judged
-from .muxed import OLD, Shape, in_turn, multiplexed, stream
+from .streams import OLD, Shape, in_turn, multiplexed, stream
 from .parts import asked_for
 from .results import wrong_choices
-from .sent import ORIGIN, apart, in_pipe, joined, packets, programme, sendings, subtitle_file, times
+from .transmissions import ORIGIN, apart, in_pipe, joined, packets, programme, sendings, subtitle_file, times
 from .test_judging_reasons import KEEPING_HEADER
 
 

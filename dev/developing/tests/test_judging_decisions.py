@@ -29,7 +29,7 @@ from subtitles.stream.receiver import BLANK_PAGE, FEW, Rows, Timeline
 from subtitles.stream.survey import Announced
 from .bench import Case
 from .parts import asked_for, call_words, defaults, packets_told, timeline_of
-from .sent import CLOSING, HEADER, PAGE, row
+from .transmissions import CLOSING, HEADER, PAGE, row
 
 
 class Objects(Case):

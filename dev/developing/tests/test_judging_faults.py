@@ -27,7 +27,7 @@ from subtitles.stream.receiver import BLANK_PAGE, Meeting
 from .bench import Case
 from .judged import Heard
 from .parts import answer, asked_for, packets_told, part_with, script, timeline_of
-from .sent import CLOSING, HEADER, ORIGIN, row
+from .transmissions import CLOSING, HEADER, ORIGIN, row
 from .test_judging_verdicts import verdict_of
 
 BEFORE = CLOCK - 60 * TICKS  # an origin whose frames go on over the wrap

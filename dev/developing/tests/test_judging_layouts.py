@@ -17,9 +17,9 @@ from subtitles.judging.pages import cells_words
 from subtitles.stream.layout import sent_in
 from .bench import BENCH, Case
 from .judged import Judged, judged
-from .muxed import Shape, multiplexed, stream, with_loss
+from .streams import Shape, multiplexed, stream, with_loss
 from .parts import timeline_of
-from .sent import CLOSING, HEADER, Sent, joined, row, sendings
+from .transmissions import CLOSING, HEADER, Sent, joined, row, sendings
 from .test_stream_layouts import HOUSES, line
 
 

@@ -22,7 +22,7 @@ from subtitles.judging.transmissions import DuePages
 from subtitles.stream.receiver import BLANK_PAGE, HIT, OLD
 from .bench import Case
 from .parts import answer, asked_for, fault_of, packets_told, part_with, timeline_of
-from .sent import CLOSING, HEADER, ORIGIN, programme, row
+from .transmissions import CLOSING, HEADER, ORIGIN, programme, row
 from .test_judging_faults import BEFORE, NO_C4, cause
 from .test_judging_verdicts import verdict_of
 

@@ -13,9 +13,9 @@ from subtitles.common.times import TICKS
 from subtitles.judging.sentence import WORDS
 from .bench import BENCH, Case
 from .judged import OfProgramme, judged
-from .muxed import mpeg_2_picture, with_pictures
+from .streams import mpeg_2_picture, with_pictures
 from .planted import FIRST, Programme, planted
-from .sent import Sent, joined, subtitle_file
+from .transmissions import Sent, joined, subtitle_file
 
 JPEG_2000 = 0x21  # stream_type of video whose pictures are not read
 ADVICE = ("--within", "--keeping", "--no-complete", "--allow-lost", "--severity", "--pace")

@@ -12,8 +12,8 @@ from subtitles.common.times import TICKS
 from subtitles.judging.timing import UNCHECKED, unseen_words
 from subtitles.stream.pace import IRREGULAR, Pace
 from .judged import OfProgramme
-from .muxed import Packet, Shape, multiplexed, of_teletext, with_loss
-from .sent import CLOSING, HEADER, Sent, programme, row, sendings
+from .streams import Packet, Shape, multiplexed, of_teletext, with_loss
+from .transmissions import CLOSING, HEADER, Sent, programme, row, sendings
 from .test_stream_pace import BEGIN, TIMES, filled
 
 WRONG = [HEADER, row(22, b"Wrong"), CLOSING]

@@ -18,7 +18,7 @@ from .bench import Case, example, example_bytes
 from .judged import FEW, OfProgramme, judged
 from .parts import asked_for, part_with
 from .results import agrees
-from .sent import (
+from .transmissions import (
     ORIGIN, Sent, joined, one_late, packets, programme, random_subtitles, subtitle_file,
     times)
 from .test_judging_verdicts import verdict_of

@@ -19,7 +19,7 @@ from subtitles.recording.notices import Notice
 from .bench import example
 from .judged import FEW, Judged, OfProgramme, judged
 from .parts import packets_told
-from .sent import (
+from .transmissions import (
     Change, EACH, LASTS, ORIGIN, Sent, apart, joined, late, one_late, programme, sendings, times)
 
 HELLO = example("hello.stl")

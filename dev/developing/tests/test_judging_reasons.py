@@ -20,9 +20,9 @@ from subtitles.stream.packets import Clocked, Mark, Packets, Run, subcode_of, tu
 from subtitles.stream.receiver import BLANK_PAGE, Meeting, Rows, TUNED, Timeline
 from .bench import Case
 from .judged import Judged, OfProgramme, judged
-from .muxed import OLD, Shape, TELETEXT_PID, beside_video, in_turn, multiplexed, stream, without
+from .streams import OLD, Shape, TELETEXT_PID, beside_video, in_turn, multiplexed, stream, without
 from .parts import answer, asked_for, timeline_of
-from .sent import (
+from .transmissions import (
     CLOSING, HEADER, PAGE, Sent, in_pipe, joined, programme, row, scheduled, times)
 
 

@@ -11,9 +11,9 @@ from developing.pes import pes_packet, pts_in
 from subtitles.common.times import TICKS
 from .bench import Case, example_bytes
 from .judged import judged
-from .muxed import (
+from .streams import (
     NEW, OLD, TELETEXT_PID, beside_video, in_stream, in_turn, spaced, teletext_descriptor)
-from .sent import (
+from .transmissions import (
     HEADER, ORIGIN, apart, in_pipe, joined, moved, packets, programme, random_subtitles, sendings,
     times)
 from .test_judging_pairs import ACCENT, HELLO, STORY, broken

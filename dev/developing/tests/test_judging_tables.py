@@ -42,7 +42,7 @@ from subtitles.stream.pictures import Departure
 from subtitles.stream.survey import Announced
 from .bench import Case
 from .parts import asked_for, packets_told
-from .sent import CLOSING, HEADER, PAGE
+from .transmissions import CLOSING, HEADER, PAGE
 from .test_formats_letters import naming
 
 

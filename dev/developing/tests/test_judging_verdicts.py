@@ -28,7 +28,7 @@ from subtitles.stream.gaps import Place
 from subtitles.stream.packets import Packets, Run
 from .bench import Case
 from .parts import answer, asked_for, packets_told, part_with
-from .sent import CLOSING, HEADER, row
+from .transmissions import CLOSING, HEADER, row
 
 REFUSED = ("refused 72 Content frame 00:00:05:00 row 20 column 1", "1 faults")
 OTHER = ("refused 38 UnitLength pes 7", "refused 70 Repeat frame 00:00:09:00", "2 faults")

@@ -19,9 +19,9 @@ from subtitles.stream.packets import Packets
 from subtitles.stream.survey import Survey
 from .bench import Case
 from .judged import Judged, OfProgramme, judged
-from .muxed import Carried, NEW, OLD, Programme, VIDEO_PID, in_turn, shown
+from .streams import Carried, NEW, OLD, Programme, VIDEO_PID, in_turn, shown
 from .parts import asked_for, surveyed
-from .sent import CLOSING, Sent, joined, packets, programme
+from .transmissions import CLOSING, Sent, joined, packets, programme
 from .test_judging_pairs import broken
 from .test_right_recordings import in_stream as in_pcr
 

@@ -9,7 +9,7 @@ from developing.pes import pts_in
 from subtitles.common.times import frame_in, time_of
 from .bench import Case
 from .judged import Judged, judged
-from .sent import scheduled, subtitle_file
+from .transmissions import scheduled, subtitle_file
 
 COUNT, SEEDS, EACH = 50, 20, 5  # subtitles, programmes, and how many programmes a test has
 ORIGIN = 900_000

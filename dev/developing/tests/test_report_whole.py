@@ -23,7 +23,7 @@ from subtitles.stream.packets import PES, Packets
 from subtitles.stream.receiver import BLANK_PAGE, Timeline
 from .bench import Case, example
 from .parts import answer, asked_for, in_page, packets_told, part_with
-from .sent import CLOSING, HEADER
+from .transmissions import CLOSING, HEADER
 from .test_judging_verdicts import verdict_of
 
 

@@ -23,7 +23,7 @@ from .. import DEV
 from .bench import Case, example
 from .judged import judged
 from .parts import asked_for, call_words, defaults
-from .sent import subtitle_file
+from .transmissions import subtitle_file
 
 
 # The table of options: a row that is added is found wherever an option stands, and what each row

@@ -17,10 +17,10 @@ from developing.pes import pes_packet
 from subtitles.common.times import TICKS, time_of
 from .bench import BENCH, Case
 from .judged import Judged, judged
-from .muxed import (
+from .streams import (
     AHEAD, MPEG_2, PMT_PID, PRIVATE, TELETEXT_PID, VIDEO_PID, Maker, program_association,
     program_map, teletext_descriptor)
-from .sent import CLOSING, HEADER, Sent, joined, programme, sendings
+from .transmissions import CLOSING, HEADER, Sent, joined, programme, sendings
 from .test_judging_paced import WRONG, large
 
 FIRST, EACH, LASTS = 900_000, 100, 60  # frames: of the first TCI, from one to the next, of each

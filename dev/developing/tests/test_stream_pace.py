@@ -15,8 +15,8 @@ from subtitles.stream.repeats import edges_of
 from subtitles.stream.packets import Packets, Run
 from .bench import Case
 from .judged import Judged, OfProgramme, judged
-from .muxed import Packet, Shape, TELETEXT_PID, multiplexed, stream, without
-from .sent import Sent, in_pipe, programme, sendings
+from .streams import Packet, Shape, TELETEXT_PID, multiplexed, stream, without
+from .transmissions import Sent, in_pipe, programme, sendings
 
 BEGIN = 900_000  # the first frame
 LONG = range(5000)  # frames, of which five may be otherwise

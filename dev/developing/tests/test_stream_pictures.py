@@ -17,8 +17,8 @@ from subtitles.stream.pictures import Departure, VideoLead, departures_of
 from subtitles.stream.survey import Survey
 from .bench import Case
 from .judged import judged
-from .muxed import Programme, TELETEXT_PID, shown
-from .sent import programme, scheduled, times
+from .streams import Programme, TELETEXT_PID, shown
+from .transmissions import programme, scheduled, times
 
 
 # Whether the pictures leave the Teletext: by the lines of `survey`, as tables.

@@ -27,9 +27,9 @@ from ..definitions import Library, count_reading
 from ..promises import clauses_in, unknown_clauses
 from .bench import Case
 from .judged import judged
-from .muxed import Packet, Shape, TELETEXT_PID, in_frames, multiplexed, stream, without
+from .streams import Packet, Shape, TELETEXT_PID, in_frames, multiplexed, stream, without
 from .parts import asked_for, call_words
-from .sent import programme, scheduled
+from .transmissions import programme, scheduled
 
 
 # Where something is missing, and how late PTS are.

@@ -13,7 +13,7 @@ from subtitles.stream.packets import Packets
 from .bench import Case
 from .judged import OfProgramme, judged, shown_files
 from .parts import answer, asked_for, part_with
-from .sent import CLOSING, HEADER, joined, late, programme, row, sendings, subtitle_file
+from .transmissions import CLOSING, HEADER, joined, late, programme, row, sendings, subtitle_file
 
 MINUTE = 1500  # frames
 EARLIER, LATER = ("--to", "00:01:00:00"), ("--from", "00:01:00:00")

@@ -17,12 +17,12 @@ from subtitles.stream.packets import Change, Clocked, Mark, Packets, Run, Texts
 from subtitles.stream.pictures import VideoLead
 from subtitles.stream.survey import Announced, ProgramMap, Survey, VERSION, Video, runs_told, survey
 from .bench import Case
-from .muxed import (
+from .streams import (
     AHEAD, AUDIO_PID, CLOSED_GROUP, MPEG_2, PMT_PID, PRIVATE, RANDOM_ACCESS, SLICES, TELETEXT_PID,
     VIDEO_PID, Maker, Programme, components, filler, mpeg_2_picture, program_association,
     program_map, shown, spaced, teletext_descriptor, video_packet)
 from .parts import surveyed
-from .sent import CLOSING, HEADER, PAGE, row
+from .transmissions import CLOSING, HEADER, PAGE, row
 from .test_formats_letters import naming
 
 FIRST = 1_000_000  # the PTS of a first picture, and of a first PES packet of Teletext

@@ -7,7 +7,7 @@ from subtitles.stream.gaps import why_refused
 from subtitles.stream.packets import Packets, Run
 from subtitles.stream.survey import Survey, names_of
 from .bench import Case, example, example_bytes
-from .sent import packets
+from .transmissions import packets
 
 
 # Transport streams that are written, read again, and told as a feed; languages of subtitle files.

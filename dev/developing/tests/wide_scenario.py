@@ -1,5 +1,7 @@
-"""Pairs at random with more of what files, recordings and calls have than `scenario` makes: other
-languages and fields, damage of all kinds, pages that move, and every option of a pair."""
+"""Random pairs with more faults and options than those of `scenario`:
+
+languages, damaged fields, damaged transport streams, pages that change their PID.
+"""
 from __future__ import annotations
 
 from typing import Callable
@@ -7,7 +9,7 @@ from typing import Callable
 from developing.multiplex import PACKET
 from subtitles.common.times import time_of
 from subtitles.formats.stl import GSI, TTI
-from .muxed import (
+from .streams import (
     MPEG_2, PMT_PID, PRIVATE, TELETEXT_PID, VIDEO_PID, program_map, spaced,
     teletext_descriptor)
 from .scenario import SECOND_PID, Scenario, Sent, Written
@@ -22,10 +24,10 @@ def pid_of(packet: bytes) -> int:
 
 
 class Wider(Scenario):
-    """Such a pair. What `scenario` has of its number comes first, as it does there."""
+    """A pair that uses the random numbers of `Scenario` first, then its own."""
 
     def others(self) -> list[Written]:
-        """More seldom other ones than in `scenario`, since more else goes wrong."""
+        """Change the transmitted subtitles less often than `Scenario` does."""
         return super().others() if self.some(30) else self.subtitles
 
     def wrong(self, sent: Sent) -> Sent:
@@ -34,7 +36,7 @@ class Wider(Scenario):
     # The subtitle file.
 
     def write(self, name: str, subtitles: list[Written]) -> None:
-        """Seldom with another language, or a field that is another one."""
+        """Write a subtitle file, sometimes with another language or a changed field."""
         super().write(name, subtitles)
         if name == "one.stl" and self.some(25):
             with open(name, "r+b") as file:
@@ -45,7 +47,7 @@ class Wider(Scenario):
                 file.write(data)
 
     def change(self, data: bytearray) -> None:
-        """One field of the GSI block or of a TTI block is another one; or the file is cut."""
+        """Change one field of the GSI block or of a TTI block, or cut the file."""
         chance = self.chance
         block = GSI + TTI * chance.randrange((len(data) - GSI) // TTI)
         kind = chance.randrange(12)
@@ -64,7 +66,7 @@ class Wider(Scenario):
     # The recording.
 
     def recorded(self, sent: Sent, second: Sent) -> bytes:
-        """The same with what else happens to a transport stream, once or twice."""
+        """Return the recording after up to two more kinds of damage."""
         data = super().recorded(sent, second)
         size = PACKET if data[:1] == b"\x47" or len(data) % 192 else 192
         packets = [data[at + size - PACKET:at + size] for at in range(0, len(data), size)]
@@ -75,20 +77,20 @@ class Wider(Scenario):
         for _ in range(self.chance.choice((0, 1, 1, 2))):
             packets = self.chance.choice(kinds)(packets) or packets
         data, place = b"".join(packets), self.chance.randrange(len(packets))
-        if self.some(6):  # what is no packet stands between packets
+        if self.some(6):  # insert bytes that are no TS packet
             data = data[:place * PACKET] + b"\0" * self.chance.choice((1, 188, 3000)) \
                 + data[place * PACKET:]
         return spaced(data, self.chance.choice((192, 204))) if self.some(20) else data
 
     def some_of(self, packets: list[bytes], pid: int | None = None) -> range:
-        """Where a run of packets is: from one of a PID on, so many."""
+        """Return the places of a run of packets that begins with a packet of a PID."""
         pid = self.chance.choice(PIDS) if pid is None else pid
         own = [at for at, one in enumerate(packets) if pid_of(one) == pid] or [0]
         first = self.chance.choice(own)
         return range(first, min(len(packets), first + self.chance.choice((1, 30, 400, 9999))))
 
     def announced(self, packets: list[bytes]) -> list[bytes]:
-        """A packet that announces that the counter, or the clock, goes on elsewhere."""
+        """Insert a packet with a discontinuity_indicator, and delete some packets after it."""
         at = self.some_of(packets)[0]
         one = packets[at]
         return [*packets[:at], one[:3] + bytes([0x20 | one[3] & 15, 183, 0x80]) + b"\xff" * 182,
@@ -100,7 +102,7 @@ class Wider(Scenario):
                 else one for at, one in enumerate(packets)]
 
     def wrong_bits(self, packets: list[bytes]) -> list[bytes]:
-        """Some bits are others, or a packet says that it is damaged."""
+        """Flip bits, or set a transport_error_indicator."""
         found = list(packets)
         for _ in range(self.chance.choice((1, 1, 5, 50))):
             at = self.some_of(found, self.chance.choice((TELETEXT_PID, TELETEXT_PID, None)))[0]
@@ -110,18 +112,18 @@ class Wider(Scenario):
         return found
 
     def without(self, packets: list[bytes]) -> list[bytes]:
-        """Those of a PID are not there, for a while or from there on."""
+        """Delete the packets of one PID within a run."""
         pid, run = self.chance.choice(PIDS), self.some_of(packets)
         return [one for at, one in enumerate(packets) if at not in run or pid_of(one) != pid]
 
     def doubled(self, packets: list[bytes]) -> list[bytes]:
-        """Some of a PID come twice."""
+        """Repeat the packets of one PID within a run."""
         pid, run = self.chance.choice(PIDS), self.some_of(packets)
         return [one for at, packet in enumerate(packets)
                 for one in [packet] * (1 + (at in run and pid_of(packet) == pid))]
 
     def moved(self, packets: list[bytes]) -> list[bytes]:
-        """The page goes to another PID, by the PMT or without it."""
+        """Move the page to another PID, with or without a new PMT."""
         first, is_told = self.some_of(packets, TELETEXT_PID)[0], self.some(80)
         table = program_map(1, [(VIDEO_PID, MPEG_2, b""),
                                 (SECOND_PID, PRIVATE, teletext_descriptor())], VIDEO_PID)
@@ -137,17 +139,17 @@ class Wider(Scenario):
         return found
 
     def cut(self, packets: list[bytes]) -> list[bytes]:
-        """It begins later, or ends sooner."""
+        """Cut the beginning or the end."""
         at = self.chance.randrange(len(packets))
         return packets[at:] if self.some(50) else packets[:at]
 
     def without_flags(self, packets: list[bytes]) -> list[bytes]:
-        """No picture says that it can be shown alone."""
+        """Clear every random_access_indicator of the video."""
         return [one[:5] + bytes([one[5] & 0xBF]) + one[6:] if pid_of(one) == VIDEO_PID
                 and one[3] & 0x20 and one[4] else one for one in packets]
 
     def reordered(self, packets: list[bytes]) -> list[bytes]:
-        """Two runs of packets are in turn."""
+        """Swap two runs of packets."""
         run, count = self.some_of(packets), self.chance.choice((1, 5, 40))
         first, middle, last = run[0], run[0] + count, run[0] + 2 * count
         return [*packets[:first], *packets[middle:last], *packets[first:middle], *packets[last:]]
@@ -155,7 +157,7 @@ class Wider(Scenario):
     # The options.
 
     def call(self) -> list[str]:
-        """The words of the call, with some more."""
+        """Return the arguments of the call, with more options."""
         chance, words = self.chance, super().call()
         first, last = self.times[0][0], self.times[-1][1]
         begin, end = (time_of(chance.randrange(*several)) for several in (

@@ -1,8 +1,8 @@
-"""Make random calls for many pairs in one folder, each folder by its seed, one call after another:
-input files, results and site profiles change between two calls.
+"""Run random calls for many pairs in one folder, while input files, results and site profiles
+change.
 
-The output of some folders is stored in dev/snapshots/many.txt (see `snapshots`). From dev/,
-`python3 -m developing.tests.many_at_random ../dist/subttx NUMBER` prints all that its calls write.
+The output for some seeds is stored in dev/snapshots/many.txt (see `snapshots`). From dev/, `python3
+-m developing.tests.random_folders ../dist/subttx SEED` prints the output for one.
 """
 from __future__ import annotations
 
@@ -15,7 +15,7 @@ import sys
 from typing import Callable, Iterator
 
 from subtitles.common.program import TOP
-from .at_random import Said, called, in_folder, plain
+from .random_calls import Said, called, in_folder, plain
 from .bench import example
 
 NAMES = ("a", "b", "B", "c 1", "d.x", "e~2", "-f", "g.recording", "h\u00e4")
@@ -36,11 +36,11 @@ OLD = {"format": 5, "verdict": "accepted", "status": 0}
 
 
 class Folder:
-    """The folder in which the process is, with pairs in `in`, a list, and what calls have left."""
+    """A random folder: pairs in `in`, a list, and the files that calls wrote."""
 
     def __init__(self, number: int, program: str) -> None:
         self.chance, self.program = random.Random(number), program
-        self.before = dict[str, str]()  # the files, and their texts
+        self.before = dict[str, str]()  # the files and their texts
         os.mkdir("in")
         for name in self.chance.sample(NAMES, self.chance.choice((1, 2, 3, 4))):
             self.put_pair(name)
@@ -49,14 +49,14 @@ class Folder:
         self.write_list()
 
     def some_options(self) -> list[str]:
-        """Some, seldom such that do not go together."""
+        """Return random options; few of them contradict each other."""
         found = self.chance.sample(OPTIONS, self.chance.choice((0, 0, 1, 1, 2)))
         return [word for one in found for word in one.split()]
 
-    # ---- what is there
+    # ---- input files
 
     def put_pair(self, name: str) -> None:
-        """A pair, or half of one, in a folder; its recording may be a part of several."""
+        """Add a pair, or half of one; it may have several recordings."""
         stl, recording = self.chance.choice(PAIRS)
         for source in filter(None, (stl, recording)):
             ending = source.rpartition(".")[2]
@@ -71,7 +71,7 @@ class Folder:
                 file.write(self.chance.choice(texts))
 
     def write_list(self) -> None:
-        """Lines of pairs that are there, with options, and some that are none."""
+        """Write a list of pairs with options, and some invalid lines."""
         there, lines = sorted(os.listdir("in")) or ["none"], list[str]()
         for _ in range(self.chance.choice((1, 2, 3, 4))):
             stl, recording = (self.chance.choice(there) for _ in range(2))
@@ -87,14 +87,14 @@ class Folder:
             file.write("\n".join(lines) + "\n")
 
     def change(self) -> None:
-        """Something becomes of the files between two calls."""
+        """Change some files between two calls."""
         does: Callable[[], None] = self.chance.choice([
             self.change_house, self.write_list, self.change_result, self.change_result,
             self.change_file, self.change_file, lambda: self.put_pair(self.chance.choice(NAMES))])
         does()
 
     def change_file(self) -> None:
-        """A file is gone, another one, cut, or only newer."""
+        """Delete, replace, cut or touch an input file."""
         path = os.path.join("in", self.chance.choice(sorted(os.listdir("in")) or ["none"]))
         kind = self.chance.randrange(4)
         with contextlib.suppress(OSError):
@@ -108,7 +108,7 @@ class Folder:
                 os.utime(path, (1_700_000_000, 1_700_000_000))
 
     def change_result(self) -> None:
-        """A result, or a page beside it, is gone, half, of an older version or somebody else's."""
+        """Delete, cut or replace a result or a page."""
         there = sorted(os.listdir("out")) if os.path.isdir("out") else []
         if not there:
             return
@@ -151,7 +151,7 @@ class Folder:
             files={name: text for name, text in self.before.items() if before.get(name) != text})
 
     def files(self) -> Iterator[tuple[str, str]]:
-        """Return all files with their texts; of input files their sizes, in one line."""
+        """Return all files with their texts; input files only with their sizes."""
         sizes = [f"{name} {os.path.getsize(os.path.join('in', name))}"
                  for name in sorted(os.listdir("in"))]
         yield "in", ", ".join(sizes)
@@ -163,7 +163,7 @@ class Folder:
                         yield path, self.plainly(file.read())
 
     def plainly(self, text: str) -> str:
-        """Return a text without what differs from call to call."""
+        """Replace what differs between calls."""
         try:
             text = plain(text, self.program)
         except (ValueError, TypeError, AttributeError):

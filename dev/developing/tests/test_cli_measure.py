@@ -1,8 +1,8 @@
-"""What --measure makes of what was held and sent: delays of cues, and each part of a recording.
+"""The output of --measure: delays of cues, and profiles for recordings with several parts.
 
-The gate measures the programmes of some inserters, chosen by their seeds. From dev/,
-`python3 -m developing.tests.test_cli_measured PROGRAM FIRST LAST` measures those of other seeds,
-and prints how many profiles refuse none of what they were measured on.
+The gate measures random programmes by their seeds. From dev/, `python3 -m
+developing.tests.test_cli_measure PROGRAM FIRST LAST` tries other seeds, and counts the profiles
+that accept their own recordings.
 """
 from __future__ import annotations
 
@@ -26,48 +26,48 @@ from .bench import BENCH, Case
 from .judged import judged
 from .parts import asked_for
 from .planted import INSERTERS, LATE, QUIET, Inserter, Programme
-from .sent import ORIGIN, PAGE, apart, joined, programme, sendings, times
+from .transmissions import ORIGIN, PAGE, apart, joined, programme, sendings, times
 from .test_judging_reasons import KEEPING_HEADER
 
 ENGLISH = BY_WORD["english"]
 GERMAN_HEADER = packet(0, 0, bytes([8, 8, 0, 8, 0, 8, 1, 8]), b" " * 32)
 GERMAN_KEEPING = packet(0, 0, bytes([8, 8, 0, 0, 0, 8, 1, 8]), b" " * 32)
 KINDS = {"missing": b"", "late": b"", "keeping": KEEPING_HEADER, "german": GERMAN_HEADER}
-# Subtitles by begin, end and text; what is held from a frame on; the first and the last frame that
-# is heard. Then how late begins and ends are, how early cues, and which subtitles never came.
+# Subtitles (begin, end, text); the page from given frames on; the first and last frame received;
+# then the expected delays of begins and of ends, early cues, and subtitles never sent.
 ONE, TWO = (100, 150, "a"), (200, 250, "b")
 Shown = tuple[int, int, str]
 ROWS: list[tuple[list[Shown], dict[int, str], tuple[int, int], list[int], list[int], list[str]]] = [
     ([ONE, TWO], {100: "a", 150: "", 200: "b", 250: ""}, (0, 999), [0, 0], [0, 0], []),
     ([ONE, TWO], {103: "a", 152: "", 201: "b", 250: ""}, (0, 999), [3, 1], [2, 0], []),
-    # Nothing is known of what comes first, and of what lasts to the end.
+    # A cue at the first or last received frame is unknown.
     ([ONE], {100: "a", 150: ""}, (100, 999), [], [0], []),
     ([ONE], {101: "a", 150: ""}, (100, 999), [1], [0], []),
     ([ONE], {100: "a"}, (0, 149), [0], [], []), ([ONE], {100: "a"}, (0, 151), [0], [], []),
     ([ONE], {100: "a", 151: ""}, (0, 151), [0], [1], []),
-    # One frame early is, none is not.
+    # One frame early counts, as long as the page is not repeated text from before.
     ([ONE], {99: "a", 149: ""}, (0, 999), [], [], ["begins 1 frame", "ends 1 frame"]),
     ([ONE], {75: "a", 147: ""}, (0, 999), [], [], ["begins 25 frames", "ends 3 frames"]),
     ([ONE], {60: "a", 70: "", 100: "a", 150: ""}, (0, 999), [0], [0], []),
     ([ONE], {80: "a", 90: "", 100: "a", 150: ""}, (0, 999), [], [0], ["begins 20 frames"]),
     ([ONE], {70: "a", 76: "", 100: "a", 150: ""}, (0, 999), [], [0], ["begins 30 frames"]),
     ([ONE], {70: "a", 75: "", 100: "a", 150: ""}, (0, 999), [0], [0], []),
-    # The same letters again are new after more than a second; others always.
+    # The same text again is new only after more than a second; another text always is.
     ([ONE, (176, 220, "a")], {100: "a", 150: "", 178: "a", 220: ""}, (0, 999), [0, 2], [0, 0], []),
     ([ONE, (175, 220, "a")], {100: "a", 150: "", 178: "a", 220: ""}, (0, 999), [0], [0, 0], []),
     ([ONE, (160, 220, "b")], {100: "a", 150: "", 163: "b", 220: ""}, (0, 999), [0, 3], [0, 0], []),
-    # Of two that adjoin the end of one is the begin of the other.
+    # The end of a subtitle that adjoins the next is the begin of that.
     ([ONE, (150, 200, "b")], {100: "a", 152: "b", 200: ""}, (0, 999), [0, 2], [0], []),
     ([ONE, (151, 200, "b")], {100: "a", 150: "", 152: "b", 200: ""}, (0, 999), [0, 1], [0, 0], []),
     ([ONE, (150, 200, "a")], {100: "a", 201: ""}, (0, 999), [0], [1], []),
-    # What goes out for a while is there to its last end, up to the bound or the next begin.
+    # A subtitle that is erased for a while ends at its last end, up to the limit or the next begin.
     ([ONE], {100: "a", 110: "", 120: "a", 150: ""}, (0, 999), [0], [0], []),
     ([ONE], {100: "a", 200: ""}, (0, 999), [0], [50], []),
     ([ONE], {100: "a", 150: "", 200: "a", 210: ""}, (0, 999), [0], [60], []),
     ([ONE], {100: "a", 150: "", 201: "a", 210: ""}, (0, 999), [0], [0], []),
     ([ONE, (180, 230, "b")], {100: "a", 150: "", 180: "a", 182: "b", 230: ""}, (0, 999),
      [0, 2], [0, 0], []),
-    # What never came, and what has no letters.
+    # Subtitles that were never sent, or have no characters.
     ([ONE, TWO], {100: "a", 150: ""}, (0, 999), [0], [0], ["2"]),
     ([ONE, TWO], {100: "a", 150: "", 250: "b"}, (0, 999), [0], [0], ["2"]),
     ([ONE, (170, 220, "a")], {100: "a", 150: ""}, (0, 999), [0], [0], ["2"]),
@@ -75,8 +75,8 @@ ROWS: list[tuple[list[Shown], dict[int, str], tuple[int, int], list[int], list[i
      [0, 0], [0, 0], [])]
 
 
-def holding(pages: dict[int, str], first: int, last: int) -> Timeline:
-    """What is held: one letter, or nothing, from each of some frames on."""
+def timeline_with(pages: dict[int, str], first: int, last: int) -> Timeline:
+    """Return a timeline with one character, or a blank page, from given frames on."""
     held = Timeline(Packets(0), PAGE, 0)
     held.first, held.last = first, last
     held.change(first, BLANK_PAGE)
@@ -86,14 +86,11 @@ def holding(pages: dict[int, str], first: int, last: int) -> Timeline:
 
 
 class Cues(Case):
-    """How late cues are."""
-
-    def test_measures_how_late_each_subtitle_is(self) -> None:
-        """Of each subtitle, by what is held when."""
+    def test_measures_the_delay_of_each_cue(self) -> None:
         for shown, pages, heard, begins, ends, words in ROWS:
             subtitles = [Subtitle(at, at, begin, end, 20, 2, text.encode())
                          for at, (begin, end, text) in enumerate(shown, 1)]
-            found = delays_of("x.stl", subtitles, holding(pages, *heard), ENGLISH)
+            found = delays_of("x.stl", subtitles, timeline_with(pages, *heard), ENGLISH)
             early = [word for word in words if " " in word]
             self.must(f"{shown} {pages} {heard}", (found.begins, found.ends) == (
                 Counter(begins), Counter(ends)) and [
@@ -103,8 +100,6 @@ class Cues(Case):
                                 word for word in words if " " not in word], found)
 
     def test_proposes_the_longest_delay_of_all_recordings(self) -> None:
-        """The longest of all begins and ends, of each recording, is proposed, where both are known,
-        one is late, and none by more than may be."""
         most = MOST_WITHIN
         rows: list[tuple[list[int], list[int], str]] = [
             ([0, 0], [0], ""), ([0, 2], [1], "--within 2|--late 0:1,2:1/1:1"),
@@ -143,8 +138,7 @@ class Cues(Case):
             self.must(f"{keeping} of {headers}, {is_alone}", bool(found_words) == (
                 keeping > 0 and headers < 21 and is_alone))
 
-    def test_what_is_usual(self) -> None:
-        """A delay, or a longer one, that fewer cues than one in twenty have is no habit."""
+    def test_ignores_delays_of_fewer_than_one_cue_in_twenty(self) -> None:
         self.check_each(lambda delays: dict(usual_in(Counter(delays))), {
             "none": (({},), {}), "one alone": (({5: 1},), {5: 1}),
             "one of twenty": (({0: 19, 5: 1},), {0: 19, 5: 1}),
@@ -156,9 +150,7 @@ class Cues(Case):
         self.check("one of 90", ("".join(one.words for one in found), found[0].lines[1]), (
             "", "later than is usual, which this refuses: x begins late"))
 
-    def test_lost_repeats_are_exceptions(self) -> None:
-        """Of 30 repeats one that was lost is named, and does not make the bound longer; where some
-        are always longer they make it."""
+    def test_a_lost_repeat_is_an_exception(self) -> None:
         for name, frames, longest, exceptions in (
                 ("one is lost", [*range(0, 400, 25), *range(425, 900, 25)], 25, [(375, 50)]),
                 ("none is lost", [*range(0, 900, 25)], 25, []),
@@ -168,11 +160,7 @@ class Cues(Case):
 
 
 class Parts(Case):
-    """A recording of several parts."""
-
     def test_measures_each_part_of_a_recording(self) -> None:
-        """What one of them tells counts, whichever it is: a header that is missing, that keeps the
-        page, or of another option; a late cue."""
         stl = programme(self, times(24))
         sent = sendings(self, stl)
         places = [next(at for at, (pts, _) in enumerate(sent) if pts == frame * TICKS)
@@ -202,15 +190,14 @@ class Parts(Case):
                       len(found.paces) == 2 and len(found.sendings) == 24, found)
 
 
-SEEDS = 20  # in the gate
+SEEDS = 20  # seeds that the gate tries
 ACCEPTED = "# By this profile none of these recordings is refused."
 
 
 class Profiles(Case):
-    """A profile that is printed, of recordings that inserters of all kinds make."""
-
     def profile(self, *made: Programme) -> tuple[list[str], list[str]]:
-        """The lines of a profile of programmes, each with its clock, and their recordings."""
+        """Return the lines of the profile of programmes, each with its clock, and their recordings.
+        """
         paths = [self.write(f"{one.number}.pes", joined(one.sent())) for one in made]
         lines = [f"{one.stl} {path} --origin 0" for one, path in zip(made, paths)]
         listed = self.write("list", "\n".join(lines).encode())
@@ -219,14 +206,13 @@ class Profiles(Case):
         self.write("profile", done.out)
         return done.out.decode().splitlines(), paths
 
-    def test_accepts_what_it_was_measured_on(self) -> None:
-        """Each recording, with its clock; or it says which it does not."""
+    def test_accepts_its_own_recordings_or_says_which_not(self) -> None:
         for seed in range(SEEDS):
             self.measure(seed)
 
     def measure(self, seed: int) -> bool:
-        """Measure one or two programmes of an inserter, and judge them by the profile; return
-        whether it refuses none."""
+        """Judge one or two programmes of an inserter by their own profile; return whether all are
+        accepted."""
         chance = random.Random(seed)
         inserter = chance.choice(INSERTERS)
         made = [Programme(self, 10 * seed + number, inserter)
@@ -241,8 +227,7 @@ class Profiles(Case):
                        not any(path in line for line in refused))
         return not refused
 
-    def test_two_pes_packets_a_frame(self) -> None:
-        """Half of the PTS are off their frames, which is how the site sends; one alone is not."""
+    def test_allows_off_frame_pts_of_two_packets_a_frame(self) -> None:
         made = [Programme(self, number, Inserter("two a frame", each=2)) for number in (0, 1)]
         lines, _ = self.profile(*made)
         self.check("accepted", ("--within 1" in lines, lines[-1]), (True, ACCEPTED))
@@ -255,8 +240,7 @@ class Profiles(Case):
             ).splitlines() if line.startswith("# within: of ")],
             ["1 are off their frames, which this refuses (61)"])
 
-    def test_names_what_is_not_usual(self) -> None:
-        """One subtitle of forty is late: it is named, widens nothing, and is refused."""
+    def test_names_an_unusual_delay_and_refuses_it(self) -> None:
         made = Programme(self, 7, Inserter("usual", begins=(0, 0, 1)), 40)
         self.must("planted", made.plant(LATE))
         assert made.fault
@@ -269,8 +253,7 @@ class Profiles(Case):
         self.check("refused", "is not accepted. Refused: at " in lines[-1] and name[:-4] in
                    lines[-1], True)
 
-    def test_reads_by_the_option_that_it_proposes(self) -> None:
-        """A German page whose repeats keep it: both are proposed, and accepted."""
+    def test_decodes_by_the_option_that_it_proposes(self) -> None:
         stl = programme(self, times(12))
         sent = [(pts, [GERMAN_KEEPING if pts // TICKS % 100 in (25, 50) else GERMAN_HEADER,
                        *some[1:]]) for pts, some in sendings(self, stl)]
@@ -283,7 +266,7 @@ class Profiles(Case):
 
 
 def main(program: str, first: int, last: int) -> None:
-    """Measures programmes, and prints how many profiles accept them all."""
+    """Measure programmes; print how many profiles accept all of their recordings."""
     BENCH.chosen = program
     case = Profiles("test_accepts_what_it_was_measured_on")
     case.setUp()

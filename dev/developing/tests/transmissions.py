@@ -1,5 +1,7 @@
-"""Subtitle files, and what is sent of them: page transmissions, PES packets, feeds; and what may be
-wrong with that."""
+"""Subtitle files and their transmissions:
+
+page transmissions, PES packets, pipes, and faults in them.
+"""
 from __future__ import annotations
 
 import contextlib
@@ -17,24 +19,24 @@ from subtitles.common.times import CLOCK, TICKS
 from subtitles.formats.stl import NEW_LINE
 from .bench import Case
 
-Sent = list[tuple[int, list[bytes]]]  # PTS, which do not wrap, and the Teletext packets then
+Sent = list[tuple[int, list[bytes]]]  # PTS without wraps, and the Teletext packets with that PTS
 Change = Callable[[Sent], Sent]
-Shown = tuple[int, int, bytes]  # from when to when a subtitle is due, by frames, and its text
+Shown = tuple[int, int, bytes]  # first frame, end frame and text of a subtitle
 PAGE = (0, 0x88)
-HEADER = packet(0, 0, [8, 8, 0, 8, 0, 8, 1, 0], b" " * 32)  # of page 888, which it erases
+HEADER = packet(0, 0, [8, 8, 0, 8, 0, 8, 1, 0], b" " * 32)  # of page 888; with erase_page set
 CLOSING = packet(0, 0, [15, 15, 15, 7, 15, 3, 0, 0], b" " * 32)
 
 
 def row(number: int, text: bytes) -> bytes:
-    """A row of the magazine of page 888."""
+    """Return a row packet of the magazine of page 888."""
     return packet(0, number, (), b"\x0b\x0b" + text.ljust(38))
 
 
-# A subtitle file, and the program's own transmission of it.
+# Subtitle files, and transmissions of them by `schedule`.
 
 def subtitle_file(case: Case, subtitles: Iterable[Shown], name: str = "one.stl", first: int = 1,
                   row: int = 22, justify: int = 2, language: bytes = b"09") -> str:
-    """A subtitle file: subtitles by numbers from a first one on."""
+    """Write a subtitle file whose subtitle numbers count up from `first`; return its path."""
     blocks = [subtitle_blocks(number, begin, end, row, justify, text)
               for number, (begin, end, text) in enumerate(subtitles, first)]
     return case.write(name, gsi_block(b"Judged", len(blocks), len(blocks), language=language)
@@ -43,14 +45,14 @@ def subtitle_file(case: Case, subtitles: Iterable[Shown], name: str = "one.stl",
 
 def programme(case: Case, times: Sequence[tuple[int, int]], lines: int = 1,
               text: bytes = b"Number %d", first: int = 1, name: str = "one.stl") -> str:
-    """One of subtitles with such a text, a subtitle for each pair of frames."""
+    """Write a subtitle file with one subtitle for each pair of frames; return its path."""
     return subtitle_file(case, ((begin, end, NEW_LINE.join(
         [text % number if b"%" in text else text] * lines))
         for number, (begin, end) in enumerate(times, first)), name, first)
 
 
 def random_subtitles(seed: int) -> tuple[bytes, list[int]]:
-    """A subtitle file at random, with touching subtitles and repeated texts; and its edges."""
+    """Return a random subtitle file with adjoining and repeated subtitles, and its cue frames."""
     chance = random.Random(seed)
     made: list[bytes] = []
     edges: list[int] = []
@@ -66,18 +68,18 @@ def random_subtitles(seed: int) -> tuple[bytes, list[int]]:
 
 
 def sendings(case: Case, stl: str, *words: str, origin: int = 0, every: int = 25) -> Sent:
-    """The program's own transmission of a subtitle file, with some words of `schedule`."""
+    """Return the transmission that `schedule` makes of a subtitle file."""
     return [(origin + pts_in(one), teletext_packets(data_field(one)))
             for one in scheduled(case, stl, "--every", str(every), *words)]
 
 
 def scheduled(case: Case, stl: str, *words: str) -> list[bytes]:
-    """The same as PES packets."""
+    """Return the PES packets that `schedule` makes of a subtitle file."""
     return packets(case.read(case.schedule(stl, "planned.pes", *words)))
 
 
 def in_two_parts(case: Case) -> tuple[str, bytes]:
-    """A subtitle file, and PES packets that have a break of three minutes in its middle."""
+    """Return a subtitle file, and PES packets with a break of three minutes halfway through."""
     due = [(begin, begin + 60) for begin in range(900_000, 902_000, 100)]
     sent = [one for first, origin in ((1, 1000), (11, 1000 + 4500 * TICKS)) for one in sendings(
         case, programme(case, due[first - 1:first + 9], first=first, name="part.stl"),
@@ -86,67 +88,67 @@ def in_two_parts(case: Case) -> tuple[str, bytes]:
 
 
 def joined(sent: Sent) -> bytes:
-    """A file of PES packets."""
+    """Return a transmission as a file of PES packets."""
     return b"".join(pes_packet(pts % CLOCK, some) for pts, some in sent)
 
 
 def packets(data: bytes) -> list[bytes]:
-    """The PES packets of a file's bytes."""
+    """Split a file into its PES packets."""
     return list(pes_packets(io.BytesIO(data)))
 
 
 def moved(data: bytes, new_pts: Callable[[int, int], int]) -> bytes:
-    """The file with other PTS, by number and old PTS."""
+    """Return the file with new PTS, computed from each packet's number and old PTS."""
     return b"".join(one[:9] + pts_bytes(new_pts(number, pts_in(one)) % CLOCK) + one[14:]
                     for number, one in enumerate(packets(data)))
 
 
-# A programme of subtitles that are as far apart, some of them late, or sent in parts.
+# A programme of evenly spaced subtitles, with delays or in several parts.
 
-EACH, LASTS = 100, 60  # frames from a TCI to the next one, and to its TCO
+EACH, LASTS = 100, 60  # frames from one TCI to the next, and from TCI to TCO
 ORIGIN = 20_000 * TICKS + 7
-PAUSES = 880, 1680  # frames before the 9th subtitle and the 17th, where the parts begin
+PAUSES = 880, 1680  # frames before the 9th and 17th subtitle, where parts begin
 
 
 def times(count: int) -> list[tuple[int, int]]:
-    """From when to when so many subtitles are due."""
+    """Return the first and end frames of `count` subtitles."""
     return [(EACH * number, EACH * number + LASTS) for number in range(1, count + 1)]
 
 
 def late(by: int, first: int = 0, last: int = 1 << 40) -> Change:
-    """Those from a PTS to another one so many frames later."""
+    """Delay everything sent from the PTS `first` to `last` by some frames."""
     return lambda sent: [(pts + by * TICKS * (first <= pts <= last), some) for pts, some in sent]
 
 
 def one_late(number: int, by: int) -> Change:
-    """The sendings of a subtitle so many frames late."""
+    """Delay the page transmissions of one subtitle by some frames."""
     begin = EACH * number * TICKS
     return late(by, begin, begin + LASTS * TICKS - 1)
 
 
 def apart(sent: Sent, *shifts: int) -> Sent:
-    """What is sent from each pause on moved by so many frames."""
+    """Delay everything after each pause by that pause's number of frames."""
     begun = [sum(pts >= pause * TICKS for pause in PAUSES[:len(shifts)]) for pts, _ in sent]
     return [(ORIGIN + pts + TICKS * (0, *shifts)[at], some) for at, (pts, some) in zip(begun, sent)]
 
 
-# A feed.
+# Pipes.
 
 def in_pipe(case: Case, data: bytes, path: str = "") -> str:
-    """A pipe into which somebody writes these bytes."""
+    """Write bytes to a new named pipe in the background; return its path."""
     path = path or case.path(f"feed{len(os.listdir(case.folder))}")
     feed(path, data)
     return path
 
 
 def feed(path: str, data: bytes) -> None:
-    """The same at a path."""
+    """Write bytes to a named pipe at a path in the background."""
     os.mkfifo(path)
     threading.Thread(target=send, args=(path, data), daemon=True).start()
 
 
 def send(path: str, data: bytes) -> None:
-    """Sends a feed, if somebody hears it, no faster than `survey` tells of it."""
+    """Write bytes to a pipe, slowly enough for `survey`; ignore a closed pipe."""
     with contextlib.suppress(OSError), open(os.open(path, os.O_WRONLY), "wb", 0) as file:
         for at in range(0, len(data), 1 << 16):
             file.write(data[at:at + (1 << 16)])

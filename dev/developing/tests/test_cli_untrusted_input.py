@@ -1,5 +1,5 @@
-"""What strangers leave in lists and results; inputs under the names of outputs; calls that lack
-something; signals at the start."""
+"""Calls of tools/qc with untrusted lists and results, inputs in the place of outputs, missing
+resources, and early signals."""
 from __future__ import annotations
 
 import html
@@ -19,14 +19,14 @@ from subtitles.cli.collection import index_page
 from subtitles.common.markup import POLICY
 from subtitles.results.files import Row
 from .bench import Case, Done, example, example_bytes, tool_path
-from .sent import in_pipe
+from .transmissions import in_pipe
 
 TAGS = {"html", "head", "meta", "title", "style", "body", "h1", "p", "small", "table", "thead",
         "tbody", "tr", "th", "td", "br", "a", "main", "caption", "fieldset", "legend", "label",
         "input", "span", "b"}
 ATTRIBUTES = {"lang", "charset", "http-equiv", "content", "name", "class", "href", "scope", "type",
               "value", "checked"}
-# A page with others in frames, which says in the end what stands in each.
+# A page with other pages in frames; it lists their content.
 AROUND = """<!DOCTYPE html><html><body><script>
 addEventListener("load", () => setTimeout(() => {{
   document.getElementById("told").textContent = JSON.stringify(
@@ -35,17 +35,14 @@ addEventListener("load", () => setTimeout(() => {{
 }}, 500));
 </script>{frames}<pre id="told"></pre></body></html>
 """
-# Milliseconds after which a signal comes; with --speed one comes after each of ALL_STARTS.
+# Milliseconds before a signal is sent; with --speed all of ALL_STARTS.
 STARTS = {signal.SIGINT: range(0, 101, 10), signal.SIGTERM: range(0, 401, 80),
           signal.SIGHUP: range(40, 401, 80)}
 ALL_STARTS = range(0, 401, 5)
 
 
 class Inputs(Case):
-    """Files that a call reads, of whatever pair, under the names of its outputs."""
-
-    def test_input_of_another_pair(self) -> None:
-        """The pair that would write over it is not judged, and nothing of it is written."""
+    def test_never_overwrites_the_input_of_another_pair(self) -> None:
         os.mkdir(self.path("out"))
         for name in ("a.stl", "b.stl", "c.stl", "b.pes", "out/b.json"):
             self.write(name, example_bytes("hello.stl" if name.endswith("stl") else "hello.pes"))
@@ -66,16 +63,13 @@ class Inputs(Case):
                                      for one in ("html", "json", "txt"))]))
 
 
-class Lines(Case):
-    """What a line of a list names ends no call for all, and shows nothing of the file."""
-
-    def judged(self, list_name: str) -> Done:
+class ListLines(Case):
+    def judge(self, list_name: str) -> Done:
         """Judge the pairs of a list."""
         return self.call([tool_path("qc"), "--batch", list_name, "-p", self.bench.program],
                          b"--page 888\n")
 
-    def test_files_that_are_named(self) -> None:
-        """The line is not judged, with the reason; the next one is."""
+    def test_an_invalid_line_affects_no_other_line(self) -> None:
         self.write("secret", b"root:*:20228:0:99999:7:::\n")
         self.write("marked", b"\xef\xbb\xbf--page 888\n")
         self.write("long", b"#" * 65_537)
@@ -94,23 +88,21 @@ class Lines(Case):
             f"{'--within 2 ' * 127}": "it has more than 256 words"}
         for words, reason in rows.items():
             self.write("list", f"{pair} {words}\n{pair}\n".encode())
-            done = self.judged("list")
+            done = self.judge("list")
             table = done.out.decode().splitlines()
             self.check(f"{words[:40]}: status", done.status, 2)
             self.must(f"{words[:40]}: the line", reason in table[1] and "root" not in table[1],
                       table)
             self.must(f"{words[:40]}: the next", "accepted" in table[2], table)
 
-    def test_byte_order_marks(self) -> None:
-        """A list that begins with one is refused: it would be part of the first word."""
+    def test_refuses_a_list_with_a_byte_order_mark(self) -> None:
         pair = f"{example('hello.stl')} {example('hello.pes')}\n"
         for name in ("utf-8-sig", "utf-16-le", "utf-16-be"):
             self.write("list", "\ufeff".encode(name.removesuffix("-sig")) + pair.encode())
-            self.check(name, self.judged("list"), (2, b"", [
+            self.check(name, self.judge("list"), (2, b"", [
                 "qc: list begins with a byte order mark (BOM): save it as UTF-8 without one"]))
 
-    def test_refuses_a_device_as_a_recording_without_waiting(self) -> None:
-        """None is a recording, and none is waited for."""
+    def test_refuses_a_device_without_waiting(self) -> None:
         stl = example("hello.stl")
         for words, device in (
                 ([stl, "/dev/zero"], "/dev/zero"), ([stl, "-"], "-"),
@@ -120,14 +112,11 @@ class Lines(Case):
             self.check(f"{words}", done, (2, b"", [
                 f"qc: {device} is a device: give a file or a pipe"]))
         self.write("list", f"{stl} /dev/zero\n".encode())
-        self.must("in a list", b"/dev/zero is a device" in self.judged("list").out)
+        self.must("in a list", b"/dev/zero is a device" in self.judge("list").out)
 
 
-class Little(Case):
-    """Calls that lack something that each call has."""
-
-    def test_standard_error(self) -> None:
-        """No status depends on standard error: the last line and the status say one thing."""
+class MissingResources(Case):
+    def test_status_does_not_depend_on_standard_error(self) -> None:
         pair = [example("story.stl"), example("story.pes")]
         wrong = [pair[0], example("five-faults.pes")]
         rows = {"a pair": ([*pair, "--origin", "0"], 0), "one without a clock": (pair, 3),
@@ -142,8 +131,7 @@ class Little(Case):
                               "-p", self.bench.program])
             self.check(f"{name} {ending}", done, known._replace(status=status, told=[]))
 
-    def test_accepts_with_little_memory_or_says_why_not(self) -> None:
-        """With little of it a pair is accepted, or a message says why not."""
+    def test_accepts_or_reports_too_little_memory(self) -> None:
         pair = [example("story.stl"), example("story.pes"), "--origin", "0", "-o", "out"]
         for size in range(20_000, 64_000, 4_000):
             done = self.call(["sh", "-c", f'ulimit -v {size}; exec "$0" "$@"', sys.executable,
@@ -155,15 +143,13 @@ class Little(Case):
                 "internal error:" in line or "Traceback" in line for line in done.told), done)
 
 
-class Pages(Case):
-    """Pages over all pairs, of results that strangers have written."""
-
+class UntrustedResults(Case):
     PIECES = ["<script>document.title='run'</script>", "<img src='http://127.0.0.1:9/x' onerror="
               "'document.title=1'>", '"><svg onload="document.title=1">', "</title>", "&lt;", "a b",
               "javascript:1", "{}", "\x1b[31m", "\u202e", "</style><b>", "<!--", "]]>", "'", "\n"]
 
     def page(self, number: int) -> str:
-        """Writes a page; answers its path."""
+        """Write a page with random texts; return its path."""
         chance = random.Random(number)
 
         def text() -> str:
@@ -174,8 +160,7 @@ class Pages(Case):
                     [text()], 0.5, text(), text()) for _ in range(chance.randrange(1, 9))]
         return self.write(f"{number}.html", index_page(self.folder, rows, text()))
 
-    def test_escapes_all_text_of_others(self) -> None:
-        """No element or attribute is there that the page has not for text alone."""
+    def test_escapes_all_untrusted_text(self) -> None:
         for number in range(200):
             with open(self.page(number), encoding="utf-8") as file:
                 root = tree.fromstring(re.sub("&(times|hellip);", "", file.read()))
@@ -185,8 +170,6 @@ class Pages(Case):
         self.assertIn(POLICY, self.read("0.html").decode().replace("&#x27;", "'"))
 
     def test_loads_and_runs_nothing_in_a_browser(self) -> None:
-        """Nothing is loaded, run or logged: each in a frame of one page, beside one that does all
-        of it."""
         command = find_browser()
         if command is None:
             self.skipTest("30 pages in a browser, since there is none")
@@ -210,12 +193,8 @@ class Pages(Case):
             self.must(f"{name}: as it was written", ("<title>run" in text) == is_wrong)
 
 
-class Starts(Case):
-    """Signals at any moment from the start on."""
-
-    def test_ends_with_2_or_the_status_of_its_last_line(self) -> None:
-        """It is 2, or the verdict's where that stands last; a process that a signal ends before
-        anything of the tool has begun has none. Never is it 1, and nothing else is told."""
+class EarlySignals(Case):
+    def test_a_signal_gives_status_2_or_that_of_the_verdict(self) -> None:
         for number, starts in STARTS.items():
             for after in ALL_STARTS if self.bench.is_timed else starts:
                 with subprocess.Popen(

@@ -1,7 +1,7 @@
-"""Make random calls of qc by their seeds, and named ones, and return all their output.
+"""Run qc with random or named calls, and return all its output.
 
-The output of the calls that reach every branch is stored in dev/snapshots/ (see `snapshots`).
-From dev/, `python3 -m developing.tests.at_random ../dist/subttx NUMBER` prints all that one writes.
+The output of those that reach every branch is stored in dev/snapshots/ (see `snapshots`). From
+dev/, `python3 -m developing.tests.random_calls ../dist/subttx SEED` prints the output of one call.
 """
 from __future__ import annotations
 
@@ -29,9 +29,9 @@ from .bench import example
 from .parts import MEANINGS
 from .results import schema, wrong_by_schema, wrong_choices, wrong_in
 from .scenario import Scenario
-from .wider import Wider
+from .wide_scenario import Wider
 
-WIDER = 240  # the first call that is of a wider kind
+WIDER = 240  # the first seed of a `Wider` pair
 VOLATILE = [(re.compile(r"\d{4}-\d\d-\d\d[T ]\d\d:\d\d:\d\d(\.\d+)?"), "DATE"),
             (re.compile('<dl class="made">.*?</dl>|PROGRAM</td><td.*?</tr>'), "MADE"),
             (re.compile(r"subttx-qc-\w+"), "FOLDER"), (re.compile(r'"seconds": [\d.]+'), "SECONDS"),
@@ -41,8 +41,7 @@ FILES = ("one.json", "one.csv", "one.xml", "out/one.html", "out/one.txt", "out/o
 
 
 class Said(NamedTuple):
-    """What a call said: its words, its status, its lines, its files by their names, and its JSON
-    result as it is."""
+    """The arguments, status, printed lines and files of a call, and its JSON result."""
 
     words: list[str]
     status: int
@@ -52,7 +51,7 @@ class Said(NamedTuple):
 
 
 def tool_here(command: Sequence[str], **options: Any) -> Any:
-    """Runs a tool that a step calls in this process, and everything else as it is."""
+    """Run a Python tool in this process, and any other command as usual."""
     if command[0] != sys.executable:
         return subprocess.run(command, **options)
     name = os.path.basename(command[1])
@@ -66,7 +65,7 @@ def tool_here(command: Sequence[str], **options: Any) -> Any:
 
 
 def in_process(entry: Any, words: list[str]) -> tuple[int, str, str]:
-    """Calls `main` of a tool: its status, and what it prints."""
+    """Run `main` of a tool; return its status and output."""
     before, sys.argv = sys.argv, words[-len(words) + 1:] if words[0] == sys.executable else words
     with contextlib.redirect_stdout(io.StringIO()) as out, \
             contextlib.redirect_stderr(io.StringIO()) as told:
@@ -78,9 +77,9 @@ def in_process(entry: Any, words: list[str]) -> tuple[int, str, str]:
     return status, out.getvalue(), told.getvalue()
 
 
-@functools.lru_cache(maxsize=4)  # several files may have it
+@functools.lru_cache(maxsize=4)  # several files may have the same text
 def plain(text: str, program: str) -> str:
-    """A text without what is another one at each call, or with each program."""
+    """Replace what differs between calls or programs."""
     if text.startswith("{"):
         known = json.loads(text)
         for one in (known, *known.get("pairs", ())):
@@ -93,25 +92,25 @@ def plain(text: str, program: str) -> str:
 
 
 def said_of(number: int, program: str) -> Said:
-    """All that a call says, in a folder of its own."""
+    """Run the random call of a seed in a temporary folder; return its output."""
     with in_folder():
         scenario = (Scenario if number < WIDER else Wider)(number, program)
         words = scenario.call()
         said = called(words, program, wrong=by_one_reader)
-        if number >= WIDER and number % 3 == 0 and not scenario.is_feed:  # which comes once
+        # a pipe can be read only once
+        if number >= WIDER and number % 3 == 0 and not scenario.is_feed:
             said.files["measured"] = plain(measured(words[1], program), program)
         return said
 
 
 def measured(recording: str, program: str) -> str:
-    """What is measured of the same pair."""
+    """Return the output of `--measure` for the same pair."""
     words = ["tools/qc", "--measure", "one.stl", recording, "-p", program]
     status, out, told = in_process(lambda line: main("", "tools/qc", line), words)
     return f"measured {status}\n{out}{told}"
 
 
-# Calls with a name, on pairs that stand in the folder `in`; `claimed` while another one writes the
-# files of a pair.
+# Named calls on pairs in the folder `in`. In `claimed` another process writes a pair's files.
 PAIRS = [("a", "hello", "hello.pes"), ("b", "story", "five-faults.pes"),
          ("c", "accent", "hello.pes"), ("d", "hello", "recording.ts")]
 TEXTS = {"house": "--every 25\n--within 1 # frame\n", "wrong": "--every 25\n--every 50\n",
@@ -138,7 +137,7 @@ NAMED = {
 
 
 def said_of_name(name: str, program: str) -> Said:
-    """All that a call with a name says."""
+    """Run a named call; return its output."""
     with in_folder(), contextlib.ExitStack() as stack:
         os.mkdir("in")
         for pair, stl, recording in PAIRS:
@@ -156,7 +155,7 @@ def said_of_name(name: str, program: str) -> Said:
 
 @contextlib.contextmanager
 def in_folder() -> Iterator[None]:
-    """While this holds, the process is in a folder of its own."""
+    """Change to a temporary folder for a while."""
     back = os.getcwd()
     with tempfile.TemporaryDirectory() as folder:
         os.chdir(folder)
@@ -167,14 +166,16 @@ def in_folder() -> Iterator[None]:
 
 
 def by_one_reader(known: Any) -> list[str]:
-    """What is wrong in a result that is read by the other reader too where it is collected."""
+    """Return the schema violations that the first validator finds."""
     return [*wrong_in(known, schema())]
 
 
 def called(words: list[str], program: str, more: Sequence[str] = ("-p", "PROGRAM"),
            wrong: Callable[[Any], list[str]] = wrong_by_schema) -> Said:
-    """All that a call of qc says; not by the time, and with other words for the manual's. `wrong`
-    finds what in a result is not as the schema has it."""
+    """Run qc; return its output without times, and with fixed texts instead of the manual's.
+
+    `wrong` returns the schema violations of a result.
+    """
     others: list[tuple[Any, str, object]] = [
         *((module, "meanings", lambda: MEANINGS) for module in (subtitles, faults, report))]
     with contextlib.ExitStack() as stack:

@@ -1,4 +1,4 @@
-"""What strangers' files and folders do to a call."""
+"""Calls of tools/qc with hostile file names, unwritable folders and unusual transport streams."""
 from __future__ import annotations
 
 import csv
@@ -13,34 +13,30 @@ from unittest import mock
 from subtitles.cli.single import claim_folder, claim_pair
 from subtitles.common.command_line import Stop
 from .bench import Case, Done, example, example_bytes, tool_path
-from .muxed import beside_video, teletext_descriptor
-from .sent import in_two_parts
+from .streams import beside_video, teletext_descriptor
+from .transmissions import in_two_parts
 from .test_cli_pairs import RECORDING, RELATIVE, STORY, lines_of, qc
 
-
-# tools/qc with names of files that are hostile, with folders that can't be written to, and with
-# transport streams that begin as something else.
 
 ESC = "\x1b[31m"
 NAMES = {"an escape": f"a{ESC}b", "a dash": "-story", "an equals sign": "=story", "a plus": "+s",
          "not UTF-8": "caf\udce9", "a new line": "two\nlines", "a quote": "it's \\ \u202e"}
 NOBODY = 65534
-FULL = "64k"  # of a file system
+FULL = "64k"  # size of the file system
 
 
-def controls(data: bytes) -> list[int]:
-    """What a terminal would obey in some bytes."""
+def control_bytes(data: bytes) -> list[int]:
+    """Return the bytes that a terminal would interpret."""
     return [byte for byte in data if byte < 0x20 and byte != 0x0A or byte == 0x7F]
 
 
 def in_folder(case: Case, folder: str, *words: str) -> Done:
-    """A call of qc there."""
+    """Run qc in a folder."""
     return case.call([tool_path("qc"), "-p", case.bench.program, *words], folder=folder)
 
 
-def is_told(case: Case, what: str, folder: str) -> None:
-    """Tests the files for machines, and the report: they can be read, and nothing in them is a
-    formula."""
+def check_outputs(case: Case, what: str, folder: str) -> None:
+    """Check that all output files can be read and contain no spreadsheet formula."""
     def read(name: str) -> bytes:
         return case.read(os.path.join(folder, name))
 
@@ -49,31 +45,28 @@ def is_told(case: Case, what: str, folder: str) -> None:
     rows = list(csv.reader(read("one.csv").decode().splitlines()))
     cells = [cell for one in rows for cell in one]
     case.must(f"{what}: the lines of the pair and of three subtitles", len(rows) == 5 and not
-              controls(read("one.csv")) and not any(
+              control_bytes(read("one.csv")) and not any(
                   cell.startswith(("=", "-", "+", "@")) for cell in cells), rows)
     case.must(f"{what}: for a CI", tree.fromstring(read("one.xml")).get("tests") == "1")
     kept = [name for name in os.listdir(os.path.join(case.folder, folder, "out"))]
     report = next((name for name in kept if name.endswith(".html")), "")
-    case.must(f"{what}: its report", len(kept) == 3 and report and not controls(
-        os.fsencode("".join(kept))) and not controls(read(os.path.join("out", report))), kept)
+    case.must(f"{what}: its report", len(kept) == 3 and report and not control_bytes(
+        os.fsencode("".join(kept))) and not control_bytes(read(os.path.join("out", report))), kept)
 
 
-def commands_are_right(case: Case, what: str, folder: str, lines: list[str]) -> None:
-    """What is typed again in bash does the same."""
+def check_commands(case: Case, what: str, folder: str, lines: list[str]) -> None:
+    """Check that bash runs each printed command as the tool did."""
     commands = [line[2:] for line in lines if line.startswith("+ ")]
     for command in commands:
         done = subprocess.run(["bash", "-c", command], cwd=os.path.join(case.folder, folder),
                               stdin=subprocess.DEVNULL, stdout=subprocess.PIPE,
                               stderr=subprocess.PIPE, check=False)
-        # The program asks for UTF-8; so nothing is extracted, or read of that.
+        # The program needs UTF-8, so it can't read this file.
         case.must(f"{what}: {command}", done.returncode == 0 or what == "not UTF-8", done)
 
 
-class Hostile(Case):
-    """Names and folders that are hostile."""
-
-    def test_judges_names_like_any_other(self) -> None:
-        """Both files, also in a list and in a folder; nothing of it reaches a terminal as it is."""
+class HostileNames(Case):
+    def test_judges_files_with_hostile_names(self) -> None:
         for what, name in NAMES.items():
             folder = what.replace(" ", "-")
             os.mkdir(self.path(folder))
@@ -85,15 +78,14 @@ class Hostile(Case):
                              "one.xml", "-o", "out", "--", f"{name}.stl", f"{name}.ts")
             self.must(what, done.status == 3 and lines_of(done)[-1] == RELATIVE, done)
             shown = done.out + "".join(done.told).encode("utf-8", "replace")
-            self.must(f"{what}: is shown escaped", not controls(shown), shown)
-            is_told(self, what, folder)
-            commands_are_right(self, what, folder, lines_of(done))
+            self.must(f"{what}: is shown escaped", not control_bytes(shown), shown)
+            check_outputs(self, what, folder)
+            check_commands(self, what, folder, lines_of(done))
             done = in_folder(self, ".", "--batch", folder, "-o", "all")
             self.must(f"{what}: in a folder", done.status == 3 and " relative " in lines_of(done)[1]
-                      and not controls(done.out), done)
+                      and not control_bytes(done.out), done)
 
-    def test_writes_into_a_folder_of_any_name(self) -> None:
-        """One part, which is kept, several, and a batch."""
+    def test_writes_into_a_folder_with_a_hostile_name(self) -> None:
         os.mkdir(self.path("in"))
         stl, pes = in_two_parts(self)
         two = self.write("in/two.pes", pes)
@@ -105,7 +97,7 @@ class Hostile(Case):
             done = qc(self, STORY, example("five-faults.pes"), "--every", "25", "--keep", *words)
             self.must(what, done.status == 1 and sorted(os.listdir(out)) == [
                 "story.html", "story.json", "story.txt"], (done, os.listdir(out)))
-            self.must(f"{what}: is shown escaped", not controls(
+            self.must(f"{what}: is shown escaped", not control_bytes(
                 done.out + "".join(done.told).encode("utf-8", "replace")), done)
             verdict = json.loads(self.read(f"{name}/story.json"))
             self.must(f"{what}: the object", verdict["verdict"] == "refused"
@@ -119,24 +111,23 @@ class Hostile(Case):
             self.must(f"{what}: two parts", done.status == 3 and "two.2.txt" in os.listdir(out),
                       done)
             done = qc(self, "--batch", "in", "--breaks", "1", *words)
-            self.must(f"{what}: a batch", done.status == 3 and not controls(done.out)
+            self.must(f"{what}: a batch", done.status == 3 and not control_bytes(done.out)
                       and "index.html" in os.listdir(out), done)
 
-    def test_shows_a_language_escaped(self) -> None:
-        """The bytes of a PMT's language, where the PIDs are listed."""
+    def test_escapes_the_language_of_a_pmt(self) -> None:
         data = beside_video(example_bytes("story.pes"), teletext_descriptor(b"\x1b[2"))
         done = qc(self, STORY, self.write("one.ts", data), "--page", "801")
         told = "\n".join(done.told)
         self.must("not clear", done.status == 2 and "888 \\x1b[2 subtitles" in told and
-                  not controls(told.replace("\n", "").encode()), done)
+                  not control_bytes(told.replace("\n", "").encode()), done)
 
-    def test_says_that_a_folder_is_in_use(self) -> None:
+    def test_reports_a_folder_that_is_in_use(self) -> None:
         with claim_pair(self.path("out"), "story"):
             done = qc(self, STORY, RECORDING, "-o", "out")
         self.must("two", done == Done(2, b"", [
             "qc: another call is writing the files of story in out"]), done)
 
-    def test_says_that_a_folder_can_not_be_written_to(self) -> None:
+    def test_reports_an_unwritable_folder(self) -> None:
         if os.geteuid() != 0:
             self.skipTest("a folder of somebody else, since this is not root")
         os.mkdir(self.path("theirs"), 0o755)
@@ -148,8 +139,7 @@ class Hostile(Case):
         self.must("a file", done.status == 2 and len(done.told) == 1 and "file" in done.told[0],
                   done)
 
-    def test_says_that_a_disk_is_full(self) -> None:
-        """With -o on a small file system that is full but for some bytes, in turn fuller."""
+    def test_reports_a_full_disk(self) -> None:
         script = ('mount -t tmpfs -o size="$1" none full || exit 77; head -c "$2" /dev/zero '
                   '>full/zeros 2>/dev/null; shift 2; "$@"')
         words = [tool_path("qc"), STORY, RECORDING, "-o", "full", "-p", self.bench.program]
@@ -162,8 +152,7 @@ class Hostile(Case):
             self.must(f"{taken} taken", done.status == 2 and "No space left" in done.told[-1]
                       and "full/" in done.told[-1], done)
 
-    def test_takes_any_first_time_stamp(self) -> None:
-        """Of packets of 192 bytes, the first four: they may be those of a PES packet."""
+    def test_accepts_a_time_stamp_that_looks_like_a_start_code(self) -> None:
         data = example_bytes("recording.ts")
         for stamp in (b"\0\0\1\xbd", b"\0\0\1\xe0", b"G\0\0\0"):
             long = stamp + b"TIME".join(data[at:at + 188] for at in range(0, len(data), 188))
@@ -176,14 +165,8 @@ class Hostile(Case):
                       "is a recording" in done.told[0], done)
 
 
-# The files of a pair in a folder of results belong to one call at a time.
-
-
 class Claims(Case):
-    """Claims of a folder."""
-
-    def test_calls_one_after_another(self) -> None:
-        """A folder and the files of a pair belong to one call at a time; each may come after."""
+    def test_a_folder_belongs_to_one_call_at_a_time(self) -> None:
         folder = self.path("claimed/here")
         for turn in range(2):
             with claim_pair(folder, "one"), claim_pair(folder, "two"), claim_folder(folder):
@@ -199,7 +182,7 @@ class Claims(Case):
         open_locked: list[str] = []
 
         def flock(handle: int, kind: int) -> None:
-            """The first time somebody takes the file away, and then locks are not known."""
+            """Delete the file at the first call, and fail at the third."""
             open_locked.append(os.readlink(f"/proc/self/fd/{handle}"))
             if len(open_locked) == 1:
                 os.unlink(open_locked[0])
@@ -212,7 +195,7 @@ class Claims(Case):
                     self.must("its file", os.listdir(folder) == [".one.lock"]
                               and len(open_locked) == count, open_locked)
         self.must("nothing is left", os.listdir(folder) == [])
-        with claim_pair(folder, "one"):  # meanwhile somebody has changed the folder
+        with claim_pair(folder, "one"):  # another process replaced the lock file
             os.unlink(f"{folder}/.one.lock")
             self.write("claimed/here/.one.lock", b"another one's")
         self.must("another one's file stays", os.listdir(folder) == [".one.lock"])

@@ -1,4 +1,4 @@
-"""Transport streams of a programme with video and Teletext, made for tests."""
+"""Make transport streams with video and Teletext."""
 from __future__ import annotations
 
 from typing import Callable, Collection, Iterable, Iterator, Mapping, NamedTuple, Sequence
@@ -7,27 +7,27 @@ from developing.multiplex import ADAPTATION_ALONE, BEGINS, PACKET, PAYLOAD, head
 from developing.pes import pts_bytes, pts_in
 from subtitles.common.times import CLOCK, TICKS, ticks_between, wrapped
 from subtitles.stream.gaps import SECOND
-from .sent import packets
+from .transmissions import packets
 
 RANDOM_ACCESS = 0x40
 PMT_PID, VIDEO_PID, AUDIO_PID, TELETEXT_PID = 0x100, 0x200, 0x201, 0x101
 NULL_PID = 0x1FFF
 MPEG_2, H_264, HEVC, PRIVATE = 0x02, 0x1B, 0x24, 0x06
-SLICES = b"\0\0\1\1" + b"slice data " * 9  # of a picture of MPEG-2
-AHEAD = 18_000  # ticks by which PTS are ahead of the PCR
+SLICES = b"\0\0\1\1" + b"slice data " * 9  # of an MPEG-2 picture
+AHEAD = 18_000  # ticks from a PCR to the PTS sent with it
 
 
 def mpeg_2_picture(structure: int = 3) -> bytes:
-    """A picture of MPEG-2: a frame, or with 1 or 2 a field."""
+    """Return an MPEG-2 picture: a frame, or a field if `structure` is 1 or 2."""
     extension = bytes([0x80, 0, structure, 0, 0])
     return b"\0\0\1\0\0\0\0\0" + b"\0\0\1\xb5" + extension + SLICES
 
 
-CLOSED_GROUP = b"\0\0\1\xb8\0\x08\0\x40"  # a GOP header of MPEG-2 with closed_gop
+CLOSED_GROUP = b"\0\0\1\xb8\0\x08\0\x40"  # an MPEG-2 GOP header with closed_gop
 
 
 def h_264_picture(field: int | None = None) -> bytes:
-    """A picture of H.264, a frame or one of two fields, behind a sequence parameter set that allows
+    """Return an H.264 picture, a frame or a field, after a sequence parameter set that allows
     fields."""
     # Baseline profile, level 3, id 0, frame_num of 4 bits, order of type 2, one reference, 16
     # macroblocks both ways, frame_mbs_only_flag 0.
@@ -39,20 +39,20 @@ def h_264_picture(field: int | None = None) -> bytes:
 
 
 def bits_of(text: str) -> bytes:
-    """Bits as bytes, with zeros after the last."""
+    """Convert a text of bits to bytes, padded with zeros."""
     digits = text.replace(" ", "")
     digits += "0" * (-len(digits) % 8)
     return bytes(int(digits[at:at + 8], 2) for at in range(0, len(digits), 8))
 
 
 def hevc_picture() -> bytes:
-    """A picture of HEVC in two slice segments."""
+    """Return an HEVC picture with two slice segments."""
     return b"\0\0\0\1\x46\x01\x50" + b"\0\0\1\x26\x01\xaf" + b"\x55" * 40 \
         + b"\0\0\1\x26\x01\x2f" + b"\x55" * 40
 
 
 def video_packet(pts: int | None, data: bytes) -> bytes:
-    """A PES packet of video, whose length is not told."""
+    """Return a PES packet of video, with PES_packet_length 0."""
     if pts is None:
         return b"\0\0\1\xe0\0\0\x80\0\0" + data
     return b"\0\0\1\xe0\0\0\x80\x80\x05" + pts_bytes(pts % CLOCK) + data
@@ -62,20 +62,20 @@ Component = tuple[int, int, bytes]  # a PID, its stream_type and its descriptors
 
 
 def program_association(pmt_pids: Iterable[tuple[int, int]]) -> bytes:
-    """A PAT: programmes by their numbers, each with the PID of its PMT."""
+    """Return a PAT with programme numbers and their PMT PIDs."""
     return section(0, 1, b"".join(number.to_bytes(2, "big") + (0xE000 | pid).to_bytes(2, "big")
                                   for number, pid in pmt_pids))
 
 
 def program_map(number: int, components: Iterable[Component], pcr_pid: int) -> bytes:
-    """The PMT of the programme with a number."""
+    """Return the PMT of a programme."""
     return section(2, number, (0xE000 | pcr_pid).to_bytes(2, "big") + b"\xf0\0" + b"".join(
         bytes([kind]) + (0xE000 | pid).to_bytes(2, "big")
         + (0xF000 | len(more)).to_bytes(2, "big") + more for pid, kind, more in components))
 
 
 class Maker:
-    """TS packets one after another; the PMT has components."""
+    """Make the TS packets of a stream with one PAT and one PMT."""
 
     def __init__(self, components: list[Component], pcr_pid: int = VIDEO_PID) -> None:
         self.packets: list[bytes] = []
@@ -87,16 +87,16 @@ class Maker:
 
     @property
     def data(self) -> bytes:
-        """The packets as bytes."""
+        """Return all packets as bytes."""
         return b"".join(self.packets)
 
     def taken(self) -> list[bytes]:
-        """The packets since the last call."""
+        """Return the packets made since the last call."""
         made, self.packets = self.packets, []
         return made
 
     def taken_of(self, pid: int) -> list[Packet]:
-        """The same, all of which are of one PID; tables are of PID 0."""
+        """Return the packets made since the last call, labelled with a PID (tables: 0)."""
         return [Packet(pid, one) for one in self.taken()]
 
     def put_tables(self) -> None:
@@ -104,7 +104,7 @@ class Maker:
             self.put_packet(pid, BEGINS, data.ljust(PACKET - 4, b"\xff"))
 
     def put_packet(self, pid: int, begins: int, payload: bytes, field: bytes = b"") -> None:
-        """A TS packet; what its payload and its adaptation field leave is stuffed."""
+        """Add a TS packet, filled up with stuffing bytes."""
         room = PACKET - 4
         control = PAYLOAD if payload else 0
         if field or len(payload) < room:
@@ -119,7 +119,7 @@ class Maker:
         self.packets.append(made)
 
     def put(self, pid: int, data: bytes, is_access: bool = False) -> None:
-        """A PES packet."""
+        """Add a PES packet."""
         first = 160 if is_access else PACKET - 4
         self.put_packet(pid, BEGINS, data[:first], bytes([RANDOM_ACCESS]) if is_access else b"")
         for at in range(first, len(data), PACKET - 4):
@@ -137,15 +137,17 @@ def teletext_descriptor(language: bytes = b"eng", kind: int = 2, page: int = 0x8
 
 def components(kind: int = MPEG_2, descriptor: bytes = teletext_descriptor(),
                pid: int = TELETEXT_PID) -> list[Component]:
-    """Video of a kind, and Teletext."""
+    """Return a video component and a Teletext component."""
     return [(VIDEO_PID, kind, b""), (pid, PRIVATE, descriptor)]
 
 
 def with_pictures(pes: bytes, first: int, kind: int = MPEG_2, picture: bytes = b"",
                   passed: int = 3, leading: int = 2) -> Maker:
-    """A stream whose first picture has this PTS. Of the video `passed` pictures come before, and
-    `leading` ones are sent after the one with the flag and shown before it: in a closed group,
-    which H.264 has not."""
+    """Make a stream whose first random access picture in display order has the PTS `first`.
+
+    `passed` pictures come before the first random access picture. `leading` pictures follow it and
+    are displayed before it, in a closed group (not with H.264).
+    """
     maker = Maker(components(kind))
     made = picture or {MPEG_2: mpeg_2_picture(), H_264: h_264_picture(),
                        HEVC: hevc_picture()}[kind]
@@ -167,9 +169,11 @@ def with_pictures(pes: bytes, first: int, kind: int = MPEG_2, picture: bytes = b
 
 
 class Programme(NamedTuple):
-    """A programme with a picture a frame: the PES packets of its PIDs with Teletext, the PTS of its
-    first picture, its video PID, which has the PCR, the frames whose pictures have the
-    random_access_indicator, and from which frames on they are by how many ticks later."""
+    """A programme with one picture a frame:
+
+    PES packets of its Teletext PIDs, the PTS of its first picture, its video PID (also its PCR
+    PID), the frames with a random_access_indicator, and delays in ticks from given frames on.
+    """
 
     pes: Mapping[int, Sequence[bytes]]
     first: int
@@ -179,8 +183,10 @@ class Programme(NamedTuple):
 
 
 def shown(programmes: Sequence[Programme], frames: int) -> Maker:
-    """Programmes in one stream, frame after frame: of each a PCR, a picture, and the PES packets of
-    Teletext that are due by then."""
+    """Make a stream of several programmes:
+
+    for each frame a PCR, a picture, and the PES packets of Teletext up to that time.
+    """
     maker, waiting = Maker([]), [{pid: [*pes] for pid, pes in one.pes.items()}
                                  for one in programmes]
     pmt_pids = range(PMT_PID, PMT_PID - len(programmes), -1)
@@ -204,8 +210,11 @@ def shown(programmes: Sequence[Programme], frames: int) -> Maker:
 
 def in_frames(pes: list[bytes], begin: int, count: int, rounds: int = 66,
               page: int = 0x88) -> Iterator[bytes]:
-    """A multiplex, frame after frame from a PTS on: a PCR, the PES packets of Teletext that are due
-    by then, and video, 16 TS packets in each of some rounds: 66 make 40 Mbit/s."""
+    """Yield a multiplex frame by frame:
+
+    a PCR, the PES packets of Teletext, and 16 video packets in each of `rounds` (66 make 40
+    Mbit/s).
+    """
     maker = Maker(components(descriptor=teletext_descriptor(page=page)))
     filler = b"".join(head(VIDEO_PID, 0, PAYLOAD | counter) + b"\x55" * (PACKET - 4)
                       for counter in range(16)) * rounds
@@ -222,14 +231,14 @@ def in_frames(pes: list[bytes], begin: int, count: int, rounds: int = 66,
 
 
 def spaced(data: bytes, size: int) -> bytes:
-    """TS packets of 188 bytes as packets of 192 or 204 bytes."""
+    """Extend TS packets of 188 bytes to 192 or 204 bytes."""
     before, behind = (b"time", b"") if size == 192 else (b"", b"\xa5" * (size - PACKET))
     return b"".join(before + data[at:at + PACKET] + behind
                     for at in range(0, len(data), PACKET))
 
 
 class Packet(NamedTuple):
-    """A TS packet: its PID, and its bytes."""
+    """A TS packet with its PID."""
 
     pid: int
     data: bytes
@@ -237,9 +246,9 @@ class Packet(NamedTuple):
 
 def stream_of(pes: list[bytes], begin: int, end: int, rate: int = 200, pid: int = TELETEXT_PID,
               before: Maker | None = None) -> tuple[list[Packet], Maker]:
-    """A multiplex from one PTS to another: so many TS packets of video and audio a second, a PCR
-    each 40 ms, tables twice a second, and PES packets of Teletext on a PID when they are due. It
-    goes on with the counters of another one."""
+    """Make a multiplex from one PTS to another with `rate` TS packets a second of video and audio,
+    a PCR each 40 ms, tables twice a second, and PES packets of Teletext. Continue the counters of
+    `before`."""
     maker = Maker(components(pid=pid))
     maker.counters = before.counters if before else maker.counters
     made: list[Packet] = []
@@ -264,7 +273,7 @@ def stream_of(pes: list[bytes], begin: int, end: int, rate: int = 200, pid: int 
 
 
 def filler(pid: int, counters: dict[int, int]) -> Packet:
-    """The next TS packet of a PID, with nothing that is looked at."""
+    """Return the next TS packet of a PID, with a meaningless payload."""
     counter = counters[pid] = counters.get(pid, 15) + 1 & 15
     return FILLERS[pid][counter]
 
@@ -273,12 +282,14 @@ FILLERS = {pid: [Packet(pid, head(pid, 0, PAYLOAD | counter) + b"\x55" * (PACKET
                  for counter in range(16)] for pid in (VIDEO_PID, AUDIO_PID, NULL_PID)}
 
 
-# A multiplex of some shape, from the first PES packet to the last.
+# A multiplex from the first PES packet to the last, with a given shape.
 
 class Shape(NamedTuple):
-    """A multiplex: TS packets a second, ticks from a PCR to the next one, whether it has null
-    packets; the frames in which no PCR is sent, and from which frame on all times are later by so
-    many ticks, which may be announced."""
+    """A multiplex:
+
+    TS packets a second, ticks between PCRs, null packets, the frames without a PCR, the frame and
+    size in ticks of a clock jump, and whether a packet announces the jump.
+    """
 
     rate: int = 1000
     every: int = 3600
@@ -289,7 +300,7 @@ class Shape(NamedTuple):
 
 
 def multiplexed(pes: list[bytes], shape: Shape) -> list[Packet]:
-    """A multiplex of some PES packets, video with the PCR, and audio."""
+    """Make a multiplex of PES packets, video with the PCR, and audio."""
     maker = Maker(components())
     maker.put_tables()
     made = maker.taken_of(0)
@@ -316,17 +327,17 @@ def multiplexed(pes: list[bytes], shape: Shape) -> list[Packet]:
 
 
 def stream(made: Iterable[Packet]) -> bytes:
-    """The bytes of a multiplex."""
+    """Return the bytes of a multiplex."""
     return b"".join(one.data for one in made)
 
 
 def announced(data: bytes) -> bytes:
-    """A TS packet that says that its clock goes on elsewhere."""
+    """Set the discontinuity_indicator of a TS packet."""
     return data[:5] + bytes([data[5] | 0x80]) + data[6:]
 
 
 def of_teletext(made: Sequence[Packet], pts: int) -> list[int]:
-    """The places of the TS packets of Teletext from the PES packet with a PTS on."""
+    """Return the places of the Teletext packets from the PES packet with a PTS on."""
     begin = pts_bytes(pts)
     first = next(at for at, one in enumerate(made)
                  if one.pid == TELETEXT_PID and begin in one.data[4:40])
@@ -335,8 +346,8 @@ def of_teletext(made: Sequence[Packet], pts: int) -> list[int]:
 
 def with_loss(made: Sequence[Packet], pts: int, count: int, is_announced: bool = False
               ) -> list[Packet]:
-    """Without so many TS packets of Teletext from a PTS on; the jump of the counter may be
-    announced, by a packet without a payload."""
+    """Delete some Teletext packets from a PTS on; a packet without a payload may announce the
+    counter jump."""
     gone = of_teletext(made, pts)[:count]
     field = bytes([PACKET - 5, 0x80]).ljust(PACKET - 4, b"\xff")
     says = Packet(TELETEXT_PID, head(TELETEXT_PID, 0, ADAPTATION_ALONE) + field)
@@ -345,22 +356,25 @@ def with_loss(made: Sequence[Packet], pts: int, count: int, is_announced: bool =
 
 
 def without(made: list[Packet], first: int, count: int) -> list[Packet]:
-    """All but what was sent from a packet of Teletext on to another one, so many behind it."""
+    """Delete everything from one Teletext packet up to a later one."""
     own = [at for at, one in enumerate(made) if one.pid == TELETEXT_PID]
     return made[:own[first]] + made[own[first + count]:]
 
 
-# PES packets behind PCR alone: on the PID that the PMT names, or on others.
+# PES packets with only PCRs, on the PID that the PMT names or on others.
 
 OLD, NEW, THIRD = TELETEXT_PID, 0x111, 0x121
-# The PES packets that come in the place of one, by its number, each with its PID.
+# The PES packets, with PIDs, that replace a PES packet.
 Carried = Callable[[int], Sequence[tuple[int, bytes]]]
 
 
 def in_turn(pes: Sequence[bytes], plan: Sequence[tuple[int, int]], carried: Carried | None = None,
             descriptor: bytes = teletext_descriptor(), ahead: int | None = AHEAD) -> bytes:
-    """A stream whose PMT names a PID from the PES packet with a number on, for each of a plan; they
-    come on it, or on those that are said, each behind a PCR unless there is none."""
+    """Make a stream whose PMT names another PID from given PES packets on.
+
+    `plan` has the number of the first PES packet and the PID. `carried` may put PES packets on
+    other PIDs. A PCR comes before each one unless `ahead` is `None`.
+    """
     maker, pid = Maker([]), 0
     for number, one in enumerate(pes):
         for begin, named in plan:
@@ -377,12 +391,12 @@ def in_turn(pes: Sequence[bytes], plan: Sequence[tuple[int, int]], carried: Carr
 
 def beside_video(pes: bytes, descriptor: bytes = teletext_descriptor(),
                  ahead: int = AHEAD) -> bytes:
-    """PES packets on one PID beside a video PID that has the PCR."""
+    """Make a stream of PES packets on one PID, with the PCR on a video PID."""
     return in_turn(packets(pes), [(0, TELETEXT_PID)], None, descriptor, ahead)
 
 
 def in_stream(*of_pids: tuple[int, bytes]) -> bytes:
-    """PES packets as a transport stream, in their time; each PID announces page 888."""
+    """Make a stream of PES packets in the order of their PTS; each PID announces page 888."""
     maker = Maker([(VIDEO_PID, MPEG_2, b""), *(
         (pid, PRIVATE, teletext_descriptor()) for pid, _ in of_pids)])
     maker.put_tables()

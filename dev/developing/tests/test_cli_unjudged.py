@@ -29,8 +29,8 @@ from subtitles.results.files import put_object
 from .bench import Case, SECONDS, example, example_bytes
 from .parts import asked_for, qc
 from .results import result
-from .sent import in_pipe
-from .test_cli_ended import ACCEPTED, HELLO, Story
+from .transmissions import in_pipe
+from .test_cli_failures import ACCEPTED, HELLO, CallCase
 
 
 class NotBegun(Case):
@@ -272,7 +272,7 @@ class NotBegun(Case):
             collection.refuse_output_names(words, Inputs(self.path("one.ts")))
 
 
-class Beside(Story):
+class Beside(CallCase):
     """One call beside others, and what its output and signals are to it."""
 
     def test_output_that_a_file_takes(self) -> None:

@@ -1,4 +1,4 @@
-"""Calls of tools/qc that end early: status 2, one line, and an object that says so."""
+"""Calls of tools/qc that end early: status 2, one line, and a JSON result with the reason."""
 from __future__ import annotations
 
 import csv
@@ -25,7 +25,7 @@ QC = tool_path("qc")
 HELLO = [example("hello.stl"), example("hello.pes")]
 ACCEPTED = "accepted 51 frames 2 transmissions"
 CONTROL = "refused 67 Control frame 10:00:00:00 packet 0"
-# A program that knows the subtitle file of the example; what it says of the recording is told it.
+# A program with fixed answers: {alone} for the subtitle file, {said} for the recording.
 PROGRAM = r"""#!/bin/sh
 case "$*" in
     show*) printf '%s\n' '00001 10:00:00:00 10:00:02:00 vp 22 jc 2 text 0d0b0b48690a0a' \
@@ -36,8 +36,8 @@ case "$*" in
 esac
 """
 EMPTY = ["refused 60 Empty", "1 faults"]
-# Answers of a program to `check`, most of which the proved one never gives, and those that lead on:
-# of a subtitle file alone, and of a recording, each by the status with which it ends.
+# Answers to `check`, most of which the real program never gives, with the valid exit of each: for a
+# subtitle file alone, and for a recording.
 ANSWERS: dict[str, tuple[list[str], str | None, str | None]] = {
     "accepted": ([ACCEPTED], None, "exit 0"), "no PES packet": (EMPTY, "exit 1", "exit 1"),
     "a fault of the subtitle file": (["refused 50 Character block 1 at 0", "1 faults"], "exit 1",
@@ -62,16 +62,16 @@ ENDS = ("exit 0", "exit 1", "exit 2", "kill -9 $$")
 
 
 class Ended(NamedTuple):
-    """How a call ended, what it printed, and its lines on standard error, but for the note that the
-    recording, which is short, tells no pace."""
+    """The status of a call, its output, and its lines on standard error without the note on the
+    pace."""
 
     status: int
     printed: list[str]
     told: list[str]
 
 
-class Story(Case):
-    """Calls of qc in this process, in a folder of their own."""
+class CallCase(Case):
+    """Calls of qc in this process."""
 
     def text(self, name: str) -> str:
         return self.read(name).decode()
@@ -79,9 +79,10 @@ class Story(Case):
     def object(self, name: str = "one.json") -> Any:
         return json.loads(self.read(name))
 
-    def saying(self, *lines: str, then: str = "exit 0", alone: Sequence[str] = EMPTY,
+    def fake_program(self, *lines: str, then: str = "exit 0", alone: Sequence[str] = EMPTY,
                then_alone: str = "exit 1") -> str:
-        """A program that says these lines of a recording, and others of a subtitle file alone."""
+        """Write a program that answers with these lines for a recording, and others for a subtitle
+        file alone."""
         text = PROGRAM.replace("{program}", self.bench.program)
         for place, some, end in (("{said}", lines, then), ("{alone}", alone, then_alone)):
             quoted = " ".join(f"'{line}'" for line in some)
@@ -89,7 +90,7 @@ class Story(Case):
         return self.write_program("program", text)
 
     def qc(self, *words: str) -> Ended:
-        """Calls qc; what it prints goes into a file."""
+        """Run qc; return its output."""
         before = os.getcwd()
         heard = [(one, signal.getsignal(one)) for one in SIGNALS]
         os.chdir(self.folder)
@@ -108,32 +109,30 @@ class Story(Case):
             return Ended(status, lines, [line for line in said if not line.endswith(FEW)])
         finally:
             os.chdir(before)
-            for one, handler in heard:  # a call that ends takes no signal any more
+            for one, handler in heard:  # a finished call ignores signals
                 signal.signal(one, handler)
 
     def judge(self, program: str, *words: str) -> Ended:
+        """Judge the example."""
         return self.qc(*HELLO, "--origin", "0", "-p", program, *words)
 
 
-class Programs(Story):
-    """What a program says, and how it ends."""
-
-    def test_only_an_answer_is_a_verdict(self) -> None:
-        """What `check` never says, or not with that status, is not judged: of a recording, of a
-        subtitle file alone, and of one beside a recording."""
+class Programs(CallCase):
+    def test_judges_only_by_a_valid_answer_of_check(self) -> None:
         for (name, (lines, of_file, of_pair)), end in itertools.product(ANSWERS.items(), ENDS):
-            alone = self.saying(alone=lines, then_alone=end, then="exit 9")
+            alone = self.fake_program(alone=lines, then_alone=end, then="exit 9")
             status = 2 if end != of_file else 0 if lines == EMPTY else 1
-            self.is_judged(f"{name}, {end}, alone", status, self.qc(
+            self.check_judged(f"{name}, {end}, alone", status, self.qc(
                 HELLO[0], "-p", alone, "--json", "one.json"))
             if end != of_file:
-                self.is_judged(f"{name}, {end}, beside", 2, self.judge(alone, "--json", "one.json"))
+                self.check_judged(f"{name}, {end}, with a recording", 2,
+                                  self.judge(alone, "--json", "one.json"))
             status = 2 if end != of_pair else 0 if end == "exit 0" else 1
-            self.is_judged(f"{name}, {end}", status, self.judge(
-                self.saying(*lines, then=end), "--json", "one.json"))
+            self.check_judged(f"{name}, {end}", status, self.judge(
+                self.fake_program(*lines, then=end), "--json", "one.json"))
 
-    def is_judged(self, name: str, status: int, done: Ended) -> None:
-        """Checks the status of a call, and its result; why it is not judged."""
+    def check_judged(self, name: str, status: int, done: Ended) -> None:
+        """Check the status of a call and its result."""
         known = self.object()
         with self.subTest(name):
             self.assertEqual((done.status, known["status"], known["line"] is None),
@@ -143,9 +142,7 @@ class Programs(Story):
                 self.assertTrue(known["reason"].startswith("check was not answered: "), done)
                 self.assertEqual(done.told, [f"qc: {known['reason']}"])
 
-    def test_only_answers_lead_to_one(self) -> None:
-        """Of the subtitle file, and of a recording: a call that says nothing, or is killed, or
-        answers with another status."""
+    def test_judges_only_if_each_call_of_the_program_succeeds(self) -> None:
         for when, several in (
                 ("check*null", ("exit 0", "kill -9 $$")), ("show*", ("exit 0", "exit 1",
                                                                      "kill -9 $$")),
@@ -168,8 +165,7 @@ class Programs(Story):
                     self.assertTrue(all(line.startswith("qc: ") for line in done.told), done)
 
     def test_ends_with_0_if_all_faults_are_waived(self) -> None:
-        """A file that names all faults warnings: status 0, and never accepted."""
-        program = self.saying(CONTROL, "1 faults", then="exit 1")
+        program = self.fake_program(CONTROL, "1 faults", then="exit 1")
         named = self.write("named", b"67 warning\n")
         done = self.judge(program, "--severity", named, "--json", "one.json", "--csv", "one.csv",
                           "--junit", "one.xml")
@@ -184,11 +180,9 @@ class Programs(Story):
         other = self.write("no", b"73 warning\n")
         self.assertEqual(self.judge(program, "--severity", other).status, 1)
 
-    def test_never_says_accepted_without_a_clock(self) -> None:
-        """Without a clock no line and no file says `accepted`, but what `check` itself said;
-        --relative makes the status 0, and the word stays."""
+    def test_never_prints_accepted_without_a_clock(self) -> None:
         self.write("profile", b"--relative\n")
-        program, line = self.saying(ACCEPTED), "relative 51 frames 2 transmissions"
+        program, line = self.fake_program(ACCEPTED), "relative 51 frames 2 transmissions"
         for words, status in (((), 3), (("--relative",), 0), (("--profile", "profile"), 0),
                               (("--strict",), 3), (("--strict", "--relative"), 0)):
             done = self.qc(*HELLO, "-p", program, *words, "--quiet", "--json", "one.json", "--csv",
@@ -216,11 +210,8 @@ class Programs(Story):
         self.assertEqual(self.judge(program, "--quiet").printed, self.judge(program).printed[-2:])
 
 
-
-class Words(Story):
-    """Usage errors, and what stands in the way of a verdict."""
-
-    def test_object_of_wrong_words(self) -> None:
+class UsageErrors(CallCase):
+    def test_writes_a_result_for_wrong_arguments(self) -> None:
         for words in ((*HELLO, "--every", "x"), (*HELLO, "--none"), (HELLO[0], "none.ts"), (),
                       ("none.stl",), (*HELLO, "more"), (*HELLO, "-p", "none"), ("--page", "8ff"),
                       (*HELLO, "--severity", "none"), ("--batch", "none"), ("--collect", "none"),
@@ -234,20 +225,18 @@ class Words(Story):
                     self.assertEqual((known["verdict"], known["status"]), ("not judged", 2))
                     self.assertEqual(done.told, [f"qc: {known['reason']}"])
 
-    def test_object_on_standard_output(self) -> None:
+    def test_prints_a_result_for_wrong_arguments(self) -> None:
         done = self.qc("--none", "--json", "-")
         self.assertEqual((done.status, json.loads("".join(done.printed))["status"]), (2, 2), done)
 
-    def test_no_input_is_replaced(self) -> None:
-        """Whatever is wrong with words, a file that holds no object stays; and where nothing is, no
-        file that is read is written to."""
+    def test_never_overwrites_an_input(self) -> None:
         for name in ("one.stl", "one.pes", "list"):
             self.write(name, b"an input")
             for words in (["one.stl", "one.pes", "--every", "x"], ["one.stl", "--none"],
                           ["--batch", "list", "--every", "x"], ["--severity", "list", "one.stl"]):
                 done = self.qc(*words, "--json", name)
                 self.assertEqual((done.status, self.read(name)), (2, b"an input"), (name, words))
-        program = self.saying(ACCEPTED)
+        program = self.fake_program(ACCEPTED)
         os.mkdir(self.path("in"))
         for name, data in (("list", f"{HELLO[0]} {self.path('in/one.pes')}\n".encode()),
                            ("in/one.stl", stl_bytes(HELLO[0])), ("severity", b"67 warning\n"),
@@ -271,15 +260,13 @@ class Words(Story):
         self.assertEqual(kept, self.read("in/one.json"))
 
 
-class Mistakes(Story):
-    """Mistakes of the tools themselves."""
-
-    def failing(self, place: str, error: Exception) -> None:
-        """A call in which a function fails has status 2, one line, and an object that says why."""
+class Bugs(CallCase):
+    def check_failing(self, place: str, error: Exception) -> None:
+        """Check the result of a call in which a function fails."""
         if os.path.exists(self.path("one.json")):
             os.unlink(self.path("one.json"))
         with mock.patch(f"subtitles.{place}", side_effect=error):
-            done = self.judge(self.saying(ACCEPTED), "--json", "one.json")
+            done = self.judge(self.fake_program(ACCEPTED), "--json", "one.json")
         known = self.object()
         self.assertEqual((done.status, len(done.told)), (2, 1), done)
         self.assertEqual((known["verdict"], known["status"]), ("not judged", 2), known)
@@ -287,18 +274,16 @@ class Mistakes(Story):
         self.assertEqual(done.told, [f"qc: {known['reason']}"])
         self.assertIn(str(error).strip("'"), known["reason"])
 
-    def test_each_step(self) -> None:
-        """An error in a step, before these, while words are read, and while a file is made."""
+    def test_reports_a_bug_in_each_step(self) -> None:
         for place in ("judging.pair.Pair.judge", "judging.pair.check_alone", "judging.timing.find",
                       "judging.pair.explained", "judging.part.Part.is_read",
                       "judging.check.Answer.take", "cli.main.make_parser", "cli.single.request_of",
                       "cli.single.CommandWords", "cli.single.found", "results.files.listed",
                       "cli.single.about_program"):
             with self.subTest(place):
-                self.failing(place, ValueError("odd"))
+                self.check_failing(place, ValueError("odd"))
 
-    def test_a_tool_that_can_not_be_loaded(self) -> None:
-        """Python's own status would be that of a refusal."""
+    def test_has_status_2_if_a_module_cannot_be_imported(self) -> None:
         done = subprocess.run(
             [sys.executable, "-c", "import sys; sys.path.insert(0, sys.argv[1]); "
              "import subtitles; import subtitles.common.nothing", os.path.join(TOP, "tools")],
