@@ -1,7 +1,7 @@
 """The base class of tests: folders, calls of the program and the tools, checks.
 
 Each test of a `Case` has its own folder, and continues after a failed check. From dev/, `python3 -m
-unittest developing.tests.test_clock_clocks` runs a module too.
+unittest developing.tests.test_clock_delays` runs a module too.
 """
 from __future__ import annotations
 

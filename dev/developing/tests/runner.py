@@ -21,7 +21,7 @@ FOLDER = os.path.dirname(os.path.realpath(__file__))
 PATTERN = "test_*.py"
 # Start the longest tests first, so that none of them runs alone at the end.
 LONG = ("test_dev_layers.Hints", "test_snapshots", "test_cli_install",
-        "test_clock_clocks.OfFfprobe", "test_dev_clones", "test_dev_gate.Gate",
+        "test_clock_delays.OfFfprobe", "test_dev_clones", "test_dev_gate.Gate",
         "test_stream_layouts", "test_cli_folders")
 Error = Union[Tuple[Type[BaseException], BaseException, TracebackType], Tuple[None, None, None]]
 Several = Sequence[unittest.TestCase]

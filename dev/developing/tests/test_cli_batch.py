@@ -1,4 +1,4 @@
-"""Many pairs: of a folder or a list, each in a process of its own."""
+"""Batches of tools/qc: pairs of a folder or a list, each judged in its own process."""
 from __future__ import annotations
 
 import argparse
@@ -34,12 +34,7 @@ from .parts import asked_for, call_words, defaults, qc
 from .results import result, row
 
 
-# Calls for many pairs, in process: lists, what is judged anew, and what is kept.
-
-
 class Lists(Case):
-    """Pairs of a list and of a folder."""
-
     def setUp(self) -> None:
         super().setUp()
         for name in ("one.stl", "one.ts", "two.stl", "x.stl"):
@@ -47,9 +42,7 @@ class Lists(Case):
         os.mkdir(self.path("folder"))
         os.mkfifo(self.path("pipe"))
 
-    def test_takes_each_line_of_a_list_as_a_pair_or_says_why_not(self) -> None:
-        """Comments and empty lines are none; each other line is a pair, or why it is none, with its
-        number; a name that comes again has a number too."""
+    def test_reads_each_line_of_a_list_or_reports_why_not(self) -> None:
         lines = ("# none\n\n{0}/one.stl {0}/one.ts --every 50 # more\n"
                  "{0}/two.stl {0}/one.ts\n"
                  "{0}/one.stl {0}/one.ts\n\"\n{0}/one.stl\n{0}/one.stl {0}/folder\n"
@@ -79,9 +72,7 @@ class Lists(Case):
             with self.assertRaises(Stop):
                 pairs_at(path, defaults())
 
-    def test_inputs_of_a_line_that_is_none(self) -> None:
-        """They are inputs all the same, as typed and from the folder of the list; whatever stands
-        behind an option too."""
+    def test_protects_the_inputs_of_an_invalid_line(self) -> None:
         path = self.write("list", b"one.stl one.ts --bogus\none.stl one.ts --pace=two.stl\n")
         for item in pairs_at(path, defaults()):
             self.must(item.name, item.asked is None and {"one.stl", self.path("one.ts")} <=
@@ -90,9 +81,7 @@ class Lists(Case):
             with self.assertRaises(files.IsInput):
                 inputs_of([item]).refuse(self.path("one.ts"), True)
 
-    def test_one_line(self) -> None:
-        """The pair of a line is as that of all: it has the name that those before it leave it. What
-        other lines name is looked at where a file is written over alone, and may be no list."""
+    def test_reads_one_line_as_in_the_complete_list(self) -> None:
         lines = [f"one.stl one.ts --within {number}" for number in range(3)] + [
             "", "# none", '"', "x.stl", "two.stl one.ts", "one.stl none.ts --origin 5"]
         path = self.write("list", "\n".join(lines).encode())
@@ -117,7 +106,6 @@ class Lists(Case):
             self.must("something is", looked.call_count == 2 + len(words), looked.call_count)
 
     def test_pairs_the_files_of_a_folder_by_name(self) -> None:
-        """Names, what lacks its other half, what is more than one, in the order of the names."""
         for name in ("B.STL", "b.TS", "c.stl", "c.ts", "c.pes", "d.m2t", "e.stl", "e.txt", "F.pes",
                      "f.stl", "f.trp", "G.stl", "g.MTS", "g.stl", "h\x1b.m2ts", "h\x1b.stl"):
             self.write(f"folder/{name}", b"")
@@ -137,15 +125,16 @@ class Lists(Case):
                       ("h\x1b.stl", "h\x1b.m2ts"))])
 
 
-class Batches(Case):
-    """A whole call for many pairs, in which a test stands for the judging."""
-
-    seen: Any = None  # how the judging was called
+class CompleteBatches(Case):
+    seen: Any = None  # the arguments of the last call of judge_all
 
     def batch(self, judged: str, *, is_stopped: bool = False, unwritten: dict[str, Any] = {},
               **more: Any) -> tuple[int, list[str], list[str]]:
-        """The status, the lines of the table, and what is told, where the pairs of a list have
-        these verdicts by and by, some of which stand in no file."""
+        """Judge a list whose pairs have these verdicts; return the status, the table and the
+        messages.
+
+        `unwritten` has results that are stored in no file.
+        """
         words = argparse.Namespace(**{**vars(defaults()), "batch": self.write("list", "".join(
             f"{self.path(name)}.stl {self.path('one.ts')}\n" for name in ("one", "two", "three")
         ).encode()), "out": None, "program": self.path("program"), "is_kept": False, "jobs": None,
@@ -179,8 +168,7 @@ class Batches(Case):
             self.write(name, b"")
         os.symlink(self.bench.program, self.path("program"))
 
-    def test_ends_a_batch_with_its_worst_status(self) -> None:
-        """The worst of all, in the order of the list; 2 where a signal left some."""
+    def test_ends_with_the_worst_status(self) -> None:
         for judged, status in (("accepted, accepted, waived", 0), ("lost, accepted, accepted", 1),
                                ("accepted, relative, waived", 3),
                                ("accepted, relative, refused", 1),
@@ -206,8 +194,7 @@ class Batches(Case):
         self.must("page", b"2 pairs: 2 accepted" in self.read("out/index.html")
                   and ".lock" not in os.listdir(self.path("out")))
 
-    def test_goes_on(self) -> None:
-        """With what is there of an earlier call, where that is asked; which needs a folder."""
+    def test_resumes_only_if_requested(self) -> None:
         earlier = {"two": row("two", "lost")}
         with mock.patch.object(batch, "resumed_rows", lambda calls, items: earlier):
             for is_resumed, kept in ((False, []), (True, ["two"])):
@@ -224,9 +211,8 @@ class Batches(Case):
             self.must(f"{more}", self.seen is None)
 
 
-# Calls for pairs in processes that are forked: what each has, how it ends, what becomes of others.
-# One writes the object of its pair, with the verdict that its subtitle file names, and ends with
-# its status, or first does to a file what is named there; where nobody ends it, 20 s later.
+# Pairs in forked processes. A fake call writes the verdict that its subtitle file names and ends
+# with its status, or first runs the command in that file; it ends itself after 20 s.
 CALL = """#!/bin/sh
 words="$*" out= object=
 while [ $# -gt 0 ]; do
@@ -249,9 +235,7 @@ exit $ends
 """
 
 
-class Judged(Case):
-    """Calls for pairs, side by side."""
-
+class ForkedPairs(Case):
     def setUp(self) -> None:
         super().setUp()
         path = self.write_program("call", CALL.replace("SECONDS", f"{SECONDS}"))
@@ -263,10 +247,11 @@ class Judged(Case):
             kept = ["-o", call.out] if call.out else ["--json", call.json or ""]
             words = [f"--name={call.name}", *["--claimed"] * call.is_claimed, *kept,
                      *["--keep"] * call.is_kept, "-p", call.program or "", *call_words(asked)]
-            for file in os.listdir("/proc/self/fd"):  # that it goes on is known by one of them
+            # inherited files keep the process visible to its parent
+            for file in os.listdir("/proc/self/fd"):
                 with contextlib.suppress(OSError):
                     os.set_inheritable(int(file), True)
-            signal.signal(signal.SIGTERM, signal.SIG_DFL)  # one that came before is heeded here
+            signal.signal(signal.SIGTERM, signal.SIG_DFL)  # an earlier signal arrives here
             os.execv(path, [path, *words])
 
         asking = mock.patch.object(batch, "judge_forked_pair", execute)
@@ -278,21 +263,20 @@ class Judged(Case):
         self.calls = PairRunner(self.typed, self.path("temporary"), self.path("out"), False)
 
     def item(self, kind: str, name: str = "one", *words: str) -> Item:
-        """A pair whose call ends so."""
+        """Return a pair whose call ends in a given way."""
         stl = self.write(f"{name}.stl", kind.encode())
         return Item(name, asked_for(stl, self.path("one.ts"), *words), None)
 
-    def judged(self, calls: PairRunner, item: Item) -> Row:
-        """The row of a pair that is judged alone."""
+    def judge_one(self, calls: PairRunner, item: Item) -> Row:
+        """Judge one pair; return its row."""
         return calls.start(item) or next(calls.finished_rows(SECONDS))
 
     def test_gives_each_call_its_files_and_options(self) -> None:
-        """Of the call for a pair: where its object goes, and what is asked."""
         for out, is_kept in ((None, False), (self.path("out"), False), (self.path("out"), True)):
             calls = PairRunner(self.typed, self.path("temporary"), out, is_kept)
             item = self.item("refused", "one", "--every", "50")._replace(name="pair")
             path = os.path.join(out or self.path("temporary"), "pair.json")
-            self.must("row", (self.judged(calls, item).name, calls.result_path(item)) == (
+            self.must("row", (self.judge_one(calls, item).name, calls.result_path(item)) == (
                 "pair", path))
             have = object_at(path)
             kept = f"-o {out}{' --keep' * is_kept}" if out else f"--json {path}"
@@ -302,8 +286,7 @@ class Judged(Case):
                 called.endswith(f" -- {self.path('one.stl')} {self.path('one.ts')}")
                 and not calls.running, have)
 
-    def test_takes_the_verdict_of_a_pair_from_its_own_object(self) -> None:
-        """By its object; where that is another's none, and nothing earlier."""
+    def test_takes_the_verdict_from_the_result_of_the_pair(self) -> None:
         for kind, verdict, line in (
                 ("accepted", "accepted", "accepted 72 Content"),
                 ("refused", "refused", "refused 72 Content"),
@@ -312,17 +295,17 @@ class Judged(Case):
             self.write("one.ts", b"1")
             item = self.item(kind, "one", "--severity", self.write("levels", b"72 error\n"))
             self.write("out/one.json", json.dumps(result("accepted")).encode())
-            found_row = self.judged(self.calls, item)
+            found_row = self.judge_one(self.calls, item)
             self.must(kind, (found_row.name, found_row.verdict, found_row.line) == (
                 "one", verdict, line), found_row)
             have = object_at(self.calls.result_path(item))
             self.must("its object", have is not None and have["verdict"] == verdict, have)
-        none = self.judged(self.calls, Item("two", None, "no pair"))
+        none = self.judge_one(self.calls, Item("two", None, "no pair"))
         self.must("no pair", (none.name, none.verdict, none.line) == (
             "two", "not judged", "no pair") and object_at(self.path("out/two.json")) == unjudged(
                 "two", "no pair") and {*os.listdir(self.path("out"))} == {"one.json", "two.json"})
         with mock.patch("os.fork", side_effect=BlockingIOError(11, "Try again")):
-            gone = self.judged(self.calls, self.item("accepted"))
+            gone = self.judge_one(self.calls, self.item("accepted"))
         self.must("no call", gone.line == "no process was begun: Try again", gone)
         for name in ("one", "two"):
             self.calls.start(self.item("waits", name))
@@ -335,9 +318,7 @@ class Judged(Case):
         self.must("it has no place", row.verdict == "not judged" and row.line.startswith("why; ")
                   and nowhere.unwritten_results["four"]["reason"] == row.line, row)
 
-    def test_does_not_judge_a_pair_that_takes_too_long(self) -> None:
-        """A pair that takes more of the processor than it may is not judged, nor one of which what
-        it calls does so and hears no signal; the one beside it is."""
+    def test_stops_a_pair_that_takes_too_long(self) -> None:
         for kind, most in (("busy", batch.GRACE_SECONDS), ("deaf", 0)):
             calls = PairRunner(self.typed, self.path("temporary"), self.path("out"), False, 1)
             with mock.patch.object(batch, "GRACE_SECONDS", most):
@@ -350,8 +331,7 @@ class Judged(Case):
         self.must("all is gone", until(
             lambda: not os.path.exists(f"/proc/{int(self.read('its'))}/fd/0")))
 
-    def test_limits_a_pair_by_the_size_of_its_files(self) -> None:
-        """By the sizes of the files, where none is given."""
+    def test_limits_the_time_by_the_size_of_the_files(self) -> None:
         for sizes, wanted in (((None, None), 60), ((0, 9_999_999), 60), ((1, 9_999_999), 61),
                               ((0, 4_000_000_000), 460)):
             found_files = {name: None if size is None else {"size": size, "modified": ""}
@@ -359,9 +339,7 @@ class Judged(Case):
             self.must(f"{sizes}", batch.default_limit(found_files) == wanted)
         self.must("none of a process that is gone", batch.cpu_seconds_of("0") == 0.0)
 
-    def test_one_that_dies(self) -> None:
-        """It costs its own pair alone, however it ends, behind its result too; what it told last is
-        its reason."""
+    def test_a_crash_affects_only_its_own_pair(self) -> None:
         ends: dict[str, Callable[[], object]] = {
             "killed": lambda: signal.raise_signal(signal.SIGKILL), "no memory": os.abort,
             "a signal": lambda: signal.raise_signal(signal.SIGTERM), "an error": lambda: 1 // 0,
@@ -382,10 +360,7 @@ class Judged(Case):
             self.must(f"{name} {is_written}", [rows[one].verdict for one in ("dies", "other")] == [
                 "not judged", "accepted"] and reason in rows["dies"].line, rows)
 
-    def test_what_a_call_has(self) -> None:
-        """Its own session, nothing to read, nobody who reads what it prints, and no file and lock
-        of who called it. Signals end it as ever, though they are held when it begins; one that is
-        ignored does not."""
+    def test_a_forked_call_has_its_own_session_and_signals(self) -> None:
         kept = open(self.write("kept", b""), "rb")
         self.addCleanup(kept.close)
 
@@ -407,7 +382,6 @@ class Judged(Case):
         self.must("all", ended == (7, [str([True] * 5)]), ended)
 
     def test_judges_each_pair_once_with_its_own_options(self) -> None:
-        """Each once, what is kept not again; the words of each are its own."""
         items = [self.item(kind, f"name{at}", *(["--strict"] if at == 1 else []))
                  for at, kind in enumerate(("accepted", "refused", "accepted", "not judged"))]
         kept = {"name2": row("name2", "waived", "kept")}
@@ -419,9 +393,7 @@ class Judged(Case):
         self.must("strict", ["--strict" in note for note in notes] == [False, True])
         self.must("not called", not os.path.exists(self.calls.result_path(items[2])))
 
-    def test_keeps_what_was_judged_before_a_signal(self) -> None:
-        """A signal ends the calls that run, and no other is begun: what was judged is kept. What
-        else ends them is told."""
+    def test_keeps_finished_results_after_a_signal(self) -> None:
         kinds = ("accepted", "waits", "waits", "waits")
         for reason in (KeyboardInterrupt(), ValueError("odd")):
             calls = PairRunner(self.typed, self.path("temporary"), self.path("out"), False)
@@ -445,8 +417,7 @@ class Judged(Case):
                       ignored.called == isinstance(reason, KeyboardInterrupt))
             self.must("objects", os.listdir(self.path("out")) == ["name0.json"])
 
-    def test_stopped_when_others_are_over(self) -> None:
-        """What was judged by then counts, though nobody had looked at it yet."""
+    def test_counts_pairs_that_ended_before_the_signal(self) -> None:
         items, taken = [self.item("accepted", f"name{at}") for at in range(3)], list[Row]()
 
         def are_over() -> bool:
@@ -464,9 +435,7 @@ class Judged(Case):
         self.must("all", sorted(rows) == sorted(one.name for one in taken) == [
             "name0", "name1", "name2"], rows)
 
-    def test_keeps_only_what_would_be_judged_the_same_now(self) -> None:
-        """What an earlier call has judged as it would be judged now; not what it did not judge, and
-        no object of another program, or that is none."""
+    def test_resumes_only_from_current_results(self) -> None:
         items = [self.item("accepted", name, "--origin", "0") for name in (
             "one", "two", "three", "four", "six", "seven", "eight")]
         items.append(Item("five", None, "no pair"))
@@ -488,9 +457,7 @@ class Judged(Case):
             self.must("kept", {name: one.verdict for name, one in rows.items()} ==
                       {"one": "refused", "four": "waived"}, rows)
 
-    def test_counts_verdicts_and_the_time_left(self) -> None:
-        """How many of which verdict, each counted by its status, and how long the others will take,
-        by those of this call."""
+    def test_prints_verdict_counts_and_the_remaining_time(self) -> None:
         rows = {word: row(word, word) for word in STATUSES if word not in (WAIVED, RELATIVE)}
         self.must("none of this call", progress_line(rows, 9, 5, 0.0) ==
                   "5 of 9 pairs: 1 accepted, 3 refused, 1 not judged")

@@ -1,4 +1,4 @@
-"""State that an earlier call left, in a folder or in a value: nothing old is taken for new."""
+"""Results of earlier calls of tools/qc: which are current, which are reused, which are refused."""
 from __future__ import annotations
 
 import argparse
@@ -31,7 +31,7 @@ from .parts import asked_for, defaults
 from .results import FAULT, result, row
 
 PROGRAM = MadeWith("1", "ab" * 32, None)
-# What is asked otherwise than by the earlier call, each by itself.
+# For each option a value that differs from that of the earlier call.
 OTHERS: dict[str, object] = {
     "page": (0, 0x87), "every": 25, "option": "german", "origin": 5, "is_complete": False,
     "pid": 257, "is_loss_allowed": True, "breaks": 1, "pes": (1, 2), "start": "10:00:00:00",
@@ -39,11 +39,10 @@ OTHERS: dict[str, object] = {
     "profile": Profile("house", "0" * 64, {})}
 
 
-class EarlierCalls(Case):
-    """What an earlier call left."""
-
-    def known(self) -> tuple[Any, dict[str, Any]]:
-        """A pair with a severity file, and the object of a call that accepted it."""
+class CurrentResults(Case):
+    def accepted_pair(self) -> tuple[Any, dict[str, Any]]:
+        """Return the request of a pair with a severity file, and the result of a call that accepted
+        it."""
         paths = [self.write(name, data) for name, data in (
             ("one.stl", example_bytes("story.stl")), ("one.pes", example_bytes("story.pes")),
             ("severity", b"72 warning\n"))]
@@ -51,27 +50,25 @@ class EarlierCalls(Case):
         return asked, result("accepted", request=REQUEST.made(asked), files_at_start=found(asked),
                              program=PROGRAM._asdict())
 
-    def test_object_of_other_words(self) -> None:
-        """An object is that of a pair with the very same words, files and program."""
-        asked, known = self.known()
-        self.must("the same", is_current(known, asked, PROGRAM))
+    def test_a_result_is_current_only_for_the_same_options(self) -> None:
+        asked, accepted_pair = self.accepted_pair()
+        self.must("the same", is_current(accepted_pair, asked, PROGRAM))
         for name, value in OTHERS.items():
             other = dataclasses.replace(asked, **{name: value})
-            self.must(name, not is_current(known, other, PROGRAM))
+            self.must(name, not is_current(accepted_pair, other, PROGRAM))
         for name in ("stl", "recording", "severity"):
             path = self.write(f"other.{name}", b"other")
             other = dataclasses.replace(asked, **{name: path})
-            self.must(f"another {name}", not is_current(known, other, PROGRAM))
+            self.must(f"another {name}", not is_current(accepted_pair, other, PROGRAM))
         none = dataclasses.replace(asked, severity=None)
-        self.must("no severity", not is_current(known, none, PROGRAM))
+        self.must("no severity", not is_current(accepted_pair, none, PROGRAM))
         names = {field.name for field in dataclasses.fields(asked)}
         self.must("all words", names == {*OTHERS, "stl", "recording", "severity", "from_time",
                                              "to_time", "layout", "is_open", "may_keep",
                                              "pace_word", "kept_stl", "language"},
-                  names)  # those that are left out here: test_options
+                  names)  # test_request_options checks those that are missing here
 
-    def test_of_one_pair(self) -> None:
-        """What it left of a pair is gone after one that does not judge."""
+    def test_removes_the_earlier_results_of_a_pair(self) -> None:
         rows: list[tuple[tuple[str, ...], int, list[str]]] = [
             ((), 1, ["story.html", "story.json", "story.txt"]),
             (("--page", "150"), 2, ["story.html", "story.json"])]
@@ -81,26 +78,25 @@ class EarlierCalls(Case):
             self.must(f"{more}", (done.status, sorted(os.listdir(self.path("out")))) == (
                 status, left), sorted(os.listdir(self.path("out"))))
 
-    def test_object_of_another_program(self) -> None:
-        asked, known = self.known()
+    def test_a_result_is_current_only_for_the_same_program(self) -> None:
+        asked, accepted_pair = self.accepted_pair()
         for name in ("version", "sha256"):
             other = PROGRAM._replace(**{name: "0" * 64})
-            self.must(name, not is_current(known, asked, other))
+            self.must(name, not is_current(accepted_pair, asked, other))
         self.must("the prover's line is no matter",
-                  is_current(known, asked, PROGRAM._replace(proved="logic=proved")))
+                  is_current(accepted_pair, asked, PROGRAM._replace(proved="logic=proved")))
         self.must("none", not is_current(unjudged("one", "why"), asked, PROGRAM))
         sums = set()
-        for data in (b"one", b"two"):  # of the same size and time
+        for data in (b"one", b"two"):  # same size and time
             os.utime(self.write("program", data), (0, 0))
             sums.add(about_program(self.path("program")).sha256)
         self.must("written anew", len(sums) == 2)
 
-    def test_object_of_files_that_changed(self) -> None:
-        """Of the first file, the second and the third: another size, another time, and none."""
+    def test_a_result_is_current_only_for_unchanged_files(self) -> None:
         for name in ("one.stl", "one.pes", "severity"):
             for what in ("longer", "later", "gone"):
-                asked, known = self.known()
-                self.must(f"{name} as it was", is_current(known, asked, PROGRAM))
+                asked, accepted_pair = self.accepted_pair()
+                self.must(f"{name} as it was", is_current(accepted_pair, asked, PROGRAM))
                 path, about = self.path(name), os.stat(self.path(name))
                 if what == "gone":
                     os.unlink(path)
@@ -110,17 +106,12 @@ class EarlierCalls(Case):
                     with open(path, "ab") as file:
                         file.write(b" ")
                     os.utime(path, ns=(about.st_atime_ns, about.st_mtime_ns))
-                self.must(f"{name} {what}", not is_current(known, asked, PROGRAM))
+                self.must(f"{name} {what}", not is_current(accepted_pair, asked, PROGRAM))
 
 
-
-class Objects(Case):
-    """Objects of earlier calls."""
-
-    def test_many_values(self) -> None:
-        """One of so many values, or names, that Python takes gigabytes for them is not judged,
-        unread; as many as may be are read."""
-        for data, words in ((b"0," * MOST_VALUES, "has more than 2,000,000 values"),
+class StoredResults(Case):
+    def test_refuses_a_result_with_too_many_values(self) -> None:
+        for data, arguments in ((b"0," * MOST_VALUES, "has more than 2,000,000 values"),
                             (b"[]," * (MOST_VALUES // 2), "has more than 2,000,000 values"),
                             (b"{}," * (MOST_VALUES // 2), "has more than 2,000,000 values"),
                             (b'0],"b":0,' + b'"b":0,' * MOST_VALUES + b'"c":[',
@@ -129,12 +120,11 @@ class Objects(Case):
             path = self.write("many.json", b'{"verdict":0,"format":%d,"a":[' % FORMAT +
                               data + b"0]}")
             with mock.patch("json.loads", side_effect=ValueError("loaded")):
-                known = object_at(path)
-            self.must(f"{data[:9]!r}", known is not None and (words or "loaded") in
-                      known["reason"], known)
+                accepted_pair = object_at(path)
+            self.must(f"{data[:9]!r}", accepted_pair is not None and (arguments or "loaded") in
+                      accepted_pair["reason"], accepted_pair)
 
-    def test_takes_a_row_of_the_table_from_each_object(self) -> None:
-        """All that a table takes of an object, and what stands there where it has none of it."""
+    def test_makes_a_table_row_of_each_result(self) -> None:
         faults = [{**FAULT, "line": f"refused {number}", "number": 5, "name": "X"}
                   for number in range(120)]
         causes = {"late": 2, "early": 1}
@@ -157,9 +147,7 @@ class Objects(Case):
         self.must("judged", row_of_object(result(), "x").is_judged and not row_of_object(
             unjudged("x", "why"), "x").is_judged)
 
-    def test_does_not_judge_by_an_object_of_another_format_or_shape(self) -> None:
-        """An object of another format or shape is not judged, by its name and with where it is so;
-        something else is no object."""
+    def test_refuses_results_of_another_format_or_shape(self) -> None:
         path = self.path("one.json")
         changes: list[tuple[dict[str, Any], str]] = [
             ({"format": 3}, ""), ({"format": None}, ".format"), ({"status": 0}, ".verdict"),
@@ -183,37 +171,34 @@ class Objects(Case):
         goods: list[dict[str, Any]] = [{}, {"faults": [FAULT, FAULT]}, {"seconds": 5},
                                        result("not judged"), result("waived"), result("lost")]
         for change in goods:
-            known = {**result(), **change}
-            self.write("one.json", json.dumps(known).encode())
-            self.must(f"{change}", object_at(path) == known)
+            accepted_pair = {**result(), **change}
+            self.write("one.json", json.dumps(accepted_pair).encode())
+            self.must(f"{change}", object_at(path) == accepted_pair)
         for text, is_one in ((b"[]", False), (b"{}", False), (b"{", True), (b"\xff", True)):
             self.write("one.json", text)
             self.must(f"{text!r}", (object_at(path) is not None) == is_one)
         self.must("not there", (object_at(self.path("none.json")) or {}).get("name") == "none")
 
-    def test_shape_of_no_pair(self) -> None:
-        """What is no pair is not judged, whatever it says."""
+    def test_refuses_an_inconsistent_result_without_a_pair(self) -> None:
         none = unjudged("one", "why")
         others: list[dict[str, Any]] = [{}, {"line": "accepted"}]
         for word, status, reason, opened in itertools.product(
                 (*STATUSES, "other", None), (0, 1, 2, None), ("why", "", None), others):
-            known = {**none, "verdict": word, "status": status, "reason": reason, **opened}
-            self.write("one.json", json.dumps(known).encode())
+            accepted_pair = {**none, "verdict": word, "status": status, "reason": reason, **opened}
+            self.write("one.json", json.dumps(accepted_pair).encode())
             is_one = (word, status, reason, opened) == ("not judged", 2, "why", {})
             found = object_at(self.path("one.json")) or {}
-            if (found == known) != is_one or row_of_object(found, "one").status != 2:
-                self.must(f"{known}", False, found)
+            if (found == accepted_pair) != is_one or row_of_object(found, "one").status != 2:
+                self.must(f"{accepted_pair}", False, found)
 
-    def test_of_a_folder(self) -> None:
-        """In the order of their names; other files, hidden ones and folders are passed over."""
+    def test_reads_only_visible_json_files_in_order(self) -> None:
         for name in ("b.json", "a.json", ".c.json", "d.txt", "e.jsonl"):
             self.write(name, json.dumps(result()).encode())
         os.mkdir(self.path("f.json"))
         names = [os.path.basename(path) for path, _ in objects_in(self.folder)]
         self.must("names", names == ["a.json", "b.json"], names)
 
-    def test_left_by_a_call(self) -> None:
-        """An object counts with the status that the call ended with; else what it told last."""
+    def test_takes_a_result_only_with_its_own_status(self) -> None:
         path = self.path("one.json")
         for verdict, ended, is_its in (("refused", 1, True), ("refused", 0, False),
                                        ("accepted", 0, True), ("accepted", 2, False),
@@ -228,8 +213,7 @@ class Objects(Case):
         self.must("none", left_by_call(path, "one", 2, [])["reason"] ==
                   "the process left no result")
 
-    def test_may_be_replaced(self) -> None:
-        """An object, an empty file and what is not there; nothing else."""
+    def test_replaces_only_results_and_empty_files(self) -> None:
         for data, wanted in ((b"{", True), (b"", True), (b"GSI", False), (b" {", False),
                              (b'{"a', True)):
             self.must(f"{data!r}", may_take(self.write("x", data)) == wanted)
@@ -240,38 +224,36 @@ class Objects(Case):
         self.must("not there", may_take(self.path("none")) and may_take("/dev/zero"))
 
 
-class Watched(Case):
-    """A folder that is watched."""
-
-    def words(self, **more: Any) -> argparse.Namespace:
-        words = argparse.Namespace(**vars(defaults()))
-        vars(words).update({"watch": self.path("in"), "out": self.path("out"), "settled": 0,
+class WatchedFolders(Case):
+    def arguments(self, **more: Any) -> argparse.Namespace:
+        """Return the arguments of `--watch`."""
+        arguments = argparse.Namespace(**vars(defaults()))
+        vars(arguments).update({"watch": self.path("in"), "out": self.path("out"), "settled": 0,
                             "is_kept": True, "jobs": 3, "limit": 7, "every": 99,
                             **more})
-        return words
+        return arguments
 
     def write_pair(self) -> None:
-        """The folder that is watched, with one pair."""
+        """Make the watched folder with one pair."""
         os.mkdir(self.path("in"))
         for name in ("in/a.stl", "in/a.ts"):
             self.write(name, b"1")
 
-    def test_watches_two_folders_that_are_there(self) -> None:
-        """Both are there, and two; that for objects is made."""
-        self.assertRaises(Stop, refuse_folders, self.words(out=None))
-        self.assertRaises(Stop, refuse_folders, self.words())
+    def test_requires_two_different_folders(self) -> None:
+        self.assertRaises(Stop, refuse_folders, self.arguments(out=None))
+        self.assertRaises(Stop, refuse_folders, self.arguments())
         os.mkdir(self.path("in"))
-        refuse_folders(self.words())
+        refuse_folders(self.arguments())
         self.must("made", os.path.isdir(self.path("out")))
         os.symlink("in", self.path("link"))
         for name in ("in", "link"):
-            self.assertRaises(Stop, refuse_folders, self.words(out=self.path(name)))
+            self.assertRaises(Stop, refuse_folders, self.arguments(out=self.path(name)))
         for name in ("out/index.html", "out/.lock"):
-            self.assertRaises(Stop, refuse_folders, self.words(name=self.write(name, b"theirs")))
+            path = self.write(name, b"theirs")
+            self.assertRaises(Stop, refuse_folders, self.arguments(name=path))
             os.unlink(self.path(name))
 
-    def test_prints_a_line_for_each_verdict_and_writes_the_page_over_all(self) -> None:
-        """A line for each, and the page over all, also of what an earlier call left."""
+    def test_prints_each_verdict_and_updates_the_index(self) -> None:
         for name in ("in", "out"):
             os.mkdir(self.path(name))
         for name in ("old", "older"):
@@ -294,14 +276,13 @@ class Watched(Case):
         results.next_page = 0.0
         with contextlib.redirect_stdout(out), contextlib.redirect_stderr(io.StringIO()) as told, \
                 mock.patch.object(collection, "result_file", side_effect=OSError(28, "full")):
-            results.add(row("c", "accepted", "accepted 5"))  # it goes on where no page is written
+            # it continues if the page can't be written
+            results.add(row("c", "accepted", "accepted 5"))
         self.must("told", "full" in told.getvalue() and "c  accepted" in out.getvalue())
         self.must("once more", "4 pairs: 2 accepted, 1 not judged, 1 refused" in self.read(
             "out/index.html").decode())
 
-    def test_page_over_many(self) -> None:
-        """The more pairs it has, the more seldom it is written again: else a folder would take the
-        square of their number. The last verdict is on it in the end."""
+    def test_writes_the_index_of_many_pairs_less_often(self) -> None:
         os.mkdir(self.path("out"))
         results, pages = collection.FolderRows(self.path("out")), list[int]()
         results.rows = {f"{number}": row(f"{number}", "accepted") for number in range(9999)}
@@ -320,9 +301,9 @@ class Watched(Case):
                         results.write_page(is_last=what == "last")
                 self.check(f"{now}: {what}", len(pages), count)
 
-    def looked(self, looks: int, judged: Callable[[PairRunner, Item], Row],
+    def run_watch(self, looks: int, judged: Callable[[PairRunner, Item], Row],
                change: Callable[[int], None] = lambda look: None) -> list[str]:
-        """The lines of a call that watches, which looks so many times."""
+        """Return the lines of a call that looks at the folder a number of times."""
         count = 0
 
         def next_look(seconds: float) -> None:
@@ -344,13 +325,11 @@ class Watched(Case):
                 mock.patch.object(batch, "judge_next", judge), \
                 contextlib.redirect_stdout(io.StringIO()) as out:
             os.symlink(self.bench.program, self.path("program"))
-            status = batch.watch(self.words(program=self.path("program")), "tools/qc")
+            status = batch.watch(self.arguments(program=self.path("program")), "tools/qc")
         self.must("its status", status == 2, status)
         return [line[21:] for line in out.getvalue().splitlines()]
 
-    def test_what_earlier_calls_left(self) -> None:
-        """What has a result as it is now is not judged again, and each result is read once,
-        however often the folder is looked at."""
+    def test_judges_only_pairs_without_a_current_result(self) -> None:
         for name in ("in", "out"):
             os.mkdir(self.path(name))
         program = about_program(self.bench.program)
@@ -369,12 +348,11 @@ class Watched(Case):
 
         with mock.patch("subtitles.results.files.object_at", read), \
                 mock.patch("subtitles.cli.batch.object_at", read):
-            lines = self.looked(6, lambda calls, item: row(item.name, "accepted"))
+            lines = self.run_watch(6, lambda calls, item: row(item.name, "accepted"))
         self.must("judged", lines == ["b  accepted"], lines)
         self.must("read", sorted(reads) == ["a.json", "b.json", "c.json"], reads)
 
-    def test_pair_in_use(self) -> None:
-        """One whose files another call was writing is told once, and judged again at each look."""
+    def test_reports_a_locked_pair_once_and_retries(self) -> None:
         self.write_pair()
         begun = list[str]()
 
@@ -385,13 +363,12 @@ class Watched(Case):
             return row_of
 
         with claim_pair(self.path("out"), "a"):
-            lines = self.looked(5, judged)
+            lines = self.run_watch(5, judged)
         self.must("once", len(lines) == 1 and "another call is writing the files of a" in lines[0]
                   and not os.path.exists(self.path("out/a.json")), lines)
         self.must("at each look but the first", begun == ["a"] * 4, begun)
 
-    def test_pair_that_was_in_use(self) -> None:
-        """Once the other call has ended it is judged, and no more as long as it stays as it is."""
+    def test_judges_a_locked_pair_once_it_is_free(self) -> None:
         self.write_pair()
         begun = list[bool]()
 
@@ -403,13 +380,11 @@ class Watched(Case):
         other = contextlib.ExitStack()
         other.enter_context(claim_pair(self.path("out"), "a"))
         with other, mock.patch.object(PairRunner, "start_claimed", return_value=None):
-            lines = self.looked(8, judged, lambda look: other.close() if look == 4 else None)
+            lines = self.run_watch(8, judged, lambda look: other.close() if look == 4 else None)
         self.must("judged once", begun == [False, False, False, True] and len(lines) == 2 and
                   lines[1] == "a  accepted", (begun, lines))
 
-    def test_what_changes(self) -> None:
-        """A pair is judged once as it is, and again when it has changed; what comes meanwhile is
-        judged at the next look."""
+    def test_judges_a_pair_again_when_it_changes(self) -> None:
         self.write_pair()
 
         def change(look: int) -> None:
@@ -417,12 +392,10 @@ class Watched(Case):
                 for name in ("in/a.ts", "in/b.stl", "in/b.ts"):
                     self.write(name, b"1" * look)
 
-        lines = self.looked(9, lambda calls, item: row(item.name, "accepted"), change)
+        lines = self.run_watch(9, lambda calls, item: row(item.name, "accepted"), change)
         self.must("judged", lines == [f"{name}  accepted" for name in "aabab"], lines)
 
-    def test_what_changes_back(self) -> None:
-        """What an earlier call has judged is not taken for what comes back later: a pair that
-        changes is judged each time."""
+    def test_judges_a_pair_again_when_it_changes_back(self) -> None:
         self.write_pair()
         os.mkdir(self.path("out"))
         asked, path = asked_for(self.path("in/a.stl"), self.path("in/a.ts"), "--every", "99"), \
@@ -437,11 +410,10 @@ class Watched(Case):
                 self.write("in/a.ts", b"1" * (1 + (look == 2)))
                 os.utime(path, ns=(before, before))
 
-        lines = self.looked(9, lambda calls, item: row(item.name, "accepted"), change)
+        lines = self.run_watch(9, lambda calls, item: row(item.name, "accepted"), change)
         self.must("each time", lines == ["a  accepted"] * 2, lines)
 
-    def test_what_is_no_pair(self) -> None:
-        """It is told once, and again where its reason is another one."""
+    def test_reports_each_reason_of_an_incomplete_pair_once(self) -> None:
         os.mkdir(self.path("in"))
         watch, told = FolderWatch(self.path("in"), 0), io.StringIO()
         with contextlib.redirect_stderr(told):

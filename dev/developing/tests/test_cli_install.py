@@ -1,4 +1,4 @@
-"""Installed tools, and houses that send otherwise."""
+"""Installed and packaged tools; batches that are killed or stopped, and watched folders."""
 from __future__ import annotations
 
 import glob
@@ -23,8 +23,6 @@ from .bench import Case, Done, SECONDS, example, example_bytes, tool_path
 from .programmes import until
 
 
-# tools/install and dev/dist: what they make is run from another folder.
-
 COMPLETE = '''source "$1"
 COMP_WORDS=("${@:2}")
 COMP_CWORD=$((${#COMP_WORDS[@]} - 1))
@@ -33,8 +31,8 @@ printf '%s\\n' "${COMPREPLY[@]}"
 '''
 
 
-def runs_the_whole_way(case: Case, prefix: str) -> None:
-    """From a recording to a verdict, with the tools of a prefix."""
+def check_installation(case: Case, prefix: str) -> None:
+    """Check that installed tools judge a recording."""
     def run(name: str, *words: str) -> Done:
         return case.call([os.path.join(prefix, "bin", name), *words], env=plain_environment())
 
@@ -57,9 +55,8 @@ def runs_the_whole_way(case: Case, prefix: str) -> None:
     case.must("documents in the help", len(named) == 2 and all(map(os.path.isfile, named)), named)
 
 
-def proved_here(case: Case) -> str:
-    """The file PROVED beside the program; the test is passed over where the gate has not proved
-    that."""
+def proof_file(case: Case) -> str:
+    """Return the path of PROVED; skip the test if the gate has not proved the program."""
     program, _ = chosen(TOP)
     proved = os.path.join(os.path.dirname(program), "PROVED")
     if not program or lacking(parsed(read(proved))):
@@ -68,7 +65,7 @@ def proved_here(case: Case) -> str:
 
 
 def is_compiled(folder: str) -> bool:
-    """Whether each module has a file that Python takes without a look at the times of that."""
+    """Return whether each module has a compiled file that Python uses without comparing times."""
     for place, _, names in os.walk(folder):
         for name in names:
             if not name.endswith(".py"):
@@ -78,16 +75,13 @@ def is_compiled(folder: str) -> bool:
             if not os.path.exists(made):
                 return False
             with open(made, "rb") as file:
-                if file.read(8)[4:] != bytes([1, 0, 0, 0]):  # by its sum, which nobody compares
+                if file.read(8)[4:] != bytes([1, 0, 0, 0]):  # unchecked hash-based .pyc
                     return False
     return True
 
 
-class Installed(Case):
-    """What is installed and packed."""
-
-    def test_installed_tools_run_in_a_folder_that_was_moved(self) -> None:
-        """The program and the tools, also when the folder was moved."""
+class Installation(Case):
+    def test_installed_tools_run_from_a_moved_folder(self) -> None:
         done = self.tool("install", "-p", self.bench.program, "first/prefix")
         self.must("status", done.status == 0, done)
         os.rename(self.path("first/prefix"), self.path("moved"))
@@ -97,10 +91,9 @@ class Installed(Case):
         again = self.tool("install", "-p", self.bench.program, "moved")
         self.must("once more over it", again.status == 0, again)
         self.must("compiled", is_compiled(self.path("moved/lib/subttx/tools/subtitles")))
-        runs_the_whole_way(self, self.path("moved"))
+        check_installation(self, self.path("moved"))
 
-    def test_removes_all_that_was_installed_and_nothing_else(self) -> None:
-        """All that was installed goes, and its folders where nobody else has a file in them."""
+    def test_removes_only_what_was_installed(self) -> None:
         tool = ("install", "--remove")
         done = self.tool("install", "-p", self.bench.program, "own/prefix")
         told = done.out.decode().splitlines()
@@ -119,7 +112,7 @@ class Installed(Case):
         os.makedirs(self.path("shared/share/man/man1"))
         self.write("shared/bin/subttx-own", b"of somebody else")
         self.tool("install", "-p", self.bench.program, "shared")
-        self.tool("install", "-p", self.bench.program, "shared")  # once more over it
+        self.tool("install", "-p", self.bench.program, "shared")  # a second time over it
         self.write("shared/share/man/other", b"")
         os.symlink("../lib/subttx/tools/older", self.path("shared/bin/subttx-older"))
         done = self.tool(*tool, "shared")
@@ -135,9 +128,7 @@ class Installed(Case):
             done = self.tool(*words)
             self.must(" ".join(words[1:]), done.status == 2 and len(done.told) == 1, done)
 
-    def test_has_no_dead_links(self) -> None:
-        """Each link of an installed document leads to a file there, and each tool that an example
-        of the manual calls beside the program is installed."""
+    def test_installed_documents_have_no_dead_links(self) -> None:
         self.tool("install", "-p", self.bench.program, "prefix")
         home = self.path("prefix/lib/subttx")
         paths = [path for path in glob.glob(os.path.join(home, "**", "*.md"), recursive=True)
@@ -160,7 +151,6 @@ class Installed(Case):
         self.must("their words", text == "a `b` [c](http://d) e", text)
 
     def test_completes_commands_and_options(self) -> None:
-        """Commands, and the options of each command that the manual names; those of a tool."""
         if not shutil.which("bash"):
             self.skipTest("completion, since there is no bash")
 
@@ -181,7 +171,7 @@ class Installed(Case):
         self.must("qc", {"--batch", "--allow-lost", "--severity", "-o"} <= offered(tool, "-"),
                   offered(tool, "-"))
 
-    def test_names_one_version(self) -> None:
+    def test_manual_pages_and_change_log_have_the_version(self) -> None:
         version = (read(os.path.join(TOP, "VERSION")) or "none").strip()
         for name in PAGES:
             page = read(os.path.join(TOP, "docs", name)) or ""
@@ -189,9 +179,8 @@ class Installed(Case):
         log = re.search(r"^## (\S+), \d", read(os.path.join(TOP, "CHANGELOG.md")) or "", re.M)
         self.must("the first of the change log with a date", log and log[1] == version, log)
 
-    def test_makes_an_archive(self) -> None:
-        """The archive's sums are right, and what is in it runs; twice the same bytes."""
-        proved = proved_here(self)
+    def test_makes_a_reproducible_archive(self) -> None:
+        proved = proof_file(self)
         done = self.tool("dist")
         path = self.path(done.out.decode().strip())
         self.must("status", done.status == 0, done)
@@ -208,12 +197,10 @@ class Installed(Case):
         sums = subprocess.run(["sha256sum", "--quiet", "-c", "SHA256SUMS"], cwd=folder, check=False)
         self.must("its sums", sums.returncode == 0)
         self.must("what was proved", read(os.path.join(folder, "PROVED")) == read(proved))
-        runs_the_whole_way(self, folder)
+        check_installation(self, folder)
 
-    def test_makes_a_package(self) -> None:
-        """A package of Debian: twice the same bytes, unpacked it judges, and lintian finds no
-        error."""
-        proved = proved_here(self)
+    def test_makes_a_reproducible_debian_package(self) -> None:
+        proved = proof_file(self)
         if not shutil.which("dpkg-deb"):
             self.skipTest("dev/dist --deb, since there is no dpkg-deb")
         done = self.tool("dist", "--deb")
@@ -239,7 +226,7 @@ class Installed(Case):
             self.must(name, done.status == 0 and is_compiled(self.path(f"empty{shared}"))
                       == is_there, done)
             if is_there:
-                runs_the_whole_way(self, self.path("empty/usr"))
+                check_installation(self, self.path("empty/usr"))
         if shutil.which("lintian"):
             done = self.call(["lintian", "--allow-root", "--fail-on", "error", path])
             self.must("lintian", done.status == 0, done)
@@ -247,9 +234,7 @@ class Installed(Case):
             self.bench.over.append("the package by lintian, which is not there")
 
 
-# tools/qc in a house: a batch that goes on, hostile names, a folder that is watched.
-
-SETTLED = 2  # seconds after which a file is whole
+SETTLED = 2  # seconds without a change after which a file is complete
 HOSTILE = [b"\xff\xfe", b"caf\xe9", "caf\u00e9".encode(), b"-o", b"--help", b"=1+2", b"\x1b[31mred",
            b"two\nlines", b"tab\there", b" leading", b"trailing ", b"a  b", b"$(date)", b"`date`",
            b"*", b"?", b"[a]", b"a;b", b"a|b&c", b"#one", b"100%", b"back\\slash", b"it's\"",
@@ -261,7 +246,7 @@ def qc(case: Case, *words: str) -> Done:
 
 
 def fill(case: Case, folder: str, count: int) -> None:
-    """A folder with pairs, of which the second is refused."""
+    """Write pairs into a folder; the second is refused."""
     os.mkdir(case.path(folder))
     for number in range(1, count + 1):
         is_broken = number == 2
@@ -270,9 +255,12 @@ def fill(case: Case, folder: str, count: int) -> None:
                    example_bytes("no-erase.pes" if is_broken else "hello.pes"))
 
 
-def waiting_program(case: Case, count: int) -> str:
-    """The program, which counts the transmissions that it checks, and behind so many of them waits
-    until it may go on: a second look, whether `--keeping` accepts it, is none."""
+def blocking_program(case: Case, count: int) -> str:
+    """Write a program that counts its checks, and waits before the check after `count` until a file
+    exists.
+
+    Checks with `--keeping` are not counted.
+    """
     case.write("checked", b"")
     script = ("#!/bin/sh\n"
               "case $* in *--keeping*) ;; check*--pes*--all*) echo one >>'{0}'\n"
@@ -284,18 +272,19 @@ def waiting_program(case: Case, count: int) -> str:
 
 
 def count_judged(case: Case) -> int:
-    """How many pairs were judged: a transmission is checked once."""
+    """Return the number of judged pairs."""
     return len(case.read("checked").splitlines())
 
 
-def judges_another(case: Case, folder: str, count: int) -> bool:
-    """Whether there come so many objects in a folder, and the next pair is being judged."""
+def reaches_pair(case: Case, folder: str, count: int) -> bool:
+    """Wait for `count` results in a folder and the check of the next pair; return whether they
+    came."""
     return until(lambda: os.path.isdir(case.path(folder)) and count_judged(case) == count + 1
-                 and len(objects_in(case, folder)) == count)
+                 and len(results_in(case, folder)) == count)
 
 
-def objects_in(case: Case, folder: str) -> dict[str, Any]:
-    """The objects in a folder, each of which has to be whole."""
+def results_in(case: Case, folder: str) -> dict[str, Any]:
+    """Return the JSON results in a folder."""
     found = {}
     for name in os.listdir(case.path(folder)):
         if name.endswith(".json") and not name.startswith("."):
@@ -303,9 +292,9 @@ def objects_in(case: Case, folder: str) -> dict[str, Any]:
     return found
 
 
-def comes_slowly(case: Case, name: str) -> float:
-    """Writes a pair, its recording in parts, for longer than a file has to be the same; for how
-    long it was the same at the most, which may be long on a machine that does other things too."""
+def write_slowly(case: Case, name: str) -> float:
+    """Write a pair whose recording grows for longer than the settle time; return the longest pause
+    in seconds."""
     data, longest = example_bytes("recording.ts"), 0.0
     case.write(f"{name}.stl", example_bytes("story.stl"))
     last = time.monotonic()
@@ -318,13 +307,13 @@ def comes_slowly(case: Case, name: str) -> float:
     return longest
 
 
-def put(case: Case, name: str, of: str) -> None:
-    """Puts an example under a name at once: nobody sees a part of it."""
+def rename_example(case: Case, name: str, of: str) -> None:
+    """Create a file in one step with the content of an example."""
     os.rename(case.write("whole", example_bytes(of)), case.path(name))
 
 
-def judges_what_comes(case: Case, process: subprocess.Popen[bytes]) -> None:
-    """What a call that watches does of files that come slowly, at once, and again."""
+def check_watch(case: Case, process: subprocess.Popen[bytes]) -> None:
+    """Check how a watching call judges slow files, complete files and changed files."""
     def lines() -> list[str]:
         told = [line.partition("  ")[2] for line in case.read("log").decode().splitlines()
                 if line[:1].isdecimal()]
@@ -333,7 +322,7 @@ def judges_what_comes(case: Case, process: subprocess.Popen[bytes]) -> None:
     too_slow = set[str]()
     case.write("in/lone.stl", example_bytes("story.stl"))
     for name in map("slow {}".format, itertools.count()):
-        if comes_slowly(case, f"in/{name}") < SETTLED:
+        if write_slowly(case, f"in/{name}") < SETTLED:
             break
         too_slow.add(name)
     whole = [f"{name}  relative: no clock was given"]
@@ -341,12 +330,12 @@ def judges_what_comes(case: Case, process: subprocess.Popen[bytes]) -> None:
     case.must("when it is whole", until(lambda: lines() == whole), lines())
     case.must("a file without a partner, once", until(
         lambda: case.read("log").count(b"lone.stl: no recording") == 1), case.read("log"))
-    put(case, "in/now.stl", "hello.stl")
-    put(case, "in/now.pes", "no-erase.pes")
+    rename_example(case, "in/now.stl", "hello.stl")
+    rename_example(case, "in/now.pes", "no-erase.pes")
     case.write("in/now.done", b"")
     case.must("at once", until(lambda: any(line.startswith("now  refused: 67 Control ")
                                            for line in lines())), lines())
-    put(case, "in/now.pes", "hello.pes")
+    rename_example(case, "in/now.pes", "hello.pes")
     case.must("again", until(
         lambda: "now  relative: no clock was given" in lines()), lines())
     process.send_signal(signal.SIGTERM)
@@ -355,22 +344,18 @@ def judges_what_comes(case: Case, process: subprocess.Popen[bytes]) -> None:
               case.read("log"))
 
 
-class Sites(Case):
-    """Batches that end early, folders that are watched."""
-
-    def test_goes_on_after_a_kill(self) -> None:
-        """A batch that is killed leaves whole objects, also of the call that was running, which
-        ends by itself; the next one judges the others alone."""
+class StoppedCalls(Case):
+    def test_resumes_after_a_kill(self) -> None:
         fill(self, "in", 4)
-        program = waiting_program(self, 1)
+        program = blocking_program(self, 1)
         words = [tool_path("qc"), "--batch", "in", "-o", "out", "--jobs", "1", "-p", program]
         with subprocess.Popen(words, cwd=self.folder, stdout=subprocess.DEVNULL,
                               stderr=subprocess.DEVNULL) as process:
-            came = judges_another(self, "out", 1)
+            came = reaches_pair(self, "out", 1)
             process.kill()
         self.write("goes on", b"")
-        self.must("both are judged", came and until(lambda: len(objects_in(self, "out")) == 2))
-        kept = set(objects_in(self, "out"))
+        self.must("both are judged", came and until(lambda: len(results_in(self, "out")) == 2))
+        kept = set(results_in(self, "out"))
         for again in (2, 0):
             before = count_judged(self)
             done = self.tool("qc", "--batch", "in", "-o", "out", "--resume", "-p", program)
@@ -379,17 +364,15 @@ class Sites(Case):
             self.must("all are told", done.status == 1 and
                       done.out.decode().splitlines()[-1] == "4 pairs: 3 relative, 1 refused", done)
 
-    def test_tells_what_is_judged_when_it_is_stopped(self) -> None:
-        """By a signal a batch ends with what it has: the table, the files, and how many there were.
-        """
+    def test_writes_what_was_judged_before_a_signal(self) -> None:
         fill(self, "in", 6)
         for one in (signal.SIGINT, signal.SIGTERM, signal.SIGHUP):
-            name, out, program = one.name, f"out.{one.name}", waiting_program(self, 2)
+            name, out, program = one.name, f"out.{one.name}", blocking_program(self, 2)
             words = [tool_path("qc"), "--batch", "in", "-o", out, "--jobs", "1", "-p", program,
                      "--json", "all.json"]
             with subprocess.Popen(words, cwd=self.folder, stdout=subprocess.PIPE,
                                   stderr=subprocess.PIPE) as process:
-                came = judges_another(self, out, 2)
+                came = reaches_pair(self, out, 2)
                 process.send_signal(one)
                 lines, told = (text.decode().splitlines() for text in process.communicate())
             known = json.loads(self.read("all.json"))
@@ -404,8 +387,7 @@ class Sites(Case):
             self.must(f"{name}: the page", self.read(f"{out}/index.html").count(
                 b'.html">') == count)
 
-    def test_judges_hostile_names(self) -> None:
-        """Names that a shell, a terminal, a page or a table would take for something else."""
+    def test_a_batch_judges_hostile_names(self) -> None:
         os.mkdir(self.path("in"))
         for name in HOSTILE:
             for ending, data in ((b".stl", "hello.stl"), (b".pes", "hello.pes")):
@@ -419,7 +401,7 @@ class Sites(Case):
         self.must("a line each", len(lines) == len(HOSTILE) + 2, lines)
         self.must("nothing that a terminal obeys", not re.search(
             "[\x00-\x09\x0b-\x1f\x7f\x9b\u202e]", done.out.decode()), done.out)
-        self.must("an object each", len(objects_in(self, "out")) == len(HOSTILE))
+        self.must("an object each", len(results_in(self, "out")) == len(HOSTILE))
         page = self.read("out/index.html").decode()
         links = [unquote(link) for link in re.findall(r'href="\./([^"]+)"', page)]
         self.must("its links", len(links) == 3 * len(HOSTILE) and all(
@@ -428,26 +410,24 @@ class Sites(Case):
         self.must("files for machines", self.read("all.csv").decode() and
                   len(tree.fromstring(self.read("all.xml"))[0]) == len(HOSTILE))
 
-    def test_watches_a_folder(self) -> None:
-        """A pair is judged when both files are whole, again when one changes, and not twice."""
+    def test_judges_a_watched_pair_when_it_is_complete_or_changes(self) -> None:
         os.mkdir(self.path("in"))
         words = [tool_path("qc"), "--watch", "in", "-o", "out", "--settled", str(SETTLED), "-p",
                  self.bench.program]
         with open(self.path("log"), "wb") as log, subprocess.Popen(
                 words, cwd=self.folder, stdout=log, stderr=log) as process:
             try:
-                judges_what_comes(self, process)
+                check_watch(self, process)
             finally:
                 process.kill()
 
-    def test_signal_while_a_pair_is_judged(self) -> None:
-        """It has no result, and is judged after a new start."""
+    def test_an_interrupted_pair_has_no_result(self) -> None:
         os.mkdir(self.path("in"))
         for name in ("one.stl", "one.pes"):
             self.write(f"in/{name}", example_bytes(name.replace("one", "hello")))
         self.write("in/one.done", b"")
         slow = self.program_but("*check*", f"touch '{self.path('begun')}'; exec sleep {SECONDS}")
-        # The line of a pair comes behind its result, when nothing of it can be stopped any more.
+        # After a pair's line is printed, a signal no longer stops it.
         for program, wanted, words_in in ((slow, "begun", b""),
                                           (self.bench.program, "said", b"relative")):
             words = [tool_path("qc"), "--watch", "in", "-o", "out", "-p", program]
@@ -462,7 +442,6 @@ class Sites(Case):
         self.must("judged", json.loads(self.read("out/one.json"))["verdict"] == "relative")
 
     def test_has_units(self) -> None:
-        """The units of the manual, with a path that exists here."""
         if not shutil.which("systemd-analyze"):
             self.skipTest("the units, since there is no systemd-analyze")
         for name in ("watch",):

@@ -1,4 +1,4 @@
-"""One pair: what is said at its end, in which order, and what is written of it."""
+"""The end of a call of tools/qc for one pair: its last lines, its files and its page."""
 from __future__ import annotations
 
 import contextlib
@@ -32,21 +32,19 @@ from subtitles.stream.gaps import Place
 from .bench import Case, example
 from .judged import Heard
 from .parts import answer, asked_for, in_page, part_with
-from .test_formats_files import refused
+from .test_formats_files import refusal
 
 REFUSED = ["refused 72 Content frame 00:00:01:00 row 1 column 2", "refused 68 Parity frame "
            "00:00:02:00 packet 1", "2 faults"]
 
 
 def gap(is_judged: bool, mark: int | None = None) -> Gap:
-    """A place at which packets are lost."""
+    """Return a gap with lost packets."""
     return Gap("00:00:01:00", "00:00:02:00", "3 TS packets lost", Place(1, 2, 3, mark=mark),
                is_judged)
 
 
-class Ends(Case):
-    """What is said of a verdict."""
-
+class LastLines(Case):
     def verdict(self, parts: Sequence[Part], *words: str, **more: Any) -> Verdict:
         made = Verdict(asked_for("one.stl", "one.pes", "--origin", "0", *words), Severity(
             None, "--allow-lost" in words), "now", count=3)
@@ -56,12 +54,12 @@ class Ends(Case):
         return made
 
     def said(self, verdict: Verdict) -> list[str]:
+        """Return the lines printed for a verdict."""
         heard = Heard()
         print_verdict(verdict, heard)
         return heard.lines
 
-    def test_prints_the_sentence_and_then_the_accepted_line(self) -> None:
-        """What stands beside it, then the sentence, and the line last."""
+    def test_prints_notes_then_the_sentence_then_the_line(self) -> None:
         said = self.said(self.verdict([part_with(0, 9, 0)], notes=["a note"], hints=["a hint"],
                                       warnings=[Notice("kind", "strange")]))
         self.must("lines", said == [
@@ -89,8 +87,7 @@ class Ends(Case):
             said = self.said(self.verdict([part_with(0, 9, 0, causes=one) for one in causes]))
         self.must("causes of all parts", said[0] == "['first', 'third']", said)
 
-    def test_names_at_most_twenty_lost_places(self) -> None:
-        """Each place, twenty at most; whether it is judged."""
+    def test_names_at_most_twenty_losses(self) -> None:
         for count, more in ((1, None), (20, None), (21, "! and at 1 more place"),
                             (23, "! and at 3 more places")):
             said = self.said(self.verdict([part_with(0, 99, 0)], gaps=[gap(True)] * count))
@@ -109,7 +106,6 @@ class Ends(Case):
         self.must("refused too", "! that part was not recorded" in said, said)
 
     def test_prints_the_line_of_the_first_refused_part(self) -> None:
-        """The line of the first part that is refused; after how many frames subtitles are whole."""
         parts = [part_with(0, 9, 0), part_with(10, 19, 0, answer(REFUSED), 2)]
         said = self.said(self.verdict(parts))
         self.must("line", said[-2].startswith("Refused: ") and said[-1] == REFUSED[0] and
@@ -129,8 +125,7 @@ class Ends(Case):
             self.must(f"{page}: where to look", heard.lines[-2] ==
                       self.verdict(some).sentence.removesuffix(".") + where, heard.lines)
 
-    def test_not_judged(self) -> None:
-        """Why, in lines, and what to type; how far it came where a signal ended it."""
+    def test_prints_why_a_pair_is_not_judged(self) -> None:
         said = self.said(self.verdict([], unjudged=Unjudged(
             "one\ntwo", ("first", "second", "third"))))
         self.must("why", said == ["! one", "! two", "! type first", "! or second", "! or third"],
@@ -143,8 +138,7 @@ class Ends(Case):
                 "stopped at x", is_stopped=True)))
             self.must(words, said[-2:] == [words, "! not judged: stopped at x"], said)
 
-    def test_last_line(self) -> None:
-        """What the program said last is no verdict where there is none."""
+    def test_prints_not_judged_after_a_line_of_the_program(self) -> None:
         rows: list[tuple[str, list[str]]] = [
             ("accepted 5 frames 2 transmissions", ["not judged"]), ("3 faults", ["not judged"]),
             ("+ a command", []), ("", [])]
@@ -155,9 +149,7 @@ class Ends(Case):
             self.must(last, heard.lines == [*wanted, "! why"], heard.lines)
 
 
-class Writes(Case):
-    """The files of a pair."""
-
+class OutputFilesOfPair(Case):
     def setUp(self) -> None:
         super().setUp()
         os.mkdir(self.path("out"))
@@ -169,7 +161,7 @@ class Writes(Case):
         return OutputFiles(known, verdict, CommandWords("tools/qc", self.bench.program), names)
 
     def part(self, number: int = 1, lines: Sequence[str] = REFUSED) -> Part:
-        """A part that is refused, with its list."""
+        """Return a refused part with its fault list."""
         said = Answer(self.path(f"list{number}"))
         for line in lines:
             said.take(line)
@@ -184,13 +176,12 @@ class Writes(Case):
         made.parts = [self.part(1, lines)]
         return made
 
-    def refused(self, asked: Request, **words: Any) -> str:
-        """Why the outputs of a call for a pair are refused."""
+    def refusal(self, asked: Request, **words: Any) -> str:
+        """Return why the outputs of a call are refused."""
         known = PairOptions(None, **words)
-        return refused(lambda: refuse_outputs(known, asked, words.get("out"), "one"))
+        return refusal(lambda: refuse_outputs(known, asked, words.get("out"), "one"))
 
     def test_removes_earlier_results_and_never_writes_an_input(self) -> None:
-        """What an earlier call left goes; an input is never written, by whatever name."""
         others = {"two.json", "one~2.json", "onex.1.txt", "one.0.txt", "one.1.json", "one.x.txt"}
         for name in ("one.json", "one.html", "one.txt", "one.1.html", "one.12.txt", *others):
             self.write(f"out/{name}", b"")
@@ -202,18 +193,17 @@ class Writes(Case):
         for name in ("json", "csv", "junit"):
             for path in (self.path("one.pes"), example("story.stl"), self.path("link")):
                 self.must(f"{name} {path}",
-                          "is an input too" in self.refused(asked, **{name: path}))
-        self.must("none", not self.refused(asked, json=self.path("new.json")))
+                          "is an input too" in self.refusal(asked, **{name: path}))
+        self.must("none", not self.refusal(asked, json=self.path("new.json")))
         for name in ("one.cut.pes", "one.recording.pes", "one.json", "one.2.txt", ".one.lock"):
             for at in ("stl", "recording", "severity"):
                 asked, path = self.verdict().request, self.write(f"out/{name}", b"")
                 setattr(asked, at, path)
-                self.must(f"{name} as {at}", "is an input too" in self.refused(
+                self.must(f"{name} as {at}", "is an input too" in self.refusal(
                     asked, out=self.path("out")))
                 os.unlink(path)
 
-    def test_what_is_no_result(self) -> None:
-        """It is refused, whatever it is; a link is taken away, and not what it leads to."""
+    def test_refuses_to_replace_files_that_are_no_results(self) -> None:
         asked, out = self.verdict().request, self.path("out")
         page, like = HEAD.page(), b'<!DOCTYPE html>\n<html lang="en"><head><meta charset="UTF-8">'
         rows: list[tuple[str, bytes, bool]] = [
@@ -229,16 +219,16 @@ class Writes(Case):
             (".one.lock", b"1", False), ("one.recording.ts", b"", False)]
         for name, data, is_own in rows:
             path = self.write(f"out/{name}", data)
-            told = self.refused(asked, out=out)
+            told = self.refusal(asked, out=out)
             self.must(f"{name} {data!r}", bool(told) != is_own and (is_own or told.startswith(
                 f"{path} is there, and is no result")) and self.read(f"out/{name}") == data, told)
             os.unlink(path)
             os.symlink(self.path("one.pes"), path)
-            self.must(f"{name}: a link", not self.refused(asked, out=out))
+            self.must(f"{name}: a link", not self.refusal(asked, out=out))
             os.unlink(path)
             for make in (os.mkdir, os.mkfifo):
                 make(path)
-                self.must(f"{name}: {make}", "no result" in self.refused(asked, out=out))
+                self.must(f"{name}: {make}", "no result" in self.refusal(asked, out=out))
                 os.rmdir(path) if make is os.mkdir else os.unlink(path)
         result = self.write("out/one.json", rows[0][1])
         kept = self.write("out/one.recording.ts", b"")
@@ -247,11 +237,9 @@ class Writes(Case):
         for before, is_own in ((0, True), (1, True), (KEPT_SECONDS * 10**9 - 1, True),
                                (KEPT_SECONDS * 10**9, False), (-1, False)):
             os.utime(kept, ns=(at - before, at - before))
-            self.must(f"{before} ns before a result", bool(self.refused(asked, out=out)) != is_own)
+            self.must(f"{before} ns before a result", bool(self.refusal(asked, out=out)) != is_own)
 
     def test_takes_a_lock_that_nobody_holds(self) -> None:
-        """A link in the place of one goes; one that another call took away just then is none; where
-        there are no locks, none is waited for. Nothing stays open, and no file."""
         path, kept, calls = self.path("out/.one.lock"), self.write("kept", b"1"), list[int]()
 
         def taken(handle: int, _: int) -> None:
@@ -276,16 +264,14 @@ class Writes(Case):
                 self.assertRaises(FilesInUse, claim_pair(self.path("out"), "one").__enter__)
             self.must("in use", os.listdir("/proc/self/fd") == before and os.path.exists(path))
 
-    def test_sums_up_the_inputs_only_where_a_file_has_the_sums(self) -> None:
-        """They are needed for a folder, an object and lines of CSV, not for a CI."""
+    def test_hashes_the_inputs_only_if_an_output_needs_it(self) -> None:
         rows: list[tuple[dict[str, str], bool]] = [
             ({}, False), ({"json": "x"}, True), ({"csv": "x"}, True), ({"junit": "x"}, False),
             ({"out": self.path("out")}, True)]
         for words, wanted in rows:
             self.must(f"{words}", self.files(self.verdict(), **words).needs_sums() == wanted)
 
-    def test_writes_each_file_that_was_requested(self) -> None:
-        """The object, the lines and the testcase; with a folder the page."""
+    def test_writes_each_requested_file(self) -> None:
         files = self.files(self.verdict(), json=self.path("one.json"), csv=self.path("one.csv"),
                            junit=self.path("one.xml"), out=self.path("out"))
         files.write()
@@ -302,8 +288,7 @@ class Writes(Case):
         several.write()
         self.must("page of parts", b"part 2" in self.read("out/one.html"), verdict.failed)
 
-    def test_says_in_all_files_what_could_not_be_written(self) -> None:
-        """What could not be written stands in what was written before, and after."""
+    def test_all_outputs_name_an_output_that_failed(self) -> None:
         for name, nowhere in itertools.product(("csv", "junit", "json"), (
                 self.path("no/where"), *["/dev/full"] * os.path.exists("/dev/full"))):
             outputs = {one: self.path(f"{name}.{one}") for one in ("csv", "junit", "json")}
@@ -318,8 +303,7 @@ class Writes(Case):
             if name != "junit":
                 self.must(f"{name}: case", b"<error" in self.read(f"{name}.junit"))
 
-    def test_writes_last_what_cannot_be_written_again(self) -> None:
-        """What can't be written once more comes last, when all that failed is known."""
+    def test_writes_a_pipe_last(self) -> None:
         pipe = self.path("pipe")
         os.mkfifo(pipe)
         reader = os.open(pipe, os.O_RDONLY | os.O_NONBLOCK)
@@ -329,9 +313,7 @@ class Writes(Case):
         os.close(reader)
         self.must("once", text.count("stl,recording") == 1 and "not judged" in text, text)
 
-    def test_object_that_fails(self) -> None:
-        """An object that says why stands for it; of other outputs, and where no file can be
-        written, nothing does; why stands in the verdict, whatever output it is."""
+    def test_writes_the_reason_if_a_result_cannot_be_made(self) -> None:
         def fail() -> Any:
             raise ValueError("wrong")
 
@@ -345,7 +327,6 @@ class Writes(Case):
         self.must("why", "wrong" in json.loads(self.read("True.json"))["reason"])
 
     def test_writes_the_first_hundred_faults_of_all_parts(self) -> None:
-        """The first hundred faults of all parts, none of one that is accepted."""
         many = [f"refused 68 Parity frame 00:00:01:00 packet {at}" for at in range(70)]
         verdict = self.verdict([*many, "70 faults"])
         verdict.parts += [part_with(0, 9, 0), self.part(2, [*many, "70 faults"])]
@@ -354,9 +335,7 @@ class Writes(Case):
         self.must("name", pair_title(asked_for("a.stl", None)) == "a.stl" and
                   pair_title(asked_for("a.stl", "b.ts")) == "a.stl b.ts")
 
-    def test_end_that_fails(self) -> None:
-        """Where the verdict can't be said, or a signal comes meanwhile, it is not judged, in the
-        object too; nor where a signal comes while files are written."""
+    def test_is_not_judged_if_the_verdict_cannot_be_printed(self) -> None:
         for reason in (OSError(28, "No space left on device"), KeyboardInterrupt()):
             verdict, heard = self.verdict(), Heard()
             files = self.files(verdict, json=self.path("one.json"))
@@ -374,8 +353,7 @@ class Writes(Case):
             judge_pair(pair, files)
         self.must("written again", pair.verdict.status == 2 and written.call_count == 2)
 
-    def test_what_ends_judging(self) -> None:
-        """It is not judged then; whether it would be so another time, too."""
+    def test_each_error_ends_as_final_or_not(self) -> None:
         rows: list[tuple[BaseException | None, bool]] = [
             (None, True), (Unclear("a", "b"), True), (Unsaid("a"), False), (Stop("a"), True),
             (Unanswered("a"), False), (OSError(5, "a"), False), (MemoryError(), False),
@@ -391,9 +369,7 @@ class Writes(Case):
         verdict.unjudged, verdict.failed = None, ["an output"]
         self.must("an output", not verdict.is_final)
 
-    def test_mistake_in_a_process(self) -> None:
-        """The process of a pair that ends by a mistake of these tools leaves an object that says
-        so."""
+    def test_a_bug_in_a_forked_call_leaves_a_result(self) -> None:
         asked = asked_for(example("hello.stl"), example("hello.pes"))
         with mock.patch.object(batch, "judge_and_report", side_effect=ZeroDivisionError("one")), \
                 contextlib.redirect_stderr(io.StringIO()):
@@ -404,11 +380,9 @@ class Writes(Case):
                   "one" in known["reason"], known)
 
 
-class Overview(Case):
-    """The page of several parts, or of what is not judged, and that over all pairs."""
-
+class Pages(Case):
     def several(self) -> Verdict:
-        """A verdict on three parts."""
+        """Return a verdict on three parts."""
         verdict = Verdict(asked_for(example("story.stl"), "one.pes"), Severity(None),
                           "2026-01-02T03:04:05Z")
         verdict.parts = [part_with(0, 9, 7), part_with(50, 99, 9, answer(REFUSED), 2),
@@ -418,7 +392,6 @@ class Overview(Case):
         return verdict
 
     def test_links_a_row_to_each_part(self) -> None:
-        """A row for each part, which leads to it, with its clock; the box, and what was judged."""
         verdict = self.several()
         for delay, words in ((0, "Clock given: --origin 7."),
                              (2, "Clock given: --origin 7. All 2 frames late."),
@@ -438,13 +411,12 @@ class Overview(Case):
                   box and box.count("3 TS packets lost") == 1 and "strange" in box, box)
         scope = in_page(report_page.scope_section(verdict))
         self.must("scope", "00:00:00:00 to 00:00:05:24, " in scope, scope)
-        verdict.request = asked_for("piped.stl", "one.pes")  # what came through a pipe is kept
+        verdict.request = asked_for("piped.stl", "one.pes")  # a pipe is stored under another name
         verdict.request.kept_stl = example("story.stl")
         self.must("a pipe", "Programme" in scope and "piped.stl" in
                   in_page(report_page.scope_section(verdict)), scope)
 
-    def test_page_of_several(self) -> None:
-        """All parts follow one another, each with anchors of its own, and links lead to them."""
+    def test_has_unique_anchors_for_all_parts(self) -> None:
         page = in_page(report_page.report_page(self.several(), CommandWords(
             "tools/qc", self.bench.program)))
         self.must("its date", page.count("2026-01-02 03:04:05 UTC") == 1)
@@ -457,8 +429,7 @@ class Overview(Case):
         self.must("once", all(page.count(f'id="{name}"') == 1 for name in (
             "verdict", "part1-cues", "part2-faults", "part3-cues", "files")), names)
 
-    def test_not_judged(self) -> None:
-        """Why, what to type, and what it is made from, whatever was judged before."""
+    def test_has_a_page_if_not_judged(self) -> None:
         verdict = self.several()
         verdict.unjudged = Unjudged("no clock <\nnone", ("tools/qc a b --origin T",))
         verdict.notes, verdict.warnings = ["a note"], [Notice("kind", "strange")]
@@ -470,8 +441,7 @@ class Overview(Case):
             self.must(words, words in page, page)
         self.must("no part", "Timeline" not in page)
 
-    def test_lists_broken_pairs_before_those_that_nobody_judged(self) -> None:
-        """What is broken first, then what nobody judged, warnings, and what is accepted."""
+    def test_lists_refused_pairs_first(self) -> None:
         def one(name: str, verdict: str, status: int, line: str, faults: int = 0,
                 causes: int = 0, hint: str = "") -> Row:
             return Row(name, f"{name}.stl", verdict, status, line, faults, {

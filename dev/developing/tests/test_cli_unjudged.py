@@ -1,5 +1,4 @@
-"""What a batch does with pairs that are not begun, and what else of a call is heeded beside others:
-files of other calls, standard output that a file takes, signals."""
+"""Calls of tools/qc with pairs that can't be judged, outputs that can't be written, and signals."""
 from __future__ import annotations
 
 import argparse
@@ -33,9 +32,7 @@ from .transmissions import in_pipe
 from .test_cli_failures import ACCEPTED, HELLO, CallCase
 
 
-class NotBegun(Case):
-    """Pairs that are known at once."""
-
+class UnjudgedPairs(Case):
     def setUp(self) -> None:
         super().setUp()
         for name in ("out", "temporary"):
@@ -43,13 +40,12 @@ class NotBegun(Case):
         for name in ("one.stl", "one.ts"):
             self.write(name, b"1")
 
-    def calls(self) -> PairRunner:
+    def runner(self) -> PairRunner:
+        """Return a runner of pairs."""
         return PairRunner(CommandWords("tools/qc", self.bench.program), self.path("temporary"),
                      self.path("out"), False)
 
-    def test_files_for_machines(self) -> None:
-        """What says so stands in each of them, and in the status, whatever an earlier call left
-        where the object would be."""
+    def test_all_outputs_name_the_reason(self) -> None:
         rows: list[tuple[str, str, str, str]] = [
             ("in use", "", "", "another call is writing the files of one"),
             ("an input", "", "--severity out/one.html", "is an input too"),
@@ -81,14 +77,13 @@ class NotBegun(Case):
             if os.path.exists("out/one.html"):
                 os.unlink("out/one.html")
 
-    def test_keeps_other_calls_from_the_files_of_a_pair(self) -> None:
-        """As long as a pair is judged its files are those of its call; then they are free."""
+    def test_locks_the_files_of_a_pair_until_its_call_ends(self) -> None:
         item, calls = Item("one", asked_for(self.path("one.stl"), self.path("one.ts")), None), \
-            self.calls()
-        for does in (signal.pause, time.tzset):  # one that waits to be stopped, one that ends
+            self.runner()
+        for does in (signal.pause, time.tzset):  # a call that waits for a signal, and one that ends
             with mock.patch.object(batch, "judge_forked_pair", lambda *_: does() or 2):
                 self.must("begun", calls.start(item) is None)
-            other = self.calls()
+            other = self.runner()
             row = other.start(item)
             self.must("another call", row and not row.is_judged and other.in_use == {"one"} and
                       "another call" in other.unwritten_results["one"]["reason"]
@@ -106,10 +101,9 @@ class NotBegun(Case):
         row = calls.start(item)
         self.must("no result", row and "is no result" in row.line and not calls.in_use, row)
 
-    def test_at_a_time(self) -> None:
-        """As many pairs run as may, while others wait."""
+    def test_runs_at_most_as_many_pairs_as_requested(self) -> None:
         for jobs, count in itertools.product((1, 2, 3), range(4)):
-            calls, waiting = self.calls(), deque(Item(f"{at}", None, None) for at in range(count))
+            calls, waiting = self.runner(), deque(Item(f"{at}", None, None) for at in range(count))
             running: Any = calls.running
             with mock.patch.object(calls, "start", lambda item: running.update({item: item})), \
                     mock.patch.object(calls, "finished_rows", return_value=[]):
@@ -117,11 +111,10 @@ class NotBegun(Case):
             self.must(f"{jobs} of {count}", (len(running), len(waiting), left) == (
                 min(jobs, count), max(count - jobs, 0), []))
 
-    def test_begins_a_pair_with_its_limit(self) -> None:
-        """It has its limit, which may be given."""
+    def test_gives_each_pair_its_time_limit(self) -> None:
         asked = asked_for(self.path("one.stl"), self.path("one.ts"))
         for limit, wanted in ((None, LEAST_SECONDS), (5, 5)):
-            calls = self.calls()
+            calls = self.runner()
             calls.limit = limit
             with mock.patch.object(batch, "ForkedProcess"):
                 calls.start(Item("one", asked, None))
@@ -129,13 +122,11 @@ class NotBegun(Case):
             begun.claim.close()
             self.check(f"{limit}", begun.limit, wanted)
 
-    def test_folder_is_listed_once(self) -> None:
-        """However many pairs a batch has: to list it for each takes the square of their number.
-        Files of parts that are no results are found all the same, of before and of meanwhile."""
+    def test_lists_the_folder_once_for_all_pairs(self) -> None:
         for name in ("one.7.txt", "two.1.txt"):
             self.write(f"out/{name}", b"theirs")
         with mock.patch("os.listdir", side_effect=os.listdir) as listed:
-            calls = self.calls()
+            calls = self.runner()
             rows = [calls.start(Item(f"{at}", None, "no pair")) for at in range(20)]
             self.write("out/three.1.html", b"theirs")
             rows += [calls.start(Item(name, None, "no pair")) for name in ("one", "two", "three")]
@@ -147,8 +138,7 @@ class NotBegun(Case):
                        "give another folder" for name in (
                            "one.7.txt", "two.1.txt", "three.1.html")])
 
-    def test_claimed_files(self) -> None:
-        """The process of a pair does not list the folder again, whose files are its caller's."""
+    def test_does_not_list_a_claimed_folder_again(self) -> None:
         asked = asked_for(example("hello.stl"), example("hello.pes"), "--origin", "0")
         call = PairOptions(self.bench.program, self.path("out"), name="one", is_claimed=True)
         with mock.patch("subtitles.request.commands.PartFiles", side_effect=ZeroDivisionError), \
@@ -158,8 +148,7 @@ class NotBegun(Case):
             verdict = single.judge_and_report(asked, call, "tools/qc")
             self.check("its verdict", verdict.word, "accepted")
 
-    def test_pipe_that_comes_meanwhile(self) -> None:
-        """It is not waited for, though a file had its name when the list was read."""
+    def test_refuses_a_pipe_that_replaces_a_file(self) -> None:
         os.mkfifo(self.path("pipe"))
         for pair in (("pipe", "one.ts"), ("one.stl", "pipe")):
             asked = asked_for(*map(self.path, pair))
@@ -170,15 +159,13 @@ class NotBegun(Case):
                        (2, True))
 
     def test_takes_a_verdict_only_with_its_own_status(self) -> None:
-        """A verdict counts with its own status alone: not where a signal ended its process; but
-        where that was told to end, since it took too long, and was judged."""
         asked = asked_for(self.path("one.stl"), self.path("one.ts"))
         rows: list[tuple[str, int, bool]] = [
             ("accepted", 0, True), ("refused", 1, True), ("accepted", 1, False),
             ("refused", 0, False), *((verdict, -number, False) for verdict in (
                 "accepted", "refused") for number in (1, 2, 9))]
         for (verdict, status, counts), is_over in itertools.product(rows, (False, True)):
-            calls, call = self.calls(), mock.Mock(**{"wait.return_value": (status, ["qc: why"])})
+            calls, call = self.runner(), mock.Mock(**{"wait.return_value": (status, ["qc: why"])})
             calls.running[call] = batch.RunningPair(
                 Item("one", asked, None), 7, contextlib.ExitStack())
             calls.over_limit |= {call} if is_over else {mock.Mock()}
@@ -189,9 +176,8 @@ class NotBegun(Case):
                     "it took more than 7 seconds" in row.line) == (is_over and not counts) and
                 json.loads(self.read("out/one.json"))["verdict"] == row.verdict, row)
 
-    def test_strange_words(self) -> None:
-        """What a call told last is why, whatever its bytes are, and whatever others are."""
-        calls = self.calls()
+    def test_takes_the_last_message_as_the_reason(self) -> None:
+        calls = self.runner()
         calls.over_limit.add(mock.Mock())
         with mock.patch.object(batch, "judge_forked_pair", lambda *_: 2 * bool(os.write(
                 2, b"qc: first\nqc: caf\xe9: \x1b\n"))):
@@ -199,8 +185,7 @@ class NotBegun(Case):
         [row] = calls.finished_rows(SECONDS)
         self.must("its line", (row.verdict, row.line) == ("not judged", "caf\ufffd: \x1b"), row)
 
-    def test_forked_call_reads_nothing_and_has_no_file_of_its_parent(self) -> None:
-        """A call for a pair reads nothing, whatever this one reads."""
+    def test_a_forked_call_inherits_no_files(self) -> None:
         files = [os.open(self.path("one.ts"), os.O_RDONLY) for _ in range(3)]
         before = os.dup(0)
         os.dup2(files[0], 0)
@@ -212,9 +197,7 @@ class NotBegun(Case):
         for one in (before, *files):
             os.close(one)
 
-    def test_takes_the_national_option_of_the_file_that_is_judged(self) -> None:
-        """The option that a subtitle file names is that of the file that is judged, whatever it was
-        when the list was read."""
+    def test_takes_the_national_option_of_the_judged_file(self) -> None:
         path = self.write("one.stl", example_bytes("story.stl"))
         asked = asked_for(path, example("story.pes"), "--option", "auto")
         typed = asked_for(path, example("story.pes"), "--option", "english")
@@ -224,9 +207,7 @@ class NotBegun(Case):
             keep_stl(one, self.folder)
             self.check("option", one.option, option)
 
-    def test_one_line(self) -> None:
-        """It is judged beside other calls, whatever they judge: nothing over all is written, and
-        what other lines name is an input of it too."""
+    def test_judges_one_line_while_a_batch_runs(self) -> None:
         names = ("two.stl", "two.ts", "levels")
         for name in names:
             self.write(name, b"72 warning\n")
@@ -250,17 +231,14 @@ class NotBegun(Case):
                           before == self.read(name) and told.getvalue().endswith(
                               f"{name} is an input too\n"), told.getvalue())
 
-    def test_faults_that_are_left_out(self) -> None:
-        """That a table has not all of them is told, be it one."""
+    def test_reports_omitted_faults_of_a_csv_file(self) -> None:
         for count in range(3):
             known = {**result(), "omitted": {**result()["omitted"], "faults": count}}
             with contextlib.redirect_stderr(io.StringIO()) as told:
                 self.must("itself", collection.load_for_csv(known) == known)
             self.must(f"{count}", bool(told.getvalue()) == bool(count), told.getvalue())
 
-    def test_outputs_of_all(self) -> None:
-        """None is an input, by whatever name: of each of the files for machines, and of the page
-        over all."""
+    def test_refuses_each_name_of_an_input_as_an_output(self) -> None:
         path = self.write("input", b"")
         os.symlink(path, self.path("link"))
         os.link(path, self.path("hard"))
@@ -272,11 +250,8 @@ class NotBegun(Case):
             collection.refuse_output_names(words, Inputs(self.path("one.ts")))
 
 
-class Beside(CallCase):
-    """One call beside others, and what its output and signals are to it."""
-
-    def test_output_that_a_file_takes(self) -> None:
-        """By each of its names, for each file: nothing else is printed there."""
+class OutputsAndSignals(CallCase):
+    def test_prints_only_the_requested_file_to_standard_output(self) -> None:
         program = self.saying(ACCEPTED)
         os.mkdir(self.path("results"))
         self.judge(program, "--json", self.path("results/hello.json"))
@@ -291,8 +266,7 @@ class Beside(CallCase):
                               line.startswith(("accepted", "pair ", "+ ", "1 pair"))
                               for line in done.printed), done)
 
-    def test_output_that_fails_at_the_end(self) -> None:
-        """What was printed and can't be written out: nothing is judged, and the file says so."""
+    def test_reports_an_output_that_fails_at_the_end(self) -> None:
         class Full(io.StringIO):
             def flush(self) -> None:
                 raise OSError(28, "No space left on device")
@@ -318,8 +292,7 @@ class Beside(CallCase):
             self.must(f"{count} of them", done.status == 2 and all(
                 name in self.object()["reason"] for name in several), done)
 
-    def test_folder_that_is_needed(self) -> None:
-        """What is kept, or was judged, needs one, of a pair as of many."""
+    def test_requires_an_output_folder(self) -> None:
         self.write("list", " ".join(HELLO).encode())
         for words in ([*HELLO, "--keep"], ["--batch", "list", "--keep"],
                       ["--batch", "list", "--resume"], ["--watch", self.folder]):
@@ -327,9 +300,7 @@ class Beside(CallCase):
             self.must(f"{words}", done.status == 2 and not done.printed and
                       " goes with -o" in done.told[0], done)
 
-    def test_what_is_said_of_it(self) -> None:
-        """What a profile says comes first; a part names what is kept of it; what is to be known of
-        several parts is told once."""
+    def test_prints_profile_options_first_and_each_hint_once(self) -> None:
         program, words = self.saying(ACCEPTED), ("-o", "out", "--json", "one.json")
         self.write("house", b"--every 99\n")
         done = self.judge(program, *words, "--profile", "house")
@@ -347,8 +318,7 @@ class Beside(CallCase):
             self.must(f"{is_kept}", verdict.hints == ["a", "b"] and bool(kept) == is_kept == any(
                 one.startswith("own.recording") for one in os.listdir(self.path("out"))), part)
 
-    def test_what_is_kept(self) -> None:
-        """A recording, where that is asked and it has something of the PID."""
+    def test_stores_the_recording_only_if_requested(self) -> None:
         names, verdict = Names("one", self.folder, self.folder), mock.Mock(parts=[])
         for is_kept, count, ending in itertools.product(
                 (False, True), (0, 1), (None, "recording.pes")):
@@ -371,9 +341,7 @@ class Beside(CallCase):
                           b"own", b"" if is_result else b"own"))
             self.write("theirs", b"")
 
-    def test_heeds_each_signal_until_the_last_line(self) -> None:
-        """All that end a call are heeded, but those that were ignored; in the end none is, before
-        the line stands that the status goes with."""
+    def test_handles_each_signal_until_the_last_line(self) -> None:
         for one in SIGNALS:
             self.addCleanup(signal.signal, one, signal.getsignal(one))
         for some in itertools.product((False, True), repeat=len(SIGNALS)):

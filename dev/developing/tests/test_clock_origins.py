@@ -1,4 +1,4 @@
-"""The origin of transmissions that are known, in process, and what is said of them."""
+"""The origin of known transmissions, and the lines printed about it."""
 from __future__ import annotations
 
 import itertools
@@ -17,36 +17,33 @@ from subtitles.common.times import ALL_DAY, Between, CLOCK, TICKS, time_of
 from subtitles.stream.packets import Change
 from .bench import Case, example, example_bytes
 from .parts import asked_for, packets_told
-from .transmissions import CLOSING, HEADER, Shown, moved, random_subtitles, row, scheduled, subtitle_file
-from .test_clock_laws import packets_of
+from .transmissions import (
+    CLOSING, HEADER, Shown, moved, random_subtitles, row, scheduled, subtitle_file)
+from .test_clock_properties import packets_of
 
-FIRST, COUNT = 1_000_000, 12  # the frame of the first subtitle; how many there are
+FIRST, COUNT = 1_000_000, 12  # the frame of the first subtitle; number of subtitles
 
 
-def each(count: int, step: int, lasts: int, text: bytes = b"Number %d", begin: int = 0
+def evenly_spaced(count: int, step: int, lasts: int, text: bytes = b"Number %d", begin: int = 0
          ) -> list[Shown]:
-    """Subtitles with the same time from one to the next."""
+    """Return evenly spaced subtitles."""
     return [(begin + step * at, begin + step * at + lasts, text % at if b"%" in text else text)
             for at in range(count)]
 
 
 class Origins(Case):
-    """What is found."""
-
     def stl(self, times: Sequence[Shown], name: str = "one.stl") -> str:
-        """A subtitle file."""
+        """Write a subtitle file."""
         return subtitle_file(self, [(begin, end, boxed(text)) for begin, end, text in times],
                              name, 0, 20)
 
     def find(self, stl: str, pes: Sequence[bytes], *words: str) -> Origin:
-        """What is found of a subtitle file and PES packets."""
+        """Find the origin of PES packets."""
         asked = asked_for(stl, "one.pes", *words)
         return find(Sought(stl, "one.pes", asked.page, asked.option, asked.origin, asked.within,
                            asked.breaks, asked.pes), packets_told(self, b"".join(pes), asked.page))
 
-    def test_which_subtitles(self) -> None:
-        """Those that come in some frames, from the first of the day on, but for those that are left
-        out, and those that go when they come."""
+    def test_selects_subtitles_by_time_and_number(self) -> None:
         stl = self.stl([(0, 50, b"a"), (60, 60, b"b"), (100, 150, b"c"), (200, 300, b"d")])
         rows: list[tuple[Between, Sequence[int], list[int]]] = [
             (ALL_DAY, (), [0, 100, 200]), (Between(0, 100), (), [0]), (ALL_DAY, (1,), [100, 200]),
@@ -66,10 +63,8 @@ class Origins(Case):
             "german", "swedish")] == [b"{"] * 2 and subtitles_between(
                 stl, "english", ALL_DAY, ())[0].letters != b"{")
 
-    def test_of_nothing(self) -> None:
-        """PES packets in which the page does not change, files that end within the first one or
-        have none with a PTS, and subtitles of which none is left."""
-        pes = [*self.sent(5000), pes_packet(CLOCK // 2, [])]
+    def test_reports_that_no_cue_agrees(self) -> None:
+        pes = [*self.transmission(5000), pes_packet(CLOCK // 2, [])]
         last = len(pes) - 1
         rows: list[tuple[list[bytes], list[str], str]] = [
             (pes, ["--pes", f"{last}-{last}"], "no cue agrees with any origin"),
@@ -77,16 +72,15 @@ class Origins(Case):
              "refuses them as 34"),
             ([], [], "none of 0 PES packets in one.pes has a PTS: check refuses them as 34")]
         for some, words, line in rows:
-            found = self.find(self.own(), some, *words)
+            found = self.find(self.own_stl(), some, *words)
             self.must(line, (found.status, found.lines) == (1, [line]), found)
         for data in (pes[0][:-1], b"\0\0\1\xbd"):
             with self.assertRaisesRegex(Stop, "^one.pes: PES packet 0 is cut$"):
-                self.find(self.own(), [data])
+                self.find(self.own_stl(), [data])
         with self.assertRaisesRegex(Stop, "has no subtitle that comes and goes within a day$"):
-            subtitles_between(self.own(), "english", ALL_DAY, range(COUNT + 1))
+            subtitles_between(self.own_stl(), "english", ALL_DAY, range(COUNT + 1))
 
-    def test_of_the_examples(self) -> None:
-        """Of each origin, also where PTS begin again."""
+    def test_finds_any_origin_of_the_examples(self) -> None:
         for name, *words in (["hello"], ["story"], ["german", "--option", "german"]):
             for given in (0, 2029060592, CLOCK - 1, 813_000_017):
                 data = moved(example_bytes(name + ".pes"), lambda _, pts: pts + given)
@@ -94,9 +88,7 @@ class Origins(Case):
                 self.must(f"{name} {given}", (found.status, found.printed) == (
                     0, [f"--origin {given}"]), found)
 
-    def test_of_transmissions_at_random(self) -> None:
-        """Of all, of a third, of two thirds of what is sent, and with PTS that are a little off;
-        PTS may begin again in their midst."""
+    def test_finds_the_origin_of_random_transmissions(self) -> None:
         for seed in range(8):
             chance = random.Random(seed)
             data, edges = random_subtitles(seed)
@@ -115,11 +107,9 @@ class Origins(Case):
                 self.must(f"{seed} {name}", found.status == 0 and
                           away <= 100 * (name == "shaken"), (found, given))
 
-    def test_of_rows_that_are_late(self) -> None:
-        """Each header erases the page, and the rows come in the next frame: the origin is that of
-        the rows, with any number of subtitles, and where a sending is lost."""
+    def test_takes_the_origin_of_rows_that_follow_their_header(self) -> None:
         for count in (1, 2, 3, 20):
-            stl = self.stl(each(count, 100, 60))
+            stl = self.stl(evenly_spaced(count, 100, 60))
             made = []
             for one in scheduled(self, stl, "--every", "1500"):
                 header, *rest = teletext_packets(data_field(one))
@@ -131,9 +121,7 @@ class Origins(Case):
                           f"{which} ends are 1 frame early compared with the beginnings"
                           in found.lines, found)
 
-    def test_of_few_edges(self) -> None:
-        """One subtitle of two seconds, and recordings in which others last as long; subtitles that
-        are all alike."""
+    def test_reports_an_ambiguous_origin_of_few_cues(self) -> None:
         one = self.stl([(100, 150, b"Own")])
         rows: list[tuple[list[bytes], int | None]] = [
             ([b"Other"], 0), ([b"Other", b"Another"], None), ([b"Own", b"Other"], 0),
@@ -152,15 +140,12 @@ class Origins(Case):
         line = f"there is no header of page 100 in one.pes; other subtitle pages: 888"
         found = self.find(one, pes, "--page", "100")
         self.must(line, (found.status, found.lines, found.parts) == (1, [line], []), found)
-        alike = self.stl(each(30, 100, 50, b"Again"))
+        alike = self.stl(evenly_spaced(30, 100, 50, b"Again"))
         pes = scheduled(self, alike)
         for some, printed in ((pes, ["--origin 0"]), (pes[10:20], [])):
             self.must("alike", self.find(alike, some).printed == printed)
 
-    def test_of_equals(self) -> None:
-        """Of several that are as good the first is that of the earliest subtitle: of two of which
-        the second is late, and of two halves of which the second is sent first, in one time base
-        and in two."""
+    def test_takes_the_origin_of_the_earliest_of_equal_matches(self) -> None:
         one, other = (100, 150, b"One"), (200, 260, b"Other")
         own = [(100 * at, 100 * at + 20 + 5 * at, b"Text %c" % (65 + at)) for at in range(12)]
         rows: list[tuple[list[Shown], int, list[Shown], int, list[str], str]] = [
@@ -173,11 +158,9 @@ class Origins(Case):
             found = self.find(self.stl(sorted([*some, *later])), pes)
             self.must(line, found.printed == printed and line in "".join(found.lines), found)
 
-    def test_of_parts_that_adjoin(self) -> None:
-        """The last subtitle before a break is erased at its TCO, which is the TCI of the next one;
-        two subtitles alone are no part, nor late."""
+    def test_finds_adjoining_parts(self) -> None:
         for count, frames in ((12, 4500), (3, 4500), (12, 250), (40, 300)):
-            times = [*each(2 * count, 100, 60, begin=FIRST)]
+            times = [*evenly_spaced(2 * count, 100, 60, begin=FIRST)]
             times[count - 1] = (*times[count - 1][:1], times[count][0], b"Last")
             stl, parts = self.stl(times), [times[:count], times[count:]]
             pes = [one for at, part in enumerate(parts) for one in scheduled(self, 
@@ -188,55 +171,50 @@ class Origins(Case):
                 for part, late in zip(parts, (0, frames * TICKS))] and
                       not any("reaches into" in line for line in found.lines) and
                       found.lines[0] == f"2 parts: {4 * count} of {4 * count} cues agree", found)
-        times = [*each(20, 70, 40), (1500, 1520, b"One"), (1600, 1650, b"Two")]
+        times = [*evenly_spaced(20, 70, 40), (1500, 1520, b"One"), (1600, 1650, b"Two")]
         pes = scheduled(self, self.stl(times[:20], "sent.stl")) + scheduled(self, 
             self.stl(times[20:], "sent.stl"), "--origin", str(900 * TICKS))
         found = self.find(self.stl(times), pes)
         self.must("two", found.printed == ["--origin 0"] and not found.shifts, found)
 
-    def sent(self, begin: int, late: Sequence[int] = (0,) * COUNT) -> list[bytes]:
-        """The PES packets of a programme from a PTS on, some later by so many frames."""
+    def transmission(self, begin: int, late: Sequence[int] = (0,) * COUNT) -> list[bytes]:
+        """Return the PES packets of a programme, some of them delayed."""
         return [pes_packet((begin + TICKS * (70 * number + frame + by)) % CLOCK, [
             HEADER, *[row(20, b"Number %d" % number)] * (not frame), CLOSING])
             for number, by in enumerate(late) for frame in (0, 40)]
 
-    def own(self) -> str:
-        """Its subtitle file."""
-        return self.stl(each(COUNT, 70, 40, begin=FIRST))
+    def own_stl(self) -> str:
+        """Write the subtitle file of the programme."""
+        return self.stl(evenly_spaced(COUNT, 70, 40, begin=FIRST))
 
-    def test_a_part_that_is_not_clear(self) -> None:
-        """Neither is printed, where fewer than half of the cues of one agree: the first or the
-        last."""
+    def test_prints_no_part_if_one_is_unclear(self) -> None:
         late, other = [0] * 5, [1600, 1600, 1600, 1631, 1667, 1613, 1689]
         for row in ([*late, *other], [*(one - 1600 for one in other), *(1700 for _ in late)]):
-            found = self.find(self.own(), self.sent(9 * 3600, row), "--breaks", "1")
+            found = self.find(self.own_stl(), self.transmission(9 * 3600, row), "--breaks", "1")
             self.must(f"{row}", (found.status, found.printed, found.parts) == (1, [], []) and
                       found.lines[0].startswith("2 parts: "), found)
 
     def test_finds_each_run_with_its_pes_packets(self) -> None:
-        """Each time that it is there, with its PES packets and those beside it, of which one is
-        looked for then; also where PTS go back, or are a bit before a frame."""
         gaps = TICKS * 70 * (COUNT + 20) - 3, -3 * 10 ** 9
         for gap, runs in itertools.product(gaps, (1, 2, 3)):
             pes = list[bytes]()
             for number in range(runs):
-                own = self.sent(gap * number)
+                own = self.transmission(gap * number)
                 pes += [*own, pes_packet((pts_in(own[-1]) + 9 * TICKS) % CLOCK, [HEADER, CLOSING])]
-            count, found = len(own) + 1, self.find(self.own(), pes)
+            count, found = len(own) + 1, self.find(self.own_stl(), pes)
             self.must(f"{gap} {runs}", (found.status, found.runs) == (int(runs > 1), [
                 (count * at - (at > 0), count * (at + 1) - 1)
                 for at in range(runs)] * (runs > 1)), found)
             for number, (first, last) in enumerate(found.runs):
-                one = self.find(self.own(), pes, "--pes", f"{first}-{last}")
+                one = self.find(self.own_stl(), pes, "--pes", f"{first}-{last}")
                 self.must(f"{gap} {number}", one.printed == [
                     f"--origin {(gap * number - TICKS * FIRST) % CLOCK}"], one)
 
-    def test_late_from_one_on(self) -> None:
-        """From when on, and by how much; how late the first is of what is known."""
+    def test_reports_from_which_cue_subtitles_are_late(self) -> None:
         late = [0] * 6 + [50] * 6
         origin = (5000 - TICKS * FIRST) % CLOCK
         for known, away in ((None, None), (origin, 0), ((origin - 7200) % CLOCK, 7200)):
-            found = self.find(self.own(), self.sent(5000, late),
+            found = self.find(self.own_stl(), self.transmission(5000, late),
                               *([] if known is None else ["--origin", str(known)]))
             with self.subTest(known=known):
                 self.assertEqual((found.status, found.shifted_from, found.away),
@@ -246,31 +224,28 @@ class Origins(Case):
                 self.assertEqual(found.parts[0].origin, origin)
                 self.assertEqual((found.parts[0].agree, found.parts[0].among, found.are_all),
                                  (12, 12, True))
-        whole = self.find(self.own(), self.sent(5000))
+        whole = self.find(self.own_stl(), self.transmission(5000))
         self.assertTrue(whole.are_all and not whole.shifts and whole.shifted_from is None)
         self.assertIn("subtitles due from 11:06:40:00 to 11:07:12:10, page sent from 11:06:40:00 "
                       "to 11:07:12:10", whole.lines)
 
-    def test_ends_that_are_late(self) -> None:
-        """All agree, as all ends are late by as much; of some it is not so."""
+    def test_accepts_ends_with_the_same_delay(self) -> None:
         for late, are_all in (([3] * COUNT, True), ([3] * 6 + [9] * 6, False),
                               ([3] * (COUNT - 1) + [9], False)):
             pes = [pes_packet(TICKS * (70 * number + frame), [
                 HEADER, *[row(20, b"Number %d" % number)] * (not frame), CLOSING])
                 for number, by in enumerate(late) for frame in (0, 40 + by)]
-            found = self.find(self.own(), pes)
+            found = self.find(self.own_stl(), pes)
             self.must(f"{late}", found.are_all == are_all, found)
 
     def test_counts_cues_that_agree(self) -> None:
-        """How many cues agree, among how many, with how many letters: where a text is another one,
-        where less is sent, and where an edge is not."""
-        pes, count = self.sent(5000), 2 * COUNT
+        pes, count = self.transmission(5000), 2 * COUNT
         pes[6] = pes_packet(5000 + TICKS * 210, [HEADER, row(20, b"Another"), CLOSING])
         for some, agree, among, letters in ((pes, count, count, count - 1),
                                             (pes[:-3], count - 3, count - 3, count - 4),
                                             (pes[:10] + pes[11:], count - 2, count, count - 3),
                                             (pes[:11] + pes[12:], count - 1, count, count - 2)):
-            found = self.find(self.own(), some)
+            found = self.find(self.own_stl(), some)
             part, are_all = found.parts[0], agree == among
             self.must(f"{agree}", (part.agree, part.among, found.are_all) == (
                 agree, among, are_all) and f" {letters} with the letters " in part.line, found)
@@ -279,9 +254,8 @@ class Origins(Case):
                 "the first cue that does not agree is "
                 f"{time_of(FIRST + 350 + 40 * (agree == count - 1))}"] * (not are_all), others)
 
-    def test_what_is_sent(self) -> None:
-        """What has no PTS, marks, another page: each is told, with how many they are."""
-        good = self.sent(0)[:3]
+    def test_reports_missing_pts_gap_markers_and_other_pages(self) -> None:
+        good = self.transmission(0)[:3]
         bare = good[0][:7] + b"\0" + good[0][8:]
         other = [pes_packet(number, [packet(0, 0, [7, 8, 0, 8, 0, 8, 1, 0], b" " * 32), CLOSING,
                                      *[row(1, b"%d" % number)]]) for number in range(2)]
@@ -301,40 +275,34 @@ class Origins(Case):
                 ("no page", [pes_packet(0, [CLOSING])], False, [
                     "there is no header of page 888 in a.pes; other subtitle pages: none"])]
         for name, pes, is_page, told in rows:
-            found = self.find(self.own(), pes)
+            found = self.find(self.own_stl(), pes)
             lines = [line.replace("one.pes", "a.pes") for line in found.lines]
             self.must(name, all(line.startswith(begin) for line, begin in zip(lines, told)) and
                       len(lines) >= len(told) and (len(lines) > len(told)) == is_page, lines)
 
 
 class Tracks(unittest.TestCase):
-    """Origins one after another: six subtitles, with edges each fifty frames."""
-
     edges = edges_of([Due(100 * at, 100 * at + 50, at, b"%d" % at) for at in range(1, 7)])
 
-    def base(self, changes: dict[int, bytes], within: int = 0) -> Base:
+    def base_of_delays(self, changes: dict[int, bytes], within: int = 0) -> Base:
         """A time base in which the page changes at some frames."""
         return Base(self.edges, [Change(TICKS * frame, letters, frame, ((20, letters),))
                                  for frame, letters in sorted(changes.items())],
                     0, 1000 * TICKS, (0, 999), within)
 
     def test_gives_a_text_more_points_than_an_erased_page(self) -> None:
-        """Of a text that comes, a page that is erased, another text, and nothing; within some
-        frames also of one that is late, and of no other text."""
         due = {edge.frame: edge.letters for edge in self.edges}
         sent = {**due, 200: b"x", 301: due[300]}
         del sent[250], sent[300]
         for within, points, late, places in ((0, [3, 2, 1, 0, 0, 2], 0, [150, 200, 350]),
                                              (1, [3, 2, 0, 0, 3, 2], 1, [150, 301, 350])):
-            track = Track(0, 0, self.base(sent, within))
+            track = Track(0, 0, self.base_of_delays(sent, within))
             self.assertEqual(track.points, points + [3, 2] * 3, (within, points, late))
             self.assertEqual(track.rank(), (-sum(track.points), late, 0), (within, points, late))
             self.assertEqual(Stretch(track, 1, 6).agreeing(), places, (within, points, late))
             self.assertEqual(max(track.in_a_row), 7 if not within else 8, (within, points, late))
 
     def test_prefers_two_texts_to_many_times(self) -> None:
-        """Two texts tell more than many times at which the page changes as often as edges are due.
-        """
         edges = [Edge(1000 * at, b"%d" % at, True) for at in range(4)]
         others = {frame + edge.frame: b"other %d" % frame for frame in range(100, 250, 2)
                   for edge in edges}
@@ -345,9 +313,8 @@ class Tracks(unittest.TestCase):
                         0, 9000 * TICKS, (0, 9000), within)
             self.assertEqual((base.fits[0].start, base.fits[0].agree), (-51, 2), within)
 
-    def test_may_follow(self) -> None:
-        """In a later time base, or in the same one where it is sent later."""
-        base = self.base({})
+    def test_a_track_may_follow_only_an_earlier_one(self) -> None:
+        base = self.base_of_delays({})
         for one, before, frames, wanted in (
                 ((0, 0), (0, 0), 1, True), ((0, 0), (0, 0), 0, False), ((0, 5), (0, 0), 5, False),
                 ((0, 5), (0, 0), 6, True), ((0, 0), (0, 5), 1, True), ((1, 9), (0, 0), 1, True),
@@ -355,28 +322,24 @@ class Tracks(unittest.TestCase):
             found = Track(*one, base).may_follow(Track(*before, base), frames)
             self.assertEqual(found, wanted, (one, before, frames))
 
-    def test_takes_five_cues_in_a_row_for_a_track(self) -> None:
-        """Five changes in a row at least, in whichever time base; of two halves of a file each has
-        its own, and an edge that agrees with either goes with the one before."""
+    def test_needs_five_cues_in_a_row_for_a_track(self) -> None:
         due = {edge.frame: edge.letters for edge in self.edges}
-        few = [self.base(dict([*due.items()][:count])) for count in (4, 5, 12)]
+        few = [self.base_of_delays(dict([*due.items()][:count])) for count in (4, 5, 12)]
         for bases, number in (([few[0]], None), ([few[1]], 0), ([few[0], few[2]], 1), (few, 2)):
             row = find_row(bases)
             self.assertEqual([stretch.track.base for stretch in row],
                              [] if number is None else [number], (bases, number))
         later = {frame + 40 * (frame > 350): letters for frame, letters in due.items()}
         for some in (later, {frame: text and b"other " + text for frame, text in later.items()}):
-            row = find_row([self.base(some)])
+            row = find_row([self.base_of_delays(some)])
             self.assertEqual([(stretch.track.start, stretch.first, stretch.end)
                               for stretch in row], [(0, 0, 6), (-40, 6, 12)], some)
 
-    def test_rows_at_once(self) -> None:
-        """One stretch alone where all letters agree, or beginnings and ends are apart; of tracks
-        within some frames of each other the best; a time base has its own."""
+    def test_splits_only_where_another_track_agrees_better(self) -> None:
         due = {edge.frame: edge.letters for edge in self.edges}
         half, rest = ({frame: due[frame] for frame in due if (frame < 400) == is_first}
                       for is_first in (True, False))
-        few = self.base(due).limited(self.edges[:4], -1, 1000)
+        few = self.base_of_delays(due).limited(self.edges[:4], -1, 1000)
 
         def moved(by: int) -> dict[int, bytes]:
             return {frame + by: letters for frame, letters in rest.items()}
@@ -384,22 +347,22 @@ class Tracks(unittest.TestCase):
         ends = {frame + 3 * (not letters): letters for frame, letters in due.items()}
         later = {frame + 2 - (frame == 400): letters for frame, letters in rest.items()}
         rows: list[tuple[list[Base], list[tuple[int, int, int, int]]]] = [
-            ([self.base(due)], [(0, 0, 0, 12)]), ([few], []), ([self.base(ends)], [(0, 0, 0, 12)]),
-            ([self.base({**half, **dict.fromkeys(rest, b"x"), **moved(300)})],
+            ([self.base_of_delays(due)], [(0, 0, 0, 12)]), ([few], []),
+            ([self.base_of_delays(ends)], [(0, 0, 0, 12)]),
+            ([self.base_of_delays({**half, **dict.fromkeys(rest, b"x"), **moved(300)})],
              [(0, 0, 0, 6), (0, -300, 6, 12)]),
-            ([self.base({**half, **later}, 1)], [(0, 0, 0, 7), (0, -2, 7, 12)]),
-            ([self.base(half, 1), self.base(rest, 1)], [(0, 0, 0, 6), (1, 0, 6, 12)])]
+            ([self.base_of_delays({**half, **later}, 1)], [(0, 0, 0, 7), (0, -2, 7, 12)]),
+            ([self.base_of_delays(half, 1), self.base_of_delays(rest, 1)],
+             [(0, 0, 0, 6), (1, 0, 6, 12)])]
         for number, (bases, wanted) in enumerate(rows):
             self.assertEqual([(one.track.base, one.track.start, one.first, one.end)
                               for one in find_row(bases)], wanted, number)
 
-    def test_which_way(self) -> None:
-        """Two tracks are as good: the one that is nearer, of the same time base before others. An
-        edge that agrees with both goes with the second, one with neither with the first."""
+    def test_prefers_the_nearer_track(self) -> None:
         def row(*several: tuple[int, int, list[int]]) -> list[tuple[int, int]]:
             tracks = list[Track]()
             for number, start, points in several:
-                tracks.append(Track(number, start, self.base({})))
+                tracks.append(Track(number, start, self.base_of_delays({})))
                 tracks[-1].points = points
             found = best_row(self.edges, tracks)
             self.assertEqual([one.first for one in found], [0, *(one.end for one in found[:-1])])
@@ -414,40 +377,37 @@ class Tracks(unittest.TestCase):
                 (first[2], [0] * 7 + [3] * 5, 7), ([3] * 7 + [0] * 5, second, 6),
                 ([3] * 5 + [0, 1] + [0] * 5, [0] * 5 + [3, 0] + [3] * 5, 5)):
             self.assertEqual(row((0, 0, before), (0, -40, own)), [(0, end), (-40, 12)], own)
-        # Another track costs four points, and goes on where what is due next is sent later.
+        # Another track costs four points, and starts only if its next cue comes later.
         half, rest = [3] * 7 + [0] * 5, [0] * 7 + [3] * 5
         for before, place, wanted in (
                 ([3] * 8 + [2] * 4, (0, -40), [(0, 12)]), ([3] * 7 + [2] * 5, (0, -40), [
                     (0, 7), (-40, 12)]), (half, (0, 50), [(0, 12)]),
                 (half, (0, 49), [(0, 7), (49, 12)]), (half, (0, 100), [(0, 12)])):
             self.assertEqual(row((0, 0, before), (*place, rest)), wanted, (before, place))
-        # What agrees before the first five in a row counts too.
+        # Agreements before the first five in a row count too.
         self.assertEqual(row((0, 0, [3] * 4 + [0] + [3] * 5 + [0, 0]), (0, 5000, [0] * 6 + [
             3] * 6)), [(0, 12)])
 
 
 class Delays(unittest.TestCase):
-    """How late cues are by a clock, of some edges of a time base."""
-
-    LATE = [(0, 0), (1, 0), (2, 1), (2, 0), (None, None), (2, 2)]  # frames; `None` comes nowhere
+    # delays in frames; `None` if not sent
+    LATE = [(0, 0), (1, 0), (2, 1), (2, 0), (None, None), (2, 2)]
     EDGES = [Edge(100 * at + 40 * is_end + at * at, b"" if is_end else b"%d" % at, not is_end)
              for at in range(len(LATE)) for is_end in (False, True)]
 
-    def base(self) -> Base:
-        """The time base in which they are sent so late, of which nothing was asked."""
+    def base_of_delays(self) -> Base:
+        """Return the time base of page transmissions with these delays."""
         changes = [(TICKS * (edge.frame + by), edge.letters) for edge, by in zip(
             self.EDGES, (by for pair in self.LATE for by in pair)) if by is not None]
         return bases_of([], packets_of(changes), 3)[0].limited(self.EDGES, -1, 1 << 40)
 
-    def test_of_both_kinds(self) -> None:
-        """Begins and ends apart; what does not come is no delay."""
-        base = self.base()
+    def test_counts_delays_of_begins_and_ends(self) -> None:
+        base = self.base_of_delays()
         self.assertEqual(delays_of(base, base.fit_at(0)), (
             Counter({2: 3, 0: 1, 1: 1}), Counter({0: 3, 1: 1, 2: 1})))
 
-    def test_of_a_part(self) -> None:
-        """What the whole was asked before is not what a part of it answers."""
-        asked, other = self.base(), self.base()
+    def test_computes_a_part_without_cached_results_of_the_programme(self) -> None:
+        asked, other = self.base_of_delays(), self.base_of_delays()
         whole = asked.fits
         found = asked.limited(self.EDGES[4:8], 150, 400).fits
         self.assertEqual(found, other.limited(self.EDGES[4:8], 150, 400).fits)

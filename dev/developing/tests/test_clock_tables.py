@@ -1,5 +1,7 @@
-"""Tables of what decides a clock: what a time base has, how cues agree with an origin, which
-stretches are looked at, which parts there are, and how often the programme is there."""
+"""Tables of decisions about a clock:
+
+time bases, agreement of cues, stretches, parts, and repeats.
+"""
 from __future__ import annotations
 
 import itertools
@@ -16,31 +18,27 @@ from subtitles.clock.stretches import (
 from subtitles.common.command_line import Lateness
 from subtitles.common.times import CLOCK, EARLY, TICKS
 from subtitles.stream.packets import Change, Packets, Run
-from .test_clock_laws import packets_of
+from .test_clock_properties import packets_of
 
-EACH = 5000  # frames from one time that the programme is there to the next
-SHIFTS = (0, CLOCK - 2 * TICKS - 7)  # of the first PTS: PTS begin again behind it
+EACH = 5000  # frames from one run of the programme to the next
+SHIFTS = (0, CLOCK - 2 * TICKS - 7)  # the first PTS: 0, or one after which PTS wrap
 
 
 def changes_at(several: Sequence[tuple[int, bytes]], shift: int = 0) -> list[Change]:
-    """Changes of the page, each at ticks after a first PTS, to letters."""
+    """Return page changes, each with ticks after the first PTS and a text."""
     return [Change((shift + ticks) % CLOCK, letters, at, ((20, letters),) if letters else ())
             for at, (ticks, letters) in enumerate(several)]
 
 
 def base_with(edges: Sequence[Edge], several: Sequence[tuple[int, bytes]], length: int = 9999,
               within: int = 0, shift: int = 0) -> Base:
-    """A time base of a first PTS, and of one so many frames later, in which the page changes."""
+    """Return a time base of a given length in which the page changes."""
     return Base(edges, changes_at(several, shift), shift, (shift + TICKS * length) % CLOCK,
                 (0, 99), within)
 
 
-class Bases(unittest.TestCase):
-    """What a time base has of what is sent."""
-
-    def test_frames_of_changes(self) -> None:
-        """Within 0 the nearest frame, and how far off it is; within more the frame in which they
-        lie, by what most are that are near one, with what the page has at its end."""
+class TimeBases(unittest.TestCase):
+    def test_assigns_each_change_to_a_frame(self) -> None:
         half = TICKS // 2
         rows: list[tuple[int, list[tuple[int, bytes]], int, dict[int, tuple[bytes, int]]]] = [
             (0, [(-5, b"a"), (half - 1, b""), (half, b"c")], 0,
@@ -67,9 +65,7 @@ class Bases(unittest.TestCase):
                              several)
             self.assertEqual(base.length, 7, several)
 
-    def test_takes_no_repeated_page_for_a_change(self) -> None:
-        """A page that is erased and back is no change, however often: with the same rows, after
-        a pause alone, in so many frames; as often as nothing else is due so soon."""
+    def test_ignores_repeated_pages(self) -> None:
         text, other = ((20, b"x"),), ((22, b"x"),)
         rows: list[tuple[list[tuple[int, Any]], list[int]]] = [
             ([(0, text), (2, ()), (3, text), (5, ()), (6, text), (9, ())], [0, 5]),
@@ -94,11 +90,9 @@ class Bases(unittest.TestCase):
                 (0, b"x"), (20 * TICKS, b""), (23 * TICKS, b"x")])
             self.assertEqual([*base.changes], frames, second)
 
-    def test_which_stretches(self) -> None:
-        """Those in which the page changes, in their order, by the numbers that may be judged; of
-        too many those with the most changes."""
+    def test_selects_the_time_bases_with_the_most_changes(self) -> None:
         def bases(counts: Sequence[int], inside: tuple[int, int]) -> list[tuple[int, int, int]]:
-            """What is looked at, of stretches of four PES packets that have so many changes."""
+            """Return the stretches of four PES packets with changes."""
             packets = Packets(0, [Run(4 * at, 4, 10 ** 9 - at * 10 ** 6, TICKS, "h", "")
                                   for at in range(len(counts))])
             packets.changes = [Change(0, b"", 4 * at + more) for at, count in enumerate(counts)
@@ -117,8 +111,7 @@ class Bases(unittest.TestCase):
         self.assertEqual([begin for begin, _, _ in found],
                          [4 * at for at in range(1, MOST_BASES + 1)])
 
-    def test_first_and_last(self) -> None:
-        """A time base reaches from its first header that has a PTS to its last one."""
+    def test_reaches_from_the_first_header_to_the_last(self) -> None:
         for kinds, wanted in (("hhh", (0, 2)), ("ohh", (1, 2)), ("hho", (0, 1)), ("oho", (1, 1)),
                               ("ooo", None), ("mhh", (1, 2)), ("hhm", (0, 1))):
             packets = Packets(0, [Run(at, 1, None if kind == "m" else TICKS * at, 0, kind, "")
@@ -133,20 +126,16 @@ class Bases(unittest.TestCase):
 
 
 class Fits(unittest.TestCase):
-    """How cues agree with an origin."""
-
     edges = edges_of([Shown(10, 20, 1, b"a"), Shown(30, 45, 2, b"b"), Shown(50, 60, 3, b"c")])
     SENT = [(0, b"a"), (10, b""), (20, b"b"), (35, b""), (40, b"c"), (50, b"")]
 
-    def fitted(self, sent: Sequence[tuple[int, bytes]], offs: Sequence[int] = (0,) * 9,
+    def fit(self, sent: Sequence[tuple[int, bytes]], offs: Sequence[int] = (0,) * 9,
                length: int = 50, within: int = 0, shift: int = 0, start: int = 10) -> Any:
-        """By an origin by which all of it is due."""
+        """Return how cues agree with the right origin."""
         return base_with(self.edges, [(TICKS * frame + off, letters) for (frame, letters), off in
                                       zip(sent, offs)], length, within, shift).fit_at(start)
 
-    def test_counts_cues_with_their_letters_and_texts(self) -> None:
-        """What agrees, with its letters, with a text; of the time in which it is sent; what is the
-        first, and the first that does not."""
+    def test_counts_cues_with_their_characters_and_texts(self) -> None:
         sent = self.SENT
         wrong = [*sent[:2], (20, b"x"), *sent[3:]]
         rows: list[tuple[list[tuple[int, bytes]], int, tuple[object, ...]]] = [
@@ -157,26 +146,24 @@ class Fits(unittest.TestCase):
             ([*sent[:3], *sent[4:]], 50, (5, 5, 3, 5, 6, 10, 45)), ([], 50, (0, 0, 0, 0, 6, None,
                                                                            10))]
         for shift, (some, length, wanted) in itertools.product(SHIFTS, rows):
-            fit = self.fitted(some, length=length, shift=shift)
+            fit = self.fit(some, length=length, shift=shift)
             self.assertEqual(fit[1:8], wanted, (some, length))
             self.assertEqual((fit.origin, fit.start, fit.late), (
                 (shift - 10 * TICKS) % CLOCK, 10, []), some)
             self.assertEqual((fit.points(), fit.points(False)), (
                 fit.agree + fit.letters, fit.agree + fit.texts), (shift, some, length))
 
-    def test_beside_frames(self) -> None:
-        """The origin is that of the PTS in the middle, with which some agree to the tick; within
-        some frames it is that of the frame, and the frames are known by which each is late."""
+    def test_computes_origin_and_delays_of_pts_off_their_frames(self) -> None:
         for offs, rest, exact in (((0, 0, 0, 0, 0, 0), 0, 6), ((0, 0, 5, 5, 5, 5), 5, 4),
                                   ((-9, -9, 0, 0, 0, 7), 0, 3), ((-9, -9, -9, -9, 0, 7), -9, 4),
                                   ((1, 2, 3, 4, 5, 6), 4, 1)):
-            fit = self.fitted(self.SENT, offs)
+            fit = self.fit(self.SENT, offs)
             self.assertEqual((fit.origin, fit.exact), ((rest - 10 * TICKS) % CLOCK, exact), offs)
         late = [(1, b"a"), (10, b""), (22, b"b"), (36, b""), (42, b"x"), (50, b"")]
-        fit = self.fitted(late, within=2)
+        fit = self.fit(late, within=2)
         self.assertEqual((fit.origin, *fit[1:8], fit.late), (
             -10 * TICKS % CLOCK, 5, 5, 2, 5, 6, 10, 50, [1, 0, 2, 1, 0]))
-        fields = self.fitted(late, [0, 1800, 9, -9, 0, 5], within=2)
+        fields = self.fit(late, [0, 1800, 9, -9, 0, 5], within=2)
         self.assertEqual(fields, fit)
         for frame, text, is_there in ((20, b"b", True), (20, b"x", False), (21, b"b", False)):
             one = base_with(self.edges, [(TICKS * frame, text)])
@@ -191,14 +178,12 @@ class Fits(unittest.TestCase):
         self.assertEqual((fit.start, fit.late), (8, [0]))
         base = base_with(self.edges, [(TICKS * (frame + 2), text) for frame, text in self.SENT],
                          60, 2)
-        for start in (8, 9, 10):  # what all share is no delay
+        for start in (8, 9, 10):  # a delay of all is no delay
             self.assertEqual((base.fit(start).start, base.fit(start).late), (8, [0] * 6), start)
         self.assertEqual([min(one.late) for one in base.fits], [0] * len(base.fits))
         self.assertEqual((base_with(self.edges, []).fits, base_with([], self.SENT).fits), ([], []))
 
-    def test_finds_the_smaller_of_two_delays_between_begins_and_ends(self) -> None:
-        """Half that agree are not apart; of two delays that as many have the smaller is told; that
-        of one end alone is none where no text agrees; within N frames it is more than N."""
+    def test_finds_the_smaller_delay_between_begins_and_ends(self) -> None:
         two = [(frame + by, text) for (frame, text), by in zip(self.SENT, (0, 2, 0, 2, 0, 2))]
         one = [(0, b"x"), (10, b"")]
         rows: list[tuple[list[tuple[int, bytes]], int, Apart | None]] = [
@@ -210,7 +195,7 @@ class Fits(unittest.TestCase):
             base = base_with(self.edges, [(TICKS * frame, text) for frame, text in some], 60,
                              within)
             self.assertEqual(base.apart(base.fit_at(10)), wanted, (some, within))
-        half = [(0, b"a"), (10, b""), (12, b""), (20, b"b"), (37, b"")]  # as due, or all later
+        half = [(0, b"a"), (10, b""), (12, b""), (20, b"b"), (37, b"")]  # on time, or all later
         base = base_with(self.edges[:4], [(TICKS * frame, text) for frame, text in half])
         self.assertIsNone(base.apart(base.fit_at(10)))
         base = base_with(self.edges, [(TICKS * frame, text) for frame, text in self.SENT], 49)
@@ -225,16 +210,15 @@ class Fits(unittest.TestCase):
             self.assertEqual(found, Apart(False, at, 1, 1) if is_told else None, (at, is_told))
         base = base_with(self.edges[:2], [(TICKS * 13, b"")])
         self.assertIsNone(base.apart(base.fit_at(10)))
-        for by in (-3, 3):  # the ends are as due, the beginnings are not: these have the origin
+        # the ends are on time, the beginnings are not: these determine the origin
+        for by in (-3, 3):
             some = [(frame + 9 + by * bool(text), text) for frame, text in self.SENT]
             base = base_with(self.edges, [(TICKS * frame, text) for frame, text in some], 70)
             self.assertEqual(base.apart(base.fit_at(1)), Apart(True, by, 3, 3), by)
             self.assertEqual(base.by_beginnings(base.fit_at(1)).start, 1 - by, by)
             self.assertEqual(base.by_beginnings(base.fit_at(1 - by)).start, 1 - by, by)
 
-    def test_which_vote(self) -> None:
-        """Of many some of the whole length vote, and each of its texts, unless there are many of
-        it; what is erased is none."""
+    def test_samples_the_votes_of_many_changes(self) -> None:
         sent = [(TICKS * at, b"x") for at in range(0, 80, 2)] + [
             (TICKS * (edge.frame + 500), b"y") for edge in self.edges] + [(TICKS * 900, b"x")]
         for votes in (1 << 20, 100):
@@ -250,22 +234,21 @@ class Fits(unittest.TestCase):
             self.assertEqual(found, {4: 1, **{1000 * at * at - 1: 1 for at in range(
                 count * votes)}}, (count, votes))
 
-    def test_single_texts(self) -> None:
-        """Those that are there once; what is erased is none."""
+    def test_returns_texts_that_are_sent_once(self) -> None:
         self.assertEqual(single_texts([(1, b"a"), (2, b""), (3, b"b"), (4, b"a"), (5, b""),
                                        (6, b"c"), (7, b"a")]), {b"b": 3, b"c": 6})
         self.assertEqual(single_texts([(1, b""), (2, b"a")]), {b"a": 2})
 
 
 class Parts(unittest.TestCase):
-    """Which parts there are."""
-
     shown = [Shown(100 * at, 100 * at + 50, at, b"%d" % at) for at in range(1, 7)]
 
     def parts(self, shown: Sequence[Shown], later: int, is_anew: bool,
               extra: Sequence[tuple[int, bytes]] = ()) -> list[FittedPart]:
-        """Of a programme whose second half is sent so much later, or after PTS went back; the page
-        changes at other frames too, in the first time base."""
+        """Return the parts of a programme whose second half is sent later, or after PTS went back.
+
+        `extra` has further page changes of the first time base.
+        """
         edges = edges_of(shown)
         half = sum(edge.frame < 400 for edge in edges)
         first = [(TICKS * edge.frame, edge.letters) for edge in edges[:half]]
@@ -277,9 +260,7 @@ class Parts(unittest.TestCase):
                Stretch(Track(len(bases) - 1, -later, bases[-1]), half, len(edges))]
         return parts_of(shown, bases, row)
 
-    def test_each_part(self) -> None:
-        """Its frames, its time base, how many cues agree by what is sent in its time alone, and
-        which subtitles reach into the next one."""
+    def test_each_part_has_its_frames_and_agreeing_cues(self) -> None:
         shown = self.shown
         up_to = [*shown[:2], shown[2]._replace(end=400), *shown[3:]]
         into = [*shown[:2], shown[2]._replace(end=401), *shown[3:]]
@@ -295,7 +276,7 @@ class Parts(unittest.TestCase):
             found = self.parts(some, 4000, is_anew, extra)
             self.assertEqual([(*one[:2], one.best.agree, one.best.among, len(one.over))
                               for one in found], wanted, some)
-            self.assertEqual([(one.best.start, one.base, one.early) for one in found],
+            self.assertEqual([(one.best.start, one.base_of_delays, one.early) for one in found],
                              [(0, 0, None), (-4000, int(is_anew), None)], some)
             first, second = ([*one.sent.changes] for one in found)
             beside = sorted(frame for frame, _ in extra)
@@ -304,8 +285,7 @@ class Parts(unittest.TestCase):
                 beside[-1] if beside else last, 4400 if is_anew else min(
                     [one for one in beside if one > last] + [4400])), some)
 
-    def test_late_parts(self) -> None:
-        """Within some frames by the shares of delays, where these are known, each by its own."""
+    def test_each_part_has_its_own_delays(self) -> None:
         edges = edges_of(self.shown)
         late = Lateness({0: 1}, {0: 1})
         for delays in itertools.product((0, 1), repeat=2):
@@ -320,9 +300,7 @@ class Parts(unittest.TestCase):
                     (start - by, None if shares or not by else Early(1, 6, 1))
                     for start, by in zip((0, -4000), delays)], (delays, shares))
 
-    def test_a_single_part(self) -> None:
-        """Of all subtitles, in the time base with which the most cues agree; where that is not the
-        only origin its others are those of other frames; none where no cue agrees with any."""
+    def test_takes_the_time_base_with_the_most_agreeing_cues(self) -> None:
         edges = edges_of(self.shown)
         own = [(TICKS * edge.frame, edge.letters) for edge in edges]
         none = base_with(edges, [(0, b"x")]).limited([], -1, 9)
@@ -346,8 +324,6 @@ class Parts(unittest.TestCase):
             self.assertEqual(part.best.start, start, (some, start))
 
     def test_begins_a_stretch_where_it_gains_the_most(self) -> None:
-        """The second of two stretches begins where it gains the most, behind five of the first, and
-        what is due there is sent later; of two the later one."""
         edges = [Edge(50 * at, b"", True) for at in range(15)]
         for before, own, start, wanted in (
                 ([3] * 6 + [0] * 9, [0] * 10 + [3] * 5, -9, 10),
@@ -368,16 +344,16 @@ class Parts(unittest.TestCase):
 
 
 class Runs(unittest.TestCase):
-    """How often the programme is there, in one time base and where PTS go back."""
-
     due = [Shown(at * at * 7 + 90 * at, at * at * 7 + 90 * at + 60 + at, at, b"%d" % at)
            for at in range(12)]
     grid = [Shown(100 * at, 100 * at + 50, at, b"%d" % at) for at in range(12)]
 
-    def found(self, shown: Sequence[Shown], kinds: str, step: int, has_clock: bool = False
+    def run_frames(self, shown: Sequence[Shown], kinds: str, step: int, has_clock: bool = False
               ) -> list[tuple[int, int]]:
-        """The first and the last frame of each, of which some are right, some have `w`rong texts,
-        or a `f`ew right ones all along, and some are a `h`alf, or `l`ess."""
+        """Return the first and last frame of each run.
+
+        `kinds` has a letter for each: right, wrong texts, few right texts, half, less.
+        """
         sendings = []
         for number, kind in enumerate(kinds):
             for at, edge in enumerate(edges_of(shown)[:{"h": 12, "l": 11}.get(kind, 24)]):
@@ -389,21 +365,18 @@ class Runs(unittest.TestCase):
                 for first, last in runs_of(bases, has_clock)]
 
     def test_finds_each_run_whichever_is_the_best(self) -> None:
-        """Each in its order, whichever is the best; what is half of it, or a quarter of its texts
-        over most of it; and by its times alone, where no clock is known, of what is no grid."""
         for step, kinds in itertools.product((EACH, -10 ** 6), (
                 "r", "rrr", "hrr", "lr", "rwr", "wrw", "fr")):
             for has_clock in (False, True)[:1 + ("w" in kinds)]:
                 kept = [(EACH * at, EACH * at + self.due[5 if kind == "h" else 11].end)
                         for at, kind in enumerate(kinds)
                         if kind != "l" and not (kind == "w" and has_clock)]
-                self.assertEqual(self.found(self.due, kinds, step, has_clock), kept,
+                self.assertEqual(self.run_frames(self.due, kinds, step, has_clock), kept,
                                  (step, kinds, has_clock))
-        self.assertEqual(self.found(self.grid, "rw", EACH), [(0, 1150)])
-        self.assertEqual(self.found(self.grid, "rr", EACH), [(0, 1150), (EACH, EACH + 1150)])
+        self.assertEqual(self.run_frames(self.grid, "rw", EACH), [(0, 1150)])
+        self.assertEqual(self.run_frames(self.grid, "rr", EACH), [(0, 1150), (EACH, EACH + 1150)])
 
-    def test_takes_what_is_sent_between_two_places(self) -> None:
-        """What is sent between two places, neither of them included."""
+    def test_returns_the_changes_between_two_places(self) -> None:
         bases = [base_with([], [(TICKS * at, b"%d" % at) for at in range(5)], 4) for _ in range(3)]
         for low, high, wanted in (
                 ((0, 1), (0, 3), [[2], [], []]), ((0, 1), (1, 1), [[2, 3, 4], [0], []]),
@@ -413,9 +386,7 @@ class Runs(unittest.TestCase):
             self.assertEqual([[*base.changes] for base in sent_between(bases, low, high)], wanted,
                              (low, high))
 
-    def test_by_times(self) -> None:
-        """Nine in ten of those that the first time has, and three quarters of all, in whichever
-        time base, no more than N frames late; of few nothing is told."""
+    def test_finds_a_run_by_its_times_alone(self) -> None:
         edges = edges_of(self.due[:10])
         for within, (count, changes, is_told) in itertools.product((0, 1), (
                 (20, 20, True), (20, 18, True), (20, 17, False), (16, 15, True), (10, 15, True),
@@ -431,12 +402,8 @@ class Runs(unittest.TestCase):
                                  (within, count, changes))
 
 
-class Ways(unittest.TestCase):
-    """What is taken of several."""
-
-    def test_early_by_shares(self) -> None:
-        """By shares the clock is also one before which some come, or an earlier one, as more are as
-        they may be."""
+class Choices(unittest.TestCase):
+    def test_takes_the_likeliest_clock_by_known_delays(self) -> None:
         late = Lateness({0: 1, 1: 1}, {0: 1})
         for delays, by in (([-1, -1, 0, 0, 0, 1], -1), ([-1, 0, 0, 0, 1, 1], 0),
                            ([0, 1, 1, 2, 2, 2], 1), ([0, 0, 0, 1, 1, 2], 0), ([2] * 6, 1)):
@@ -447,29 +414,27 @@ class Ways(unittest.TestCase):
             wrong = base_with(edges, [(TICKS * (edge.frame + one), b"x")
                                       for edge, one in zip(edges, delays)], 900, 1)
             self.assertEqual(likeliest(wrong, wrong.fit_at(0), late).start, -1, delays)
-        base = self.base([1, None, 1, 0, 2, None])
+        base = self.base_of_delays([1, None, 1, 0, 2, None])
         self.assertEqual(likeliest(base, base.fit_at(0), late).start, 0)
 
-    def base(self, delays: Sequence[int | None]) -> Base:
-        """Of subtitles whose begins and ends come so late, or not at all."""
+    def base_of_delays(self, delays: Sequence[int | None]) -> Base:
+        """Return the time base of subtitles with these delays."""
         edges = edges_of([Shown(100 * at, 100 * at + 50, at, b"%d" % at)
                           for at in range(1, len(delays) // 2 + 1)])
         return base_with(edges, [(TICKS * (edge.frame + by), edge.letters) for edge, by in zip(
             edges, delays) if by is not None], 9999, 1)
 
-    def test_sent_twice(self) -> None:
-        """A text that is sent twice tells no drift."""
+    def test_ignores_repeated_texts_for_a_drift(self) -> None:
         edges = [Edge(100 * at, b"%d" % at, True) for at in range(12)]
         sent = {100 * at + at // 2: Agreed(0, b"%d" % at, 0) for at in range(12)}
         twice = {5000 + at: Agreed(0, b"%d" % at, 0) for at in (0, 1, 5)}
         self.assertEqual((drift_of(edges, sent), drift_of(edges, {**sent, **twice})),
                          (Drift(0, 1100, 5), Drift(200, 1100, 4)))
 
-    def test_early_ends(self) -> None:
-        """Ends that come before what is usual are early too."""
+    def test_reports_early_ends(self) -> None:
         for delays, wanted in (([1, 1] * 9 + [1, 0], (-1, Early(1, 20, 1))),
                                ([1, 1] * 9 + [0, 0], (-1, Early(2, 20, 1))),
                                ([1, 0] * 10, (0, None)), ([0, 1] * 10, (0, None))):
-            base = self.base(delays)
+            base = self.base_of_delays(delays)
             best, early = settled(base, base.fit(0), None)
             self.assertEqual((best.start, early), wanted, delays)

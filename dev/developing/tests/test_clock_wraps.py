@@ -1,4 +1,4 @@
-"""A recording whose PTS begin anew within it, at 2^33, is judged as one in which they do not."""
+"""A recording whose PTS wrap at 2^33 is judged like one whose PTS don't wrap."""
 from __future__ import annotations
 
 import json
@@ -10,21 +10,22 @@ from developing.pes import pts_in
 from subtitles.common.times import CLOCK, TICKS, time_of
 from .bench import Case, example_bytes
 from .judged import judged
-from .streams import OLD, Packet, Shape, TELETEXT_PID, in_frames, in_turn, multiplexed, with_pictures
+from .streams import (
+    OLD, Packet, Shape, TELETEXT_PID, in_frames, in_turn, multiplexed, with_pictures)
 from .transmissions import (
     EACH, LASTS, ORIGIN, apart, joined, one_late, packets, programme, sendings, times)
-from .test_clock_clocks import EARLIER, FIRST_PTS, STARTED, STORY
+from .test_clock_delays import EARLIER, FIRST_PTS, STARTED, STORY
 from .test_judging_paced import large, lost
 from .test_stream_pace import alone, filled
 
-# Members of a result, and words of its lines, that have a PTS or are of the very file.
+# Members of a result, and parts of its lines, that contain a PTS or depend on the file.
 OF_FILE = {"inputs", "files_at_start", "program", "date", "seconds", "request"}
 OF_PTS = re.compile(r'(--origin |PTS |origin": |_pts": |origin", "value": ")\d+( and \d+,)?')
 PCR_FLAG, FIELD, PTS_FLAG, DTS_FLAG = 0x10, 0x20, 0x80, 0x40
 
 
-def later(time: bytes, by: int) -> bytes:
-    """A PTS or a DTS, five bytes of a PES header, so many ticks later."""
+def add_ticks(time: bytes, by: int) -> bytes:
+    """Add ticks to the five bytes of a PTS or DTS."""
     value = time[0] >> 1 & 7
     for high, low in (time[1:3], time[3:5]):
         value = value << 15 | (high << 8 | low) >> 1
@@ -34,8 +35,8 @@ def later(time: bytes, by: int) -> bytes:
         pair.to_bytes(2, "big") for pair in pairs)
 
 
-def clocked_anew(data: bytes, by: int) -> bytes:
-    """A transport stream with all its clocks so many ticks later."""
+def shift_clocks(data: bytes, by: int) -> bytes:
+    """Shift all clocks of a transport stream."""
     made = bytearray(data)
     for at in range(0, len(made), PACKET):
         begin = at + 4
@@ -49,84 +50,76 @@ def clocked_anew(data: bytes, by: int) -> bytes:
             flags = made[begin + 7]
             for flag, place in ((PTS_FLAG, begin + 9), (DTS_FLAG, begin + 14)):
                 if flags & flag:
-                    made[place:place + 5] = later(bytes(made[place:place + 5]), by)
+                    made[place:place + 5] = add_ticks(bytes(made[place:place + 5]), by)
     return bytes(made)
 
 
 class Wraps(Case):
-    """Six subtitles, with a PES packet in each frame, or a page transmission a second."""
-
     def setUp(self) -> None:
         super().setUp()
         self.stl = programme(self, times(6))
         self.sent = filled(sendings(self, self.stl))
 
-    def told(self, stl: str, data: bytes, *words: str) -> tuple[str, str]:
-        """The verdict, and all that is said of the recording but its PTS."""
+    def judge(self, stl: str, data: bytes, *words: str) -> tuple[str, str]:
+        """Return the verdict, and all output without PTS."""
         found = judged(self, stl, self.write("one.ts", data), *words)
         known: dict[str, Any] = {name: value for name, value in found.result.items()
                                  if name not in OF_FILE}
         return found.word, OF_PTS.sub(r"\1N", json.dumps([known, found.said, found.listed]))
 
-    def must_be_same(self, name: str, word: str, data: bytes, *words: str, stl: str = "",
+    def check_same(self, name: str, word: str, data: bytes, *words: str, stl: str = "",
                      frames: Sequence[int] = (3 * EACH, 3 * EACH + 21, 6 * EACH + LASTS)) -> None:
-        """Judges a stream, and the same where PTS begin anew at some of its frames."""
-        plain = self.told(stl or self.stl, clocked_anew(data, CLOCK // 3), *words)
+        """Check that a stream is judged the same if its PTS wrap at any of some frames."""
+        plain = self.judge(stl or self.stl, shift_clocks(data, CLOCK // 3), *words)
         self.must(name, plain[0] == word, plain)
         for frame in frames:
-            anew = self.told(stl or self.stl, clocked_anew(data, CLOCK - frame * TICKS), *words)
+            anew = self.judge(stl or self.stl, shift_clocks(data, CLOCK - frame * TICKS), *words)
             self.must(f"{name}: {frame}", anew == plain, [
                 one for one in zip(plain[1].split(", "), anew[1].split(", ")) if one[0] != one[1]])
 
-    def multiplexed(self, size: int = 3) -> list[Packet]:
-        """A multiplex in which each PES packet takes so many TS packets."""
+    def multiplex(self, size: int = 3) -> list[Packet]:
+        """Return a multiplex with `size` TS packets for each PES packet."""
         return multiplexed([large(joined([one]), size) for one in self.sent], Shape(200))
 
-    def test_reports_losses_at_every_origin(self) -> None:
-        """Nothing is lost; some TS packets, which the counter tells; some at a jump that is
-        announced; 16 of the PID alone."""
-        made, place = self.multiplexed(), 3 * EACH + 20 - EACH
+    def test_reports_losses_by_the_counter(self) -> None:
+        made, place = self.multiplex(), 3 * EACH + 20 - EACH
         for name, word, some in (
                 ("whole", "accepted", made), ("by the counter", "refused", lost(
                     made, 5, frame=3 * EACH + 20)),
                 ("announced", "lost", lost(made, 3, True, 3 * EACH + 20)),
-                ("of the PID", "refused", alone(self.multiplexed(1), place, 16))):
-            self.must_be_same(name, word, b"".join(one.data for one in some))
+                ("of the PID", "refused", alone(self.multiplex(1), place, 16))):
+            self.check_same(name, word, b"".join(one.data for one in some))
 
-    def test_losses_by_the_clock(self) -> None:
-        """16 TS packets of the PID are lost with what lies between, so that the PCR alone tells."""
+    def test_reports_losses_by_the_pcr(self) -> None:
         pes = [joined([one]) for one in self.sent]
         made = b"".join(in_frames(pes, pts_in(pes[0]), len(pes) + 9, 1))
         own = [at for at in range(0, len(made), PACKET)
                if int.from_bytes(made[at + 1:at + 3], "big") & 0x1FFF == TELETEXT_PID]
         place = 3 * EACH + 20 - EACH
         torn = made[:own[place]] + made[own[place + 16] - 5 * PACKET:]
-        self.must_be_same("whole", "accepted", made, "--pace", "none")
-        self.must_be_same("torn", "lost", torn, "--pace", "none")
+        self.check_same("whole", "accepted", made, "--pace", "none")
+        self.check_same("torn", "lost", torn, "--pace", "none")
 
-    def test_first_picture(self) -> None:
-        """The clock is that of the first picture, in whose group PTS begin anew, or later."""
+    def test_takes_the_clock_of_the_first_picture(self) -> None:
         data = with_pictures(example_bytes("story.pes"), FIRST_PTS).data
         for words, word in ((("--start", STARTED), "accepted"), ((), "accepted"),
                             (("--start", time_of(FIRST_PTS // TICKS - 2)), "refused")):
-            self.must_be_same(f"{words}", word, data, *words, stl=STORY, frames=[
+            self.check_same(f"{words}", word, data, *words, stl=STORY, frames=[
                 FIRST_PTS // TICKS + more for more in (1, 5, EARLIER, EARLIER + 100)])
 
-    def test_judges_two_parts_at_every_origin(self) -> None:
-        """Two parts, in the second of which a subtitle is late."""
+    def test_judges_two_parts(self) -> None:
         stl = programme(self, times(24), name="many.stl")
         for change, words, word in ((one_late(10, 0), (), "accepted"),
                                     (one_late(10, 3), (), "refused"),
                                     (one_late(10, 3), ("--within", "3"), "accepted")):
             sent = apart(change(sendings(self, stl)), 1000)
-            self.must_be_same(f"{words} {word}", word, in_turn(
+            self.check_same(f"{words} {word}", word, in_turn(
                 [joined([one]) for one in sent], [(0, OLD)]), "--breaks", "1", *words, stl=stl,
                 frames=[ORIGIN // TICKS + more for more in (500, 1200, 2000, 2050)])
 
-    def test_judges_late_subtitles_at_every_origin(self) -> None:
-        """A subtitle is late, or all are by a clock that is given."""
+    def test_reports_late_subtitles(self) -> None:
         self.schedule(self.stl, "one.pes", "--every", "25")
         pes = packets(self.read("one.pes"))
         moved = [joined([one]) for one in one_late(3, 5)(sendings(self, self.stl))]
         for name, word, some in (("late", "refused", moved), ("as it is due", "accepted", pes)):
-            self.must_be_same(name, word, in_turn(some, [(0, OLD)]))
+            self.check_same(name, word, in_turn(some, [(0, OLD)]))

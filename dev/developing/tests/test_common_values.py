@@ -1,5 +1,4 @@
-"""Tables of values: what JSON may be, of each kind, and what is made of it; what is heard of a
-pair."""
+"""Tables of values: shapes of JSON values, ranges of frames, printed lines, names of files."""
 from __future__ import annotations
 
 import io
@@ -20,8 +19,6 @@ from .bench import Case
 
 
 class Shapes(unittest.TestCase):
-    """Kinds of values, with their bounds."""
-
     INNER = Record("inner", "", Member("x", Integer(0, 5)), Member("y", Flag(), is_always=False))
     OUTER = Record("outer", "", Member("a", Text()), Member("b", Maybe(INNER)),
                    Member("c", Listed(INNER, 2), is_always=False), rules=(
@@ -29,8 +26,6 @@ class Shapes(unittest.TestCase):
                        Rules(({"a": Text("[pq]")}, {"b": INNER}))))
 
     def test_names_the_first_place_that_does_not_fit(self) -> None:
-        """Where a value does not fit: in itself, or at a place in it, the first one; a number is no
-        truth, nor one of another type."""
         nan, inf = float("nan"), float("inf")
         one: dict[str, Any] = {"x": 1}
         rows: list[tuple[Shape, list[object], list[object]]] = [
@@ -67,8 +62,6 @@ class Shapes(unittest.TestCase):
             self.assertEqual(shape.misfit(value), place, value)
 
     def test_cuts_a_text_and_a_list_that_are_too_long(self) -> None:
-        """A text that is too long is cut, unless a pattern asks something of it; a list is; what
-        is not always there is left out where it is not."""
         rows: list[tuple[Shape, object, object]] = [
                 (Text(most=5), "abcde", "abcde"), (Text(most=5), "abcdef", "ab..."),
                 (Text("a*", 5), "a" * 6, "a" * 6), (Text(most=5), None, None),
@@ -84,17 +77,13 @@ class Shapes(unittest.TestCase):
             self.assertEqual(shape.made(value), wanted, value)
 
     def test_prefixes_all_anchors_of_a_part_and_their_links(self) -> None:
-        """All anchors, and all links to them, have the prefix of a part; a text has none."""
         some = markup('<a id="x">{}</a><a href="#x">b</a><a id="y" href="#y">c</a>', ' id="')
         self.assertEqual(some.anchored("p").source, '<a id="px"> id=&quot;</a><a href="#px">b</a>'
                                                     '<a id="py" href="#py">c</a>')
 
 
 class Spans(unittest.TestCase):
-    """Frames between two."""
-
     def test_has_the_first_frame_and_not_the_end(self) -> None:
-        """From the first on, and before the end; in words, where it is not the whole day."""
         day = FRAMES_OF_A_DAY
         for between, inside, words in (
                 (ALL_DAY, [True, True, True], ""), (Between(25, 50), [False, True, False],
@@ -108,11 +97,8 @@ class Spans(unittest.TestCase):
             self.assertEqual(" ".join(between.words()), words, (between, inside))
 
 
-class Heard(unittest.TestCase):
-    """What is kept of what is said of a pair."""
-
+class PrintedLines(unittest.TestCase):
     def test_keeps_each_command_and_choice_and_a_note_once(self) -> None:
-        """Each command and choice in its order; a note once, and none that is empty."""
         said = list[str]()
         speech: Any = SimpleNamespace(say=said.append, command=said.append)
         heard = Listener(speech)
@@ -130,9 +116,7 @@ class Heard(unittest.TestCase):
         self.assertEqual(heard.commands, ["check 'a b' >c", "check 'd'\"'\"''"])
         self.assertEqual(said, ["line 1", *heard.commands, "more"])
 
-    def test_prints_the_last_line_after_what_is_done_before_it(self) -> None:
-        """What is done before the verdict's line is done between its sentence and that; all before
-        the verdict may be quiet; each line is said at once."""
+    def test_runs_the_last_step_between_sentence_and_line(self) -> None:
         speech, out = Speech(Progress()), io.StringIO()
         speech.out, speech.at_end = out, lambda: print("at end", file=out)
         speech.say("one\x07")
@@ -148,13 +132,9 @@ class Heard(unittest.TestCase):
         self.assertEqual((silence.call_args.args, speech.last), ((out,), "nobody reads it"))
 
 
-class Named(Case):
-    """Names of files that a call makes."""
-
+class FileNames(Case):
     def test_gives_the_program_a_file_name_in_utf_8(self) -> None:
-        """Where somebody else gives them their place; the subtitle file as the program is given
-        it, of a part too, by a name that is UTF-8."""
-        later = Names("one", self.folder, "out", "later")  # somebody else puts them into `out`
+        later = Names("one", self.folder, "out", "later")  # another process moves them to `out`
         for one, name in ((later, "one"), (later.of_part(2), "one.2")):
             self.must(f"{name}: later", (one.typed("html"), one.report, one.machine) == (
                 f"out/{name}.html", f"later/{name}.html", f"later/{name}.json"))
@@ -169,7 +149,6 @@ class Named(Case):
                       b"two" and later.as_program(own, "x") != later.given)
 
     def test_names_no_two_pairs_the_same(self) -> None:
-        """A pair of a list has another name than those before; long names are cut, and differ."""
         names = NamesOfList()
         self.check("pairs", [names.pair(f"{one}.stl") for one in "abaa"], ["a", "b", "a~2", "a~3"])
         long = ["a" * 179, "a" * 180, "a" * 181, "a" * 182, "a" * 181 + "b", "é" * 90, "é" * 91]

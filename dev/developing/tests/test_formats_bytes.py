@@ -1,6 +1,4 @@
-"""Times, codes and PES packets, held against what is said of each byte and bit alone:
-at each bound, of the first, the second and the last, and where the clock begins again.
-"""
+"""Times, codes and PES packets, compared bit by bit with the standards."""
 from __future__ import annotations
 
 import itertools
@@ -16,10 +14,11 @@ CLOCK, DAY = 8_589_934_592, 2_160_000
 START = b"\0\0\1\xbd"
 CODES = ["00010101", "00000010", "01001001", "01011110", "01100100", "01110011", "00111000",
          "00101111", "11010000", "11000111", "10001100", "10011011", "10100001", "10110110",
-         "11111101", "11101010"]  # Hamming 8/4 of 0 to 15, the last bit first (EN 300 706, 8.2)
+         # Hamming 8/4 codes of 0 to 15, the last bit first (EN 300 706, 8.2)
+         "11111101", "11101010"]
 
 
-NOTHING = b"\x01"  # two wrong bits of each code that is near
+NOTHING = b"\x01"  # two bits away from every code
 
 
 def bits_of(number: int, count: int) -> str:
@@ -27,10 +26,7 @@ def bits_of(number: int, count: int) -> str:
 
 
 class Times(unittest.TestCase):
-    """Times of the day and PTS."""
-
     def test_reads_the_time_that_it_writes(self) -> None:
-        """Of each kind of a frame its time and back; what is no time."""
         for frame, text in ((0, "00:00:00:00"), (24, "00:00:00:24"), (25, "00:00:01:00"),
                             (1499, "00:00:59:24"), (1500, "00:01:00:00"), (89_999, "00:59:59:24"),
                             (90_000, "01:00:00:00"), (2_159_999, "23:59:59:24"),
@@ -47,7 +43,6 @@ class Times(unittest.TestCase):
             self.assertIsNone(times.frame_of(text), text)
 
     def test_counts_pts_over_33_bits(self) -> None:
-        """A PTS is of 33 bits: what is later, at each end of half the clock."""
         half = CLOCK // 2
         for first, second, later in ((0, 0, 0), (0, 1, 1), (1, 0, -1), (CLOCK - 1, 0, 1),
                                      (0, CLOCK - 1, -1), (0, half - 1, half - 1), (0, half, -half),
@@ -61,15 +56,13 @@ class Times(unittest.TestCase):
             self.assertEqual(times.pts_of(frame, origin), wanted, (frame, origin))
 
     def test_finds_the_frame_of_each_pts(self) -> None:
-        """Of PTS one by one, and of many that rise by a frame: at the ends of a day and of a frame,
-        and where the clock begins again."""
         offs = (-901, -900, -899, -1, 0, 1, 1800, 2699, 2700, 3599)
         rows = [[frame * 3600 + off] for frame in (0, 1, 7, DAY - 1, DAY) for off in offs]
         rows += [[first + 3600 * number for number in range(count)] for count in (2, 3)
                  for first in (off + 3600 * frame for frame in (0, DAY - 3, DAY - 2, DAY - 1)
                                for off in (-900, 0, 1, 2700))]
         rows += [[], [0, 3600, 7201], [0, 7200], [3600, 0], [0, 0]]
-        # As many frames apart as there are of them, though one frame has none, or has it later.
+        # Evenly spaced, though one frame has no PTS or a later one.
         rows += [[0, 3600, 3600, 10800], [0, 7200, 7200, 10800], [0, 7200, 3600, 10800],
                  [0, 3600, 7250, 10800], [0, 3599, 7200]]
         for origin, ticks, within in itertools.product((0, 1, 900, CLOCK - 3600, CLOCK - 1), rows,
@@ -92,11 +85,7 @@ class Times(unittest.TestCase):
 
 
 class Codes(unittest.TestCase):
-    """Teletext's codes, bit by bit."""
-
     def test_decodes_each_byte_bit_by_bit(self) -> None:
-        """Each byte: its parity, its reverse, the number that it codes with at most one wrong bit.
-        """
         for byte in range(256):
             bits = bits_of(byte, 8)
             self.assertEqual(teletext.is_odd(byte), bits.count("1") % 2 == 1, byte)
@@ -109,8 +98,6 @@ class Codes(unittest.TestCase):
             self.assertTrue(teletext.is_odd(pes.odd(code)), code)
 
     def test_reads_each_magazine_and_packet_number(self) -> None:
-        """Each magazine and packet number; with what means nothing in the first byte or the second;
-        a header's eight numbers, the second of them wrong, and the last."""
         for magazine, number in itertools.product(range(8), range(32)):
             made = pes.packet(magazine, number, (), b"a")
             self.assertEqual(pes.address_of(made), (magazine, number), (magazine, number))
@@ -128,8 +115,7 @@ class Codes(unittest.TestCase):
         self.assertEqual([one[:2] for one in pes.headers_in(rows)],
                          [(1, 0x78), (0, 0x88), (0, 0xFF)])
 
-    def test_control_bits(self) -> None:
-        """Each control bit alone, and all but it (EN 300 706, 9.3.1.3)."""
+    def test_reads_each_control_bit(self) -> None:
         places = {4: 3 * 4 + 3, 5: 5 * 4 + 2, 6: 5 * 4 + 3, 7: 24, 8: 25, 9: 26, 10: 27, 11: 28,
                   12: 29, 13: 30, 14: 31}
         for bit, place in places.items():
@@ -139,7 +125,6 @@ class Codes(unittest.TestCase):
                                  [bit], (header, is_set))
 
     def test_reads_names_of_pages(self) -> None:
-        """Names of pages, and what is none."""
         for text, page in (("888", (0, 0x88)), ("100", (1, 0)), ("7fE", (7, 0xFE)),
                            ("8Ab", (0, 0xAB)), ("200", (2, 0)), ("899", (0, 0x99))):
             self.assertEqual(page_in(text), page, (text, page))
@@ -150,10 +135,7 @@ class Codes(unittest.TestCase):
 
 
 class Packets(unittest.TestCase):
-    """PES packets."""
-
     def test_writes_each_bit_of_a_pts_in_its_place(self) -> None:
-        """Each bit of a PTS stands where ISO 13818-1 has it."""
         for pts in (0, 1, CLOCK - 1, 0x155555555, 0xAAAAAAAA, *(1 << bit for bit in range(33))):
             bits = bits_of(pts, 33)
             wanted = int(f"0010{bits[:3]}1{bits[3:18]}1{bits[18:]}1", 2).to_bytes(5, "big")

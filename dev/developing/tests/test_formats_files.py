@@ -1,6 +1,4 @@
-"""Blocks of subtitle files, and lines of the program: at each bound, and of the first, the second
-and the last.
-"""
+"""Blocks of subtitle files, and lines of the program, at each limit."""
 from __future__ import annotations
 
 import itertools
@@ -24,8 +22,8 @@ from .bench import Case
 GSI = 1024
 
 
-def refused(call: Callable[[], object], error: type[Exception] = Stop) -> str:
-    """Why something is refused; nothing where it is not."""
+def refusal(call: Callable[[], object], error: type[Exception] = Stop) -> str:
+    """Return why a call was refused, or ""."""
     try:
         call()
     except error as reason:
@@ -34,14 +32,10 @@ def refused(call: Callable[[], object], error: type[Exception] = Stop) -> str:
 
 
 class Blocks(unittest.TestCase):
-    """Blocks as EBU Tech 3264 has them, by the places of their bytes."""
-
     def block(self, number: int, ebn: int, comment: int = 0, group: int = 0) -> bytes:
         return tti_block(number, number, number + 1, 20, 2, b"%d" % number, ebn, comment, group)
 
     def test_joins_blocks_into_subtitles(self) -> None:
-        """Rows of blocks by SN, EBN and CF: the subtitles by SN and text, which is that of all
-        their blocks, or why one can't be read on; the first, the second and the last wrong."""
         last, user = 255, 254
         of_rows: list[tuple[Sequence[tuple[int, int, int]], list[tuple[int, bytes]], str]] = [
             ([], [], ""), ([(1, last, 0)], [(1, b"1")], ""),
@@ -66,7 +60,7 @@ class Blocks(unittest.TestCase):
             data = gsi_block(b"", 0, 0) + b"".join(self.block(*one) for one in row)
             for rest in (b"", b"x" * 127):
                 found: list[stl.StoredSubtitle] = []
-                told = refused(lambda: found.extend(stl.subtitles_in(data + rest)), Damaged)
+                told = refusal(lambda: found.extend(stl.subtitles_in(data + rest)), Damaged)
                 self.assertEqual([(one.number, one.text) for one in found], wanted, row)
                 self.assertEqual(told, words if words and "no last" not in words or not rest else
                                  f"block {len(row) + 1} is cut", rest)
@@ -74,19 +68,18 @@ class Blocks(unittest.TestCase):
             tti_block(1, at, at + 2, 20 + at, at, b"x", ebn) for at, ebn in ((0, 0), (1, last))))
         self.assertEqual((stl.subtitle_times(one), one.row, one.justify), ((0, 2), 20, 0))
         group = gsi_block(b"", 0, 0) + self.block(1, 0) + self.block(1, last, group=1)
-        self.assertTrue(refused(lambda: list(stl.subtitles_in(group)), Damaged))
+        self.assertTrue(refusal(lambda: list(stl.subtitles_in(group)), Damaged))
 
-    def test_gsi_that_is_none(self) -> None:
+    def test_refuses_an_invalid_gsi_block(self) -> None:
         good = gsi_block(b"", 0, 0)
         for data, words in ((good, ""), (good[:-1], "no EBU STL file"), (b"", "no EBU STL file"),
                             (good[:3] + b"STL24" + good[8:], "no EBU STL file"),
                             (good[:3] + b"STL30" + good[8:], "30 frames a second"),
                             (good[:3] + b"STL25.02" + good[11:], "")):
-            told = refused(lambda: list(stl.subtitles_in(data)), Damaged)
+            told = refusal(lambda: list(stl.subtitles_in(data)), Damaged)
             self.assertTrue(told.startswith(words) and bool(told) == bool(words), told)
 
     def test_reads_subtitles_before_damage(self) -> None:
-        """Damage behind a subtitle is told, and before the first ends it."""
         good = gsi_block(b"", 0, 0)
         for data, count, is_told in ((good, 0, False), (good + self.block(1, 255), 1, False),
                                      (good + self.block(1, 255) + b"x", 1, True),
@@ -94,7 +87,7 @@ class Blocks(unittest.TestCase):
             found: list[stl.StoredSubtitle] = []
             told: list[str] = []
             with mock.patch.object(stl, "tell", told.append):
-                stopped = refused(lambda: found.extend(stl.readable("damaged.stl", data)))
+                stopped = refusal(lambda: found.extend(stl.readable("damaged.stl", data)))
             self.assertEqual((-1 if stopped else len(found), any(
                 line.startswith("damaged.stl: ") for line in told)), (count, is_told),
                              (data, count, is_told))
@@ -102,8 +95,8 @@ class Blocks(unittest.TestCase):
         self.assertEqual(stl.letters_on_page(b" \x20!", "german"), b"!")
 
 
-class Grouped(NamedTuple):
-    """A subtitle as one finds it who looks at each block: its blocks, and what these say."""
+class PlainSubtitle(NamedTuple):
+    """A subtitle found by a plain look at each block."""
 
     blocks: list[int]
     begin: int | None
@@ -113,14 +106,14 @@ class Grouped(NamedTuple):
 
 
 class Files(Case):
-    """A subtitle file by its blocks and frames, at random: what one finds who looks at each."""
-
     TEXTS = (b"one", b"two \x8f not", b"\x8f\x8f", b"\xc8a", b"x" * 112)
 
-    def file(self, chance: random.Random) -> tuple[bytes, list[Grouped]]:
-        """Blocks of subtitles that rise, some of several blocks or of no time of the day, among
-        comments and user data; the last one may have no end."""
-        blocks, groups, frame = list[bytes](), list[Grouped](), chance.randrange(50)
+    def file(self, chance: random.Random) -> tuple[bytes, list[PlainSubtitle]]:
+        """Return blocks of random subtitles with comments and user data, and the subtitles.
+
+        Some have several blocks or invalid times; the last may have no end.
+        """
+        blocks, groups, frame = list[bytes](), list[PlainSubtitle](), chance.randrange(50)
         for number in range(1, chance.randrange(2, 7)):
             begin, end = frame, frame + chance.choice((0, *range(1, 40)))
             frame, own, text = end + chance.choice((0, 0, 30)), list[int](), b""
@@ -137,12 +130,10 @@ class Files(Case):
                 blocks.append(bytes(block))
                 own.append(len(blocks))
                 text += some.split(b"\x8f")[0]
-            groups.append(Grouped(own, None if is_none else begin, end, last == LAST, text))
+            groups.append(PlainSubtitle(own, None if is_none else begin, end, last == LAST, text))
         return gsi_block(b"", 0, 0) + b"".join(blocks), groups
 
-    def test_at_random(self) -> None:
-        """Each block and each frame, with frames that are judged and subtitles that are left out;
-        what is read of the same bytes are the same subtitles."""
+    def test_agrees_with_a_plain_reading_of_random_files(self) -> None:
         chance = random.Random(11)
         for _ in range(150):
             data, groups = self.file(chance)
@@ -181,7 +172,6 @@ class Files(Case):
                                      groups, 1) if one.begin is not None and one.end != one.begin])
 
     def test_names_the_byte_and_character_at_a_place(self) -> None:
-        """A byte of a text, and its character, but of control codes."""
         for byte in {*range(256)} - {0x8F}:
             file = SubtitleFile(self.write("one.stl", gsi_block(b"", 1, 1) + tti_block(
                 1, 25, 50, 20, 2, b"a" + bytes([byte]))))
@@ -189,8 +179,7 @@ class Files(Case):
                                                  < 0xA0 else letters_of(bytes([byte]))), byte)
 
 
-    def test_reads_one_block_more_than_check_takes(self) -> None:
-        """As many bytes are read as `check` takes blocks, and one more; through a pipe too."""
+    def test_reads_one_byte_more_than_check_accepts(self) -> None:
         most, path = GSI + 128 * 99_999 + 1, self.path("long.stl")
         for more in (-1, 0, 1):
             with open(path, "wb") as file:
@@ -203,8 +192,6 @@ class Files(Case):
 
 
 class Titles(Case):
-    """The titles of a GSI block."""
-
     def test_reads_the_titles_of_the_gsi_block(self) -> None:
         def block(page: bytes, first: bytes, second: bytes) -> bytes:
             return (page + b"STL25.01" + b" " * 5 + first.ljust(32) + b"x" * 32
@@ -225,12 +212,9 @@ class Titles(Case):
 
 
 class Lines(unittest.TestCase):
-    """Lines of the program."""
-
     NUMBERS = [*range(10, 26), *range(30, 41), 44, 45, *range(50, 58), *range(60, 78), 82]
 
-    def test_knows_what_each_number_is_of(self) -> None:
-        """Of each number what it is of: the file, what ends reading, what is passed over."""
+    def test_knows_the_kind_of_each_fault_number(self) -> None:
         kinds = {"stl": listing.STL_FAULTS, "ends": listing.ENDS_READING,
                  "passed": listing.PASSED_OVER}
         for number in range(100):
@@ -246,8 +230,7 @@ class Lines(unittest.TestCase):
         self.assertEqual((listing.LETTERS, listing.WITH_CAUSE, listing.LOSSES, listing.UNDECIDED),
                          ((50, 51), {63, 72, 74}, {45, 79}, 78))
 
-    def test_without_numbers(self) -> None:
-        """Faults without a number: their lines, what the manual says, its words without marks."""
+    def test_describes_faults_without_a_number(self) -> None:
         one = listing.NamedFault("not shown", "words")
         for fault, place in ((one, ""), (one._replace(block=0), " block 0"), (one._replace(
                 block=7), " block 7"), (one._replace(time="00:00:01:00"), " frame 00:00:01:00")):
@@ -257,8 +240,6 @@ class Lines(unittest.TestCase):
         self.assertEqual(listing.plain("`a` [b c](d#e) f, [g](h)"), "a b c f, g")
 
     def test_takes_only_a_complete_line(self) -> None:
-        """A line is one of these as a whole alone: with something before or behind it, or without
-        its last word, it is none, or one of another place."""
         for line in ("accepted 1 frames 2 transmissions", "trusted frames 00:00:01:00 00:00:02:00",
                      "5 faults", "refused 72 Content frame 00:00:01:00 row 3 column 4",
                      "ended 72 Content frame 00:00:01:00", "refused 50 Character block 3 at 4",
@@ -269,7 +250,6 @@ class Lines(unittest.TestCase):
                 self.assertFalse(listing.is_line(other), other)
 
     def test_reads_parts_of_a_line_as_the_whole_line(self) -> None:
-        """What is taken of a line without reading all of it is what all of it says."""
         places = ("", " block 7", " block 0 at 111", " pes 12", " frame 23:59:59:24",
                   " frame 00:00:01:00 packet 9", " frame 10:00:00:01 row 22 column 39")
         for word, number, place in itertools.product(
@@ -300,9 +280,7 @@ class Lines(unittest.TestCase):
 
 
 class Order(unittest.TestCase):
-    """Subtitles in order: at each frame what one finds who looks at each of them."""
-
-    def test_all_frames(self) -> None:
+    def test_agrees_with_a_plain_search_at_each_frame(self) -> None:
         of_times: list[list[tuple[int, int]]] = [
             [], [(3, 5)], [(0, 2), (2, 4), (7, 9)], [(1, 2), (4, 9), (9, 12), (15, 16)]]
         for times in of_times:
@@ -338,10 +316,8 @@ class Order(unittest.TestCase):
                               "subtitle 4 (SN 5)"][:len(times)], times)
 
 
-class Letters(unittest.TestCase):
-    """Letters of code table 00."""
-
-    def test_decodes_letters_of_code_table_00(self) -> None:
+class CodeTable(unittest.TestCase):
+    def test_decodes_characters_of_code_table_00(self) -> None:
         for text, wanted in ((b"", ""), (b"a~ ", "a~ "), (b"\x1f\x7f\x80", "\ufffd" * 3),
                              (b"\xc1e\xcfz", "èž"), (b"\xc9e", "\ufffde"), (b"\xc2", "\ufffd"),
                              (b"a\xc2", "a\ufffd"), (b"\xa0\xaf\xb0\xbf", "\xa0↓°¿"),
@@ -349,9 +325,7 @@ class Letters(unittest.TestCase):
                               "—¦\ufffd\ufffd⅛Ħ\ufffdĲŉĸŋ\ufffd"), (b"\xc2e\xc2a!", "éá!")):
             self.assertEqual(letters_of(text), wanted, text)
 
-    def test_iso_6937(self) -> None:
-        """The C library's ISO 6937 is an outside value for each byte, and each accent on a letter;
-        four bytes it lacks, or has as another letter of that look."""
+    def test_agrees_with_the_iso_6937_of_iconv(self) -> None:
         if not shutil.which("iconv"):
             self.skipTest("letters of ISO 6937, since there is no iconv")
         accented = [bytes([accent, letter]) for accent in range(0xC1, 0xD0)

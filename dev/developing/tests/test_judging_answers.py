@@ -1,4 +1,4 @@
-"""What `check` answers, and what was missed of it once."""
+"""How answers of `check --all` are read, files that change meanwhile, and stored recordings."""
 from __future__ import annotations
 
 import contextlib
@@ -32,41 +32,40 @@ from .transmissions import CLOSING, HEADER, PAGE, in_pipe, programme, row
 from .test_judging_verdicts import verdict_of
 
 
-# What `check --all` answered, line by line; what is advised of times that fall at midnight; what a
-# line of a list asks.
+# Answers of `check --all` line by line; advice for times at midnight; options of a list's line.
 
 FIRST, SECOND = "refused 72 Content frame 00:00:05:00 row 20 column 1", \
     "refused 38 UnitLength pes 7"
 GOOD, TRUSTED, ENDED = "accepted 10 frames 2 transmissions", \
     "trusted frames 00:00:06:00 00:00:07:00", "ended 72 Content frame 00:00:07:00"
 NONE = [f"refused {number} Flags pes 0" for number in ("\u0663\u0663", "+33", "")]
-# A blank before a line, and behind it; a byte that is no letter, which nothing drops.
+# A space before or after a line; a byte that is no character.
 AROUND = [*(f" {one}" for one in (FIRST, GOOD, TRUSTED, ENDED, "1 faults")),
           *(f"{one} " for one in (GOOD, TRUSTED, ENDED, "1 faults")),
           *(one.replace("0", "0\udcff", 1) for one in (GOOD, ENDED))]
 STRANGE = ("hello", f"{GOOD} more", "accepted of course", "refused", *NONE[1:], *AROUND)
-# Lines, the status, and what that is; `None` is no answer.
+# Lines, the status, and the verdict; `None` for an invalid answer.
 LISTS: list[tuple[list[str], int, str | None]] = [
     ([GOOD], 0, "accepted"), ([GOOD, GOOD], 0, "accepted"), ([TRUSTED, GOOD], 0, "accepted"),
     ([FIRST, "1 faults"], 1, "refused"), ([FIRST, FIRST, "2 faults"], 1, "refused"),
     ([SECOND, "ended 38 UnitLength pes 9", FIRST, ENDED, TRUSTED, "2 faults"], 1, "refused"),
-    # Silent, or without the line that tells the status.
+    # Without lines, or without a last line.
     ([], 0, None), ([], 1, None), ([], 2, None), ([], -9, None), ([TRUSTED], 0, None),
     (["0 faults"], 0, None), (["0 faults"], 1, None), ([""], 0, None),
-    # A status that says something else than the lines.
+    # A status that contradicts the lines.
     *(([GOOD], status, None) for status in (1, 2, -9, -15)),
     *(([FIRST, "1 faults"], status, None) for status in (0, 2, -9)),
-    # A list that is cut, or counts otherwise.
+    # A truncated list, or a wrong count.
     ([FIRST], 1, None), ([FIRST, ENDED], 1, None), ([FIRST, "2 faults"], 1, None),
     ([FIRST, SECOND, "1 faults"], 1, None), ([FIRST, "1 faults", FIRST], 1, None),
     # Accepted and refused, or accepted before the end.
     ([FIRST, GOOD], 0, None), ([FIRST, GOOD, "1 faults"], 0, None),
     ([GOOD, FIRST, "1 faults"], 1, None), ([GOOD, "0 faults"], 0, None),
     ([GOOD, "0 faults"], 1, None), ([GOOD, TRUSTED], 0, None),
-    # Something that the program could not do.
+    # An error of the program.
     (["fault 91 Memory"], 2, None), (["usage 80 Every"], 2, None),
     ([FIRST, "fault 41 Read pes 4"], 2, None),
-    # Lines that are none of its own.
+    # Foreign lines.
     ([GOOD, "hello"], 0, None), (["hello", "?", GOOD], 0, None),
     ([FIRST, "hello", "1 faults"], 1, None), ([f"{GOOD} more"], 0, None),
     (["accepted of course"], 0, None), (["refused", "1 faults"], 1, None),
@@ -76,11 +75,7 @@ LISTS: list[tuple[list[str], int, str | None]] = [
 
 
 class Answers(Case):
-    """What `check --all` answered: lines, and a status."""
-
-    def test_takes_each_list_for_its_verdict_or_says_why_not(self) -> None:
-        """Each kind of list: its verdict, or why it is none; its line and faults, and what is heard
-        as it comes."""
+    def test_reads_each_answer_or_reports_why_not(self) -> None:
         for lines, status, wanted in LISTS:
             made, heard, reason = Answer(self.path("list")), list[str](), ""
             try:
@@ -105,16 +100,14 @@ class Answers(Case):
                 self.assertEqual([begin for begin, _ in made.trusted],
                                  [150] * (TRUSTED in lines))
 
-    def test_nobody_hears(self) -> None:
-        """Whatever ends the hearing ends the program too, and is told."""
+    def test_an_error_of_the_listener_kills_the_program(self) -> None:
         for error in (ValueError, BrokenPipeError, KeyboardInterrupt, SystemExit):
             with mock.patch.object(subprocess.Popen, "kill") as kill:
                 with self.assertRaises(error):
                     check(["echo", FIRST], Answer(self.path("list")), mock.Mock(side_effect=error))
             kill.assert_called_once_with()
 
-    def test_knows_up_to_when_a_stopped_list_goes(self) -> None:
-        """Up to when it was told; what is accepted without a list; and where its file is then."""
+    def test_knows_how_far_a_stopped_check_came(self) -> None:
         of_times: list[tuple[list[str], str | None]] = [
             ([], None), ([FIRST], "00:00:05:00"),
             ([FIRST, "refused 38 UnitLength pes 7"], None),
@@ -132,7 +125,8 @@ class Answers(Case):
         for line, told in ((FIRST, "all up to 00:00:05:00"), (SECOND, "nothing yet")):
             pair.begun = part_with(0, 9, 0, Answer(self.path("list")))
             pair.begun.answer.take(line)
-            for words in (f"10:00, when check had reported {told}", "10:00"):  # it is taken once
+            # only the first call counts
+            for words in (f"10:00, when check had reported {told}", "10:00"):
                 self.assertEqual((pair.stop("10:00"), verdict.parts[-1]), (words, pair.begun),
                                  (line, told, words))
         self.assertEqual(len(verdict.parts), 2)
@@ -149,9 +143,7 @@ class Answers(Case):
         self.assertFalse(made.said(False).is_read)
 
 
-class Nights(Case):
-    """Times that fall at midnight."""
-
+class Midnight(Case):
     def test_finds_times_that_fall_at_midnight(self) -> None:
         def code(text: str) -> bytes:
             return bytes(map(int, text.split(":")))
@@ -163,8 +155,6 @@ class Nights(Case):
             self.assertEqual(falls_at_midnight(code(first), code(second)), wanted, (first, second))
 
     def test_advises_to_cut_a_file_at_midnight(self) -> None:
-        """Of a subtitle that goes before it comes, and of one that comes before the one before it:
-        by its number alone, and for the block that is named."""
         day = FRAMES_OF_A_DAY
         times = [(100, 200), (day - 50, 20), (day - 40, day - 20), (10, 60), (5, 70)]
         subtitles = SubtitleFile(programme(self, times))
@@ -183,12 +173,8 @@ class Nights(Case):
             self.assertEqual(told and midnight_words(told, subtitles), wanted, begin)
 
 
-class Asked(Case):
-    """What is asked of a pair of a list."""
-
-    def test_takes_the_clock_of_a_line_before_that_of_the_call(self) -> None:
-        """A line that tells its origin, or its first picture, takes neither of the call; the other
-        options stay, where it has none of its own."""
+class LineOptions(Case):
+    def test_the_clock_of_a_line_overrides_that_of_the_call(self) -> None:
         parser = Words("")
         add_options(parser)
         for call, line, wanted in (
@@ -208,8 +194,7 @@ class Asked(Case):
         for words in (["a.stl", "-"], ["a.stl", "a.ts", "--origin", "1", "--start", "tcp"]):
             self.assertRaises(Stop, request_of_line, words, parser.parse_args([]))
 
-    def test_options_of_languages(self) -> None:
-        """`auto` takes the option of the LC of the GSI block; of none, and of no file, English."""
+    def test_auto_takes_the_option_of_the_language_code(self) -> None:
         for code, word in ((b"08", "german"), (b"09", "english"), (b"  ", "english"),
                            (b"0F", "french"), (b"ZZ", "english")):
             stl = self.write("one.stl", gsi_block(b"", 0, 0, language=code))
@@ -220,14 +205,12 @@ class Asked(Case):
             self.assertEqual(asked_for(path, "a.ts", "--option", "auto").option, "english", path)
 
 
-# What each of several mistakes would have said, that no test told once: a row for each.
+# Cases that no other test covers.
 
 STORY = example("story.stl")
 
 
-class Meanwhile(Case):
-    """Files that somebody replaces, or writes to, while they are judged."""
-
+class ChangingFiles(Case):
     CHANGES = {
         "nothing": ":",
         "one byte more": "printf x >>FILE",
@@ -240,8 +223,6 @@ class Meanwhile(Case):
         "gone": "rm FILE"}
 
     def test_gives_no_verdict_if_a_file_changed_meanwhile(self) -> None:
-        """A pair has no verdict if one of its files changed, whichever way, while it was read or
-        while `check` judged it: its result could describe another file."""
         data = {"one.stl": example_bytes("story.stl"), "one.severity": b"79 warning\n",
                 "one.ts": in_stream((TELETEXT_PID, example_bytes("story.pes")))}
         for (change, does), name, when in itertools.product(
@@ -265,11 +246,8 @@ class Meanwhile(Case):
                 os.unlink(self.path(name))
 
 
-class Kept(Case):
-    """What --keep leaves of a recording that is not judged."""
-
-    def test_keeps_the_whole_recording_of_a_pair_that_is_not_judged(self) -> None:
-        """All of it, whyever it is not judged, as of one that is."""
+class StoredRecordings(Case):
+    def test_stores_the_complete_recording_of_an_unjudged_pair(self) -> None:
         pes = example_bytes("story.pes")
         whole = in_stream((TELETEXT_PID, pes))
         path = self.write("one.ts", whole)
@@ -284,20 +262,15 @@ class Kept(Case):
                 os.remove(kept)
 
 
-class Values(Case):
-    """Functions that decide."""
-
+class Decisions(Case):
     def test_counts_no_pause_before_the_first_pes_packet(self) -> None:
-        """What comes before the first PES packet is no pause."""
         for before, frames, wanted in (
                 (NO_FRAME, [900], []), (10, [900], [Span(11, 899)]), (0, [4], [Span(1, 3)]),
                 (0, [3], []), (10, [900, 990], [
                     Span(11, 899), Span(901, 989)]), (NO_FRAME, [900, 990], [Span(901, 989)])):
             self.must(f"{before} {frames}", [*pauses_in(before, frames)] == wanted)
 
-    def test_held_before(self) -> None:
-        """Of PES packets from one in the middle on, which says nothing new: what is held is what
-        was told last before it."""
+    def test_starts_with_the_page_decoded_before_the_range(self) -> None:
         sent = [b"first", b"second", b"second", b"third", b"third"]
         packets = packets_told(self, b"".join(
             pes_packet(TICKS * 25 * at, [HEADER, row(20, text), CLOSING])
@@ -306,9 +279,7 @@ class Values(Case):
             held = Timeline(packets, PAGE, 0, 0, (first, first)).state_after(first).rows[19]
             self.must(f"{first}", text in held, held)
 
-    def test_as_long_before_as_the_repeat_bound(self) -> None:
-        """What is held around frames is looked for from 250 frames before them on, or as many as
-        the repeat bound."""
+    def test_looks_back_as_far_as_the_repeat_interval(self) -> None:
         packets = packets_told(self, b"".join(pes_packet(TICKS * at, [HEADER, CLOSING])
                                               for at in (0, 600, 1000)))
         for every, wanted in ((25, [1000]), (250, [1000]), (399, [1000]), (400, [600, 1000]),
@@ -316,9 +287,7 @@ class Values(Case):
             near = timeline_near(packets, PAGE, 0, 0, Span(1000, 1001), every)
             self.must(f"{every}", [*near.sendings] == wanted, [*near.sendings])
 
-    def test_back_over_the_wrap(self) -> None:
-        """A text that is erased and sent again is back within so many frames, over 2^33 too, and
-        not after more."""
+    def test_finds_a_repeated_page_across_a_pts_wrap(self) -> None:
         rows = ((20, b"text"),)
         for erased, sent, wanted in ((10, 20, 2), (10, 36, None), (-10, 5, 2), (-10, 15, 2),
                                      (-10, 16, None), (-10, 1000, None)):
@@ -328,7 +297,6 @@ class Values(Case):
             self.must(f"{erased} {sent}", back_at(changes, 0, 25) == wanted)
 
     def test_letters_of_a_page(self) -> None:
-        """No byte of a text is markup in the page that shows it."""
         for byte, wanted in ((ord("<"), "&lt;"), (ord("&"), "&amp;"), (ord(">"), "&gt;"),
                              (ord("A"), "A"), (0x0B, "<i>0B</i>")):
             self.must(f"{byte:02X}", in_page(readable(byte)) == wanted)

@@ -22,7 +22,8 @@ from .judged import Judged, OfProgramme, judged
 from .streams import OLD, Shape, in_turn, multiplexed, stream
 from .parts import asked_for
 from .results import wrong_choices
-from .transmissions import ORIGIN, apart, in_pipe, joined, packets, programme, sendings, subtitle_file, times
+from .transmissions import (
+    ORIGIN, apart, in_pipe, joined, packets, programme, sendings, subtitle_file, times)
 from .test_judging_reasons import KEEPING_HEADER
 
 

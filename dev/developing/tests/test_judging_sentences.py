@@ -29,7 +29,7 @@ from subtitles.stream.receiver import BLANK_PAGE
 from .bench import Case
 from .judged import OfProgramme, judged
 from .transmissions import CLOSING, HEADER, Sent, joined, one_late, programme, row, sendings
-from .test_formats_letters import ANY_SUBCODE, CHARACTER, LEVEL_1, Receiver, TEXT_AT
+from .test_formats_characters import ANY_SUBCODE, CHARACTER, LEVEL_1, Receiver, TEXT_AT
 from .test_judging_faults import cause, causes_of
 
 

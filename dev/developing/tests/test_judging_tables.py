@@ -43,7 +43,7 @@ from subtitles.stream.survey import Announced
 from .bench import Case
 from .parts import asked_for, packets_told
 from .transmissions import CLOSING, HEADER, PAGE
-from .test_formats_letters import naming
+from .test_formats_characters import character_set_packet
 
 
 # What is decided about a pair, by tables: what is strange of a recording, how PTS lie, when the
@@ -152,7 +152,8 @@ class Warnings(Case):
         """Of two packets the first, the second, or each names another set."""
         for sets, count in (((0,), 0), ((8,), 1), ((0, 8), 1), ((8, 0), 1), ((8, 9), 2)):
             packets = packets_told(self, pes_packet(0, [HEADER, *(
-                naming(number, one) for number, one in zip((29, 28), sets)), CLOSING]))
+                character_set_packet(number, one) for number, one in zip((29, 28), sets)),
+                CLOSING]))
             found = said(character_set_notices(packets, asked_for("one.stl", "one.ts")))
             self.assertEqual([one[0] for one in found], ["character_set"] * count, (sets, found))
 

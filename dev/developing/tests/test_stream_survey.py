@@ -23,7 +23,7 @@ from .streams import (
     program_map, shown, spaced, teletext_descriptor, video_packet)
 from .parts import surveyed
 from .transmissions import CLOSING, HEADER, PAGE, row
-from .test_formats_letters import naming
+from .test_formats_characters import character_set_packet
 
 FIRST = 1_000_000  # the PTS of a first picture, and of a first PES packet of Teletext
 LAST = FIRST + 100_000 * TICKS  # that of a last one
@@ -737,8 +737,9 @@ class Listings(Case):
                           "pes 257 1 1 1003600 0 ob/ 1 0; pes 257 2 1 1007200 0 heob/88080810 1 0; "
                           "subs 257 888 2; subs 257 750 1; end 257 3 0 3 0 0 0 1007200; over 0 5"),
             "character sets": (
-                of_teletext(saying([HEADER, naming(28, 0x24)], [naming(29, 0x11, 4)],
-                                   [naming(29, 0x11, 1)])),
+                of_teletext(saying([HEADER, character_set_packet(28, 0x24)],
+                                   [character_set_packet(29, 0x11, 4)],
+                                   [character_set_packet(29, 0x11, 1)])),
                 "sub 257 888; set 257 28 0 4 4; pes 257 0 1 1000000 0 heob/88080810 2 0; "
                 "rows 257 0 -; set 257 29 4 2 1; pes 257 1 2 1003600 3600 ob/ 1 0; "
                 "subs 257 888 1; end 257 3 0 3 0 0 0 1007200; over 0 5"),

@@ -1,4 +1,5 @@
-"""What is asked of a recording reaches the search for its clock, and what is found is told."""
+"""The search for a clock takes the requested subtitles, PES packets, origin and delays into
+account."""
 from __future__ import annotations
 
 import itertools
@@ -10,13 +11,11 @@ from subtitles.common.command_line import Lateness
 from subtitles.common.times import ALL_DAY, Between, TICKS
 from .bench import Case
 from .transmissions import programme
-from .test_clock_laws import packets_of
+from .test_clock_properties import packets_of
 from .test_clock_tables import EACH
 
 
-class Asked(Case):
-    """What is asked reaches what is looked for."""
-
+class Requests(Case):
     times = [(at * at * 7 + 90 * at, at * at * 7 + 90 * at + 60 + at) for at in range(12)]
 
     def setUp(self) -> None:
@@ -26,17 +25,15 @@ class Asked(Case):
         self.edges = edges_of(self.shown)
 
     def find(self, sendings: Sequence[tuple[int, bytes]], **asked: Any) -> Origin:
-        """What is found of what is sent."""
+        """Find the origin of page transmissions."""
         return find(Sought(self.stl, "one.pes", **asked), packets_of(sendings))
 
-    def sent(self, late: Sequence[int]) -> list[tuple[int, bytes]]:
-        """All of it, each so many frames late."""
+    def transmissions(self, late: Sequence[int]) -> list[tuple[int, bytes]]:
+        """Return all page transmissions, each delayed by some frames."""
         return [(TICKS * (edge.frame + by), edge.letters) for edge, by in zip(self.edges, late)]
 
-    def test_of_subtitles_and_packets(self) -> None:
-        """Subtitles of some frames, but for some; PES packets with some numbers, of several times.
-        """
-        twice = [*self.sent([0] * 24), *self.sent([EACH] * 24)]
+    def test_searches_only_the_requested_subtitles_and_packets(self) -> None:
+        twice = [*self.transmissions([0] * 24), *self.transmissions([EACH] * 24)]
         half, rest = self.times[6][0], Between(self.times[6][0])
         rows: list[tuple[dict[str, Any], int, int | None, int]] = [
             ({}, 24, None, 2), ({"inside": (0, 23)}, 24, 0, 0),
@@ -51,9 +48,7 @@ class Asked(Case):
             self.assertTrue(runs or found.parts[0].line.startswith(
                 f"{count} of {count} cues agree, "), found)
 
-    def test_of_clocks(self) -> None:
-        """A clock that is known, where many come before the one that was fitted; shares of delays,
-        also in parts; a clock that is known is one of a single time that the programme is there."""
+    def test_takes_a_given_clock_and_given_delays_into_account(self) -> None:
         many, late = [0, 0, 0, *[2] * 21], Lateness({2: 1, 0: 1}, {2: 1, 0: 1})
         parts = [*many[:12], *(one + 400 for one in many[:12])]
         rows: list[tuple[dict[str, Any], list[int], int]] = [
@@ -61,35 +56,34 @@ class Asked(Case):
             ({"late": late}, many, 0), ({"breaks": 1}, parts, 1),
             ({"breaks": 1, "late": late}, parts, 0), ({"breaks": 1, "origin": 0}, parts, 1)]
         for asked, sent, status in rows:
-            found = self.find(self.sent(sent), within=2, **asked)
+            found = self.find(self.transmissions(sent), within=2, **asked)
             self.assertEqual((found.status, len(found.parts)), (
                 status, (1 + ("breaks" in asked)) * (1 - status)), (asked, found))
-        wrong = [(ticks, text and b"x" + text) for ticks, text in self.sent([EACH] * 24)]
-        found = self.find(self.sent([*[0] * 8, *[50] * 8, *[90] * 8]))
+        wrong = [(ticks, text and b"x" + text) for ticks, text in self.transmissions([EACH] * 24)]
+        found = self.find(self.transmissions([*[0] * 8, *[50] * 8, *[90] * 8]))
         self.assertEqual((found.shifted_from, len(found.shifts)), (self.edges[8].frame, 2))
-        found = self.find(self.sent([*[100] * 12, *[150] * 12]), origin=0)  # by what is known
+        # compared with the given origin
+        found = self.find(self.transmissions([*[100] * 12, *[150] * 12]), origin=0)
         self.assertIn("(150 frames) late", found.shifts[0])
-        late_then = self.sent([*[0] * 12, *[50] * 6, *[600] * 6])  # a delay, and then a break
+        late_then = self.transmissions([*[0] * 12, *[50] * 6, *[600] * 6])  # a delay, then a break
         self.assertEqual(len(self.find(late_then, breaks=1).parts), 2)
         for origin, runs in ((None, 2), (0, 0), (TICKS, 0)):
-            found = self.find([*self.sent([0] * 24), *wrong], origin=origin)
+            found = self.find([*self.transmissions([0] * 24), *wrong], origin=origin)
             self.assertEqual((len(found.runs), found.status), (runs, int(runs > 0)), origin)
 
-    def test_finds_the_drift_of_the_time_base_that_is_judged(self) -> None:
-        """It is that of the time base that is judged."""
+    def test_reports_the_drift_of_the_judged_time_base(self) -> None:
         steady = [at // 6 for at in range(24)]
         strange = [(10 ** 9 + TICKS * at, b"") for at in range(3)]
         for (sent, is_told), within in itertools.product(((steady, True), ([0] * 24, False)),
                                                          (0, 4)):
-            for some in (self.sent(sent), strange + self.sent(sent)):
+            for some in (self.transmissions(sent), strange + self.transmissions(sent)):
                 found = self.find(some, within=within)
                 self.assertEqual(["later and later" in line for line in found.shifts],
                                  [True] * is_told, found)
 
-    def test_why_not(self) -> None:
-        """Where nothing is clear it is told first that rows came while the page was not open."""
+    def test_reports_unclear_results_with_rows_of_a_closed_page_first(self) -> None:
         for sent, is_told in (([0] * 24, False), ([0, 0, 0, *[2] * 21], True)):
-            packets = packets_of(self.sent(sent))
+            packets = packets_of(self.transmissions(sent))
             packets.strays.append((0, ()))
             packets.runs[0] = packets.runs[0]._replace(does="hs")
             found = find(Sought(self.stl, "one.pes", within=2), packets)

@@ -1,4 +1,5 @@
-"""The words of a call, at each bound; files that are read, and written whole or not at all."""
+"""Options and arguments at each limit; files that are read, and files that are written completely
+or not at all."""
 from __future__ import annotations
 
 import argparse
@@ -30,14 +31,11 @@ from subtitles.request.lines import (
     MOST_BYTES, MOST_LINES, MOST_OF_LINE, MOST_WORDS, MOST_WORDS_OF_LINE, lines_in, list_at, split)
 from .bench import Case
 from .test_dev_layers import TOOLS, modules
-from .test_formats_files import refused
+from .test_formats_files import refusal
 
 
-class Words(Case):
-    """The words of a call."""
-
+class CommandLine(Case):
     def test_takes_the_least_and_the_greatest_value_of_each_option(self) -> None:
-        """Of each option the least and the most, what is beyond, and what is none."""
         none: Any = None
         many = "9" * 5000
         of_words: list[tuple[Callable[[str], object], dict[str, object]]] = [
@@ -73,7 +71,7 @@ class Words(Case):
                     found = None
                 self.assertEqual(found, wanted, f"{call.__name__} {text[:20]}")
 
-    def test_takes_an_option_that_several_tools_have(self) -> None:
+    def test_formats_options_and_counts(self) -> None:
         for pid, size, wanted in ((None, 188, []), (None, 204, []),
                                   (0x101, 188, ["--pid", "0x101"]),
                                   (0, 192, ["--pid", "0x0", "--packet-size", "192"])):
@@ -87,8 +85,7 @@ class Words(Case):
         command_line.add_page(parser)
         self.assertEqual(vars(parser.parse_args([])), {"page": (0, 0x88)})
 
-    def test_escapes_characters_that_a_terminal_obeys(self) -> None:
-        """Characters that a terminal obeys, at each end of their ranges."""
+    def test_escapes_control_characters_of_terminals(self) -> None:
         for text, wanted in (("\x1f ~\x7f", "\\x1f ~\\x7f"), ("\x80\x9f\xa0", "\\u0080\\u009f\xa0"),
                              ("\u061c\u061b", "\\u061c\u061b"), ("\u200d\u200e\u200f\u2010",
                                                                  "\u200d\\u200e\\u200f\u2010"),
@@ -104,8 +101,7 @@ class Words(Case):
             done = self.call(["bash", "-c", f"printf %s {command_line.quoted(text)}"])
             self.assertEqual(done.out.decode(), text, text)
 
-    def test_prints_one_line_for_what_ends_a_tool_early(self) -> None:
-        """The line of what ends a tool early."""
+    def test_prints_one_line_for_each_error(self) -> None:
         for reason, wanted in (
                 (Stop("a  line\nof two"), "a line of two"), (KeyboardInterrupt(), "stopped"),
                 (OSError(2, "No such file", "a.stl"), "a.stl: No such file"),
@@ -124,8 +120,7 @@ class Words(Case):
                              ("+a", "./+a"), ("@a", "./@a"), ("a-", "a-"), ("/-a", "/-a")):
             self.assertEqual(plain_name(name), wanted, name)
 
-    def test_what_is_not_there(self) -> None:
-        """A version that no file has, an output that is closed."""
+    def test_handles_a_missing_version_and_a_closed_output(self) -> None:
         with mock.patch.object(command_line, "HOME", self.folder):
             self.assertEqual(command_line.version(), "of an unknown version")
         with mock.patch.object(sys, "stdout", None), mock.patch.object(command_line, "silence"), \
@@ -135,8 +130,7 @@ class Words(Case):
         self.assertEqual([is_utf_8(name) for name in ("", "a", "\u00e9", "\udce9")],
                          [True, True, True, False])
 
-    def test_names_a_file_as_it_was_typed(self) -> None:
-        """An error names what was typed alone; a pipe that answers at once is waited for."""
+    def test_names_a_file_as_it_was_given(self) -> None:
         with self.assertRaises(OSError) as told, naming("typed"):
             raise OSError(2, "No such file", "one", None, "two")
         self.assertEqual((told.exception.filename, told.exception.filename2), ("typed", None))
@@ -152,9 +146,7 @@ class Words(Case):
                                  (code, status))
                 self.assertEqual(command_line.answer(len, ["one"]), 1, (code, status))
 
-    def test_refuses_what_is_no_file_without_waiting(self) -> None:
-        """What is no file is refused at once, by what is open; a pipe, where there may be one, is
-        waited for; no link is followed where none may be; and nothing is read beyond the bound."""
+    def test_refuses_special_files_without_waiting(self) -> None:
         self.write("file", b"12345")
         os.mkdir(self.path("folder"))
         os.mkfifo(self.path("pipe"))
@@ -164,27 +156,26 @@ class Words(Case):
         for name, kind in (("folder", "a folder"), ("pipe", "a pipe"), ("socket", "a socket"),
                            ("/dev/zero", "a device")):
             for may_be_pipe in (False, True)[:1 + (name != "pipe")]:
-                told = refused(lambda: first_bytes(self.path(name), 5, may_be_pipe))
+                told = refusal(lambda: first_bytes(self.path(name), 5, may_be_pipe))
                 self.must(f"{name} {may_be_pipe}", told.startswith(f"{self.path(name)} is {kind}"),
                           told)
         self.must("followed", first_bytes(self.path("link"), 9) == b"12345")
-        self.must("a link", refused(lambda: first_bytes(self.path("link"), 9, is_followed=False))
+        self.must("a link", refusal(lambda: first_bytes(self.path("link"), 9, is_followed=False))
                   == f"{self.path('link')} is a link")
         for most, wanted in ((4, b""), (5, b"12345"), (6, b"12345")):
-            told = refused(lambda: bounded_bytes(self.path("file"), most))
+            told = refusal(lambda: bounded_bytes(self.path("file"), most))
             self.must(f"{most}", bool(told) == (not wanted) and (
                 told or bounded_bytes(self.path("file"), most)) == (
                     wanted or f"{self.path('file')} has more than 4 bytes"), told)
         with File(self.path("file")) as file, mock.patch.object(
                 file, "file", mock.Mock(**{"read.return_value": None})):
-            self.check("a file of the system that waits", refused(lambda: file.read()),
+            self.check("a file of the system that waits", refusal(lambda: file.read()),
                        f"{self.path('file')} has no end: give a file")
         with subprocess.Popen(["sh", "-c", "sleep 0.2; yes >\"$0\"", self.path("pipe")]):
             self.must("a pipe", first_bytes(self.path("pipe"), 100_001, True) ==
                       (b"y\n" * 50_001)[:100_001])
 
     def test_splits_lines_as_shlex_does_within_bounds(self) -> None:
-        """Words are those of `shlex`, in linear time; lists and lines have a bound."""
         chance = random.Random(94)
         for _ in range(20_000):
             line = "".join(chance.choice("ab \t\\'\"#é\r=-") for _ in range(chance.randrange(12)))
@@ -208,10 +199,9 @@ class Words(Case):
         self.assertEqual([*lines_in(list_at(path))], [])
         with open(path, "ab") as file:
             file.write(b"#")
-        self.assertIn("more than 16,000,000 bytes", refused(lambda: list_at(path)))
+        self.assertIn("more than 16,000,000 bytes", refusal(lambda: list_at(path)))
 
-    def test_bounds_of_lists(self) -> None:
-        """Lines and words are counted, since a short word takes much more memory than its bytes."""
+    def test_limits_lines_and_words_of_lists(self) -> None:
         many = "a " * MOST_WORDS_OF_LINE
         whole = MOST_WORDS // MOST_WORDS_OF_LINE
         rows = {
@@ -222,7 +212,7 @@ class Words(Case):
             "the most words": (f"{many}\n" * whole, ""),
             "more words": (f"{many}\n" * (whole + 1), f"line {whole + 1}")}
         for name, (text, place) in rows.items():
-            told = refused(lambda: [*lines_in(text)])
+            told = refusal(lambda: [*lines_in(text)])
             self.check(name, told, place and f"a list has at most 100,000 lines with words, and "
                        f"1,000,000 words: this one has more in {place}")
         for name, (text, fault) in {
@@ -233,8 +223,6 @@ class Words(Case):
             self.check(name, [line.fault for line in lines_in(text)], [fault])
 
     def test_escapes_text_in_pages(self) -> None:
-        """Text is escaped, also in a place within a tag, and what XML can't hold, or what hides or
-        turns round what is read, is a number; markup is as it is, and no text."""
         for text, wanted in (("a<b>&\"'", "a&lt;b&gt;&amp;&quot;&#x27;"), ("\x07", "\\x07"),
                              ("\udc80", "\\x80"), ("\ufffe", "\\ufffe"), ("{}", "{}"),
                              ("a\nb", "a\nb"), *((chr(code), f"\\u{code:04x}") for code in (
@@ -254,8 +242,7 @@ class Words(Case):
                       lambda: bold + "<b>"):  # type: ignore[operator]
             self.assertRaises((TypeError, AttributeError), wrong)
 
-    def test_writes_no_markup_but_that_of_its_sources(self) -> None:
-        """What is no text in a page stands in the sources as it is."""
+    def test_writes_only_constant_markup(self) -> None:
         for path in modules(TOOLS):
             with open(path, encoding="utf-8") as file:
                 calls = [node for node in ast.walk(ast.parse(file.read()))
@@ -267,8 +254,6 @@ class Words(Case):
                         one, ast.Constant) for one in call.args[at:at + 1]))
 
     def test_reads_meanings_from_the_manual(self) -> None:
-        """A row of which the cure is that of the one before, as it is or with more; options that
-        accept it are no part of it."""
         path = self.write("chapter", b"""# Refusals
 | Number | Name | Means | Do | Accepted with |
 |---|---|---|---|---|
@@ -285,8 +270,7 @@ class Words(Case):
         self.assertTrue({50, 72} <= {*listing.meanings()} and all(map(all, listing.meanings(
             ).values())))
 
-    def test_writes_a_file_whole_or_not_at_all(self) -> None:
-        """What is written takes a name whole or not at all."""
+    def test_writes_a_file_completely_or_not_at_all(self) -> None:
         one = self.write("one", b"old")
         os.symlink(one, self.path("link"))
         with whole_file(self.path("link")) as file:
@@ -306,7 +290,6 @@ class Words(Case):
                          (b"new", True, False, True, False))
 
     def test_replaces_a_link_in_a_folder_of_results(self) -> None:
-        """In a folder of results a link is replaced, and what it leads to stays, there or not."""
         for target in (self.write("one", b"theirs"), self.path("none"), self.folder):
             os.symlink(target, self.path("link"))
             with result_file(self.path("link")) as file:
@@ -316,8 +299,7 @@ class Words(Case):
                       not os.path.exists(self.path("none")))
             os.unlink(self.path("link"))
 
-    def test_sums_up_all_bytes_of_a_file(self) -> None:
-        """A sum is of all bytes, also without memory for a thread; what can't be read is told."""
+    def test_hashes_all_bytes_of_a_file(self) -> None:
         for size in (0, 1, ROOM - 1, ROOM, ROOM + 1, 2 * ROOM + 5):
             name = self.write(f"{size}", bytes(range(251)) * (size // 251) + b"x" * (size % 251))
             wanted = SummedFile(name, size, hashlib.sha256(self.read(name)).hexdigest())
@@ -328,32 +310,29 @@ class Words(Case):
         for wrong in (self.folder, self.path("none"), self.path("0/x"), self.path("pipe")):
             self.assertRaises((Stop, OSError), BackgroundSum(wrong).result)
 
-    def test_refuses_a_program_that_cannot_be_called(self) -> None:
-        """What can be called is one, and nothing else."""
+    def test_refuses_a_file_that_is_not_executable(self) -> None:
         self.write_program("program", "#!/bin/sh\n")
         self.write("text", b"#!/bin/sh\n")
         os.mkdir(self.path("folder"))
         for name in ("program", "text", "folder", "none"):
             path = self.path(name)
-            self.check(name, refused(lambda: built_program(path)),
+            self.check(name, refusal(lambda: built_program(path)),
                        "" if name == "program" else f"{path} is no program")
 
-    def test_program_that_was_built(self) -> None:
-        """That of the sources; where there is none, or they can't be read, that is told."""
+    def test_finds_the_program_of_the_sources(self) -> None:
         rows: list[tuple[tuple[str, str], str]] = [
             (("path", ""), ""), (("", "damaged"), "damaged"), (("", ""), "no program is built")]
         for chosen, why in rows:
             with mock.patch("subtitles.common.program.chosen", return_value=chosen):
-                told = refused(lambda: self.assertEqual(built_program(), "path"))
+                told = refusal(lambda: self.assertEqual(built_program(), "path"))
             self.must(f"{chosen}", told.startswith(why) and bool(told) == bool(why), told)
         for status in (0, 1, -9):
             done = subprocess.CompletedProcess([], status, b"a sum\n")
             with mock.patch("subprocess.run", return_value=done):
-                told = refused(lambda: self.assertEqual(sources(), "a sum"))
+                told = refusal(lambda: self.assertEqual(sources(), "a sum"))
             self.must(f"{status}", bool(told) == (status != 0), told)
 
-    def test_files_that_are_read(self) -> None:
-        """By any name, also a link by which one was named; what is gone is none any more."""
+    def test_recognises_an_input_by_any_name(self) -> None:
         one, other = self.write("one", b"1"), self.write("other", b"2")
         os.link(one, self.path("hard"))
         os.symlink("one", self.path("link"))
@@ -361,34 +340,30 @@ class Words(Case):
         for name, is_followed, wanted in (
                 ("one", False, True), ("hard", False, True), ("link", False, True),
                 ("other", True, False), ("none", True, False)):
-            told = refused(lambda: inputs.refuse(self.path(name), is_followed))
+            told = refusal(lambda: inputs.refuse(self.path(name), is_followed))
             self.must(f"{name}", bool(told) == wanted, told)
         before = os.dup(0)
         for name, wanted in (("one", True), ("pipe", False)):
             standard = os.open(self.path("one"), os.O_RDONLY) if wanted else os.pipe()[0]
             os.dup2(standard, 0)
-            self.must(f"{name} as standard input", bool(refused(
+            self.must(f"{name} as standard input", bool(refusal(
                 lambda: Inputs("-").refuse(self.path("one"), True))) == wanted)
         os.dup2(before, 0)
         os.symlink("one", self.path("another"))
         for is_followed in (False, True):
-            self.must(f"another link {is_followed}", bool(refused(
+            self.must(f"another link {is_followed}", bool(refusal(
                 lambda: inputs.refuse(self.path("another"), is_followed))) == is_followed)
         os.rename(self.path("one"), self.path("moved"))
-        self.must("it has another name", not refused(
+        self.must("it has another name", not refusal(
             lambda: Inputs(other).refuse(self.path("moved"), True)))
         gone = Inputs(other)
-        self.must("there", refused(lambda: gone.refuse(other, True)))
+        self.must("there", refusal(lambda: gone.refuse(other, True)))
         os.rename(other, self.path("kept"))
-        self.must("gone", not refused(lambda: gone.refuse(self.path("kept"), True)))
+        self.must("gone", not refusal(lambda: gone.refuse(self.path("kept"), True)))
 
 
 class Signals(Case):
-    """A signal while a file is written."""
-
-    def test_as_the_file_takes_its_name(self) -> None:
-        """Just before that the file stays as it was, just behind it the new one stands; either way
-        it is the signal that is told."""
+    def test_leaves_the_old_or_the_new_file(self) -> None:
         for is_before in (True, False):
             path = self.write("file", b"old")
 
@@ -410,8 +385,7 @@ class Signals(Case):
                       os.listdir(self.folder))
 
 
-    def test_of_a_folder(self) -> None:
-        """Once it is made, among what is done in it, and while it goes: it is gone."""
+    def test_removes_a_temporary_folder(self) -> None:
         for place in ("os.mkdir", "shutil.rmtree", ""):
             def interrupted(path: str, *words: Any, **more: Any) -> None:
                 seen.append(path)

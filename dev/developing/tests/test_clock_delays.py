@@ -1,6 +1,4 @@
-"""Pairs and the clock, in process: what is late is refused, and what can't be seen is said; the
-clock by the first picture of a transport stream.
-"""
+"""Delays, breaks and repeated programmes of complete pairs, and the clock of the first picture."""
 from __future__ import annotations
 
 import shutil
@@ -14,26 +12,24 @@ from .streams import HEVC, H_264, MPEG_2, SLICES, mpeg_2_picture, with_pictures
 from .transmissions import Sent, in_pipe, in_two_parts, joined, late, moved, programme, sendings
 from .test_cli_pairs import TS, lines_of, qc
 
-FIRST, EACH, LASTS = 900_000, 125, 60  # frames: of the first subtitle, from one to the next, of one
+# frames: the first subtitle, from one to the next, length of one
+FIRST, EACH, LASTS = 900_000, 125, 60
 WORDS = ["--every", "25", "--no-complete"]
 STORY, BEGIN = example("story.stl"), 1_822_500  # the frame of its first TCI, 20:15:00:00
-EARLIER = 25  # frames that its recordings here begin before it
+EARLIER = 25  # frames by which the recordings begin before it
 FIRST_PTS, STARTED = (BEGIN - EARLIER) * TICKS, time_of(BEGIN - EARLIER)
 
 
-def evenly(count: int) -> list[tuple[int, int]]:
-    """Subtitles every five seconds: where they are late by ten, edges are at edges of others."""
+def evenly_spaced(count: int) -> list[tuple[int, int]]:
+    """Return subtitles every five seconds, so that a delay of ten puts cues on the cues of others.
+    """
     return [(FIRST + EACH * at, FIRST + EACH * at + LASTS) for at in range(count)]
 
 
-class Clocks(OfProgramme):
-    """Recordings that are late, as a whole or from somewhere on."""
+class Delays(OfProgramme):
+    due, words = evenly_spaced(20), WORDS
 
-    due, words = evenly(20), WORDS
-
-    def test_says_relative_for_a_delay_of_all_without_a_clock(self) -> None:
-        """All is late: `relative` without a clock; with an origin it is refused, and said how late
-        all is."""
+    def test_is_relative_without_a_clock_and_refused_with_one(self) -> None:
         clock = "clock", "delay_frames"
         for by, words in ((250, "250 frames late"), (2, "2 frames late"), (-1, "1 frame early"),
                           (0, "")):
@@ -52,9 +48,7 @@ class Clocks(OfProgramme):
                       told == [f"all subtitles are {words}"][:bool(by)] and
                       found.result["parts"][0][clock[0]][clock[1]] == by, found.said)
 
-    def test_begins_within_a_subtitle(self) -> None:
-        """A correct recording of PES packets 4 to 7, which begins within the only subtitle of which
-        it has a cue: that is not late, since all cues agree with the clock."""
+    def test_does_not_report_a_delay_if_all_received_cues_agree(self) -> None:
         every = self.write("all.pes", b"")
         done = self.call([self.bench.program, "schedule", STORY, every, "--every", "25"])
         self.must("made", done.status == 0, done)
@@ -64,9 +58,7 @@ class Clocks(OfProgramme):
             "late" in line for line in found.said if not line.startswith("refused 74 Late")) and
             found.result["parts"][0]["clock"]["delay_frames"] in (0, None), found.said)
 
-    def test_late_from_one_on(self) -> None:
-        """All is judged with the clock of the first part, and it is said from when on it is late;
-        of a feed too. By less than five seconds that is no break, whatever is said."""
+    def test_reports_from_which_time_subtitles_are_late(self) -> None:
         line = f"from {time_of(self.due[10][0])} on subtitles are "
         at = self.due[10][0] * TICKS
         for by, words in ((250, "10.00 s (250 frames) late"), (130, "5.20 s (130 frames) late"),
@@ -93,8 +85,7 @@ class Clocks(OfProgramme):
         found = judged(self, self.stl, in_pipe(self, joined(self.sent)), *WORDS, "--origin", "7200")
         self.must("a feed that is early", found.told[0] == "all subtitles are 2 frames early")
 
-    def test_shorter_junctions(self) -> None:
-        """They are judged by two calls, as the manual shows; a delay of one side is refused."""
+    def test_judges_short_breaks_by_two_calls(self) -> None:
         middle = time_of(self.due[10][0])
         for by in (124, 25):
             sent = late(by, self.due[10][0] * TICKS)(self.sent)
@@ -106,9 +97,7 @@ class Clocks(OfProgramme):
             words = [self.judge(wrong, *way, middle).word for way in (["--to"], ["--from"])]
             self.must(f"{by}: late", words == ["accepted", "refused"], words)
 
-    def test_parts_that_adjoin(self) -> None:
-        """The last one is erased where the file's clock stops, and the next comes when it goes on.
-        """
+    def test_judges_adjoining_parts(self) -> None:
         frames = [*self.due[:9], (self.due[9][0], self.due[10][0]), *self.due[10:]]
         stl = programme(self, frames)
         for first, second in ((0, 4500 * TICKS), (3_000_000_000, 77_000)):
@@ -130,8 +119,7 @@ class Clocks(OfProgramme):
             self.must(f"{second}: none is said", found.word == "refused" and
                       ("where PTS go back" in found.told[0]) == (second < first), found.told)
 
-    def test_lines_that_can_be_typed(self) -> None:
-        """Where PTS go back each line with a + answers the same."""
+    def test_each_printed_command_prints_the_same_answer(self) -> None:
         sent = [(pts + 3_000_000_000 * (pts < self.due[10][0] * TICKS), some)
                 for pts, some in self.sent]
         done = qc(self, self.stl, self.write("sent.pes", joined(sent)), *WORDS, "--breaks", "1",
@@ -145,9 +133,7 @@ class Clocks(OfProgramme):
             at = lines.index(f"+ {line}") + 1
             self.must(line, said == lines[at:at + len(said)], again)
 
-    def test_judges_none_of_two_runs_unless_one_is_named(self) -> None:
-        """The programme is there twice: neither is judged but one that is said; of a feed the
-        first one is."""
+    def test_judges_a_repeated_programme_only_if_one_run_is_named(self) -> None:
         hour = 3600 * 25 * TICKS
         wrong = late(10, self.due[15][0] * TICKS)(self.sent)
         for name, origin, second in (("later", hour, self.sent), ("the same PTS", 0, self.sent),
@@ -165,9 +151,7 @@ class Clocks(OfProgramme):
             found = self.judge(both, "--pes", "99999-100000")
             self.must(f"{name}: none", found.word == "not judged", found.said)
 
-    def test_first_and_last(self) -> None:
-        """A first subtitle and a last erasing that are late or early; 63 and 74 where a recording
-        is short."""
+    def test_reports_errors_of_the_first_and_last_cue(self) -> None:
         begin, end = (self.due[at][at] for at in (0, -1))
         around = programme(self, [(begin - 1000, begin - 900), *self.due, (end + 3000, end
                                                                               + 3100)], first=0,
@@ -193,14 +177,11 @@ class Clocks(OfProgramme):
             self.must(name, found.said[-1].startswith(wanted), (wanted, found.said))
 
 
-class Starts(Case):
-    """The clock by the first picture."""
-
+class FirstPictures(Case):
     def judge(self, data: bytes, *words: str, stl: str = STORY) -> Judged:
         return judged(self, stl, self.write("one.ts", data), *words)
 
-    def test_first_picture(self) -> None:
-        """In each kind of video, wherever PTS begin again; two frames late."""
+    def test_takes_the_clock_of_the_first_picture(self) -> None:
         for kind in (MPEG_2, H_264, HEVC):
             for shift in (0, CLOCK - (BEGIN - 40) * TICKS):
                 pes = moved(example_bytes("story.pes"), lambda _, pts: pts + shift)
@@ -217,9 +198,7 @@ class Starts(Case):
                     "origin": (shift + 2 * TICKS) % CLOCK, "source": "start", "delay_frames": -2},
                     clock)
 
-    def test_of_another_time(self) -> None:
-        """The time of day for a file with another clock, however far they differ: nothing is
-        judged, and no other page is named."""
+    def test_reports_a_start_that_is_off_by_hours(self) -> None:
         data = with_pictures(example_bytes("story.pes"), FIRST_PTS).data
         ends = f"the recording begins at {STARTED}. TIME is on the subtitle file's own clock, " \
             "not the time of day"
@@ -235,8 +214,7 @@ class Starts(Case):
             found = self.judge(data, *words)
             self.must(f"{words}", found.word == "not judged" and found.told == [told], found.told)
 
-    def test_of_a_feed(self) -> None:
-        """As soon as the first picture is known; and with a break, the first part."""
+    def test_takes_the_first_picture_of_a_pipe(self) -> None:
         data = with_pictures(example_bytes("story.pes"), FIRST_PTS).data
         found = judged(self, STORY, in_pipe(self, data), "--start", STARTED)
         self.must("a feed", found.word == "accepted", found.said)
@@ -247,8 +225,7 @@ class Starts(Case):
             (part["clock"]["source"], part["clock"]["origin"]) for part in found.result["parts"]] ==
                   [("start", 1000), ("recording", 1000 + 4500 * TICKS)], found.said)
 
-    def test_what_there_is(self) -> None:
-        """No picture, half a frame: not judged; PTS that are off are moved."""
+    def test_is_not_judged_without_usable_pictures(self) -> None:
         pes = example_bytes("story.pes")
         half = with_pictures(moved(pes, lambda _, pts: pts + 1800), FIRST_PTS).data
         for path, words, is_typed in (
@@ -265,12 +242,11 @@ class Starts(Case):
                 f"moved by {abs(ticks)} ticks {way} to the PTS of the Teletext")
                 for line in found.said), found.said)
 
-    def test_lost_pictures(self) -> None:
-        """Pictures of which something is lost or scrambled: not judged by them. Nothing is said
-        where that is behind the first group."""
+    def test_is_not_judged_if_first_pictures_are_lost(self) -> None:
         made = with_pictures(example_bytes("story.pes"), FIRST_PTS,
                              picture=mpeg_2_picture() + SLICES).packets
-        # Behind two tables two TS packets of each picture: three are passed over, 14 are a group.
+        # After two tables, each picture has two TS packets: three pictures are skipped, 14 are a
+        # group.
         for at, words in ((2 + 2 * 2 + 1, ""), (2 + 2 * 3 + 1, "lost"), (2 + 2 * 10 + 1, "lost"),
                           (2 + 2 * 16 + 1, "lost"), (2 + 2 * 18 + 1, "")):
             lost = b"".join(made[:at] + made[at + 1:])
@@ -284,8 +260,7 @@ class Starts(Case):
                 self.must(f"{at} {name}", found.word == ("not judged" if words else "accepted") and
                           (line in "".join(found.said)) == bool(words), found.said)
 
-    def test_start_of_the_programme(self) -> None:
-        """The TCP of the GSI block; subtitles outside of the recording are told."""
+    def test_takes_the_tcp_of_the_gsi_block(self) -> None:
         data = with_pictures(example_bytes("story.pes"), FIRST_PTS).data
         stl = bytearray(example_bytes("story.stl"))
         for code, words in (
@@ -303,7 +278,7 @@ class Starts(Case):
 
 
 SECONDS = 8  # of the streams that ffmpeg makes
-PARTS = (0, 3, 20, 45)  # of a hundred, at which these are cut
+PARTS = (0, 3, 20, 45)  # percentages of the stream at which it is cut
 ENCODERS = {"mpeg2video": ["-bf", "2", "-g", "15"],
             "mpeg2video closed": ["-bf", "2", "-g", "15", "-flags", "+cgop", "-sc_threshold",
                                   "1000000000"],
@@ -314,14 +289,16 @@ ENCODERS = {"mpeg2video": ["-bf", "2", "-g", "15"],
             "libx265 closed": ["-bf", "2", "-g", "25", "-x265-params", "open-gop=0"]}
 
 
-def compare(case: Case, name: str, stl: str, data: bytes, is_closed: bool) -> None:
-    """Compares the first picture of a stream with what ffprobe reads: that with the flag, or where
-    its group is closed, or `survey` does not tell that, the one with the smallest PTS."""
+def compare_with_ffprobe(case: Case, name: str, stl: str, data: bytes, is_closed: bool) -> None:
+    """Compare the first picture of a stream with ffprobe:
+
+    the one with the flag, or the smallest PTS if its group is closed or `survey` can't tell.
+    """
     path = case.write("cut.ts", data)
     done = qc(case, stl, path, "--start", "00:00:00:00")
     survey = case.call([case.bench.program, "survey", "--page", "888", "--", path])
     has_least = is_closed or b"\ngroup " not in survey.out
-    packets_of = table(case, path, "packet=pts,flags")
+    packets_of = ffprobe_rows(case, path, "packet=pts,flags")
     keys = [number for number, row in enumerate(packets_of) if "K" in row[1]]
     if not case.must(f"{name}: groups", len(keys) > 1, packets_of):
         return
@@ -332,12 +309,13 @@ def compare(case: Case, name: str, stl: str, data: bytes, is_closed: bool) -> No
               (line, group, done.told))
     case.must(f"{name}: passed over", f"; {keys[0]} PES packet" in line, (line, keys))
     if is_closed:
-        shown = [int(row[1]) for row in table(case, path, "frame=key_frame,pts") if row[0] == "1"]
+        shown = [int(row[1]) for row in ffprobe_rows(case, path, "frame=key_frame,pts")
+                 if row[0] == "1"]
         case.must(f"{name}: the first that is shown", shown[:1] == [first], (shown, line))
 
 
-def table(case: Case, path: str, entries: str) -> list[list[str]]:
-    """What ffprobe prints of the video, a row a line."""
+def ffprobe_rows(case: Case, path: str, entries: str) -> list[list[str]]:
+    """Return the rows that ffprobe prints of the video."""
     done = subprocess.run(["ffprobe", "-v", "quiet", "-select_streams", "v", "-show_entries",
                            entries, "-of", "csv=p=0", path], stdout=subprocess.PIPE, check=False)
     rows = [line.split(",") for line in done.stdout.decode().split("\n")]
@@ -345,12 +323,8 @@ def table(case: Case, path: str, entries: str) -> list[list[str]]:
             and row[1] not in ("", "N/A")]
 
 
-class OfFfprobe(Case):
-    """Streams of ffmpeg, and what ffprobe reads of them."""
-
+class FfmpegStreams(Case):
     def test_agrees_with_ffprobe(self) -> None:
-        """Streams of ffmpeg, cut within a group of pictures: the first picture of the first whole
-        group; where no group needs the one before, that is the first which ffprobe shows."""
         if not (shutil.which("ffmpeg") and shutil.which("ffprobe")):
             self.skipTest("streams of MPEG-2, H.264 and HEVC, since there is no ffmpeg")
         stl = programme(self, [(begin, begin + 30) for begin in range(60, 161, 50)],
@@ -373,4 +347,5 @@ class OfFfprobe(Case):
                 data = file.read()
             for part in PARTS:
                 at = len(data) // TS * part // 100
-                compare(self, f"{name} from TS packet {at}", stl, data[TS * at:], "closed" in name)
+                compare_with_ffprobe(self, f"{name} from TS packet {at}", stl, data[TS * at:],
+                                     "closed" in name)

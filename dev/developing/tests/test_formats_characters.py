@@ -1,4 +1,4 @@
-"""Letters, national options and character sets."""
+"""Characters, national options and character sets."""
 from __future__ import annotations
 
 import csv
@@ -29,21 +29,19 @@ from .transmissions import packets
 from .test_cli_pairs import STORY, lines_of, qc
 
 
-# The table of national options, beside the tables of an outside decoder; and the advice for a
-# letter that an option lacks.
+# National options, compared with tables of an outside decoder; the advice for an unsupported
+# character.
 
 VECTORS = os.path.join(TOP, "dev", "vectors", "national")
 
 
 def rows_of(name: str) -> Iterator[dict[str, str]]:
-    """The rows of one of the tables from outside."""
+    """Return the rows of one of the outside tables."""
     with open(os.path.join(VECTORS, name), encoding="utf-8", newline="") as file:
         yield from csv.DictReader(file, delimiter="\t", quoting=csv.QUOTE_NONE)
 
 
-class Table(unittest.TestCase):
-    """Each entry of the tables from outside."""
-
+class NationalOptions(unittest.TestCase):
     def test_each_byte_gives_its_cell_and_its_character(self) -> None:
         count = 0
         for row in rows_of("options.tsv"):
@@ -59,18 +57,18 @@ class Table(unittest.TestCase):
                 self.assertIn(option, options_with(text))
         self.assertEqual(count, 658)
 
-    def test_characters_that_no_text_has(self) -> None:
-        """As libzvbi 0.2.41 has them in its Latin set, by `vbi_teletext_unicode`."""
+    def test_decodes_codes_that_no_subtitle_uses_as_libzvbi(self) -> None:
         for option in OPTIONS:
             self.assertEqual(letters(option.bits)[0x7F], "\u25a0", option)
         self.assertEqual("".join(letters(ENGLISH.bits)[code] for code in b"[\\]^`{|}~"),
                          "←½→↑—¼‖¾÷")
         self.assertEqual(letters(GERMAN.bits)[0x5E:0x60], ["^", "_"])
-        for bits in (RESERVED, 8):  # no option's: its own letters are not known, the others are
+        # reserved bits: national characters are unknown, the others known
+        for bits in (RESERVED, 8):
             self.assertEqual([(code, letters(bits)[code] != "\u25a1") for code in range(32, 127)],
                              [(code, code not in PLACES) for code in range(32, 127)], bits)
 
-    def test_nothing_else_has_a_cell(self) -> None:
+    def test_encodes_no_other_text_in_one_cell(self) -> None:
         known = {(row["option"], bytes.fromhex(row["stl"])) for row in rows_of("options.tsv")}
         for option in OPTIONS:
             for first in range(0x20, 0x100):
@@ -78,11 +76,11 @@ class Table(unittest.TestCase):
                     whole = codes_of(text, option)
                     if (option.word, text) not in known and len(whole) == 1:
                         self.assertEqual(whole, [None], (option.word, text))
-                    if (option.word, text) not in known:  # then each byte is one by itself
+                    if (option.word, text) not in known:  # each byte is a character of its own
                         self.assertEqual(whole, [code for byte in text for code in codes_of(
                             bytes([byte]), option)], (option.word, text))
 
-    def test_texts_in_eleven_languages(self) -> None:
+    def test_encodes_texts_in_eleven_languages(self) -> None:
         count = 0
         for row in rows_of("vectors.tsv"):
             if row["kind"] in ("drawn", "refused"):
@@ -108,14 +106,12 @@ class Table(unittest.TestCase):
             self.assertEqual(of_track(track), named, track)
         self.assertIsNone(of_track("pol"))
 
-    def test_names_each_option(self) -> None:
+    def test_each_option_has_all_national_characters(self) -> None:
         self.assertEqual({len(one.characters) for one in OPTIONS}, {len(PLACES)})
 
 
 class Advice(unittest.TestCase):
-    """What to do about a letter."""
-
-    def test_advises_on_each_letter_that_an_option_lacks(self) -> None:
+    def test_names_the_options_that_have_a_character(self) -> None:
         for text, words in (
                 ("C265", "é is in --option swedish, italian, french, spanish, czech"),
                 ("24", "$ is in --option english, german, italian, spanish"),
@@ -125,24 +121,24 @@ class Advice(unittest.TestCase):
         self.assertEqual(advice_of(b"\xc2e", [FRENCH, SPANISH]),
                          "the whole file draws in --option french, spanish")
 
-    def test_a_mark_takes_the_letter_behind_it(self) -> None:
+    def test_a_diacritical_mark_includes_the_next_letter(self) -> None:
         for text, at, letter in ((b"a\xc2eb", 1, b"\xc2e"), (b"a\xc2", 1, b"\xc2"),
                                  (b"\xc2\x80e", 0, b"\xc2"), (b"ab", 1, b"b"),
                                  (b"\xc2 e", 0, b"\xc2"), (b"\xc9e", 0, b"\xc9")):
             self.assertEqual(letter_at(text, at), letter, text)
 
 
-# What the program sends of each national option, beside the tables of `dev/vectors/national/`:
-# each letter, texts in eleven languages, and what is refused. libzvbi shows the same letters.
+# Transmissions in each national option, compared with dev/vectors/national/; libzvbi decodes the
+# same characters.
 
-FIRST, LENGTH = 90_000, 25  # the frame of the first subtitle, and how many each is due
-MARKS = range(0xC0, 0xD0)  # diacritical
-SPACING = {*range(0x01, 0x0E), 0x1C, 0x1D}  # the spacing attributes that a text may have
+FIRST, LENGTH = 90_000, 25  # frame of the first subtitle; length of each
+MARKS = range(0xC0, 0xD0)  # diacritical marks
+SPACING = {*range(0x01, 0x0E), 0x1C, 0x1D}  # spacing attributes that a text may have
 WITHOUT_CELL = {*range(0x80, 0x86), 0x8A}  # italics, underline, boxing; the end of a line
 
 
 class Text(NamedTuple):
-    """A text, where it stands, and the row of 40 cells that it gives."""
+    """A text, its position, and the row of 40 cells that it gives."""
 
     text: bytes
     row: int
@@ -150,8 +146,8 @@ class Text(NamedTuple):
     cells: bytes = b""
 
 
-def letters_of(option: NationalOption) -> list[tuple[Text, str]]:
-    """The texts of single characters that an option has, each with its character."""
+def character_texts(option: NationalOption) -> list[tuple[Text, str]]:
+    """Return the single characters of an option as texts."""
     return [(Text(bytes.fromhex(line["stl"]), 5, 0, (
         START_BOX * 2 + bytes([int(line["cell"], 16)]) + END_BOX * 2).ljust(40)),
         chr(int(line["unicode"][2:], 16)))
@@ -159,7 +155,7 @@ def letters_of(option: NationalOption) -> list[tuple[Text, str]]:
 
 
 def texts(option: NationalOption) -> list[tuple[Text, str]]:
-    """The longer texts, each with how it is refused, or nothing."""
+    """Return the longer texts, each with its error message or ""."""
     found = []
     for line in rows_of("vectors.tsv"):
         cells, told = b"", line["prepared line or refusal"]
@@ -181,15 +177,15 @@ class Sliced(ctypes.Structure):
 
 HANDLER = ctypes.CFUNCTYPE(None, ctypes.c_void_p, ctypes.c_void_p)
 TELETEXT_B = 3  # VBI_SLICED_TELETEXT_B
-PAGE_EVENT = 2  # VBI_EVENT_TTX_PAGE: pages are decoded where there is a handler for it
+PAGE_EVENT = 2  # VBI_EVENT_TTX_PAGE; libzvbi decodes pages only if there is a handler
 ANY_SUBCODE = 0x3F7F
 LEVEL_1 = 0  # VBI_WST_LEVEL_1
-TEXT_AT, CHARACTER = 28, 8  # of `vbi_page`: where its characters begin, and the size of one
+TEXT_AT, CHARACTER = 28, 8  # of `vbi_page`: offset of its characters, and their size
 UNICODE_AT = 6  # of `vbi_char`
 
 
 class Receiver:
-    """libzvbi, of the default region 0000 and level 1."""
+    """libzvbi with default region 0000 at level 1."""
 
     def __init__(self) -> None:
         self.library = ctypes.CDLL("libzvbi.so.0")
@@ -201,7 +197,7 @@ class Receiver:
         self.time = 0.0
 
     def row(self, sent: list[bytes], row: int) -> str:
-        """The characters of a row of page 888, after these packets."""
+        """Return the text of a row of page 888 after some packets."""
         lines = (Sliced * len(sent))()
         for line, packet in zip(lines, sent):
             line.id = TELETEXT_B
@@ -217,19 +213,17 @@ class Receiver:
         return "".join(chr(int.from_bytes(page.raw[place:place + 2], "little")) for place in at)
 
 
-class Sent(Case):
-    """What the program makes of texts."""
-
+class Transmissions(Case):
     def schedule_of(self, option: NationalOption, several: list[Text]) -> str:
-        """The last line of the schedule of subtitles that come straight one after the other."""
+        """Return the last line of `schedule` for adjoining subtitles."""
         blocks = [tti_block(number, begin, begin + LENGTH, one.row, one.justify, one.text)
                   for number, one in enumerate(several) for begin in [FIRST + LENGTH * number]]
         self.write("a.stl", gsi_block(b"", len(blocks), len(blocks), FIRST) + b"".join(blocks))
         return self.program("schedule", "a.stl", "a.pes", "--every", "1500", "--option",
                             option.word)[1][-1]
 
-    def sent(self, option: NationalOption, several: list[Text]) -> list[list[bytes]]:
-        """What is sent of each; of the same page as before nothing."""
+    def transmit(self, option: NationalOption, several: list[Text]) -> list[list[bytes]]:
+        """Return the Teletext packets of each text; none for a repeated page."""
         line = self.schedule_of(option, several)
         self.must(f"{option.word}: a schedule", line.startswith("written "), line)
         line = self.program("check", "a.stl", "a.pes", "--every", "1500", "--option",
@@ -239,10 +233,10 @@ class Sent(Case):
                     for one in packets(self.read("a.pes"))}
         return [by_frame.get(FIRST + LENGTH * number, []) for number in range(len(several))]
 
-    def are_sent(self, option: NationalOption, several: list[Text]) -> None:
-        """Each gives its row, in a page whose header has the option's three bits."""
+    def check_cells(self, option: NationalOption, several: list[Text]) -> None:
+        """Check that each text gives its cells, in a page with the option's control bits."""
         before = b""
-        for one, found in zip(several, self.sent(option, several)):
+        for one, found in zip(several, self.transmit(option, several)):
             name = f"{option.word} {one.text.hex()}"
             if not found:
                 self.must(f"{name}: the same page", one.cells == before)
@@ -255,15 +249,14 @@ class Sent(Case):
             self.must(f"{name}: the row", told == [((0, one.row), one.cells)], told)
             before = one.cells
 
-    def test_draws_each_letter_as_libzvbi_does(self) -> None:
+    def test_encodes_each_character_as_in_the_table(self) -> None:
         for option in OPTIONS:
-            self.are_sent(option, [one for one, _ in letters_of(option)])
+            self.check_cells(option, [one for one, _ in character_texts(option)])
 
-    def test_draws_texts_or_names_the_refused_byte(self) -> None:
-        """Texts that are drawn, and of those that are refused the byte."""
+    def test_encodes_texts_or_names_the_refused_byte(self) -> None:
         for option in OPTIONS:
             several = texts(option)
-            self.are_sent(option, [one for one, told in several if not told])
+            self.check_cells(option, [one for one, told in several if not told])
             for one, told in several:
                 if told:
                     line = self.schedule_of(option, [one])
@@ -271,11 +264,10 @@ class Sent(Case):
                               "refused {} {} block 1 {} {}".format(*told.split()), line)
 
     def test_refuses_every_other_byte(self) -> None:
-        """Every other byte, and every other two of which the first is a diacritical mark."""
         singles = [bytes([byte]) for byte in range(256) if byte != UNUSED[0]]
         tried = singles + [bytes([mark, byte]) for mark in MARKS for byte in range(256)]
         for option in OPTIONS:
-            known = {one.text for one, _ in letters_of(option)}
+            known = {one.text for one, _ in character_texts(option)}
             known |= {bytes([byte]) for byte in SPACING | WITHOUT_CELL}
             wanted = []
             for number, text in enumerate(tried, 1):
@@ -288,21 +280,20 @@ class Sent(Case):
             found = [line for line in lines if " block " in line]
             self.must(option.word, found == wanted, sorted(set(found) ^ set(wanted))[:4])
 
-    def test_letters_by_libzvbi(self) -> None:
+    def test_libzvbi_decodes_the_same_characters(self) -> None:
         try:
             receiver = Receiver()
         except OSError:
             self.skipTest("the letters by libzvbi, which is not installed")
         for option in OPTIONS:
-            several = letters_of(option)
-            for (one, character), found in zip(several, self.sent(option, [
+            several = character_texts(option)
+            for (one, character), found in zip(several, self.transmit(option, [
                     one for one, _ in several])):
                 shown = receiver.row(found, one.row)[2:3] if found else character
                 self.must(f"{option.word} {one.text.hex()} {character}", shown == character, shown)
 
 
-# The character sets that packets X/28 and M/29 name, the languages that a PMT does, and the
-# warnings of both.
+# Character sets in packets X/28 and M/29, languages in a PMT, and the warnings about both.
 
 PAGE = (0, 0x88)
 ASKED = Request(stl="a.stl", recording="a.ts", page=PAGE, every=250, option="english", origin=0,
@@ -313,13 +304,13 @@ HEADER, OTHER, CLOSING = (packet(0, 0, numbers, b" " * 32) for numbers in (
 ROW = packet(0, 20, (), b"a row".ljust(40))
 
 
-# The places of the 18 bits among those of three Hamming 24/18 bytes, counted from 1: all but powers
-# of 2, which are checks, and the last.
+# The places of the 18 data bits in three Hamming 24/18 bytes, counted from 1: all except powers of
+# 2, which are checks, and the last.
 DATA_BITS = tuple(at for at in range(1, 24) if at & at - 1)
 
 
 def triplet(value: int) -> bytes:
-    """Three Hamming 24/18 bytes: what makes each of the five checks, and all bits, odd."""
+    """Encode a Hamming 24/18 triplet."""
     word = sum((value >> bit & 1) << at - 1 for bit, at in enumerate(DATA_BITS))
     wrong = 31
     for at in DATA_BITS:
@@ -329,9 +320,9 @@ def triplet(value: int) -> bytes:
     return word.to_bytes(3, "little")
 
 
-def naming(number: int, character_set: int, designation: int = 0, magazine: int = 0,
+def character_set_packet(number: int, character_set: int, designation: int = 0, magazine: int = 0,
            function: int = 0) -> bytes:
-    """A packet that names a character set, seven bits."""
+    """Return a packet that designates a character set of seven bits."""
     first = triplet(function | character_set << 7)
     address = magazine + 8 * number
     head = bytes(CODE_WORDS[one] for one in (address & 15, address >> 4, designation))
@@ -339,16 +330,18 @@ def naming(number: int, character_set: int, designation: int = 0, magazine: int 
 
 
 def with_bits(data: bytes, *bits: int) -> bytes:
-    """Bytes with some bits the other way."""
+    """Flip some bits."""
     found = bytearray(data)
     for bit in bits:
         found[bit >> 3] ^= 1 << (bit & 7)
     return bytes(found)
 
 
-def warnings(case: Case, name: str, done: Done, kinds: list[str]) -> list[Any]:
-    """Tests that these are the kinds of warnings, and that each is said and stands in the report;
-    the object is one.json, the report in the folder out."""
+def check_warnings(case: Case, name: str, done: Done, kinds: list[str]) -> list[Any]:
+    """Check the kinds of the warnings in one.json, and that each is printed and in the report.
+
+    Return the warnings.
+    """
     verdict = json.loads(case.read("one.json"))
     agrees(case, verdict, f"{name}: the schema")
     found: list[Any] = verdict["warnings"]
@@ -364,49 +357,44 @@ def warnings(case: Case, name: str, done: Done, kinds: list[str]) -> list[Any]:
 
 
 class Warnings(Case):
-    """What is said of it."""
-
     def test_warns_of_another_option_than_that_of_the_language(self) -> None:
         may = "receivers above level 1 may show other letters"
         cases: list[tuple[str, bytes, list[str]]] = [
-            ("another region", naming(29, 8),
+            ("another region", character_set_packet(29, 8),
              [f"packet 8/29/0 names character set 000 of region 0001: {may}"]),
-            ("another option", naming(29, 1, 4),
+            ("another option", character_set_packet(29, 1, 4),
              [f"packet 8/29/4 names character set 001 of region 0000: {may}"]),
-            ("not to be read", with_bits(naming(29, 8), 30, 40),
+            ("not to be read", with_bits(character_set_packet(29, 8), 30, 40),
              [f"packet 8/29/0 names an unreadable character set: {may}"]),
-            ("the same", naming(29, 0), []),
-            ("another magazine's", naming(29, 8, magazine=1), [])]
+            ("the same", character_set_packet(29, 0), []),
+            ("another magazine's", character_set_packet(29, 8, magazine=1), [])]
         for name, more, lines in cases:
             told = packets_told(self, pes_packet(0, [HEADER, ROW, CLOSING, more]))
             found = list(character_set_notices(told, ASKED))
             self.must(name, [one.line for one in found] == lines, found)
             self.must(f"{name}: kind", {one.kind for one in found} <= {"character_set"}, found)
 
-    def test_option_that_is_named(self) -> None:
-        told = packets_told(self, pes_packet(0, [HEADER, naming(29, 0b100)]))
+    def test_warns_if_another_option_is_designated(self) -> None:
+        told = packets_told(self, pes_packet(0, [HEADER, character_set_packet(29, 0b100)]))
         for option in OPTIONS:
             asked = dataclasses.replace(ASKED, option=option.word)
             self.must(option.word, bool([*character_set_notices(told, asked)]) == (
                 option != FRENCH))
 
-    def test_verdict_stays(self) -> None:
-        """It is said, stands in the report and in the object, and counts with --strict alone."""
+    def test_a_warning_changes_the_verdict_only_with_strict(self) -> None:
         pes = packets(example_bytes("story.pes"))
-        sent = [*teletext_packets(data_field(pes[1])), naming(29, 8)]
+        sent = [*teletext_packets(data_field(pes[1])), character_set_packet(29, 8)]
         data = b"".join([pes[0], pes_packet(pts_in(pes[1]), sent), *pes[2:]])
         path = self.write("one.pes", data)
         done = qc(self, STORY, path, "--origin", "0", "-o", "out", "--json", "one.json")
         self.must("accepted", done.status == 0, done)
-        warnings(self, "a file", done, ["character_set"])
+        check_warnings(self, "a file", done, ["character_set"])
         done = qc(self, STORY, "-", "--origin", "0", "--strict", data=data)
         self.must("strict, a feed", done.status == 1 and lines_of(done)[-1].startswith(
             "not accepted, since warnings count (character_set): accepted"), done)
 
 
 class Languages(unittest.TestCase):
-    """The option of the language that a PMT has for the page."""
-
     def test_takes_the_option_of_the_language_that_a_pmt_names(self) -> None:
         cases: list[tuple[list[str], str, str]] = [
             (["eng"], "english", ""), (["eng"], "french", "eng, which is of --option english"),
@@ -425,8 +413,7 @@ class Languages(unittest.TestCase):
             with self.subTest(languages=languages, option=option):
                 self.assertEqual(found, [line] * bool(words))
 
-    def test_table_of_languages(self) -> None:
-        """Each language of a PMT as a receiver's own list has it."""
+    def test_takes_each_language_of_a_pmt_as_a_receiver(self) -> None:
         path = os.path.join(TOP, "dev", "vectors", "national", "pmt.tsv")
         with open(path, encoding="utf-8", newline="") as file:
             rows = [*csv.DictReader(file, delimiter="\t", quoting=csv.QUOTE_NONE)]

@@ -1,4 +1,4 @@
-"""What is said of an origin, and of the first picture; the programme that comes next."""
+"""The messages about an origin and the first picture, and pages of the next programme."""
 from __future__ import annotations
 
 import itertools
@@ -25,22 +25,19 @@ from .parts import asked_for
 from .transmissions import Sent, late, programme, sendings
 
 
-# What is said of an origin that was found, by tables: how a part agrees, from when on subtitles
-# are late, where breaks are.
+# The lines about an origin: agreement of a part, delays, breaks.
 
 ORIGIN = CLOCK - 5 * TICKS
 
 
 def part_at(frames: int, begin: int = 0, base: int = 0) -> Any:
-    """A part whose origin is so many frames later, from a frame on, in a time base."""
+    """Return a part with an origin, a first frame and a time base."""
     return SimpleNamespace(origin=(ORIGIN + TICKS * frames) % CLOCK, begin=begin, base=base)
 
 
-class Words(unittest.TestCase):
-    """The lines, word for word."""
-
+class OriginLines(unittest.TestCase):
     def part(self, agree: int, among: int, letters: int, edges: int = 20, **more: Any) -> Any:
-        """A part, of whose edges some agree with the best origin."""
+        """Return a part of whose cues some agree with the best origin."""
         best: dict[str, Any] = {"agree": agree, "among": among, "letters": letters, "exact": agree,
                                 "first_other": None, "late": [0], "origin": 9, "start": 0}
         best.update({name: more.pop(name) for name in list(more) if name in best})
@@ -55,8 +52,6 @@ class Words(unittest.TestCase):
                                points=lambda is_one=True: agree)
 
     def test_describes_a_part_by_its_best_origin(self) -> None:
-        """As good as the best are many; fewer than half agree; what is early, or apart. Rows of
-        calls have the others."""
         rows: list[tuple[Any, int, list[str]]] = [
             (self.part(9, 9, 9, others=[self.other(at, 9) for at in range(7)]), 20,
              ["9 of 9 cues agree, 9 with the letters that are due; the file has 20; next best: "
@@ -102,8 +97,7 @@ class Words(unittest.TestCase):
                 line.replace("--origin or --start", "--origin") for line in lines],
                              (part, count, lines))
 
-    def test_how_many_parts(self) -> None:
-        """One more than breaks are said; else nothing is taken, and what was found is told."""
+    def test_needs_one_part_more_than_breaks(self) -> None:
         for count, said in itertools.product(range(5), (1, 2, 3)):
             parts = [self.part(20, 20, 20) for _ in range(count)]
             for one in parts:
@@ -120,9 +114,7 @@ class Words(unittest.TestCase):
                 self.assertEqual(found.lines, [f"{words} found, where --breaks {said} is said",
                                                *break_lines(parts)], (count, said))
 
-    def test_all_parts(self) -> None:
-        """Each is told with its frames, and its PES packets where PTS go back; the first is
-        compared with the origin that is known; what reaches into the next is in none."""
+    def test_describes_each_part(self) -> None:
         over = [SimpleNamespace(begin=25 * at, end=25 * at + 50) for at in range(3)]
         for origin, count in itertools.product((None, 9), (1, 2)):
             parts = [self.part(edges - 1, edges, edges - 1, edges) for edges in (20, 12, 6)]
@@ -150,9 +142,7 @@ class Words(unittest.TestCase):
                                      for at in range(3))):
                 self.assertEqual(found.lines.count(line), int(is_there), found.lines)
 
-    def test_early_parts(self) -> None:
-        """An origin that is given is that of the first part: where many cues of another one come
-        early nothing is clear."""
+    def test_is_unclear_if_many_cues_of_a_part_are_early(self) -> None:
         many, few = Early(9, 20, 1), Early(1, 30, 1)
         for early, origin, status in (((None, None), None, 0), ((many, None), None, 1),
                                       ((many, None), 9, 0), ((None, many), None, 1),
@@ -165,7 +155,6 @@ class Words(unittest.TestCase):
             self.assertEqual((found.status, len(found.parts)), (status, 2 - 2 * status), early)
 
     def test_compares_an_origin_with_a_given_one(self) -> None:
-        """With the origin that is known, also 0, however far it is; with 0 near that alone."""
         rows: list[tuple[int | None, int, str]] = [
             (None, 0, ""), (None, TICKS - 1, ""), (None, 251 * TICKS, ""),
             (None, 250 * TICKS, "250 frames late compared with --origin 0"),
@@ -179,7 +168,6 @@ class Words(unittest.TestCase):
             self.assertEqual(found.away, None if known is None else origin - known, (known, origin))
 
     def test_what_is_there(self) -> None:
-        """What is damaged, has no PTS, or is missing; where the page is not sent, what is."""
         runs = [Run(0, 2, 0, TICKS, "h", ""), Run(2, 1, None, 0, "m", ""),
                 Run(3, 1, None, 0, "", "")]
         marks, change = [Mark(2, None, 0, 0)], Change(0, b"", 0)
@@ -201,8 +189,7 @@ class Words(unittest.TestCase):
             self.assertEqual((is_sent(packets, Sought("a", "one"), lines), lines),
                              (bool(changes), said), (several, some, damage))
 
-    def test_says_how_much_longer_each_part_begins(self) -> None:
-        """Of the second part and the third: what is longer, shorter, or goes back."""
+    def test_reports_the_length_of_each_break(self) -> None:
         parts = [part_at(0), part_at(25, 100), part_at(-50, 200), part_at(0, 300, 1)]
         parts.append(SimpleNamespace(origin=ORIGIN + 7, begin=400, base=1))
         self.assertEqual(list(break_lines(parts)), [
@@ -213,7 +200,7 @@ class Words(unittest.TestCase):
         self.assertEqual(list(break_lines(parts[:1])), [])
 
     def shifts(self, *frames: int, bases: tuple[int, ...] = ()) -> list[str]:
-        """What is said of stretches that are so many frames late, a minute each."""
+        """Return the lines about stretches with delays, a minute each."""
         parts = [part_at(one, 1500 * at, (*bases, *[0] * 99)[at]) for at, one in enumerate(frames)]
         edges = [SimpleNamespace(frame=1500 * at) for at in range(len(parts))]
         tracks: list[Any] = [SimpleNamespace(edges=edges, start=one, base=part.base)
@@ -221,8 +208,7 @@ class Words(unittest.TestCase):
         return shift_lines([Stretch(one, at, at + 1) for at, one in enumerate(tracks)], parts,
                            ORIGIN)
 
-    def test_says_from_when_on_subtitles_are_late(self) -> None:
-        """Late, early, on time; back; of many the first and the last."""
+    def test_reports_from_which_time_subtitles_are_late(self) -> None:
         said = "on subtitles are"
         self.assertEqual(self.shifts(0, 25), [f"from 00:01:00:00 {said} 1.00 s (25 frames) late"])
         self.assertEqual(self.shifts(0, 26, 0), [
@@ -242,15 +228,15 @@ class Words(unittest.TestCase):
             self.assertTrue(found[-1].startswith(f"from 00:{count:02}:00:00"), found)
 
 
-# The first picture of a recording, by what `survey` tells of its video, or why there is none.
+# The first picture of a recording by the lines of `survey`, or why there is none.
 
 TELETEXT, VIDEO = 0x101, 0x200
-# In the order in which they are sent, by frames: groups of I B B P B B P B B.
+# Order of transmission of I B B P B B P B B, by frames.
 GROUP = [2, 0, 1, 5, 3, 4, 8, 6, 7]
 
 
 def programme_with(*streams: tuple[int, int]) -> list[str]:
-    """A PMT with Teletext and these streams, each a PID and its stream_type."""
+    """Return a PMT with Teletext and these streams."""
     return [f"programme 1 {VIDEO}", f"stream {TELETEXT} 6",
             *(f"stream {pid} {kind}" for pid, kind in streams)]
 
@@ -263,26 +249,23 @@ def surveyed(lines: Sequence[str], is_whole: bool = True) -> Survey:
     return survey
 
 
-def shown(frames: Sequence[int | None], end: str = "0 0", passed: int = 3) -> list[str]:
-    """The lines of pictures at some frames from a PTS on, which passes 2^33 behind it."""
+def picture_lines(frames: Sequence[int | None], end: str = "0 0", passed: int = 3) -> list[str]:
+    """Return the lines about pictures at some frames from a PTS on, which wraps after it."""
     pts = ["-" if one is None else (CLOCK - 5 + TICKS * one) % CLOCK for one in frames]
     return [*programme_with((VIDEO, MPEG_2)), f"video {VIDEO} {passed}",
             *(f"picture {VIDEO} {one}" for one in pts), f"pictures {VIDEO} {end}"]
 
 
-class Pictures(unittest.TestCase):
-    """What there is, and why it is not clear."""
-
+class FirstPictures(unittest.TestCase):
     def said(self, lines: Sequence[str], is_whole: bool = True) -> str | First:
         try:
             return first_picture(surveyed(lines, is_whole), TELETEXT)
         except NoFirst as reason:
             return str(reason)
 
-    def test_the_smallest(self) -> None:
-        """Pictures that are sent later and shown before are among them; one alone."""
+    def test_takes_the_smallest_pts(self) -> None:
         for frames, least in ((GROUP, 0), ([0], 0), ([7, 5, 6], 5), ([0, 1, 2], 0)):
-            self.assertEqual(self.said(shown(frames)), First(
+            self.assertEqual(self.said(picture_lines(frames)), First(
                 VIDEO, MPEG_2, (CLOCK - 5 + TICKS * least) % CLOCK, 3), frames)
         for kind in (0x01, H_264, HEVC):
             lines = [*programme_with((VIDEO, kind)), f"video {VIDEO} 0", f"picture {VIDEO} 9"]
@@ -290,8 +273,7 @@ class Pictures(unittest.TestCase):
         self.assertIn("PTS 9, HEVC of PID 0x200; 1 PES packet of video before it skipped",
                       First(VIDEO, HEVC, 9, 1).line())
 
-    def test_by_what_is_told(self) -> None:
-        """Of all PMT of the programme; also before all is told, and where the last are cut off."""
+    def test_takes_all_pmts_into_account(self) -> None:
         first = First(VIDEO, MPEG_2, 0, 0)
         begun, none = [f"video {VIDEO} 0", f"picture {VIDEO} 0"], programme_with()
         own = programme_with((VIDEO, MPEG_2))
@@ -303,8 +285,6 @@ class Pictures(unittest.TestCase):
         self.assertEqual(self.said([*lines, f"pictures {VIDEO} 0 0 0 0"]), first)
 
     def test_takes_the_clock_of_the_first_picture(self) -> None:
-        """The PTS of the first picture less its frame, moved to those of the Teletext by less than
-        half a frame: at half a frame it is not clear. Which clock is chosen, and by what."""
         rows: list[tuple[list[int], int, int | None, str]] = [
             ([0], 0, 0, "agree with"), ([1], 0, 1, "moved by 1 tick forward"),
             ([1799], 0, 1799, "forward"), ([1800], 0, None, ""), ([1801], 0, -1799, "back"),
@@ -339,8 +319,6 @@ class Pictures(unittest.TestCase):
             self.assertEqual(First(VIDEO, MPEG_2, 3 * TICKS, 0, other).away, away, (other, away))
 
     def test_takes_the_first_picture_of_a_closed_or_open_group(self) -> None:
-        """Of a closed group the smallest; of one that is open or unknown the one with the flag;
-        both are said where they differ."""
         flagged, least = (CLOCK - 5 + TICKS * 2) % CLOCK, CLOCK - 5
         begin = ", MPEG-2 of PID 0x200; 3 PES packets of video before it skipped"
         for frames, form, first, other, away, more in (
@@ -351,7 +329,7 @@ class Pictures(unittest.TestCase):
                 (GROUP, "unknown", flagged, least, -2, "; those of its group that come before it, "
                  f"from PTS {least} on, 2 frames, can't be decoded"),
                 ([0, 1, 2], "open", least, None, 0, ""), ([0, 2, 1], "closed", least, None, 0, "")):
-            lines = shown(frames)
+            lines = picture_lines(frames)
             found = self.said([*lines[:-1], f"group {VIDEO} {flagged} {least} {form}", lines[-1]])
             self.assertEqual(found, First(VIDEO, MPEG_2, first, 3, other), (frames, form))
             assert isinstance(found, First)
@@ -359,8 +337,6 @@ class Pictures(unittest.TestCase):
                 away, f"the first picture has PTS {first}{begin}{more}"), (frames, form, first))
 
     def test_asks_about_a_delay_as_long_as_to_another_picture(self) -> None:
-        """A delay of all that is just as long as to the other picture asks whether the time code is
-        of that."""
         for away, delay, words in (
                 (-2, -2, "is the time code that of the GOP header?"), (-2, 2, ""), (-2, -1, ""),
                 (-2, 0, ""), (-2, None, ""), (0, 0, ""), (0, None, ""), (2, -2, ""),
@@ -368,8 +344,7 @@ class Pictures(unittest.TestCase):
             said = Clock(0, START, delay, away=away).question()
             self.assertTrue(said.startswith(words) and bool(said) == bool(words), said)
 
-    def test_says_why_there_is_no_first_picture(self) -> None:
-        """Each reason."""
+    def test_reports_why_there_is_no_first_picture(self) -> None:
         two = programme_with((VIDEO, MPEG_2), (0x201, H_264))
         rows: list[tuple[list[str], bool, str]] = [
                 ([], True, "no PMT names PID 0x101"),
@@ -382,17 +357,18 @@ class Pictures(unittest.TestCase):
                  "come with the random_access_indicator"),
                 ([*programme_with((VIDEO, MPEG_2)), f"pictures {VIDEO} 0 0 7 0"], True,
                  "none of 7 PES packets of MPEG-2 of PID 0x200 has the random_access_indicator"),
-                (shown([0, 1], "1 0"), True, "1 TS packet of MPEG-2 of PID 0x200 lost among"),
-                (shown([0, 1], "1 1"), True, "is scrambled"),
-                (shown([0, None]), True, "a picture of MPEG-2 of PID 0x200 has no PTS"),
-                (shown([None]), True, "a picture of MPEG-2 of PID 0x200 has no PTS"),
-                # Two pictures in each PES packet: the first that is shown has no PTS.
-                (shown(GROUP[::2] + [9]), True, "leave out 3 frames: a PES packet has several")]
+                (picture_lines([0, 1], "1 0"), True,
+                 "1 TS packet of MPEG-2 of PID 0x200 lost among"),
+                (picture_lines([0, 1], "1 1"), True, "is scrambled"),
+                (picture_lines([0, None]), True, "a picture of MPEG-2 of PID 0x200 has no PTS"),
+                (picture_lines([None]), True, "a picture of MPEG-2 of PID 0x200 has no PTS"),
+                # Two pictures in each PES packet: the first displayed one has no PTS.
+                (picture_lines(GROUP[::2] + [9]), True,
+                 "leave out 3 frames: a PES packet has several")]
         for lines, is_whole, words in rows:
             self.assertIn(words, self.said(lines, is_whole), (lines, is_whole))
 
-    def test_left_out(self) -> None:
-        """Frames and fields have a PTS each; of pictures that are cut the last may be missing."""
+    def test_counts_frames_without_a_pts(self) -> None:
         frame, field = TICKS, TICKS // 2
         long = [frame * one for one in range(260)]
         for pts, is_cut, count in (
@@ -408,9 +384,6 @@ class Pictures(unittest.TestCase):
             self.assertEqual(left_out(pts, is_cut), count, (pts[:5], is_cut))
 
 
-# What qc says of pages that are not as they seem, in process: the next programme's page at the
-# last TCO, rows that come when the page is not open, two subtitles that are sent as one.
-
 BEGIN, EACH, LENGTH, COUNT = 900_000, 60, 40, 6  # frames, and subtitles of the first programme
 OWN = [(BEGIN + EACH * at, BEGIN + EACH * at + LENGTH) for at in range(COUNT)]
 LAST = OWN[-1][1]  # its last TCO
@@ -419,16 +392,13 @@ NEXT = "unknown: the page that comes at the last TCO is the next programme's"
 OTHER = packet(0, 0, [9, 8, 0, 8, 0, 8, 1, 0], b" " * 32)  # a header of page 889
 
 
-class Pages(OfProgramme):
-    """What is sent of the first programme, and of others behind it."""
-
+class LastPages(OfProgramme):
     due = OWN
 
     def planned(self, times: list[tuple[int, int]], first: int = 1) -> Sent:
         return sendings(self, programme(self, times, first=first, name="sent.stl"))
 
-    def test_what_comes_at_the_last_tco(self) -> None:
-        """The next programme's page, our own text that stays, and our own text once more."""
+    def test_names_the_page_at_the_last_tco(self) -> None:
         stays = [*OWN[:-1], (OWN[-1][0], LAST + 30)]
         again = self.planned([(LAST, LAST + 30)], 1)
         before = [one for one in self.sent if one[0] < LAST * TICKS]
@@ -448,8 +418,7 @@ class Pages(OfProgramme):
                           causes[0].startswith(f"subtitle {COUNT} at ") and words in causes[0],
                           found.said)
 
-    def test_rows_when_the_page_is_not_open(self) -> None:
-        """A header of another page in the magazine stands before the rows, of one and of all."""
+    def test_names_rows_of_a_closed_page(self) -> None:
         for count in (1, COUNT):
             begins = [begin * TICKS for begin, _ in OWN[:count]]
             sent = [(pts, [some[0], OTHER, *some[1:]] if len(some) > 2 and any(
@@ -459,8 +428,7 @@ class Pages(OfProgramme):
             self.must(f"{count}", len(causes) == count and all(line.endswith(
                 ": rows came while 888 was not open") for line in causes), causes)
 
-    def test_two_that_are_sent_as_one(self) -> None:
-        """A subtitle that is not erased before one that is the same: up to that, not beyond it."""
+    def test_names_a_subtitle_that_stays_until_the_next(self) -> None:
         programme(self, OWN, text=b"The same")
         sent = sendings(self, programme(self, [*OWN[:2], (OWN[2][0], OWN[3][1]), *OWN[4:]],
                                         text=b"The same", name="sent.stl"))
