@@ -252,7 +252,7 @@ class UnjudgedPairs(Case):
 
 class OutputsAndSignals(CallCase):
     def test_prints_only_the_requested_file_to_standard_output(self) -> None:
-        program = self.saying(ACCEPTED)
+        program = self.fake_program(ACCEPTED)
         os.mkdir(self.path("results"))
         self.judge(program, "--json", self.path("results/hello.json"))
         begins = {"--json": "{", "--csv": "stl,recording,", "--junit": "<?xml"}
@@ -287,7 +287,7 @@ class OutputsAndSignals(CallCase):
         for count in (1, 2) if os.path.exists("/dev/full") else ():
             os.symlink("/dev/full", self.path(f"full{count}"))
             several = [f"full{at}" for at in range(1, count + 1)]
-            done = self.judge(self.saying(ACCEPTED), "--json", "one.json", *(
+            done = self.judge(self.fake_program(ACCEPTED), "--json", "one.json", *(
                 word for words in zip(("--csv", "--junit"), several) for word in words))
             self.must(f"{count} of them", done.status == 2 and all(
                 name in self.object()["reason"] for name in several), done)
@@ -301,7 +301,7 @@ class OutputsAndSignals(CallCase):
                       " goes with -o" in done.told[0], done)
 
     def test_prints_profile_options_first_and_each_hint_once(self) -> None:
-        program, words = self.saying(ACCEPTED), ("-o", "out", "--json", "one.json")
+        program, words = self.fake_program(ACCEPTED), ("-o", "out", "--json", "one.json")
         self.write("house", b"--every 99\n")
         done = self.judge(program, *words, "--profile", "house")
         self.must("profile", done.printed[0].endswith("house: --every 99"), done)
@@ -361,6 +361,6 @@ class OutputsAndSignals(CallCase):
             seen.append((line, all(signal.getsignal(one) == signal.SIG_IGN for one in SIGNALS)))
 
         with mock.patch.object(Speech, "put", staticmethod(put)):
-            self.judge(self.saying(ACCEPTED))
+            self.judge(self.fake_program(ACCEPTED))
         self.must("the last line alone", seen[-1] == (ACCEPTED, True) and len(seen) > 2 and
                   not any(is_ignored for _, is_ignored in seen[:-1]), seen)

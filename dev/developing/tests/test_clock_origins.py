@@ -284,7 +284,7 @@ class Origins(Case):
 class Tracks(unittest.TestCase):
     edges = edges_of([Due(100 * at, 100 * at + 50, at, b"%d" % at) for at in range(1, 7)])
 
-    def base_of_delays(self, changes: dict[int, bytes], within: int = 0) -> Base:
+    def base(self, changes: dict[int, bytes], within: int = 0) -> Base:
         """A time base in which the page changes at some frames."""
         return Base(self.edges, [Change(TICKS * frame, letters, frame, ((20, letters),))
                                  for frame, letters in sorted(changes.items())],
@@ -296,7 +296,7 @@ class Tracks(unittest.TestCase):
         del sent[250], sent[300]
         for within, points, late, places in ((0, [3, 2, 1, 0, 0, 2], 0, [150, 200, 350]),
                                              (1, [3, 2, 0, 0, 3, 2], 1, [150, 301, 350])):
-            track = Track(0, 0, self.base_of_delays(sent, within))
+            track = Track(0, 0, self.base(sent, within))
             self.assertEqual(track.points, points + [3, 2] * 3, (within, points, late))
             self.assertEqual(track.rank(), (-sum(track.points), late, 0), (within, points, late))
             self.assertEqual(Stretch(track, 1, 6).agreeing(), places, (within, points, late))
@@ -314,7 +314,7 @@ class Tracks(unittest.TestCase):
             self.assertEqual((base.fits[0].start, base.fits[0].agree), (-51, 2), within)
 
     def test_a_track_may_follow_only_an_earlier_one(self) -> None:
-        base = self.base_of_delays({})
+        base = self.base({})
         for one, before, frames, wanted in (
                 ((0, 0), (0, 0), 1, True), ((0, 0), (0, 0), 0, False), ((0, 5), (0, 0), 5, False),
                 ((0, 5), (0, 0), 6, True), ((0, 0), (0, 5), 1, True), ((1, 9), (0, 0), 1, True),
@@ -324,14 +324,14 @@ class Tracks(unittest.TestCase):
 
     def test_needs_five_cues_in_a_row_for_a_track(self) -> None:
         due = {edge.frame: edge.letters for edge in self.edges}
-        few = [self.base_of_delays(dict([*due.items()][:count])) for count in (4, 5, 12)]
+        few = [self.base(dict([*due.items()][:count])) for count in (4, 5, 12)]
         for bases, number in (([few[0]], None), ([few[1]], 0), ([few[0], few[2]], 1), (few, 2)):
             row = find_row(bases)
             self.assertEqual([stretch.track.base for stretch in row],
                              [] if number is None else [number], (bases, number))
         later = {frame + 40 * (frame > 350): letters for frame, letters in due.items()}
         for some in (later, {frame: text and b"other " + text for frame, text in later.items()}):
-            row = find_row([self.base_of_delays(some)])
+            row = find_row([self.base(some)])
             self.assertEqual([(stretch.track.start, stretch.first, stretch.end)
                               for stretch in row], [(0, 0, 6), (-40, 6, 12)], some)
 
@@ -339,7 +339,7 @@ class Tracks(unittest.TestCase):
         due = {edge.frame: edge.letters for edge in self.edges}
         half, rest = ({frame: due[frame] for frame in due if (frame < 400) == is_first}
                       for is_first in (True, False))
-        few = self.base_of_delays(due).limited(self.edges[:4], -1, 1000)
+        few = self.base(due).limited(self.edges[:4], -1, 1000)
 
         def moved(by: int) -> dict[int, bytes]:
             return {frame + by: letters for frame, letters in rest.items()}
@@ -347,12 +347,12 @@ class Tracks(unittest.TestCase):
         ends = {frame + 3 * (not letters): letters for frame, letters in due.items()}
         later = {frame + 2 - (frame == 400): letters for frame, letters in rest.items()}
         rows: list[tuple[list[Base], list[tuple[int, int, int, int]]]] = [
-            ([self.base_of_delays(due)], [(0, 0, 0, 12)]), ([few], []),
-            ([self.base_of_delays(ends)], [(0, 0, 0, 12)]),
-            ([self.base_of_delays({**half, **dict.fromkeys(rest, b"x"), **moved(300)})],
+            ([self.base(due)], [(0, 0, 0, 12)]), ([few], []),
+            ([self.base(ends)], [(0, 0, 0, 12)]),
+            ([self.base({**half, **dict.fromkeys(rest, b"x"), **moved(300)})],
              [(0, 0, 0, 6), (0, -300, 6, 12)]),
-            ([self.base_of_delays({**half, **later}, 1)], [(0, 0, 0, 7), (0, -2, 7, 12)]),
-            ([self.base_of_delays(half, 1), self.base_of_delays(rest, 1)],
+            ([self.base({**half, **later}, 1)], [(0, 0, 0, 7), (0, -2, 7, 12)]),
+            ([self.base(half, 1), self.base(rest, 1)],
              [(0, 0, 0, 6), (1, 0, 6, 12)])]
         for number, (bases, wanted) in enumerate(rows):
             self.assertEqual([(one.track.base, one.track.start, one.first, one.end)
@@ -362,7 +362,7 @@ class Tracks(unittest.TestCase):
         def row(*several: tuple[int, int, list[int]]) -> list[tuple[int, int]]:
             tracks = list[Track]()
             for number, start, points in several:
-                tracks.append(Track(number, start, self.base_of_delays({})))
+                tracks.append(Track(number, start, self.base({})))
                 tracks[-1].points = points
             found = best_row(self.edges, tracks)
             self.assertEqual([one.first for one in found], [0, *(one.end for one in found[:-1])])

@@ -276,7 +276,7 @@ class Parts(unittest.TestCase):
             found = self.parts(some, 4000, is_anew, extra)
             self.assertEqual([(*one[:2], one.best.agree, one.best.among, len(one.over))
                               for one in found], wanted, some)
-            self.assertEqual([(one.best.start, one.base_of_delays, one.early) for one in found],
+            self.assertEqual([(one.best.start, one.base, one.early) for one in found],
                              [(0, 0, None), (-4000, int(is_anew), None)], some)
             first, second = ([*one.sent.changes] for one in found)
             beside = sorted(frame for frame, _ in extra)

@@ -1,4 +1,4 @@
-"""Beside refused subtitles the others are judged, also where what comes before is large."""
+"""The other subtitles are judged although some of a file are refused; also in very long inputs."""
 from __future__ import annotations
 
 import csv
@@ -38,8 +38,8 @@ from .test_judging_reasons import KEEPING_HEADER
 from .test_judging_verdicts import verdict_of
 
 
-# Beside refused subtitles the others are judged, where the program does so: by one that stands in
-# for it. By the program of today a refused file is refused, and nothing else changes.
+# Correct subtitles are judged although others are refused. An outdated program only refuses the
+# file.
 
 BAD = b"\xe6: no letter"
 CURE = "it needs another region, or packets X/26, which are refused (70): write it otherwise"
@@ -48,7 +48,7 @@ PAGE = 0, 0x88
 
 
 def stl_of(blocks: Sequence[Shown], changes: dict[int, dict[int, int]] | None = None) -> bytes:
-    """A subtitle file, of whose blocks some bytes are changed, by the number of the block."""
+    """Return a subtitle file in which some bytes of some blocks are changed."""
     made = []
     for number, (begin, end, text) in enumerate(blocks, 1):
         one = bytearray(tti_block(number, begin, end, 22, 2, text))
@@ -58,9 +58,7 @@ def stl_of(blocks: Sequence[Shown], changes: dict[int, dict[int, int]] | None = 
     return gsi_block(b"Beside", len(blocks), len(blocks)) + b"".join(made)
 
 
-class Beside(Case):
-    """Ten subtitles, with a page transmission a second."""
-
+class RefusedSubtitles(Case):
     def setUp(self) -> None:
         super().setUp()
         self.blocks: list[Shown] = [(begin, end, b"Number %d" % number)
@@ -69,8 +67,8 @@ class Beside(Case):
         self.sent = sendings(self, self.stl)
         self.pes = self.write("one.pes", joined(self.sent))
 
-    def file(self, *bad: int) -> str:
-        """It with a letter that level 1 lacks in some subtitles."""
+    def write_stl(self, *bad: int) -> str:
+        """Write the subtitle file, with an unsupported character in some subtitles."""
         return self.write("bad.stl", stl_of([
             (begin, end, BAD if number in bad else text)
             for number, (begin, end, text) in enumerate(self.blocks, 1)]))
@@ -78,14 +76,13 @@ class Beside(Case):
     def judge(self, stl: str, *words: str) -> Judged:
         return judged(self, stl, *words, *WORDS)
 
-    def test_says_how_many_subtitles_were_judged_and_which_are_refused(self) -> None:
-        """How many were judged, how they stand, and which are refused, with letter and cure."""
+    def test_counts_judged_and_names_refused_subtitles(self) -> None:
         first = f"subtitle 3 at 00:00:12:00 is refused by 50 Character, \u0132: \u0132 is in no " \
             f"option: at level 1 {CURE}"
         slow = self.write("slow.pes", joined(late(5, 3600 * 600, 3600 * 650)(self.sent)))
         for pes, end in ((self.pes, "all have the right text from the first frame to the last"),
                          (slow, 'at 00:00:24:00 subtitle 6, "Number 6", is 5 frames late')):
-            found = self.judge(self.file(3), pes)
+            found = self.judge(self.write_stl(3), pes)
             self.must(pes, found.word == "refused" and found.verdict.sentence ==
                       f"Refused: {first}; 9 other subtitles were judged: {end}.",
                       found.verdict.sentence)
@@ -98,15 +95,14 @@ class Beside(Case):
         for bad, words, more in (((3, 5), "2 of 10 subtitles are refused, subtitle 3 at ", ""),
                                  (range(2, 6), "4 of 10 subtitles are refused, ", " and 1 more; 6"),
                                  (range(2, 9), "7 of 10 subtitles are ", " and 4 more; 3 other")):
-            said = self.judge(self.file(*bad), self.pes).verdict.sentence
+            said = self.judge(self.write_stl(*bad), self.pes).verdict.sentence
             self.must(f"{bad}", words in said and more in said and (" more; " in said) ==
                       bool(more), said)
 
     def test_writes_both_counts_into_all_results(self) -> None:
-        """Both counts stand in the result, the tables, and what collects them."""
         files = {"--json": self.path("x.json"), "--csv": self.path("x.csv"),
                  "--junit": self.path("x.xml")}
-        found = self.judge(self.file(3, 7), self.pes, *(
+        found = self.judge(self.write_stl(3, 7), self.pes, *(
             word for option in files.items() for word in option))
         known = json.loads(self.read("x.json"))
         self.must("result", known["subtitle_counts"] == {"judged": 8, "refused": 2} ==
@@ -127,13 +123,11 @@ class Beside(Case):
                   words in pair_row(self.folder, row).source)
         for more, counts in (((self.stl, self.pes, *WORDS), {"judged": 10, "refused": 0}),
                              ((self.stl,), {"judged": 10, "refused": 0}),
-                             ((self.file(3),), None)):
+                             ((self.write_stl(3),), None)):
             result = judged(self, *more).result
             self.must(f"{more}", result["subtitle_counts"] == counts, result)
 
     def test_waives_faults_of_the_subtitle_file_and_78_by_number(self) -> None:
-        """The subtitle file's faults and 78 are waived by their numbers; a fault of the
-        transmission is not."""
         slow = self.write("slow.pes", joined(late(5, 3600 * 600, 3600 * 650)(self.sent)))
         for text, pes, word in ((b"50 warning\n78 warning\n", self.pes, "waived"),
                                 (b"50 warning\n", self.pes, "refused"),
@@ -141,7 +135,7 @@ class Beside(Case):
                                 (b"50 warning\n78 warning\n", slow, "refused"),
                                 (b"50 warning\n78 warning\n72 warning\n", slow, "waived"),
                                 (b"others warning\n", self.pes, "waived")):
-            found = self.judge(self.file(3), pes, "--severity", self.write("severity", text))
+            found = self.judge(self.write_stl(3), pes, "--severity", self.write("severity", text))
             self.must(f"{text!r} {pes}", found.word == word, found.said)
             self.must(f"{text!r} {pes}: each", {
                 (one["number"], one["severity"]) for one in found.result["faults"]} >= {
@@ -151,45 +145,41 @@ class Beside(Case):
                 "the last."), found.verdict.sentence)
         unread = self.write("unread.pes", b"".join(
             broken(one, 33) for one in packets(self.read("one.pes"))))
-        found = self.judge(self.file(3), unread, "--severity",
+        found = self.judge(self.write_stl(3), unread, "--severity",
                            self.write("severity", b"others warning\n"))
         self.must("nothing was read", found.word == "not judged" and
                   found.verdict.why_not == UNREAD, found.said)
 
-    def test_ignores_refused_subtitles_outside_of_a_range(self) -> None:
-        """What is refused outside of a range is not told; where nothing is left, that is."""
+    def test_ignores_refused_subtitles_outside_the_range(self) -> None:
         for words, word, counts in (
                 (("--from", "00:00:20:00"), "accepted", (6, 0)),
                 (("--to", "00:00:12:00"), "accepted", (2, 0)),
                 (("--to", "00:00:24:00"), "refused", (4, 1)),
                 (("--from", "00:00:20:00", "--to", "00:00:10:00"), "not judged", None)):
-            found = self.judge(self.file(3), self.pes, *words)
+            found = self.judge(self.write_stl(3), self.pes, *words)
             self.must(f"{words}", found.word == word and found.verdict.counts == (
                 counts and Counts(*counts)), found.said)
         self.must("none is left", "no subtitle of " in found.told[0] and " is left: " in
                   found.told[0], found.told)
 
-    def test_judges_each_part_beside_its_refused_subtitles(self) -> None:
-        """After a break, with a refused subtitle in the second part alone, and in both; and with a
-        header in each part that keeps the page."""
+    def test_judges_each_part_with_refused_subtitles(self) -> None:
         two = [(pts + 3600 * 500 * (pts >= 3600 * 480), some) for pts, some in self.sent]
         kept = [(pts, [KEEPING_HEADER, *some[1:]] if at in (2, 40) else some)
                 for at, (pts, some) in enumerate(two)]
         for bad, sent, said in (((7,), two, "all have the right text"),
                                 ((2, 7), two, "all have the right text"),
                                 ((2, 7), kept, " headers; in all 2 faults.")):
-            found = judged(self, self.file(*bad), self.write("two.pes", joined(sent)), "--breaks",
+            found = judged(self, self.write_stl(*bad), self.write("two.pes", joined(sent)),
+                           "--breaks",
                            "1", "--every", "100")
             self.must(f"{bad} {said}", found.word == "refused" and said in found.verdict.sentence
                       and len(found.result["parts"]) == 2 and
                       found.verdict.counts == Counts(10 - len(bad), len(bad)), found.said)
 
     def test_lists_refused_and_late_subtitles_in_the_report(self) -> None:
-        """The report lists all subtitles: those that are refused, and those that are late. Each
-        link leads somewhere, and each place has a name of its own."""
         slow = self.write("slow.pes", joined(late(5, 3600 * 600, 3600 * 650)(self.sent)))
         for number, (bad, pes) in enumerate((((3,), self.pes), ((3, 4, 9), slow))):
-            out, stl = self.path(f"out{number}"), self.file(*bad)
+            out, stl = self.path(f"out{number}"), self.write_stl(*bad)
             self.judge(stl, pes, "-o", out)
             for name in (f"{out}/one.html",):
                 page = self.read(name).decode()
@@ -209,12 +199,10 @@ class Beside(Case):
                 self.must(f"{bad} {name}: said", "other subtitles were judged: " in page)
 
     def test_draws_the_judged_subtitles_by_a_layout(self) -> None:
-        """A layout draws what is due of the subtitles that are judged, with the letters of the
-        national option."""
         self.blocks = [(begin, end, b"N\xc8umber %d" % number)
                        for number, (begin, end) in enumerate(times(14), 1)]
         words = "--layout", "row=-2", "--option", "german"
-        self.schedule(self.file(), "house.pes", "--every", "25", *words)
+        self.schedule(self.write_stl(), "house.pes", "--every", "25", *words)
         others = "13 other subtitles were judged: "
         for bad, by, said in (
                 ((), 0, ""), ((3,), 0, f"{others}all have the right text from the first"),
@@ -223,40 +211,37 @@ class Beside(Case):
                 return pts + 3600 * by * (pts == 3600 * 600)
 
             path = self.write("one.pes", moved(self.read("house.pes"), with_late))
-            found = self.judge(self.file(*bad), path, *words)
+            found = self.judge(self.write_stl(*bad), path, *words)
             self.must(f"{bad} {by}", found.word == ("refused" if bad else "accepted") and
                       said in found.verdict.sentence and
                       " --layout " in found.lines("+ ")[-1], found.said)
 
-    def test_not_judged(self) -> None:
-        """Where the others can't be judged the subtitle file is refused, and a note says why."""
+    def test_notes_why_the_others_cannot_be_judged(self) -> None:
         empty = self.write("empty.pes", b"")
-        found = judged(self, self.file(3), empty, *WORDS)
+        found = judged(self, self.write_stl(3), empty, *WORDS)
         self.must("refused", found.word == "refused" and found.listed == [
             "refused 50 Character block 3 at 0", "1 faults"] and
             found.result["subtitle_counts"] is None and
             f"the other subtitles were not judged: {empty} is empty" in found.verdict.notes and
             " (block 3), a letter " in found.verdict.sentence, found.said)
         odd, mild = bytearray(self.read("good.stl")), self.write("severity", b"others warning\n")
-        odd[11:12] = b"7"  # DSC: nothing of the file is judged then, nor beside it
+        odd[11:12] = b"7"  # with this DSC no subtitle of the file is judged
         rows: list[tuple[str, list[str], str]] = [
-            (self.file(3), [empty], "not judged"), (self.file(3), [], "waived"),
+            (self.write_stl(3), [empty], "not judged"), (self.write_stl(3), [], "waived"),
             (self.write("odd.stl", bytes(odd)), [self.pes], "not judged"),
             (self.path("odd.stl"), [], "waived")]
         for stl, more, word in rows:
             found = judged(self, stl, *more, *WORDS, "--severity", mild)
             self.must(f"named warnings {stl} {more}", found.word == word and
                       found.verdict.why_not == (None if word == "waived" else UNREAD), found.said)
-        for stl, when in ((self.file(3), "check*--pes*--all*"), (self.stl, "show*")):
+        for stl, when in ((self.write_stl(3), "check*--pes*--all*"), (self.stl, "show*")):
             found = judged(self, stl, self.pes, *WORDS, by=self.program_but(when, "exit 9"))
             self.must(f"{when}: not answered", found.word == "not judged", found.said)
         with mock.patch("subtitles.judging.pair.parts_of", side_effect=ValueError):
-            found = judged(self, self.file(3), self.pes, *WORDS)
+            found = judged(self, self.write_stl(3), self.pes, *WORDS)
         self.must("a mistake", found.word == "not judged", found.said)
 
-    def test_judges_beside_many_refused_subtitles(self) -> None:
-        """Of 800 subtitles 42 are refused: the letters of the file are looked through once, and 40
-        have a line."""
+    def test_lists_forty_of_many_refused_subtitles(self) -> None:
         bad = range(19, 800, 19)
         file = SubtitleFile(self.write("many.stl", stl_of([
             (200 * at, 200 * at + 100, BAD if at in bad else b"Number %d" % at)
@@ -277,10 +262,8 @@ class Beside(Case):
         self.must("lines", [*found.lines()][40:] == ["undecided: 2 more subtitles"])
 
 
-class Judgeable(unittest.TestCase):
-    """Which subtitles are judged, and what is due of them, by the definitions."""
-
-    def test_what_is_asked(self) -> None:
+class ExpectedPages(unittest.TestCase):
+    def test_judges_others_only_after_faults_of_subtitles(self) -> None:
         rows: list[tuple[set[int], bool]] = [
             ({60}, False), ({50}, False), ({50, 60}, True), (set(), False), ({10, 60}, True),
             ({72, 60}, False), ({57, 78, 60}, True)]
@@ -288,9 +271,7 @@ class Judgeable(unittest.TestCase):
             self.assertEqual(is_judged_beside(numbers), wanted, numbers)
 
 
-    def test_pages_between(self) -> None:
-        """Between two subtitles nothing is due, where a frame is between them. Each header has the
-        national option."""
+    def test_expects_a_blank_page_between_subtitles(self) -> None:
         for gap, option in itertools.product(range(4), ("english", "german")):
             some = [Subtitle(at, at, begin, begin + 50, 20, 2, b"Number %d" % at)
                     for at, begin in ((1, 100), (2, 150 + gap))]
@@ -301,9 +282,7 @@ class Judgeable(unittest.TestCase):
             self.assertEqual({national_option(held.state_at(frame).header or b"") for frame in
                               frames[1:]}, {BY_WORD[option].bits}, (gap, option))
 
-    def test_words_of_many(self) -> None:
-        """Each of the first forty has a line, and how many more there are is one; the sentence has
-        the first three, and how many more."""
+    def test_names_the_first_refused_subtitles_and_counts_the_others(self) -> None:
         for count in (0, 1, 2, 3, 4, 5, 39, 40, 41, 42):
             refused = [RefusedSubtitle(NamedSubtitle(at, at, "00:00:01:00", "00:00:02:00"),
                                        fault_of(f"refused 19 Row block {at}"), f"letter {at}", "")
@@ -322,11 +301,10 @@ class Judgeable(unittest.TestCase):
                              count)
 
 
-class AtRandom(Case):
-    """Files at random in which something is refused, held against the second implementation."""
-
+class RandomFiles(Case):
     def random_file(self, chance: random.Random) -> bytes:
-        """A few subtitles; times that overlap, fall, are empty or none; letters and bytes."""
+        """Return a few subtitles with overlapping, falling, empty or invalid times, and random
+        characters."""
         blocks: list[Shown] = []
         frame = chance.randrange(1, 1000)
         for number in range(chance.randrange(1, 9)):
@@ -340,8 +318,7 @@ class AtRandom(Case):
                    for number in range(1, len(blocks) + 1) if chance.random() < 0.25}
         return stl_of(blocks, changes)
 
-    def test_at_random(self) -> None:
-        """The subtitles and their pages, with all frames and with some."""
+    def test_agrees_with_the_second_implementation(self) -> None:
         chance, beside = random.Random(5), 0
         for _ in range(400):
             data, between = self.random_file(chance), ALL_DAY
@@ -379,18 +356,15 @@ class AtRandom(Case):
         self.must("some", beside > 60, beside)
 
 
-# Inputs are read to their end: what no proof says of a long one is tried.
+# Inputs are read completely: a test of what no proof covers for long inputs.
 
 NULL_PID, PID = 0x1FFF, 0x101
 NULL = head(NULL_PID, 0, PAYLOAD).ljust(PACKET, b"\xff")
-AT_ONCE, TIMES = 1000, 1001  # null packets: over a million, 188 MB
+AT_ONCE, TIMES = 1000, 1001  # null packets: over a million in all, 188 MB
 
 
-class WholeInputs(Case):
-    """Long recordings and long subtitle files."""
-
-    def test_surveys_what_is_behind_a_million_packets(self) -> None:
-        """A PES packet behind 188 MB of null packets, which come through a pipe, is listed."""
+class LongInputs(Case):
+    def test_surveys_a_pes_packet_after_a_million_packets(self) -> None:
         first = packets(example_bytes("hello.pes"))[0]
         parts = [first[at:at + 184] for at in range(0, len(first), 184)]
         sent = b"".join(head(PID, 0 if number else BEGINS, PAYLOAD | number) + part
@@ -408,8 +382,7 @@ class WholeInputs(Case):
         told = [line for line in lines if line.startswith(f"pes {PID} 0 1 ")]
         self.must("its PES packet", len(told) == 1, lines)
 
-    def test_judges_beside_a_refused_subtitle_behind_twelve(self) -> None:
-        """Twelve good subtitles, one that is refused, and a good one: 13 are judged."""
+    def test_judges_around_a_refused_subtitle_after_twelve(self) -> None:
         blocks = [(begin, end, b"Number %d" % number)
                   for number, (begin, end) in enumerate(times(14), 1)]
         self.schedule(self.write("good.stl", stl_of(blocks)), "sent.pes")

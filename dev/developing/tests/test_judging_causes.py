@@ -1,4 +1,4 @@
-"""Why subtitles are refused: causes, by tables and at random."""
+"""The causes of refused subtitles, by tables and for random pages."""
 from __future__ import annotations
 
 import os
@@ -25,22 +25,19 @@ from .streams import Shape, multiplexed, of_teletext
 from .transmissions import CLOSING, HEADER, PAGE, Sent, row
 
 
-# Causes of what nobody is to blame for but who sent it: a text of others in a pause, a header
-# without rows.
+# Faults of the sender: another text in a pause, a header without rows.
 
 BEGIN = 900_000
 TIMES = [(BEGIN + 100 * at, BEGIN + 100 * at + 50) for at in range(6)]
 
 
 def with_page(sent: Sent, frame: int, *rows: bytes) -> Sent:
-    """A page at a frame, beside what is sent."""
+    """Replace what is sent at a frame by a page."""
     pts = frame * TICKS
     return sorted([*(one for one in sent if one[0] != pts), (pts, [HEADER, *rows, CLOSING])])
 
 
-class Told(OfProgramme):
-    """What is told of pages that somebody else sent, or erased."""
-
+class SenderFaults(OfProgramme):
     due = TIMES
 
     def with_pages(self, *pages: tuple[int, tuple[bytes, ...]]) -> Judged:
@@ -53,8 +50,7 @@ class Told(OfProgramme):
         return [(one["name"], one["subtitle"]["number"], one["line"])
                 for one in told.result["causes"]]
 
-    def test_in_a_pause(self) -> None:
-        """It is told as that, the first, one between and the last, and no subtitle is blamed."""
+    def test_names_another_text_in_a_pause(self) -> None:
         wrong = (row(22, b"Others"),)
         for number, frame, time in ((1, 60, "10:00:02:10"), (3, 270, "10:00:10:20")):
             told = self.with_pages((frame, wrong))
@@ -70,14 +66,12 @@ class Told(OfProgramme):
         self.must("a wrong text", told.result["cause_counts"]["another text in a pause"] == 1 and
                   told.result["cause_counts"]["wrong text"] == 1, told.said)
 
-    def test_of_ours(self) -> None:
-        """A text of the file that comes in a pause is no text of others."""
+    def test_a_text_of_the_file_is_no_other_text(self) -> None:
         told = self.with_pages((60, (row(22, b"Number 1"),)))
         self.must("ours", "another text in a pause" not in [one[0] for one in self.causes(told)],
                   told.said)
 
-    def test_names_another_row_beside_the_expected_ones(self) -> None:
-        """A row of another page stands beside what is due, of one subtitle or of two."""
+    def test_names_an_extra_row(self) -> None:
         own = next(some[1] for pts, some in self.sent if pts == TICKS * (BEGIN + 100))
         for rows, words in (((own, row(11, b"Share prices")), "another row beside it: row 11"),
                             ((row(3, b"A"), row(11, b"B"), own), "other rows beside it: rows 3 and "
@@ -91,7 +85,6 @@ class Told(OfProgramme):
                       told.verdict.sentence)
 
     def test_names_a_header_without_rows(self) -> None:
-        """By a header without rows, at its time; where rows come later it is gone."""
         for frame, time in ((10, "10:00:00:10"), (330, "10:00:13:05")):
             told = self.with_pages((frame, ()))
             self.must(f"{frame}", self.causes(told) == [(
@@ -106,8 +99,7 @@ class Told(OfProgramme):
         self.must("rows later", [one[0] for one in self.causes(told)] == ["unknown"] and
                   "it is gone at 10:00:01:00" in self.causes(told)[0][2], told.said)
 
-    def test_not_received(self) -> None:
-        """Whose page transmissions are lost, all of them; one of two that is lost is none."""
+    def test_names_a_subtitle_whose_transmissions_are_lost(self) -> None:
         made = multiplexed(self.pes, Shape(100))
         for frames, wanted in (((200, 225), [("not received", 3)]), ((225,), [])):
             gone = {of_teletext(made, (BEGIN + frame) * TICKS)[0] for frame in frames}
@@ -115,26 +107,28 @@ class Told(OfProgramme):
             names = [(one["name"], one["subtitle"]["number"]) for one in told.result["causes"]]
             self.must(f"{frames}", told.word == "refused" and names == wanted, told.said)
 
-    def test_finds_each_cause_in_the_manual(self) -> None:
-        """Each cause begins an item there."""
+    def test_the_manual_lists_each_cause(self) -> None:
         rows = read(os.path.join(TOP, "docs", "manual", "refusals.md")) or ""
         begins = [line.partition(": ")[0] for line in rows.splitlines() if line.startswith("- `")]
         for name in NAMES:
             self.must(name, any(f"`{name}" in one for one in begins))
 
 
-# Causes of what is held at random: each row of `dev/vectors/causes.tsv` has subtitles, what a
-# receiver holds when, and what was said of it when somebody last looked at it.
+# Random causes: each row of dev/vectors/causes.tsv has subtitles, the decoded pages, and the causes
+# when the row was last reviewed.
 
 VECTORS = os.path.join(DEV, "vectors", "causes.tsv")
 COUNT = 500  # rows
 BY = (-260, -30, -3, -1, 1, 1, 2, 3, 5, 8, 30, 240, 260)  # frames by which something is moved
-END = 1600  # frames that are looked at
+END = 1600  # frames that are examined
 
 
 def page_of(name: str) -> Rows:
-    """A page by its name: two lines of a subtitle; with a comma one of them is another one, moved,
-    or of another colour, or is missing; nothing for `-`."""
+    """Return a page by its name:
+
+    two lines of a subtitle; `-` is blank. After a comma, one line is replaced, moved, coloured or
+    deleted.
+    """
     page = list(BLANK_PAGE)
     if name[0] == "-":
         return BLANK_PAGE
@@ -147,24 +141,27 @@ def page_of(name: str) -> Rows:
 
 
 def empty(within: int = 0) -> Timeline:
-    """A timeline of which nothing was heard."""
+    """Return a timeline in which nothing was received."""
     return Timeline(Packets(0), PAGE, 0, within)
 
 
 def steady(held: Timeline) -> None:
-    """Makes it one of 500 PES packets, so that a pause is one."""
+    """Give a timeline 500 PES packets, so that a pause counts."""
     held.count = 500
 
 
-def told(spans: list[tuple[int, int]], *edges: tuple[int, int]) -> Any:
-    """What `check` told: frames at which the content is refused, and others by number and frame."""
+def fake_answer(spans: list[tuple[int, int]], *edges: tuple[int, int]) -> Any:
+    """Return what `check` reported:
+
+    frames with refused content, and other faults by number and frame.
+    """
     firsts = {number: fault_of_line(f"refused {number} Edge frame {time_of(frame)}")
               for number, frame in edges}
     return SimpleNamespace(firsts=firsts, marks={72: Spans(spans)})
 
 
-class Made:
-    """A programme and what is held, by a number."""
+class RandomRow:
+    """A programme and the decoded pages of a seed."""
 
     def __init__(self, number: int) -> None:
         self.chance = chance = random.Random(number)
@@ -184,12 +181,12 @@ class Made:
             due = self.wrong(due, texts)
         self.sent = sorted((max(frame, 0), text) for frame, text in due.items())
         self.within = chance.choice((0, 0, 1, 3))
-        self.held = self.hold()
+        self.held = self.decode()
         self.subtitles = ";".join(f"{begin}-{end} {text}"
                                   for (begin, end), text in zip(times, texts))
 
     def wrong(self, due: dict[int, str], texts: list[str]) -> dict[int, str]:
-        """What is sent, with something more that is wrong."""
+        """Return the transmission with one more fault."""
         chance = self.chance
         frame = chance.choice(list(due)[1:] or list(due))
         text, kind = due[frame], chance.randrange(9)
@@ -208,9 +205,8 @@ class Made:
             return {at + chance.choice(BY) * (at >= frame): one for at, one in due.items()}
         return {**due, frame + chance.choice((1, 3, 10, 40)): chance.choice([*texts, "z", "-"])}
 
-    def hold(self) -> Timeline:
-        """What a receiver holds then; in some rows not all can be read, or nothing comes for a
-        while."""
+    def decode(self) -> Timeline:
+        """Return the decoded pages; in some rows with unreadable frames or pauses."""
         chance, held = self.chance, empty(self.within)
         held.first = chance.choice((0, 0, self.programme.begins[0] - 20))
         for frame, text in self.sent:
@@ -231,7 +227,7 @@ class Made:
         return held
 
     def row(self) -> str:
-        """The row: what is due, what is held, and what is said of it."""
+        """Return the row: expected pages, decoded pages, and causes."""
         held, chance, begin = self.held, self.chance, self.programme.begins[0]
         lost = [Span(one, one + 30) for one in (begin - 10, begin + 200)
                 if chance.randrange(5) == 0]
@@ -246,7 +242,7 @@ class Made:
             if self.chance.randrange(3) == 0 else []
         begins = [frame for frame in wrong if frame - 1 not in wrong]
         ends = [frame for frame in wrong if frame + 1 not in wrong]
-        causes.name(told([*zip(begins, ends)], *edges))
+        causes.name(fake_answer([*zip(begins, ends)], *edges))
         pages = {page: text for text in [*(text for _, text in self.sent), "-"]
                  if (page := page_of(text))}
         said = [f"{one.place} {one.name} {one.frames} {one.other} "
@@ -262,23 +258,21 @@ class Made:
                           "; ".join(said), f"{delays[0]} {delays[1]}"])
 
 
-class Table(unittest.TestCase):
-    """Rows of the table."""
-
+class StoredRows(unittest.TestCase):
     def test_finds_the_causes_of_each_row(self) -> None:
         with open(VECTORS, encoding="utf-8") as file:
             rows = file.read().splitlines()
         self.assertEqual(len(rows), COUNT)
         for number, row in enumerate(rows):
-            self.assertEqual(Made(number).row(), row, number)
+            self.assertEqual(RandomRow(number).row(), row, number)
 
 
-# Subtitles, what is held from when on, and the causes by hand: each the place of its subtitle, its
-# name, the frames, the place of another one, and the page that is sent.
+# Subtitles, decoded pages by first frame, and the expected causes: subtitle's place, name, frames,
+# place of another subtitle, page sent.
 BY_HAND: list[tuple[str, str, list[tuple[int, str, int | None, int | None, str | None]]]] = [
     ("100-150 a", "0:- 100:a 150:-", []), ("100-150 a", "0:- 103:a 150:-", [
         (0, "late", 3, None, "a")]),
-    # All are moved by as many frames, also to where another one is due; or one alone is.
+    # All or one are moved, also into the time of another.
     ("100-200 a;200-300 b", "0:- 200:a 300:b 400:-", [(0, "late", 100, None, "a"),
                                                      (1, "late", 100, None, "b")]),
     ("200-300 a;300-400 b", "0:- 100:a 200:b 400:-", [(0, "early", 100, None, "a"),
@@ -287,19 +281,19 @@ BY_HAND: list[tuple[str, str, list[tuple[int, str, int | None, int | None, str |
         (0, "never sent", None, None, None), (1, "another subtitle's text", None, 0, "a")]),
     ("100-150 a;200-250 b;300-350 c", "0:- 100:a 150:- 200:c 250:- 300:c 350:-", [
         (1, "another subtitle's text", None, 2, "c")]),
-    # Looked for up to 250 frames before and after its TCI, where no other one is farther away.
+    # Searched up to 250 frames around the TCI, nearer only if another subtitle is there.
     ("100-150 a;300-340 b", "0:- 300:b 340:- 350:a 380:-", [(0, "late", 250, None, "a")]),
     ("100-150 a;300-340 b", "0:- 300:b 340:- 351:a 380:-", [
         (0, "never sent", None, None, None), (1, "unknown", None, None, "a")]),
-    # Two edits that meet: a text that no subtitle has comes early where two adjoin, or after a TCO
-    # that was moved. It is that of the next one, where it stays for longer.
+    # Two edits: a foreign text early between adjoining subtitles, or after a moved TCO. It belongs
+    # to the next subtitle if it stays longer in its time.
     ("100-203 a;203-260 b", "0:- 100:a 200:z 260:-", [(1, "wrong text", None, None, "z")]),
     ("100-190 a;203-260 b", "0:- 100:a 195:- 200:z 260:-", [
         (0, "not erased", None, None, "a"), (1, "wrong text", None, None, "z")]),
     ("100-203 a;203-260 b", "0:- 100:a 120:z 210:b 260:-", [
         (0, "wrong text", None, None, "z"), (1, "late", 7, None, "b")]),
     ("10-20 a;400-450 b", "0:- 10:a 20:- 150:b 160:-", [(1, "early", 250, None, "b")]),
-    # Of several pages the one that is held for longest; before its own one came; behind it.
+    # Of several pages the one that lasts longest; before and after the right one.
     ("100-150 a", "0:- 100:z 110:y 150:-", [(0, "wrong text", None, None, "y")]),
     ("100-150 a", "0:- 100:z 140:y 150:-", [(0, "wrong text", None, None, "z")]),
     ("100-150 a", "0:- 100:z 105:y 108:x 150:-", [(0, "wrong text", None, None, "x")]),
@@ -307,13 +301,13 @@ BY_HAND: list[tuple[str, str, list[tuple[int, str, int | None, int | None, str |
     ("100-150 a", "0:- 100:z 120:a 150:-", [(0, "wrong text", None, None, "z")]),
     ("100-150 a", "0:z 120:a 150:-", [(0, "late", 20, None, "a")]),
     ("100-150 a", "0:- 50:z 160:-", [(0, "wrong text", None, None, "z")]),
-    # Before anything is held.
+    # Before the first decoded page.
     ("10-50 a;100-150 b", "60:b 150:-", [
         (0, "never sent", None, None, None), (1, "early", 40, None, "b")]),
-    # One of no subtitle comes in a pause, and stays in the time of the next: there it is wrong too.
+    # A foreign page in a pause that stays into the next subtitle is wrong there too.
     ("100-150 a;200-250 b", "0:- 100:a 150:- 180:z 220:b 250:-", [
         (0, "another text in a pause", None, None, "z"), (1, "wrong text", None, None, "z")]),
-    # Just at the TCO it is no text of ours that stays; at the last one it is the next programme's.
+    # At the TCO a foreign page is no text that stays; at the last TCO it is the next programme's.
     ("100-150 a;200-250 b", "0:- 100:a 150:z 170:- 200:b 250:-", [
         (0, "another text in a pause", None, None, "z")]),
     ("100-150 a;200-250 b", "0:- 100:a 150:- 200:b 250:z 270:-", [(1, "unknown", None, None, "z")]),
@@ -325,19 +319,19 @@ BY_HAND: list[tuple[str, str, list[tuple[int, str, int | None, int | None, str |
     ("100-150 a", "0:- 100:a 120:z 130:a 160:-", [(0, "wrong text", None, None, "z")]),
     ("50-60 c;100-150 a;300-350 b", "0:- 50:c 110:- 120:b 150:- 300:b 350:-", [
         (0, "not erased", None, None, "c"), (1, "another subtitle's text", None, 2, "b")]),
-    # No PES packet comes for some frames, of what else sends one in each: up to when the page is
-    # erased, or comes; or for longer, or less long, than that.
+    # No PES packet for some frames of a stream that sends one a frame: until the page changes, or
+    # longer, or shorter.
     ("100-150 a", "0:- 100:a 161:- !148-160", [(0, "unknown", None, None, "a")]),
     ("100-150 a", "0:- 100:a 165:- !148-160", [(0, "not erased", None, None, "a")]),
     ("100-150 a", "0:- 111:a 150:- !95-110", [(0, "unknown", None, None, None)]),
     ("100-150 a", "0:- 112:a 150:- !95-110", [(0, "late", 12, None, "a")]),
     ("100-150 a", "0:- 160:- !95-149", [(0, "unknown", None, None, None)]),
     ("100-150 a", "0:- 160:- !95-148", [(0, "never sent", None, None, None)]),
-    # Rows of it that come while the page is not open: before its time, in it, and behind it.
+    # Rows of the page while it is not open: before, within, and after its time.
     ("100-150 a", "0:- 160:- @99 @150", [(0, "never sent", None, None, None)]),
     ("100-150 a", "0:- 160:- @90 @120", [(0, "unknown", None, None, None)]),
     ("100-150 a", "0:- 160:- @149 @160", [(0, "unknown", None, None, None)]),
-    # What can't be read: behind a stretch of faulty frames, and in it.
+    # Unreadable frames: after a stretch of faulty frames, and within it.
     ("100-150 a", "0:- 100:a 110:z 130:a 150:- ?130-140", [(0, "wrong text", None, None, "z")]),
     ("100-150 a", "0:- 100:a 110:z 130:a 150:- ?129-140", [(0, "unknown", None, None, "z")]),
     ("100-150 a", "0:- 100:a 110:z 130:a 150:- ?100-109", [(0, "wrong text", None, None, "z")]),
@@ -349,15 +343,13 @@ BY_HAND: list[tuple[str, str, list[tuple[int, str, int | None, int | None, str |
     ("100-150 a", "0:- 100:a,r 150:-", [(0, "wrong text", None, None, "a,r")]),
     ("100-150 a", "0:- 100:a,m 150:-", [(0, "wrong place", None, None, "a,m")]),
     ("100-150 a", "0:- 100:a,a 150:-", [(0, "wrong colour or attribute", None, None, "a,a")]),
-    # Not erased: up to another text, up to the same one, and for ever.
+    # Not erased: up to another text, up to the same text, and forever.
     ("100-150 a;200-250 b", "0:- 100:a 200:b 250:-", [(0, "not erased", None, None, "a")]),
     ("100-150 a;160-250 a", "0:- 100:a 250:-", [(0, "not erased", None, None, "a")]),
     ("100-150 a", "0:- 100:a", [(0, "not erased", None, None, "a")])]
 
 
-class ByHand(unittest.TestCase):
-    """Rows that were worked by hand."""
-
+class WorkedRows(unittest.TestCase):
     def test_finds_the_causes_that_were_worked_by_hand(self) -> None:
         for subtitles, sent, wanted in BY_HAND:
             times = [[int(frame) for frame in one.split()[0].split("-")]
@@ -378,7 +370,7 @@ class ByHand(unittest.TestCase):
                            for one in sent.split() if one[0] == "@"]
             causes = Causes(programme, held)
             faulty = [frame for frame in range(500) if not causes.namer.is_due(frame)]
-            causes.name(told([(begin, next(last for last in range(begin, 501)
+            causes.name(fake_answer([(begin, next(last for last in range(begin, 501)
                                            if last + 1 not in faulty))
                               for begin in faulty if begin - 1 not in faulty]))
             for begin in faulty:
@@ -389,8 +381,7 @@ class ByHand(unittest.TestCase):
                                    None if one.sent is None else pages.get(one.sent, "due"))
                                   for one in causes.all()], wanted)
 
-    def test_knows_the_frames_of_a_recording(self) -> None:
-        """The frames of which a recording is: of its PES packets, or more by its PCR."""
+    def test_extends_the_recording_by_its_pcr(self) -> None:
         for reach, wanted in ((None, (10, 20)), ((5, 30), (5, 30)), ((12, 18), (10, 20)),
                               ((5, 18), (5, 20)), ((12, 30), (10, 30))):
             held = empty()
@@ -398,9 +389,7 @@ class ByHand(unittest.TestCase):
             causes = Causes(DuePages([], []), held, reach and Span(*reach))
             self.assertEqual(causes.reached(), wanted, reach)
 
-    def test_looks_beside_the_first_and_the_last_frame(self) -> None:
-        """What is held beside the first frame that is judged, and the last one, is looked at where
-        the recording has all that is due there, or it is known that nothing came early."""
+    def test_looks_around_the_first_and_last_frame(self) -> None:
         for held_from, first, last, wanted in (
                 (100, 100, 149, (0, None)), (101, 97, 149, (0, None)), (101, 98, 149, (None, None)),
                 (101, 98, 150, (None, 0)), (101, 98, 151, (None, 0)), (90, 103, 150, (0, 0))):
@@ -410,13 +399,11 @@ class ByHand(unittest.TestCase):
                 held.change(frame, page_of(name))
             held.first, held.last = 103, 140
             causes = Causes(programme, held, Span(first, last))
-            causes.name(told([], (63, 103), (74, 140)))
+            causes.name(fake_answer([], (63, 103), (74, 140)))
             found = tuple(one and one.place for one in (causes.of(63, 103), causes.of(74, 140)))
             self.assertEqual(found, wanted, (held_from, first, last))
 
-    def test_writes_a_cause_as_values_and_as_words(self) -> None:
-        """A cause for machines, and in words: of which subtitle, by how much, what is sent, and of
-        which other one the text is."""
+    def test_describes_a_cause_as_values_and_as_text(self) -> None:
         pages = [page_of(name) for name in "abc"]
         programme = DuePages([Subtitle(at, at + 5, 100 * at, 100 * at + 50, 20, 2, b"")
                               for at in (1, 2, 3)], pages)
@@ -442,7 +429,6 @@ class ByHand(unittest.TestCase):
                              f'"{due}": {said}', (name, frames, sent))
 
     def test_counts_causes_of_all_parts_by_name(self) -> None:
-        """Of several parts together, how many of each name, in the order of the names."""
         chance = random.Random(3)
         for count in (1, 1, 2, 2, 3, 3, 4):
             names = [chance.choices(NAMES[:4], k=chance.choice((0, 1, 2, 5))) for _ in range(count)]
@@ -458,4 +444,4 @@ class ByHand(unittest.TestCase):
 
 if __name__ == "__main__":
     for NUMBER in range(COUNT):
-        print(Made(NUMBER).row())
+        print(RandomRow(NUMBER).row())

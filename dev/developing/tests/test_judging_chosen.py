@@ -1,4 +1,4 @@
-"""What is chosen and said so, and what is measured of recordings that are right."""
+"""What qc chooses by itself, with its evidence, and what --measure proposes."""
 from __future__ import annotations
 
 import itertools
@@ -27,8 +27,7 @@ from .transmissions import (
 from .test_judging_reasons import KEEPING_HEADER
 
 
-# What `qc` chooses by itself stands in the JSON result, by the evidence that was printed; what was
-# typed does not.
+# Each choice of qc is in the JSON result with the printed evidence; given values are not.
 
 TS = example("story.stl"), example("recording.ts")
 PES = example("story.stl"), example("story.pes")
@@ -39,8 +38,7 @@ CUT = "pes", "2-6", 5, 7, 1, "cut: 5 of 7 PES packets, from 20:15:00:00 to 20:15
 PID = "pid", "0x101", 7, 7, None, RECORDING_PID
 PACE = "pace", None, None, None, 1, "not checked: whether some of this PID alone is missing: " \
     "its PES packets are too few to measure a pace"
-# Words of a call, and what is chosen: the option, its value, how many agree among how many, of
-# which part, and the line.
+# Arguments of a call, and the choices: option, value, matches, total, part, line.
 ROWS: list[tuple[Sequence[str], list[tuple[Any, ...]]]] = [
     (TS, [PID, ORIGIN_OF_TS, CUT, PACE]),
     ((*TS, "--pid", "0x101"), [ORIGIN_OF_TS, CUT, PACE]),
@@ -58,45 +56,44 @@ LANGUAGES = {b"08": ("german", "the language of the file (LC) is 08"),
              None: ("english", "the file names no language (LC)")}
 
 
-def told(found: Judged) -> list[tuple[Any, ...]]:
-    """What a result says that was chosen, in the order of the options."""
+def choices_of(found: Judged) -> list[tuple[Any, ...]]:
+    """Return the choices in a result, in the order of the options."""
     keys = ("option", "value", "matches", "total", "part", "line")
     return sorted((tuple(choice[key] for key in keys) for choice in found.result["choices"]),
                   key=lambda values: CHOICES.index(values[0]))
 
 
-class Chosen(Case):
-    """Pairs of which something is chosen."""
-
-    def must_tell(self, name: str, found: Judged, wanted: list[tuple[Any, ...]]) -> None:
-        """Just that stands in the result, and each line was printed."""
+class Choices(Case):
+    def check_choices(self, name: str, found: Judged, wanted: list[tuple[Any, ...]]) -> None:
+        """Check the choices in the result, and that each was printed."""
         wrong = [*wrong_choices(found.result, found.said)]
-        self.must(name, told(found) == wanted and not wrong, (told(found), wrong, found.said))
+        self.must(name, choices_of(found) == wanted and not wrong,
+                  (choices_of(found), wrong, found.said))
 
-    def test_lists_what_was_chosen_with_its_evidence(self) -> None:
+    def test_lists_each_choice_with_its_evidence(self) -> None:
         for words, wanted in ROWS:
-            self.must_tell(f"{words}", judged(self, *words), wanted)
+            self.check_choices(f"{words}", judged(self, *words), wanted)
 
     def test_chooses_a_clock_and_a_range_for_each_part(self) -> None:
-        """Each part has a clock and a range of its own; of one that was given the others alone."""
         stl = programme(self, times(24))
         path = self.write("one.pes", joined(apart(sendings(self, stl), 130)))
         second = f"{ORIGIN + 130 * TICKS}"
         for words, clocks in (((), [(f"{ORIGIN}", 1), (second, 2)]),
                               (("--origin", f"{ORIGIN}"), [(second, 2)])):
             found = judged(self, stl, path, "--breaks", "1", "--every", "25", *words)
-            self.must("clocks", [(one[1], one[4]) for one in told(found) if one[0] == "origin"]
-                      == clocks and [one[4] for one in told(found) if one[0] == "pes"] == [1, 2]
+            self.must("clocks",
+                      [(one[1], one[4]) for one in choices_of(found) if one[0] == "origin"]
+                      == clocks
+                      and [one[4] for one in choices_of(found) if one[0] == "pes"] == [1, 2]
                       and not [*wrong_choices(found.result, found.said)], found.said)
 
-    def test_gives_the_evidence_of_a_pace_or_says_why_none(self) -> None:
-        """By at how many places a loss takes longer; where none is asked the note says why."""
+    def test_notes_the_evidence_of_a_pace_or_why_none(self) -> None:
         stl = programme(self, times(60))
         sent = sendings(self, stl)
         every = [(TICKS * frame, dict(sent).get(TICKS * frame, [])) for frame in range(100, 6100)]
         path = self.write("one.pes", joined(every))
         found = judged(self, stl, path, "--origin", "0")
-        pace = [one for one in told(found) if one[0] == "pace"]
+        pace = [one for one in choices_of(found) if one[0] == "pace"]
         self.must("asked", pace == [
             ("pace", "1", pace[0][3], pace[0][3], 1, "pace: a PES packet comes within 1 frame of "
              "the one before: --pace 1")] and pace[0][3] > 5_000, found.said)
@@ -105,14 +102,13 @@ class Chosen(Case):
         path = self.write("one.ts", stream(made))
         for words in ((), ("--pace", "none")):
             found = judged(self, stl, path, "--origin", f"{TICKS * 250}", *words)
-            pace = [one for one in told(found) if one[0] == "pace"]
+            pace = [one for one in choices_of(found) if one[0] == "pace"]
             self.must(f"{words}",
                       [one[1:5] for one in pace] == [(None, None, None, 1)] * (not words)
                       and all("not checked: " in one[5] for one in pace)
                       and not [*wrong_choices(found.result, found.said)], found.said)
 
-    def test_chooses_the_option_that_the_file_names(self) -> None:
-        """What the file names, with what a terminal would obey escaped."""
+    def test_chooses_the_option_of_the_language_code(self) -> None:
         with open(TS[0], "rb") as file:
             data = file.read()
         for language, (option, why) in LANGUAGES.items():
@@ -123,7 +119,6 @@ class Chosen(Case):
                       option_line(asked) == f"option: {option}, since {why}", option_line(asked))
 
     def test_chooses_the_option_of_each_pair_of_a_batch(self) -> None:
-        """What the file of a pair names is its own call's choice."""
         self.write("list", "\n".join([" ".join(PES), f"{' '.join(PES)} --option english"]).encode())
         done = self.call([tool_path("qc"), "--batch", "list", "-o", "out", "-p", self.bench.program,
                           "--option", "auto"])
@@ -136,8 +131,7 @@ class Chosen(Case):
         self.must("kept", done.status == 3 and results == [
             json.loads(self.read(f"out/{name}.json")) for name in ("story", "story~2")], done)
 
-    def test_finds_each_choice_in_the_manual(self) -> None:
-        """The manual says what is chosen, and which options are typed and never chosen."""
+    def test_the_manual_lists_each_choice(self) -> None:
         manual = read(os.path.join(TOP, "docs", "manual", "qc.md")) or ""
         rule = manual.partition('<a id="what-qc-chooses">')[2].partition("<a id=")[0]
         rule = " ".join(rule.split())
@@ -150,17 +144,13 @@ class Chosen(Case):
             self.must(f"--{option}", f"`--{option}`" in rule, rule)
 
 
-# The page that is asked for, and a PID that carries something else from a PES packet on.
+# The requested page, and a PID that later carries something else.
 
 WORDS = "--origin", "0", "--every", "100"
 
 
-class Pages(Case):
-    """Pages with the number 88 in each magazine, of which one has what is due."""
-
-    def test_each_magazine(self) -> None:
-        """What is asked for is judged: right where its page is, refused where another one is right,
-        and not judged where it is not sent."""
+class Magazines(Case):
+    def test_judges_only_the_requested_page(self) -> None:
         stl = programme(self, times(5))
         other = programme(self, times(5), text=b"Another %d", name="other.stl")
         for magazine in range(1, 9):
@@ -181,9 +171,7 @@ class Pages(Case):
             self.must(f"{page}: not sent", found.word == "not judged", found.said)
 
 
-class Pids(OfProgramme):
-    """What comes in the place of Teletext."""
-
+class ForeignPackets(OfProgramme):
     words = WORDS
 
     def setUp(self) -> None:
@@ -191,8 +179,8 @@ class Pids(OfProgramme):
         last, blank = self.sent[-1]
         self.pes += [pes_packet(last + 90_000 * at, blank) for at in range(1, 5)]
 
-    def stream(self, first: int, number: int) -> bytes:
-        """From a PES packet on of another kind, or of another length."""
+    def make_stream(self, first: int, number: int) -> bytes:
+        """Return a stream that from a PES packet on has another stream_id or a wrong length."""
         def carried(at: int) -> list[tuple[int, bytes]]:
             one = self.pes[at]
             if at >= first:
@@ -202,16 +190,14 @@ class Pids(OfProgramme):
 
         return in_turn(self.pes, [(0, OLD)], carried)
 
-    def test_something_else(self) -> None:
-        """What comes up to then is judged, and why it ends is told; after the programme it changes
-        nothing."""
+    def test_reports_where_the_teletext_ends(self) -> None:
         for number, word in ((31, "Start"), (32, "Length")):
             for first, line in ((1, "refused 74 Late frame 00:00:04:00"),
                                 (20, "refused 74 Late frame 00:00:19:10"),
                                 (48, "refused 74 Late frame 00:00:42:00"),
                                 (49, "accepted 961 frames 49 transmissions"),
                                 (52, "accepted 961 frames 49 transmissions")):
-                data, end = self.stream(first, number), min(first, 49) - 1
+                data, end = self.make_stream(first, number), min(first, 49) - 1
                 for recording, words in ((self.write("one.ts", data), ()),
                                          (self.path("one.ts"), ("--pid", "0x101")),
                                          (in_pipe(self, data), ())):
@@ -222,46 +208,43 @@ class Pids(OfProgramme):
                               found.parts("pes") == [(f"0-{end}",)] and not any(
                                   one["kind"] == "cut" for one in found.result["warnings"]),
                               found.said)
-        found = self.judge_stream(self.stream(0, 31))
+        found = self.judge_stream(self.make_stream(0, 31))
         self.must("nothing", found.word == "not judged" and
                   "no PES packets of private_stream_1" in found.told[0], found.told)
 
 
-# --measure: what a profile says of recordings that are right, and what none ever says.
+# --measure: proposals for correct recordings, and what is never proposed.
 
-FIRST, EACH, LASTS = 900_000, 100, 60  # frames: of the first TCI, from one to the next, of each
+FIRST, EACH, LASTS = 900_000, 100, 60  # frames: first TCI, from one to the next, length of each
 LINES = ("Good evening.", "Here", "is the news of today", "Thank you, Anne.", "Yes", "No no no")
 CLOCK_WORDS = ["--start", time_of(FIRST - 50)]
 
 
 def text_of(number: int, end: str = "") -> bytes:
-    """The text of a subtitle: two lines of other lengths."""
+    """Return the text of a subtitle: two lines of different lengths."""
     both = [f"{end}{number} {LINES[(number + at) % len(LINES)]}{end}" for at in (0, 1)]
     return "\x8a\x8a".join(both).encode("latin-1")
 
 
-class Measured(Case):
-    """Recordings of twelve subtitles."""
-
-    def file(self, name: str, end: str = "", justify: int = 2, count: int = 12) -> str:
-        """A subtitle file of so many; `end` stands at both ends of each line."""
+class Profiles(Case):
+    def write_stl(self, name: str, end: str = "", justify: int = 2, count: int = 12) -> str:
+        """Write a subtitle file; `end` is added at both ends of each line."""
         return subtitle_file(self, [(begin, begin + LASTS, text_of(number, end))
                                     for number in range(count)
                                     for begin in [FIRST + EACH * number]], name, 0, 20, justify)
 
     def profile(self, *words: str) -> list[str]:
-        """What is printed of a call, which a profile may have."""
+        """Return the output of `--measure`; check that it is a valid profile."""
         done = self.tool("qc", "--measure", *words)
         self.must(f"{words}", done.status == 0 and not done.told, done)
         profile_at(self.write("profile", done.out))
         return done.out.decode().splitlines()
 
     def proposed(self, *words: str) -> list[str]:
-        """The options that are proposed."""
+        """Return the proposed options."""
         return [line for line in self.profile(*words) if not line.startswith("#")]
 
     def test_proposes_the_longest_pace_if_all_are_regular(self) -> None:
-        """The longest of all recordings; none where one is not regular."""
         paces = [Pace(REGULAR, 1, 3), Pace(REGULAR, 2, 5), Pace(REGULAR, 1, 4)]
         rows: list[tuple[list[Pace], str]] = [
             (paces, "--pace 4"), (paces[:1], "--pace 2"), ([], ""),
@@ -270,7 +253,6 @@ class Measured(Case):
             self.must(f"{some}", pace_found(some).words == words, pace_found(some))
 
     def test_proposes_the_longest_distance_of_repeats(self) -> None:
-        """The longest distance of all recordings, and the most that are usual, in any order."""
         several = [Repeats(9, 30, 5, 25), Repeats(8, 50, 7, 26), Repeats(3, 40, 9, None)]
         for some in itertools.permutations(several):
             found = every_of(some)
@@ -278,10 +260,8 @@ class Measured(Case):
                 "--every 50", "every: of 20 headers of the page the next comes within 50 frames, "
                 "the first of these from 00:00:00:07 on, and 26 are usual"), found)
 
-    def test_round_trip(self) -> None:
-        """What is measured of a house accepts what the house sends: layout, repeats that keep, late
-        cues; read as it was printed."""
-        stl = self.file("one.stl")
+    def test_a_measured_profile_accepts_its_recording(self) -> None:
+        stl = self.write_stl("one.stl")
         sent = sendings(self, stl, "--layout", "fit,after=0A")
         moved = []
         for pts, some in sent:
@@ -298,9 +278,7 @@ class Measured(Case):
         self.must("accepted", again.word == "accepted", again.said)
 
     def test_measures_delays_of_begins_and_ends_by_a_given_clock(self) -> None:
-        """Begins and ends apart, where a clock is given; of the first begin nothing is known, since
-        nothing came before. The early ones are named, and accepted by nothing."""
-        stl = self.file("one.stl")
+        stl = self.write_stl("one.stl")
         sent = sendings(self, stl)
         rows: list[tuple[str, dict[int, int], dict[int, int], tuple[str, str, list[str]]]] = [
                 ("none", {}, {}, ("0:11", "0:12", [])),
@@ -332,9 +310,7 @@ class Measured(Case):
                   any("no clock is given" in line for line in lines), lines)
 
     def test_proposes_a_layout_that_ten_subtitles_show(self) -> None:
-        """How the house draws: what ten subtitles show; never flash, one start box, or all rows
-        moved far. What no layout says is named, with the nearest."""
-        stl = self.file("one.stl")
+        stl = self.write_stl("one.stl")
         for text, why in (
                 ("before=0B0B08", "all would flash"),
                 ("before=0B", "receivers show a line behind two start boxes"),
@@ -352,7 +328,7 @@ class Measured(Case):
                 ("block", "", 1, ("--layout", "left=9"),
                  "lines are a block, aligned left, in ")):
             pes = self.write("one.pes", joined(sendings(
-                self, self.file(f"{name}.stl", end, justify), *words)))
+                self, self.write_stl(f"{name}.stl", end, justify), *words)))
             lines = self.profile(stl, pes)
             self.must(name, not any(line.startswith("--layout") for line in lines) and
                       any(said in line for line in lines) and
@@ -360,9 +336,8 @@ class Measured(Case):
                       any(line.startswith(f"# against it: {stl}, subtitle 1 (SN 0) at 10:00:00:00: "
                                           "sent row ") for line in lines), lines)
 
-    def test_names_a_subtitle_that_was_drawn_otherwise(self) -> None:
-        """A subtitle that the house drew otherwise is named beside what is proposed."""
-        stl = self.file("one.stl")
+    def test_names_a_subtitle_with_another_layout(self) -> None:
+        stl = self.write_stl("one.stl")
         one, other = sendings(self, stl, "--layout", "after=0A"), sendings(self, stl)
         frame = (FIRST + 3 * EACH) * TICKS
         mixed = [second if frame <= first[0] < frame + LASTS * TICKS else first
@@ -375,8 +350,7 @@ class Measured(Case):
                   "of which 11 were sent so" in lines, lines)
 
     def test_proposes_keeping_if_nothing_else_is_wrong_in_headers(self) -> None:
-        """Headers that keep the page, where nothing else of them is wrong."""
-        stl = self.file("one.stl")
+        stl = self.write_stl("one.stl")
         sent = sendings(self, stl)
         for name, changed, is_proposed in (("erase", None, False), ("keep", KEEPING_HEADER, True)):
             pes = self.write("one.pes", joined([
@@ -389,10 +363,9 @@ class Measured(Case):
                       lines)
 
     def test_measures_all_pairs_together(self) -> None:
-        """All pairs together: what one of them alone shows is not taken from it alone."""
         paths = []
         for number, every in enumerate((25, 50)):
-            stl = self.file(f"{number}.stl", count=6)
+            stl = self.write_stl(f"{number}.stl", count=6)
             self.schedule(stl, f"{number}.pes", "--every", str(every), "--layout", "after=0A")
             paths += [stl, self.path(f"{number}.pes")]
         found = self.proposed(*paths)
@@ -400,9 +373,7 @@ class Measured(Case):
         alone = self.proposed(*paths[:2])
         self.must("one", "--every 25" in alone and "--layout after=0A" not in alone, alone)
 
-    def test_what_one_shows(self) -> None:
-        """Of two recordings, in either order: what is the same, the longest, the sum, or nothing
-        where one of them has another or none."""
+    def test_proposes_only_what_all_recordings_show(self) -> None:
         one = Shown("0x101", [], [Repeats(9, 25, 7, 25)], [Pace(REGULAR, 1, 3)], [Delays(
             Counter({0: 3}), Counter({0: 3}), [], [])], (9, 0), True, {"english"}, [])
         asked = asked_for("a.stl", "a.ts", "--origin", "0")
@@ -426,8 +397,8 @@ class Measured(Case):
                 found = [line for line in lines if not line.startswith("#")]
                 self.must(f"{changes}", {*found} == wanted and len(found) == len(wanted), lines)
 
-    def test_wrong_words(self) -> None:
-        stl = self.file("one.stl")
+    def test_refuses_wrong_arguments(self) -> None:
+        stl = self.write_stl("one.stl")
         pes = self.write("one.pes", joined(sendings(self, stl)))
         for words, said in (
                 ([stl], f"--measure takes pairs, STL RECORDING: {stl} has no recording"),
@@ -443,7 +414,7 @@ class Measured(Case):
         known = read_options(make_parser(""), ["--measure", stl, pes], {}, {})
         self.must("a call", measure(known, "tools/qc") == 0)
 
-    def test_never_proposes_what_no_site_does(self) -> None:
+    def test_never_proposes_an_implausible_layout(self) -> None:
         for text, words in (
                 ("before=0B0B08", "all would flash"),
                 ("row=3", "no house moves all by more than 2 rows"),

@@ -1,4 +1,4 @@
-"""Functions of qc that decide something, each with its table: no processes but the program's."""
+"""Tables for functions of qc that decide something."""
 from __future__ import annotations
 
 import contextlib
@@ -32,11 +32,8 @@ from .parts import asked_for, call_words, defaults, packets_told, timeline_of
 from .transmissions import CLOSING, HEADER, PAGE, row
 
 
-class Objects(Case):
-    """Numbers and words of objects and calls."""
-
+class Results(Case):
     def test_counts_faults_only_if_each_part_is_counted(self) -> None:
-        """Known where each part's number is: of none it is not."""
         of_numbers: list[tuple[list[int | None], int | None]] = [
             ([], None), ([3], 3), ([None], None), ([3, 4, 5], 12), ([None, 4, 5], None),
             ([3, None, 5], None), ([3, 4, None], None), ([0], 0)]
@@ -44,7 +41,6 @@ class Objects(Case):
             self.must(f"{numbers}", total(numbers) == wanted, total(numbers))
 
     def test_takes_the_hint_of_the_named_fault(self) -> None:
-        """Of the fault that the line names, by its whole number; also where it is waived."""
         hints = ["5: of none", "7: of none", "72: of the content", "72: once more", "6: of none"]
         for line, wanted in (
                 ("refused 72 Content frame 1", "of the content"), ("refused 70 Repeat", ""),
@@ -55,8 +51,7 @@ class Objects(Case):
             self.must(f"{line}", found == wanted, found)
         self.must("no hints", hint_in({"worst_fault": "refused 72 Content", "hints": []}) == "")
 
-    def test_words_of_a_call(self) -> None:
-        """A pair as words, read again, asks the same: with each option by itself, and with all."""
+    def test_a_request_survives_conversion_to_arguments(self) -> None:
         options = [["--page", "150"], ["--every", "50"], ["--option", "german"], ["--origin", "7"],
                    ["--origin", "0"],
                    ["--within", "3"], ["--breaks", "2"], ["--pes", "2-9"], ["--pid", "0x101"],
@@ -70,10 +65,7 @@ class Objects(Case):
 
 
 class Folders(Case):
-    """Files of a folder as pairs."""
-
-    def test_pairs_files_by_name_whatever_the_case(self) -> None:
-        """By name, whatever the case; where more than one is possible, of the very same name."""
+    def test_pairs_files_by_name_in_any_case(self) -> None:
         for files, wanted in (
                 (["a.stl", "a.ts"], ["a"]), (["a.STL", "A.pes"], ["a"]), (["a.stl"], ["a?"]),
                 (["a.ts"], ["a?"]), (["a.stl", "a.ts", "a.pes"], ["a?"]),
@@ -92,8 +84,7 @@ class Folders(Case):
             self.must(name, [one.lower() if wanted == ["a"] else one for one in found] == wanted,
                       found)
 
-    def test_what_is_no_file(self) -> None:
-        """A folder or a pipe as the subtitle file, and as the recording."""
+    def test_pairs_only_regular_files(self) -> None:
         for number, (first, second, is_pair) in enumerate([
                 ("file", "file", True), ("folder", "file", False), ("file", "folder", False),
                 ("pipe", "file", False), ("file", "pipe", False), ("file", "link", False),
@@ -116,13 +107,12 @@ class Folders(Case):
             self.must(f"{first} {second}", (item.asked is not None) == is_pair, item)
         wrong = defaults("--origin", "5")
         wrong.start = "tcp"
-        for options in (defaults(), wrong):  # inputs all the same
+        for options in (defaults(), wrong):  # inputs in both cases
             [item] = of_folder(self.path("0"), options)
             self.must("files", ((item.asked is None) == (options is wrong), {*item.files} - {None})
                       == (True, {self.path("0/a.stl"), self.path("0/a.ts")}), item)
 
-    def test_judges_a_pair_once_it_has_not_changed_for_a_while(self) -> None:
-        """A pair is judged when it has not changed for a while, and again when it has changed."""
+    def test_judges_a_pair_once_it_has_settled(self) -> None:
         os.mkdir(self.path("in"))
         watch = FolderWatch(self.path("in"), 10)
         for name in ("in/one.stl", "in/one.ts"):
@@ -146,13 +136,12 @@ class Folders(Case):
         self.must("somebody says so", due(lambda: 311) == ["two"])
         os.unlink(self.path("in/two.done"))
         self.write("in/two.ts", b"22")
-        times = iter([400.0, 409.0, 418.0, 419.0])  # a look that takes nine seconds, and two more
+        times = iter([400.0, 409.0, 418.0, 419.0])  # a look of nine seconds, and two more
         self.must("from when it was seen", [due(lambda: next(times)) for _ in range(3)] ==
                   [[], [], ["two"]])
         self.must("what was seen", isinstance(watch.seen["one"], Sighting))
 
-    def test_told_once(self) -> None:
-        """What is no pair is told once, and again after it was one."""
+    def test_reports_an_incomplete_pair_once(self) -> None:
         os.mkdir(self.path("in"))
         watch = FolderWatch(self.path("in"), 0)
 
@@ -171,15 +160,12 @@ class Folders(Case):
 
 
 def subtitle(index: int, begin: int) -> Subtitle:
-    """A subtitle of a frame."""
+    """Return a subtitle of one frame."""
     return Subtitle(index, index, begin, begin + 1, 20, 2, b"text")
 
 
-class Files(Case):
-    """What is announced of a subtitle file."""
-
-    def test_warns_unless_a_page_is_announced_as_subtitles_in_the_language(self) -> None:
-        """One of the pages has to be of subtitles, and one in the language of the file."""
+class SubtitleFiles(Case):
+    def test_warns_unless_subtitles_in_the_language_are_announced(self) -> None:
         stl = self.write("one.stl", gsi_block(b"", 0, 0, language=b"09"))
         asked = asked_for(stl, "one.ts")
         for kinds, languages, wanted in (
@@ -193,8 +179,7 @@ class Files(Case):
             found = [warned.kind for warned in page_notices(own, asked)]
             self.must(f"{kinds} {languages}", found == wanted, found)
 
-    def test_character_sets(self) -> None:
-        """Each packet that names another set than the option's, or one that can't be read."""
+    def test_warns_of_another_character_set(self) -> None:
         for region, option, more in itertools.product((None, 0, 1), (None, 0, 4), (0, 1)):
             sets = [(28, 0, region, option), *[(29, 4, 0, 1)] * more]
             packets, asked = Packets(0, sets=sets), asked_for("one.stl", "one.ts")
@@ -205,18 +190,14 @@ class Files(Case):
             self.assertEqual(len(found), len(told), found)
             self.assertTrue(all(map(str.__contains__, found, told)), found)
 
-    def test_counts_of_none(self) -> None:
-        """Of a GSI block that counts nothing."""
+    def test_warns_of_missing_counts_in_the_gsi_block(self) -> None:
         data = gsi_block(b"", 0, 0) + tti_block(1, 25, 45, 20, 2, b"a")
         found = [one.kind for one in count_notices(SubtitleFile(self.write("one.stl", data)))]
         self.must("both", found == ["blocks", "subtitles"], found)
 
 
-class Fitted(Case):
-    """What the origin that was found in a recording says of a clock that was given."""
-
-    def test_measures_a_delay_to_the_nearest_frame(self) -> None:
-        """In whole frames, the nearest; not where it is not clear or nothing was known."""
+class EstimatedOrigins(Case):
+    def test_rounds_a_delay_to_the_nearest_frame(self) -> None:
         clock = Clock(5, START)
         for away, status, wanted, said in (
                 (0, 0, 0, None), (3 * TICKS, 0, 3, "3 frames late"),
@@ -231,8 +212,7 @@ class Fitted(Case):
             found, _ = with_delay(clock, Origin(0, away=away, is_each=True, printed=["--origin 5"]))
             self.check(f"{away}: whole frames", found.is_delay_of_all, is_whole)
 
-    def test_of_which(self) -> None:
-        """All of the subtitles, or most; up to the first break, or to where they are later."""
+    def test_reports_which_subtitles_are_delayed(self) -> None:
         for are_all, shifted, printed, words in (
                 (True, None, 1, "all"), (False, None, 1, "most"),
                 (True, None, 2, "up to the first break all"),
@@ -244,51 +224,43 @@ class Fitted(Case):
                       [f"{words} subtitles are 1 frame late"])
 
     def test_asks_about_a_delay_as_long_as_to_another_picture(self) -> None:
-        """A delay of just as long as from the first picture to another one asks which it was."""
         for away, is_asked in ((TICKS, True), (TICKS + 5, False), (2 * TICKS, False)):
             said = with_delay(Clock(5, START, away=1), Origin(0, away=away, printed=["one"]))[1]
             self.must(f"{away}", bool(said[1:]) == is_asked, said)
 
-    def test_not_clear(self) -> None:
-        """With several runs, or other breaks than were said, the lines alone are the reason."""
+    def test_prints_no_advice_for_several_runs_or_breaks(self) -> None:
         for runs, breaks, is_alone in ((0, None, False), (2, None, True), (0, 0, True),
                                        (0, 2, True), (3, 2, True)):
             why = unclear_origin(Origin(runs=[(0, 9)] * runs, breaks=breaks, lines=["one"]), [])
             self.must(f"{runs} {breaks}", (why.reason == "one") == is_alone)
 
 
-class Pages(Case):
-    """Pages that are held, and after how many frames those that are due are."""
-
-    def held(self, data: bytes) -> Timeline:
-        """What is held of PES packets."""
+class DecodedPages(Case):
+    def decode(self, data: bytes) -> Timeline:
+        """Decode PES packets."""
         return timeline_of(self, data)
 
-    def test_closed_before_it_goes(self) -> None:
-        """Where complete pages are asked for, one that is closed at its TCO was never whole."""
+    def test_a_page_must_be_closed_before_its_tco(self) -> None:
         one = Subtitle(1, 1, 100, 150, 20, 2, b"a")
         for closed, wanted in ((100, 0), (101, 1), (149, 49), (150, None), (170, None)):
             data = pes_packet(TICKS * 100, [HEADER, row(20, b"a"), *[CLOSING] * (closed == 100)])
             more = [pes_packet(TICKS * closed, [CLOSING])] * (closed > 100)
-            held = self.held(pes_packet(0, [CLOSING]) + data + b"".join(more))
+            held = self.decode(pes_packet(0, [CLOSING]) + data + b"".join(more))
             for is_complete, frames in ((True, wanted), (False, 0)):
                 found = frames_until(one, held.page_at(100), held, is_complete)
                 self.must(f"{closed} {is_complete}", found == frames, found)
 
-    def test_finds_the_first_frame_at_which_the_page_is_closed(self) -> None:
-        """The first frame from one on at whose end the page is not open."""
+    def test_finds_the_first_frame_with_a_closed_page(self) -> None:
         data = b"".join(pes_packet(TICKS * frame, units) for frame, units in (
             (10, [HEADER, row(20, b"a")]), (20, [CLOSING]), (30, [HEADER]), (40, [CLOSING])))
-        held = self.held(data)
+        held = self.decode(data)
         for frame, wanted in ((5, 5), (9, 9), (10, 20), (15, 20), (20, 20), (25, 25), (30, 40),
                               (39, 40), (40, 40), (99, 99)):
             self.check(f"from {frame}", held.closed_from(frame), wanted)
-        held = self.held(data[:len(data) // 2 + 1])
+        held = self.decode(data[:len(data) // 2 + 1])
         self.must("open and closed once", (held.closed_from(15), held.closed_from(20)) == (20, 20))
 
     def test_shows_a_page_once_a_header_ends_it(self) -> None:
-        """A header of another page shows what was held before it; what comes behind that is shown
-        once a further one ends the page. One of the page itself ends nothing."""
         old, new = row(20, b"old"), row(20, b"new")
         rows: list[tuple[list[bytes], bytes | None]] = [
             ([], None), ([new], None), ([HEADER], None), ([HEADER, new], None),
@@ -296,7 +268,7 @@ class Pages(Case):
             ([HEADER, new, CLOSING], b"new"), ([HEADER, CLOSING], b""),
             ([HEADER, CLOSING, HEADER, new], b""), ([CLOSING, HEADER, CLOSING], b"")]
         for units, wanted in rows:
-            screen = self.held(pes_packet(0, [HEADER, old]) +
+            screen = self.decode(pes_packet(0, [HEADER, old]) +
                                pes_packet(TICKS * 10, units)).states[-1].screen
             text = screen and screen[0][19].strip(b"\x0b ")
             self.must(f"{units}", text == wanted, text)
@@ -304,23 +276,21 @@ class Pages(Case):
             TICKS, [CLOSING, HEADER, new]))
         self.must("tuned in later", Timeline(packets, PAGE, 0, 0, (1, 1)).states[-1].screen is None)
 
-    def test_doubts_frames_around_what_cannot_be_read(self) -> None:
-        """From before what can't be read to the next: a first place, and a second."""
+    def test_doubts_frames_around_unreadable_packets(self) -> None:
         good = [pes_packet(TICKS * frame, [HEADER, CLOSING]) for frame in range(0, 100, 10)]
         broken = [one[:45] + b"\x20" + one[46:] for one in good]
         of_doubts: list[tuple[tuple[int, ...], list[Span]]] = [
             ((), []), ((3,), [Span(20, 40)]), ((3, 4), [Span(20, 50)]),
             ((3, 7), [Span(20, 40), Span(60, 80)]), ((0,), [Span(0, 10)]), ((9,), [])]
         for numbers, wanted in of_doubts:
-            held = self.held(b"".join(broken[at] if at in numbers else one
+            held = self.decode(b"".join(broken[at] if at in numbers else one
                                       for at, one in enumerate(good)))
             self.must(f"{numbers}", held.doubts == wanted, held.doubts)
             for first, last in ((0, 15), (15, 25), (30, 30), (65, 66), (85, 90)):
                 is_seen = not any(one.first <= last and first <= one.last for one in wanted)
                 self.must(f"{numbers}: {first} to {last}", held.is_seen(first, last) == is_seen)
 
-    def test_holds_only_the_pages_of_a_range(self) -> None:
-        """Some PES packets of a file."""
+    def test_decodes_only_the_requested_range(self) -> None:
         data = b"".join(pes_packet(TICKS * 10 * at, [
             HEADER, row(20, b"%d" % at), *[row(22, b"x")] * (at % 3), CLOSING]) for at in range(9))
         packets = packets_told(self, data)
@@ -329,8 +299,7 @@ class Pages(Case):
             self.must(f"{first} to {last}", list(held.frames) ==
                       [*range(10 * first, 10 * last + 1, 10)], held.frames)
 
-    def test_pages_of_one_frame(self) -> None:
-        """The last page of a frame is held at its end; one that is held already is no change."""
+    def test_takes_the_last_page_of_a_frame(self) -> None:
         a, b = (((text.ljust(40),) * 24) for text in (b"a", b"b"))
         rows: list[tuple[list[tuple[int, Rows]], list[int], list[Rows]]] = [
             ([(5, a), (10, b)], [5, 10], [a, b]), ([(5, a), (10, a)], [5], [a]),
@@ -351,12 +320,11 @@ class Pages(Case):
                 self.must(f"{begin} {end}", [*held.numbers(begin, end)] == numbers and
                           held.page_at(begin) == (BLANK_PAGE if begin < 5 else pages[numbers[0]]))
 
-    def test_finds_pauses_of_what_is_sent_in_each_frame(self) -> None:
-        """More than two frames without a PES packet, of what sends one in each but few."""
+    def test_finds_pauses_of_a_regular_stream(self) -> None:
         steady = [*range(90), *range(93, 120), *range(124, 200)]
         for frames, wanted in (([*range(50), *range(52, 99)], []), (steady, [Span(90, 92),
                                                                             Span(120, 123)])):
-            held = self.held(b"".join(pes_packet(TICKS * frame, [HEADER, CLOSING])
+            held = self.decode(b"".join(pes_packet(TICKS * frame, [HEADER, CLOSING])
                                       for frame in frames))
             self.must(f"{wanted}", held.pauses == wanted, held.pauses)
         for frame, pause in ((89, None), (90, 0), (92, 0), (93, None), (119, None), (120, 1),
@@ -366,8 +334,7 @@ class Pages(Case):
         for held.count, is_steady in ((2 * FEW, True), (2 * FEW - 1, False)):
             self.must(f"{is_steady}", (held.pause_at(91) is not None) == is_steady)
 
-    def test_frames_that_go_back(self) -> None:
-        """Before what is due all is forgotten; in it nothing more is heard."""
+    def test_forgets_pages_before_a_step_back(self) -> None:
         for frames, pages, is_lost in (
                 ([100, 200, 310, 350], 4, False), ([200, 250, 150, 310, 350], 3, False),
                 ([200, 310, 305, 350], 2, True), ([310, 350, 320], 2, True)):
@@ -380,13 +347,10 @@ class Pages(Case):
                       == [True, not is_lost])
 
 
-class Parting(Case):
-    """Which subtitles are of which part, and what is drawn."""
-
+class PartedSubtitles(Case):
     FOUND = Found(0, 9, Clock(7, START), (3, 5))
 
-    def test_subtitles_in_no_part(self) -> None:
-        """Each subtitle has to be in a part, once: of three parts, nine are."""
+    def test_each_subtitle_is_in_one_part(self) -> None:
         nine = [subtitle(3 * part + at, 9 * part + at) for part in range(3) for at in range(3)]
         three = [(0, 3), (9, 12), (18, 21)]
         left, both = (f"{count} of one.stl would be in no part, " for count in (

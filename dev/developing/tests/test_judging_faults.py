@@ -1,6 +1,4 @@
-"""What is said of faults, table by table: their places and cells, hints, causes in a sentence, the
-first lines of a list, a verdict that is stopped.
-"""
+"""The descriptions of faults: places, cells, hints, causes in a sentence, first lines of a list."""
 from __future__ import annotations
 
 import contextlib
@@ -30,7 +28,7 @@ from .parts import answer, asked_for, packets_told, part_with, script, timeline_
 from .transmissions import CLOSING, HEADER, ORIGIN, row
 from .test_judging_verdicts import verdict_of
 
-BEFORE = CLOCK - 60 * TICKS  # an origin whose frames go on over the wrap
+BEFORE = CLOCK - 60 * TICKS  # an origin whose frames cross the PTS wrap
 NO_C4 = packet(0, 0, [8, 8, 0, 0, 0, 8, 1, 0], b" " * 32)
 
 
@@ -39,7 +37,7 @@ def cause(place: int, name: str, frames: int | None = None, words: str = "") -> 
 
 
 def causes_of(*several: Cause, count: int = 9, text: bytes = b"text") -> Any:
-    """Causes of a programme with so many subtitles, a second each, of such a text."""
+    """Return causes of a programme with a subtitle each second, all with the same text."""
     subtitles = [SimpleNamespace(begin=25 * at, end=25 * at + 20, name=f"subtitle {at + 1}")
                  for at in range(count)]
     page = (b" " * 40,) * 19 + (text.ljust(40),) + (b" " * 40,) * 4
@@ -48,12 +46,8 @@ def causes_of(*several: Cause, count: int = 9, text: bytes = b"text") -> Any:
                            first_frames={})
 
 
-class Words(Case):
-    """Causes, hints and lists in words."""
-
+class Descriptions(Case):
     def test_leads_with_the_worst_cause(self) -> None:
-        """The worst cause, whatever most have; from when on, or up to when; how many; and how many
-        have which other one, the worst first."""
         for several, wanted in (
                 ([cause(2, LATE, 3)], 'at 00:00:02:00 subtitle 3, "text", is 3 frames late'),
                 ([cause(2, EARLY, 1)], 'at 00:00:02:00 subtitle 3, "text", is 1 frame early'),
@@ -99,9 +93,7 @@ class Words(Case):
         self.assertEqual(verdict.sentence, 'Refused: at 00:00:00:00 subtitle 1, "Ä", has a wrong '
                          'text, sent: "Ü".')
 
-    def test_faults_beside_a_cause(self) -> None:
-        """How many there are of which number, the worst first, of many the first four; none of the
-        content, and none of the number that is said first."""
+    def test_lists_other_faults_after_a_cause(self) -> None:
         content = fault_of_line("refused 72 Content frame 00:00:01:00 row 1 column 1")
         several = causes_of(cause(2, LATE, 3))
         for numbers, wanted in (
@@ -118,8 +110,7 @@ class Words(Case):
                 causes=several))
             self.must(f"{numbers}", words == describe_causes(several, "english") + wanted, words)
 
-    def test_several_numbers(self) -> None:
-        """Where there is no cause it is said how many faults there are, and of which numbers."""
+    def test_counts_faults_without_a_cause(self) -> None:
         for counts, wanted in (([Count(68, "Parity", 3)], "; in all 3 faults"),
                                ([Count(73, "Gap", 1), Count(68, "Parity", 2)],
                                 "; in all 3 faults: 68 Parity (2) and 73 Gap")):
@@ -127,9 +118,7 @@ class Words(Case):
                 "refused 68 Parity frame 00:00:01:00 packet 1"), False, 3, counts, "a letter"))
             self.must(wanted, words == f"at 00:00:01:00 a letter{wanted}", words)
 
-    def test_what_is_seen(self) -> None:
-        """Nothing of frames of which something is lost, by whoever knows it, nor behind the end of
-        what can be followed."""
+    def test_ignores_frames_with_losses(self) -> None:
         data = b"".join(pes_packet(TICKS * frame, [HEADER, CLOSING]) for frame in (0, 50, 100))
         held = timeline_of(self, data)
         held.lost, held.doubts = Meeting([Span(10, 20)]), [Span(60, 70)]
@@ -140,8 +129,6 @@ class Words(Case):
         self.assertEqual([held.is_seen(80, last) for last in (100, 101)], [True, False])
 
     def test_finds_the_pes_packet_of_a_fault(self) -> None:
-        """Of a frame's end the last of its PES packets; of a gap the first, which it is told
-        before, but where several are one frame's."""
         data = b"".join(pes_packet(ticks, [HEADER, CLOSING])
                         for ticks in (0, 10 * TICKS, 10 * TICKS, 20 * TICKS))
         for line, within, pes in (
@@ -161,15 +148,14 @@ class Words(Case):
         fault, held = fault_of_line("refused 72 X frame 00:00:00:10 row 20 column 2"), timeline_of(
             self, data)
         assert fault
-        for number in (0, 1):  # the last behind which the cell is another one
+        for number in (0, 1):  # the last one that changes the cell
             due = held.state_after(1 - number).rows
             self.must(f"{number}", fault_place(fault, held.packets, held, due).pes == number)
         held = timeline_of(self, pes_packet(0, [HEADER]) + pes_packet(9, [CLOSING]), 0, 1)
         fault = fault_of_line("refused 67 Control frame 00:00:00:00 packet 0")
         self.must("headers", fault and len(fault_place(fault, held.packets, held).headers) == 1)
 
-    def test_says_why_the_teletext_ends(self) -> None:
-        """Why the PID goes on as no Teletext, if the last PES packet before that is judged."""
+    def test_reports_why_the_teletext_ends(self) -> None:
         packets = Packets(0x101, [Run(0, 5, 0, TICKS, "h", "")], refusal=31)
         why = "PID 0x101 has other than PES packets of private_stream_1 from PES packet 5 on: " \
             "refused 31 Start pes 5"
@@ -178,8 +164,6 @@ class Words(Case):
             self.assertEqual(end_words(part), words, last)
 
     def test_names_the_longest_gap_if_all_is_known(self) -> None:
-        """The longest gap, the last among them, and behind the last header, where all that was sent
-        is known; and what is usual, but where the page comes by the times of subtitles."""
         each = tuple(range(0, 1001, 100))
         less, begins = (*each[:5], *each[6:]), [(frame, frame + 9) for frame in each]
         rows: list[tuple[tuple[int, ...], int, int, set[int], list[tuple[int, int]], str]] = [
@@ -203,7 +187,6 @@ class Words(Case):
                           (wanted and f"the longest gap is {wanted}"), found)
 
     def test_gives_a_hint_for_the_first_fault_of_each_number(self) -> None:
-        """Of each number the first fault; of each part its own, by its own clock."""
         data = b"".join(
             pes_packet((ORIGIN + TICKS * frame) % CLOCK, [NO_C4 if frame % 50 else HEADER, CLOSING])
             for frame in (0, 25, 50, 75, 300))
@@ -226,7 +209,6 @@ class Words(Case):
         self.must("none", not list(hints_of(verdict)))
 
     def test_prints_the_first_forty_lines_of_a_list(self) -> None:
-        """The first forty lines, how many more there are, and the last; and of causes."""
         for count in (0, 1, 40, 41, 42, 50):
             heard = Heard()
             for at in range(count):
@@ -259,11 +241,8 @@ class Words(Case):
                     *[f".. {count - 40} more causes"] * (count > 40)], heard.lines)
 
 
-class Calls(Case):
-    """Calls of the program that are heard while they go on, and others."""
-
-    def test_takes_no_answer_from_a_call_that_failed(self) -> None:
-        """Lines with status 0, or of no subtitle; else it is no answer."""
+class ProgramCalls(Case):
+    def test_takes_no_answer_from_a_failed_call(self) -> None:
         rows: list[tuple[list[str], int, bool]] = [
             (["a", "b"], 0, True), ([], 0, True), (["refused 82 NoSubtitles"], 1, True),
             (["refused 50 Character block 1 at 6"], 1, False), (["a"], 1, False), ([], 2, False),
@@ -278,12 +257,8 @@ class Calls(Case):
                           f"{''.join(lines[-1:])}", reason.reason)
             self.must(f"{lines} {status}", found == (lines if is_right else None), found)
 
-class Made(Case):
-    """The program's line of the prover, and the line that rewrites itself."""
-
-    def test_finds_the_prover_line_of_this_program_alone(self) -> None:
-        """Beside the program, over its folder; of this program alone, and of the crate that is the
-        program."""
+class Versions(Case):
+    def test_finds_the_prover_line_of_this_program(self) -> None:
         os.makedirs(self.path("top/bin"))
         good = "program 5\ncrate other 1 logic=proved 1\ncrate subttx 2 logic=proved 3 of 3\n"
         for name, text, wanted in (
@@ -296,8 +271,7 @@ class Made(Case):
             self.must(f"{name} {text}", proved_line(self.path("top/bin/subttx"), "5") == wanted)
             os.unlink(path)
 
-    def test_rewrites_its_line_each_fifth_of_a_second(self) -> None:
-        """Each fifth of a second, on a terminal alone, up to its width; taken away once."""
+    def test_updates_the_progress_line_five_times_a_second(self) -> None:
         for is_terminal, times, shown in ((True, (0.0, 0.1, 0.2, 0.5), 3), (False, (0.0, 9.0), 0)):
             with contextlib.redirect_stderr(io.StringIO()) as told:
                 vars(told)["isatty"] = lambda: is_terminal

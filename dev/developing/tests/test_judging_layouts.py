@@ -1,4 +1,8 @@
-"""Pairs of a house that draws otherwise."""
+"""Recordings with other layouts, and files of open subtitles.
+
+From dev/, `python3 -m developing.tests.test_judging_layouts PROGRAM FIRST END` judges the random
+programmes of other seeds.
+"""
 from __future__ import annotations
 
 import os
@@ -23,9 +27,9 @@ from .transmissions import CLOSING, HEADER, Sent, joined, row, sendings
 from .test_stream_layouts import HOUSES, line
 
 
-# Recordings of houses that draw otherwise: what is told of them; and files of open subtitles.
+# Recordings with another layout, and files of open subtitles.
 
-FIRST, EACH, LASTS = 3000, 60, 45  # frames: of the first TCI, from one to the next, of each
+FIRST, EACH, LASTS = 3000, 60, 45  # frames: first TCI, from one to the next, length of each
 DSC = slice(11, 12)
 FAULTS = [
     ("left=40", "left=40 is no item: left takes 0 to 39"), ("fit,fit", "fit is given twice"),
@@ -33,7 +37,7 @@ FAULTS = [
     ("", "nothing between commas is no item"), ("fit,", "nothing between commas is no item"),
     ("up,after=0E", "after=0E is no item: after takes up to 4 codes 01 to 0D"), ("fit,up", None)]
 def file_of(case: Case, texts: list[tuple[bytes, int]], name: str, dsc: bytes = b"1") -> str:
-    """A subtitle file: texts, each with its justification code."""
+    """Write a subtitle file of texts with justification codes."""
     blocks = b"".join(subtitle_blocks(
         at, FIRST + EACH * at, FIRST + EACH * at + LASTS, 18, justify, text)
                       for at, (text, justify) in enumerate(texts))
@@ -44,14 +48,12 @@ def file_of(case: Case, texts: list[tuple[bytes, int]], name: str, dsc: bytes = 
 
 def texts_of(some: random.Random, has_codes: bool, between: bytes, count: int
              ) -> list[tuple[bytes, int]]:
-    """Texts of one or two lines, some with a number so that they differ."""
+    """Return texts of one or two lines, some with a number that distinguishes them."""
     return [(between.join(line(some, has_codes) for _ in range(some.choice([1, 2, 2]))),
              some.choice([2, 2, 2, 1, 3, 0])) for _ in range(count)]
 
 
-class Houses(Case):
-    """Pairs of which the recording is drawn as a house does."""
-
+class OtherLayouts(Case):
     def judge(self, texts: list[tuple[bytes, int]], drawn: str, *words: str,
               sent: list[tuple[bytes, int]] | None = None) -> Judged:
         """A pair whose recording is drawn by a layout, of other texts where these are given."""
@@ -62,9 +64,7 @@ class Houses(Case):
         pes = self.schedule(other, f"{number}.pes", "--every", "20", *layout)
         return judged(self, stl, pes, *words)
 
-    def test_is_told(self) -> None:
-        """Content that is refused for how it is drawn: in which cells the first subtitle differs,
-        and nothing of what would draw it. Nothing of a wrong letter."""
+    def test_names_the_differing_cells_but_no_layout(self) -> None:
         some = random.Random(85)
         texts = texts_of(some, False, b"\x8a", 30)
         found = self.judge(texts, "after=0A", "-o", self.path("out"))
@@ -80,12 +80,8 @@ class Houses(Case):
         self.must("a letter", plain.word == "refused" and plain.result["hints"] == [], plain.said)
 
 
-class Sendings(Case):
-    """What is taken of a recording to find the layout, and told of it."""
-
-    def test_the_page_that_is_held_for_longest(self) -> None:
-        """Of those with the letters of a subtitle, while it is due; the pages differ in their
-        rows."""
+class DecodedPages(Case):
+    def test_takes_the_page_that_lasts_longest(self) -> None:
         for begin, end, pages, wanted in (
                 (0, 50, ((0, 18), (10, 20)), [20]), (0, 30, ((0, 18), (20, 20)), [18]),
                 (50, 80, ((0, 18), (60, 20)), [20]), (0, 50, ((0, 18), (25, 20)), [18]),
@@ -101,22 +97,18 @@ class Sendings(Case):
             self.must(f"{begin} {end} {pages}", rows == wanted, rows)
 
 
-class Words(Case):
-    """What is said of layouts."""
-
-    def test_faults_of_a_text(self) -> None:
+class LayoutMessages(Case):
+    def test_reports_faults_of_a_layout(self) -> None:
         for text, fault in FAULTS:
             self.must(text, fault_in(text) == fault and (layout_of(text) is None) == bool(fault),
                       fault_in(text))
 
-    def test_says_what_to_type_instead_of_auto(self) -> None:
-        """It is gone: what to type is said."""
+    def test_reports_what_replaces_auto(self) -> None:
         done = self.tool("qc", "one.stl", "one.ts", "--layout", "auto")
         self.must("auto", done.status == 2 and len(done.told) == 1 and
                   "find your inserter's by `--measure STL RECORDING ..`" in done.told[0], done)
 
     def test_names_the_cells_in_which_pages_differ(self) -> None:
-        """In which cells a page with the same letters differs."""
         for text, wanted in (
                 ("row=1", "row 19 where 18 is due"), ("after=0A", "row 18, 0A behind its letters "
                  "where 0A 0A is due"), ("after=", "row 18, column 18 where 17 is due, nothing "
@@ -135,12 +127,9 @@ class Words(Case):
             self.must(f"{second!r}", cells_words(due, sent) == wanted, cells_words(due, sent))
 
 
-class Open(Case):
-    """Files of open subtitles."""
-
-    def test_judges_open_subtitles_with_the_option_that_a_refusal_names(self) -> None:
-        """A refusal names the option, and with it the pair is judged and its report is drawn."""
-        texts = [(b"Number %d\x0a" % at, 2) for at in range(12)]  # a code that may hide
+class OpenSubtitles(Case):
+    def test_judges_open_subtitles_with_the_advised_option(self) -> None:
+        texts = [(b"Number %d\x0a" % at, 2) for at in range(12)]  # a code that may hide text
         for dsc, kind in ((b"0", "0, open subtitles"), (b" ", "a space, none"), (b"3", None)):
             stl = file_of(self, texts, "open.stl", dsc)
             alone = judged(self, stl)
@@ -164,19 +153,21 @@ class Open(Case):
                       and len(late.result["causes"]) == 12, late.said)
 
 
-# What `qc` chooses by itself at random, each offered a wrong one: programmes as houses draw them,
-# of which a few subtitles were sent otherwise, one came a frame early, a row of one never came, or
-# a wrong page was sent where some TS or PES packets are lost.
+# Random programmes in some layout, with one fault: a few subtitles transmitted differently, one a
+# frame early, a row never sent, or a wrong page within a loss.
 
-# Seeds of which the gate judges the programmes.
+# Seeds that the gate judges.
 GATE = (3, 5, 11, 17, 24, 31, 42, 50, 57, 68, 77, 89, 101, 123, 150, 171, 200, 217, 260, 299)
 UNSEEN = "not checked: whether"
 WRONG = [HEADER, row(20, b"Nobody wrote this"), CLOSING]
 Said = tuple[bytes, int]  # a text with its justification code
 
 
-def otherwise(said: Said, kind: int) -> Said:
-    """What the file has, where this is sent: more than an inserter draws, or other letters."""
+def altered(said: Said, kind: int) -> Said:
+    """Return the file's text if this text is transmitted:
+
+    with more codes than an inserter draws, or other characters.
+    """
     text, justify = said
     return [(b"\x03" + text, justify), (b"\x08" + text, justify), (b"\x0d" + text, justify),
             (b"  " + text, justify), (text.replace(b"\x8a", b"\x8a\x8a\x8a", 1), justify),
@@ -185,22 +176,24 @@ def otherwise(said: Said, kind: int) -> Said:
 
 
 class Programme(NamedTuple):
-    """A pair by its seed: what the file has, and what is sent, by which layout; how PES packets
-    come, how many are lost and where, whether as a file of PES packets, and whether a wrong page
-    was sent there."""
+    """A pair of a seed:
+
+    the file's texts, the transmitted texts and their layout, how PES packets come and how many are
+    lost where, the kind of recording, and whether a wrong page was sent in the loss.
+    """
 
     text: str
     file: list[Said]
     sent: list[Said]
-    step: int  # frames from a PES packet to the next one, at most; 0: as they are due alone
-    place: int  # of what is lost, in the PES packets
+    step: int  # most frames between PES packets; 0: only at changes
+    place: int  # of the loss, in PES packets
     lost: int
     is_stream: bool
     is_announced: bool
     has_wrong: bool
     early: int | None = None  # the subtitle that comes a frame early
-    missing: int | None = None  # the subtitle of which one row never comes
-    profile: str = ""  # what the house says beside its layout
+    missing: int | None = None  # the subtitle that lacks a row
+    profile: str = ""  # profile options besides the layout
     is_known: bool = True  # whether a clock is given
 
     @property
@@ -210,19 +203,19 @@ class Programme(NamedTuple):
         return found
 
     def page(self, said: Said) -> object:
-        """What the house draws of a text."""
+        """Return the page of a text in the layout."""
         lines = drawn(said[0], 18, said[1], self.layout, ENGLISH)
         return lines if isinstance(lines, Refused) else page_rows(lines)
 
     def is_right(self) -> bool:
-        """Whether each cell that was sent is as it is due."""
+        """Return whether each transmitted cell is correct."""
         pages = [(self.page(one), self.page(other)) for one, other in zip(self.file, self.sent)]
         return not self.has_wrong and self.early is None and self.missing is None and \
             all(one == other for one, other in pages)
 
 
 def programme_of(seed: int) -> Programme:
-    """The programme of a seed."""
+    """Return the programme of a seed."""
     some = random.Random(seed)
     has_codes, leaves_room, text = some.choice(HOUSES)
     between = b"\x8a\x8a" if leaves_room else b"\x8a"
@@ -238,12 +231,12 @@ def programme_of(seed: int) -> Programme:
     found.sent.extend(found.file)
     kind = some.randrange(8)
     for at in some.sample(range(count), some.choice((0, 0, 0, 1, 1, 2, 5, 9))):
-        said = otherwise(found.file[at], kind)
+        said = altered(found.file[at], kind)
         if not isinstance(found.page(said), Refused):
             found.file[at] = said
-    # Later than all else, so that a seed is what it was.
+    # After all else, so that seeds keep their programmes.
     kind = some.randrange(4)
-    lost = found.lost if kind == 0 else 0  # alone, so that nothing else refuses it
+    lost = found.lost if kind == 0 else 0  # a loss only without another fault
     return found._replace(
         lost=lost, has_wrong=found.has_wrong and lost > 0,
         early=some.randrange(1, count) if kind == 1 else None,
@@ -253,8 +246,8 @@ def programme_of(seed: int) -> Programme:
         is_known=some.random() < 0.5)
 
 
-def spoilt(one: Programme, sent: Sent) -> Sent:
-    """What is sent of one subtitle otherwise: a frame early, or without its last row."""
+def with_fault(one: Programme, sent: Sent) -> Sent:
+    """Send one subtitle a frame early, or another without its last row."""
     made = []
     for pts, some in sent:
         place, rest = divmod(pts // TICKS - FIRST, EACH)
@@ -266,8 +259,8 @@ def spoilt(one: Programme, sent: Sent) -> Sent:
     return made
 
 
-def filled(sent: Sent, step: int) -> Sent:
-    """With a PES packet without Teletext so many frames after another one."""
+def with_empty_packets(sent: Sent, step: int) -> Sent:
+    """Insert PES packets without Teletext, at most some frames apart."""
     if not step:
         return sent
     known = dict(sent)
@@ -276,8 +269,8 @@ def filled(sent: Sent, step: int) -> Sent:
             if (frame - begin) % step == 0 or frame * TICKS in known]
 
 
-def recorded(one: Programme, sent: Sent) -> bytes:
-    """What is left of it, as a transport stream or as PES packets."""
+def recording_of(one: Programme, sent: Sent) -> bytes:
+    """Return the recording after the loss, as a transport stream or PES packets."""
     place = min(one.place, max(len(sent) - 60, len(sent) // 2))
     if one.has_wrong:
         sent = [*sent[:place], (sent[place][0], WRONG), *sent[place + 1:]]
@@ -288,57 +281,57 @@ def recorded(one: Programme, sent: Sent) -> bytes:
 
 
 def judge(case: Case, seed: int) -> tuple[Programme, Judged]:
-    """What is said of the programme of a seed."""
+    """Judge a pair whose recording has another layout, or other texts."""
     one = programme_of(seed)
     stl = file_of(case, one.file, f"{seed}.stl")
     other = file_of(case, one.sent, f"{seed}.sent.stl")
     layout = ["--layout", one.text] if one.text else []
-    sent = filled(spoilt(one, sendings(case, other, *layout)), one.step)
+    sent = with_empty_packets(with_fault(one, sendings(case, other, *layout)), one.step)
     profile = case.write(f"{seed}.profile", (
         f"--layout {quoted(one.text)}\n" * bool(one.text) + one.profile).encode())
     name = f"{seed}.ts" if one.is_stream else f"{seed}.pes"
-    path = case.write(name, recorded(one, sent))
+    path = case.write(name, recording_of(one, sent))
     return one, judged(case, stl, path, "--profile", profile, *["--origin", "0"] * one.is_known)
 
 
-def is_sound(one: Programme, told: Judged) -> bool:
-    """Whether nothing wrong is accepted, but with a note that says what is not checked, and what is
-    right and whole is."""
+def is_correct(one: Programme, told: Judged) -> bool:
+    """Return whether a fault is accepted only with a note on what was not checked, and a correct
+    recording is accepted."""
     if told.word not in ("accepted", "waived"):
         return bool(one.lost) or not one.is_right()
     return one.is_right() or any(UNSEEN in note for note in told.result["notes"])
 
 
-class Chosen(Case):
+class RandomProgrammes(Case):
     """Some of them."""
 
 
-def test_of(seed: int) -> Callable[[Chosen], None]:
-    """The test of a seed."""
+def test_of(seed: int) -> Callable[[RandomProgrammes], None]:
+    """Return the test of a seed."""
 
-    def test(self: Chosen) -> None:
+    def test(self: RandomProgrammes) -> None:
         one, told = judge(self, seed)
-        self.must(f"seed {seed}", is_sound(one, told), (one, told.said))
+        self.must(f"seed {seed}", is_correct(one, told), (one, told.said))
 
     return test
 
 
 for _seed in GATE:
-    setattr(Chosen, f"test_{_seed:03}", test_of(_seed))
+    setattr(RandomProgrammes, f"test_{_seed:03}", test_of(_seed))
 
 
 def main(program: str, first: int, end: int) -> None:
-    """Judges the programmes of some seeds."""
+    """Judge the programmes of some seeds."""
     BENCH.chosen = program
-    case, wrong = Chosen(f"test_{GATE[0]:03}"), list[int]()
+    case, wrong = RandomProgrammes(f"test_{GATE[0]:03}"), list[int]()
     case.setUp()
     for seed in range(first, end):
         one, told = judge(case, seed)
-        if not is_sound(one, told):
+        if not is_correct(one, told):
             wrong.append(seed)
         print(seed, one.text or "-", one.step, one.lost, "ts" if one.is_stream else "pes",
               "right" if one.is_right() else "wrong", told.word, told.parts("pace"),
-              "" if is_sound(one, told) else "UNSOUND", flush=True)
+              "" if is_correct(one, told) else "UNSOUND", flush=True)
     print(f"{end - first} programmes, {len(wrong)} accepted of which a wrong cell was sent, or not "
           f"accepted though right and whole: {wrong}")
 

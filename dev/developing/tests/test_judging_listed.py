@@ -1,4 +1,4 @@
-"""All that is known of each fault, and of each number, part by part."""
+"""The details of each fault in a result, part by part."""
 from __future__ import annotations
 
 import dataclasses
@@ -27,9 +27,7 @@ from .test_judging_faults import BEFORE, NO_C4, cause
 from .test_judging_verdicts import verdict_of
 
 
-class Listed(Case):
-    """All that is known of each fault, as results have it."""
-
+class FaultDetails(Case):
     LINES = {"a": ["accepted 1 frames 1 transmissions"], "r": [
         "refused 63 Begin frame 00:00:0{}:01", "refused 33 Flags pes 1", "ended 33 Flags pes 3",
         "refused 72 Content frame 00:00:0{}:02 row 1 column 2", "ended 72 Content frame "
@@ -37,8 +35,7 @@ class Listed(Case):
         "frame 00:00:0{}:05", "5 faults"], "s": ["refused 50 Character block {} at 1", "1 faults"]}
 
     def part(self, kind: str, number: int, stl: str) -> Part:
-        """A part of the second of its number, whose subtitles come in it alone; the causes of its
-        faults are those of that number's subtitle and of those around it."""
+        """Return a part with the subtitles of one second and the causes of its faults."""
         lines = [line.replace("{}", str(number)) for line in self.LINES[kind]]
         times = [f"00:00:0{at}:00" for at in (number, number + 1)]
         frames = range(25, 151, 25)
@@ -54,10 +51,7 @@ class Listed(Case):
         made.names.given = stl
         return made
 
-    def test_of_parts(self) -> None:
-        """Those of each part in their order, each with the part's number, its severity, its own
-        subtitle, where it ended, and the subtitle whose fault it is; before them those without a
-        number, each of its part."""
+    def test_lists_the_faults_of_each_part_in_order(self) -> None:
         stl = programme(self, [(25 * at, 25 * at + 20) for at in range(1, 7)])
         severity = Severity(self.write("severity", b"others warning\nnot shown error\n63 error\n"))
         for kinds in itertools.chain(*(itertools.product("ars", repeat=count) for count in range(
@@ -90,8 +84,7 @@ class Listed(Case):
         self.assertEqual([one["line"] for one in faults_of(verdict)][:2], [
             "refused never sent frame 00:00:03:07", "refused not shown block 2"])
 
-    def test_means_and_do(self) -> None:
-        """What is known of the case stands in the place of what the manual says of its number."""
+    def test_describes_the_case_instead_of_the_number(self) -> None:
         night = 2_159_990
         stl = self.write("one.stl", gsi_block(b"", 3, 3).replace(b"STL25.011", b"STL25.010") + \
                          b"".join(tti_block(at, begin, end, 20, 2, b"\xc8a", comment=at == 9)
@@ -126,9 +119,7 @@ class Listed(Case):
             (means or plain(known[int(line[:2])].means), do or plain(known[int(line[:2])].do))
             for line, means, do in rows])
 
-    def test_pes_packets(self) -> None:
-        """The PES packet of each fault with its PTS and its time, also the first one, by an origin
-        of 0 and over a wrap; none where no PES packet is in a frame."""
+    def test_gives_pes_packet_and_time_of_each_fault(self) -> None:
         lines = [*(f"refused 38 UnitLength pes {at}" for at in range(3)), *(
             f"refused 68 Parity frame {time_of(frame)} packet 0" for frame in (0, 75, 150)),
                  "refused 73 Gap frame 00:00:00:10", "7 faults"]
@@ -144,8 +135,7 @@ class Listed(Case):
             self.assertEqual(found, [*((at, pts[at], time_of(frame), place == 3) for place, (
                 at, frame) in enumerate(wanted)), (None, None, None, True)], origin)
 
-    def test_lists_the_expected_and_the_decoded_cell(self) -> None:
-        """Of a cell that is not as it is due what is due and what is held, whatever is allowed."""
+    def test_gives_the_expected_and_the_decoded_cell(self) -> None:
         data = pes_packet(25 * TICKS, [HEADER, row(20, b"\x01xyz"), CLOSING])
         due = (*BLANK_PAGE[:19], b"  [b".ljust(40), *BLANK_PAGE[20:])
         lines = [f"refused 72 Content frame 00:00:01:00 row 20 column {at}" for at in (2, 3, 4)]
@@ -162,16 +152,14 @@ class Listed(Case):
                 "expected", "decoded")] for one in faults_of(verdict)], [
                     [("5B", letter), ("01", None)], [("62", "b"), ("78", "x")],
                     [("20", " "), ("79", "y")]], (within, option, letter))
-            part = dataclasses.replace(part, pes=None)  # of what is not read nothing is known
+            part = dataclasses.replace(part, pes=None)  # unknown if the part was not read
             self.assertEqual(lead_words(fault_of("refused 67 X frame 00:00:01:00"), part, verdict),
                              "", (within, option, letter))
         cells = (bytes([0x41, HIT, OLD, 0x01]).ljust(40), *BLANK_PAGE[1:])
         self.assertEqual([code_at(cells, 1, at) for at in range(4)], [0x41, 0x20, None, 0x01])
         self.assertIsNone(code_at(None, 1, 0))
 
-    def test_letter_of_parity(self) -> None:
-        """The first letter that comes with even parity, else the first other byte; of the subtitle
-        that is due, or the page behind one; nothing where it is not known what is held."""
+    def test_names_the_character_with_even_parity(self) -> None:
         due = b"\x0b\x0bAb \x01c"
         pages = [((due if row == 21 else b"").ljust(40)) for row in range(24)]
         part = part_with(0, 99, 0, due=lambda: DuePages(

@@ -1,8 +1,8 @@
-"""What a sentence names first: the subtitle and its planted fault, or why nothing can be known.
+"""Which subtitle and fault a sentence names first.
 
-The gate plants a fault in 100 programmes. From dev/,
-`python3 -m developing.tests.test_judging_named PROGRAM FIRST LAST` plants some by their numbers
-and prints each that is not named.
+The gate plants a fault in 100 programmes. From dev/, `python3 -m
+developing.tests.test_judging_named PROGRAM FIRST LAST` tries other seeds and prints each unnamed
+fault.
 """
 from __future__ import annotations
 
@@ -17,24 +17,20 @@ from .streams import mpeg_2_picture, with_pictures
 from .planted import FIRST, Programme, planted
 from .transmissions import Sent, joined, subtitle_file
 
-JPEG_2000 = 0x21  # stream_type of video whose pictures are not read
+JPEG_2000 = 0x21  # stream_type of an unsupported video format
 ADVICE = ("--within", "--keeping", "--no-complete", "--allow-lost", "--severity", "--pace")
 
 
 def off_grid(sent: Sent, every: int, first: int, ticks: int) -> Sent:
-    """Each so-manieth PES packet, from a first one on, a few ticks off its frame."""
+    """Move every n-th PES packet some ticks off its frame."""
     return [(pts + ticks * (at >= first and (at - first) % every == 0), some)
             for at, (pts, some) in enumerate(sent)]
 
 
-class OffGrid(OfProgramme):
-    """PTS that are no whole frames from the origin (61)."""
-
+class OffFramePts(OfProgramme):
     due = [(FIRST + 100 * at, FIRST + 100 * at + (100 if at % 3 else 60)) for at in range(10)]
 
-    def test_off_frame_leads(self) -> None:
-        """The sentence names 61, and how far PTS are off; it blames no subtitle, and advises
-        nothing more lenient. `--within 1` accepts."""
+    def test_leads_with_off_frame_pts(self) -> None:
         rows = {"each second, a tick": (2, 1, 1, "1 tick (0.01 ms)"),
                 "each second, behind the first": (2, 0, 1, "1 tick (0.01 ms)"),
                 "each third, 10 ms": (3, 0, 900, "900 ticks (10.00 ms)"),
@@ -52,8 +48,7 @@ class OffGrid(OfProgramme):
             self.check(f"{name}: within 1", self.judge(
                 sent, "--every", "26", "--within", "1").word, "accepted")
 
-    def test_a_text_that_was_never_sent_leads_before_it(self) -> None:
-        """A fault that was seen is worse than PTS that are off."""
+    def test_leads_with_a_text_that_was_never_sent(self) -> None:
         begin, end = (3600 * frame for frame in self.due[6])
         sent = [one for one in self.sent if not begin <= one[0] < end]
         found = self.judge(off_grid(sent, 1000, 2, 9), "--every", "25")
@@ -61,15 +56,10 @@ class OffGrid(OfProgramme):
                    "was never sent" in found.verdict.sentence, True)
 
 
-class FirstEarly(OfProgramme):
-    """A first subtitle that is early by exactly the distance of the repeats."""
-
+class EarlyFirstSubtitle(OfProgramme):
     due = [(FIRST + 100 * at, FIRST + 100 * at + 60) for at in range(10)]
 
-    def test_is_refused(self) -> None:
-        """Also if the rows come in a PES packet of their own, in the same frame or the next one,
-        and whether a blank page comes before it or not. The sentence names it, but for rows a frame
-        later, by which each repeat blanks the page."""
+    def test_refuses_and_names_an_early_first_subtitle(self) -> None:
         pts, page = self.sent[0]
         early, blank = (pts - 25 * TICKS, page), (pts - 26 * TICKS, [page[0], page[-1]])
         several: list[Sent] = [[], [blank]]
@@ -85,12 +75,9 @@ class FirstEarly(OfProgramme):
 
 
 class NoClock(OfProgramme):
-    """What the sentence advises if no clock was given."""
-
     words = ("--every", "25")
 
-    def test_names_what_works_for_the_recording(self) -> None:
-        """`--start` only if a picture can be found that it is the time code of."""
+    def test_advises_only_what_works_for_the_recording(self) -> None:
         first, pes = TICKS * 40, joined(self.sent)
         pictures = with_pictures(pes, first).data
         of_other = with_pictures(pes, first, JPEG_2000, mpeg_2_picture()).data
@@ -103,10 +90,7 @@ class NoClock(OfProgramme):
 
 
 class Blocks(Case):
-    """What is refused of a subtitle file alone."""
-
     def test_names_the_subtitle_of_a_block(self) -> None:
-        """By its place, its SN, its TCI and its text, beside the block."""
         long = b"A line of thirty-eight letters and a b"
         rows = {"a letter": (b"To \xe6 morrow\x8a\x8anow", "a letter cannot be shown",
                              "To \u0132 morrow / now"),
@@ -124,29 +108,23 @@ class Blocks(Case):
 
 
 class Advice(OfProgramme):
-    """What the tool says of a refusal."""
-
-    def test_no_clause_advises_leniency(self) -> None:
-        """No clause of a sentence, and nothing to do, names an option that accepts the fault."""
+    def test_never_advises_an_option_that_accepts_the_fault(self) -> None:
         for number, words in WORDS.items():
             self.check(f"{number}", [one for one in ADVICE if one in words and number != 79], [])
 
 
-COUNT, NAMED = 100, 95  # programmes in the gate, and of how many the fault has to be named
+COUNT, NAMED = 100, 95  # programmes in the gate, and how many faults must be named
 
 
 def sentence_of(case: Case, made: Programme) -> str:
-    """Return the sentence on a programme, with its clock."""
+    """Return the sentence on a programme, judged with its clock."""
     path = case.write("planted.pes", joined(made.sent()))
     return judged(case, made.stl, path, "--origin", "0",
                   *made.inserter.options()).verdict.sentence
 
 
-class Planted(Case):
-    """One fault of ten or more subtitles, beyond what is allowed, with a clock."""
-
-    def test_planted_faults_are_named(self) -> None:
-        """The sentence names the subtitle and the kind first, of 95 in 100 at least."""
+class PlantedFaults(Case):
+    def test_names_at_least_95_of_100_planted_faults(self) -> None:
         others = list[tuple[int, object, str]]()
         for number in range(COUNT):
             made = planted(self, number)
@@ -158,9 +136,9 @@ class Planted(Case):
 
 
 def main(program: str, first: int, last: int) -> None:
-    """Plants faults, and prints those that are not named, and the counts."""
+    """Plant faults; print those that are not named, and the counts."""
     BENCH.chosen = program
-    case, counts = Planted("test_planted_faults_are_named"), collections.Counter[str]()
+    case, counts = PlantedFaults("test_planted_faults_are_named"), collections.Counter[str]()
     case.setUp()
     for number in range(first, last):
         made = planted(case, number)

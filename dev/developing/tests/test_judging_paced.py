@@ -1,5 +1,7 @@
-"""Wrong pages that were sent in a hole: none is accepted where a pace is asked, whatever the hole
-is of; and a note says where none is."""
+"""A wrong page within a loss is never accepted:
+
+the pace reveals the loss, or a note says that none was measured.
+"""
 from __future__ import annotations
 
 import unittest
@@ -17,40 +19,37 @@ from .transmissions import CLOSING, HEADER, Sent, programme, row, sendings
 from .test_stream_pace import BEGIN, TIMES, filled
 
 WRONG = [HEADER, row(22, b"Wrong"), CLOSING]
-AT = BEGIN + 300  # the frame of the wrong page: a subtitle is due, and repeated 25 frames later
-PLACE = AT - BEGIN  # its PES packet, where each frame has one
+AT = BEGIN + 300  # frame of the wrong page, within a subtitle that is repeated 25 frames later
+PLACE = AT - BEGIN  # its PES packet
 
 
 def large(data: bytes, count: int) -> bytes:
-    """A PES packet that takes so many TS packets, by stuffing."""
+    """Stuff a PES packet so that it takes some TS packets."""
     made = data + STUFFING_UNIT * (4 * count - len(data) // 46)
     return made[:4] + (len(made) - 6).to_bytes(2, "big") + made[6:]
 
 
 def lost(made: list[Packet], count: int, is_announced: bool = False, frame: int = AT
          ) -> list[Packet]:
-    """Without so many TS packets of the PID from the wrong page on."""
+    """Delete TS packets of the PID from the wrong page on."""
     return with_loss(made, frame * TICKS, count, is_announced)
 
 
-class Hidden(OfProgramme):
-    """A wrong page that nobody recorded."""
-
+class HiddenPages(OfProgramme):
     due = TIMES
 
     def with_wrong(self, every: int = 25) -> Sent:
-        """A PES packet in each frame, of which one has a wrong page."""
+        """Return a PES packet for each frame, one with a wrong page."""
         sent = filled(sendings(self, self.stl, every=every))
         return [*sent[:PLACE], (sent[PLACE][0], WRONG), *sent[PLACE + 1:]]
 
     def multiplexed(self, sent: Sent, first: int, count: int, size: int) -> list[Packet]:
-        """A multiplex in which so many PES packets take several TS packets each."""
+        """Return a multiplex in which some PES packets take several TS packets."""
         made = [pes_packet(pts, some) for pts, some in sent]
         made[first:first + count] = [large(one, size) for one in made[first:first + count]]
         return multiplexed(made, Shape(400))
 
-    def test_two_large_ones(self) -> None:
-        """16 TS packets of two PES packets, where most others take one."""
+    def test_reports_the_loss_of_two_large_pes_packets(self) -> None:
         sent = self.with_wrong()
         whole = self.judge_stream(self.multiplexed(sent, PLACE, 2, 8))
         self.must("it is wrong", whole.word == "refused" and
@@ -60,8 +59,7 @@ class Hidden(OfProgramme):
             self.must(f"{count}", told.word == "refused" and told.parts("pace") == [(2,)] and
                       told.result["line"] == "refused 79 Silent frame 10:00:12:01", told.said)
 
-    def test_files_of_pes_packets(self) -> None:
-        """1 to 7 PES packets that are missing from a file of them."""
+    def test_reports_missing_pes_packets_of_a_file(self) -> None:
         sent = self.with_wrong()
         for count in (1, 2, 3, 5, 7):
             told = self.judge(sent[:PLACE] + sent[PLACE + count:])
@@ -71,9 +69,7 @@ class Hidden(OfProgramme):
             self.must(f"{count}: said", told.lines("pace: ") == [
                 "a PES packet comes within 1 frame of the one before: --pace 1"])
 
-    def test_files_that_come_closer(self) -> None:
-        """Where one is as far from the second next one as from the next one elsewhere, that between
-        them may be missing, and a note says so."""
+    def test_notes_an_undetectable_loss_in_a_file(self) -> None:
         sent = self.with_wrong(50)
         each_other = [one for at, one in enumerate(sent) if at % 2 == 0 or at == PLACE + 1]
         told = self.judge(each_other)
@@ -81,9 +77,7 @@ class Hidden(OfProgramme):
                   "this file is missing, at 1 place where they come closer" in
                   told.result["notes"], told.said)
 
-    def test_files_that_repeat_by_a_clock(self) -> None:
-        """Where the page comes each 25 frames and at the cues, what is between a repeat and a cue
-        may be missing though no header is late: a note says so."""
+    def test_notes_an_undetectable_loss_between_repeat_and_cue(self) -> None:
         times = [(BEGIN + 60 * at, BEGIN + 60 * at + 47) for at in range(60)]
         cues = {edge for both in times for edge in both}
         sent = [one for one in sendings(self, programme(self, times), every=1)
@@ -99,8 +93,6 @@ class Hidden(OfProgramme):
                 "is missing, at " in note for note in told.result["notes"]), told.said)
 
     def test_finds_a_loss_that_an_announced_jump_hides(self) -> None:
-        """A hole at which a jump of the counter is announced, which then tells nothing, is 45 where
-        more time passes than usual."""
         made = self.multiplexed(self.with_wrong(), 0, 1 << 20, 3)
         whole = self.judge_stream(made)
         self.must("it is wrong", whole.word == "refused" and whole.result["losses"] == [],
@@ -121,16 +113,14 @@ class Hidden(OfProgramme):
                                  "--breaks", "1")
         self.must("before a break", told.word == "lost" and line in told.told
                   and [one["judged"] for one in told.result["losses"]] == [True], told.said)
-        told = self.judge_stream(lost(made, 5, True))  # one, and the first two thirds of another
+        told = self.judge_stream(lost(made, 5, True))  # one, and two thirds of the next
         self.must("five", told.word == "refused" and
                   told.result["line"] == "refused 45 Lost pes 300", told.said)
         told = self.judge_stream(lost(made, 6, True))
         self.must("two", told.word == "refused" and
                   told.result["line"] == "refused 79 Silent frame 10:00:12:01", told.said)
 
-    def test_notes_that_too_few_pes_packets_show_no_loss(self) -> None:
-        """Of fewer than 101 PES packets no pace is measured: what is missing is not seen, and a
-        note says so; a jump that is announced is 45 all the same, and what --every tells 73."""
+    def test_notes_that_too_few_pes_packets_reveal_no_loss(self) -> None:
         sent = [one for at, one in enumerate(self.with_wrong()) if at % 12 == 0 or one[1]]
         sent = [one for one in sent if one[0] // TICKS < BEGIN + 600]
         place = [pts // TICKS for pts, _ in sent].index(AT)
@@ -150,9 +140,7 @@ class Hidden(OfProgramme):
                               "10:00:18:00")
             self.must(f"{count}", told.word == word and note in told.told, told.said)
 
-    def test_announced_within_what_is_usual(self) -> None:
-        """Where there is a frame for a PES packet that would not be missed at a jump that is
-        announced, a note says so."""
+    def test_notes_a_possible_loss_at_an_announced_jump(self) -> None:
         sent = self.with_wrong(50)
         sent = [one for at, one in enumerate(sent) if at % 2 == 0 or one[1]]
         wrong = sent.index((AT * TICKS, WRONG))
@@ -169,7 +157,6 @@ class Hidden(OfProgramme):
                       note in told.result["notes"] and told.result["losses"] == [], told.said)
 
     def test_announced_where_nothing_is_missing(self) -> None:
-        """A jump in the distance that is usual is none of these, nor is one without a jump."""
         made = self.multiplexed(self.with_wrong(), 0, 0, 1)
         at = of_teletext(made, (AT + 60) * TICKS)[0]
         says = lost(made, 1, True)[of_teletext(made, AT * TICKS)[0]]
@@ -178,10 +165,7 @@ class Hidden(OfProgramme):
 
 
 class Taken(unittest.TestCase):
-    """What a note says that no pace was measured of."""
-
     def test_says_from_how_long_on_a_loss_may_be_unseen(self) -> None:
-        """From how long on a hole may be unseen, to tenths of a second."""
         recording: Any = SimpleNamespace(is_stream=True, packets=SimpleNamespace(pid=5),
                                          survey=mock.Mock())
         for frames, words in ((None, "some"), (0, "some"), (2, "some"), (3, "0.1 s or more"),

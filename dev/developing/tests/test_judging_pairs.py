@@ -1,5 +1,6 @@
-"""Pairs judged from the recording to the verdict, in process: what can't be read, what is lost, and
-what is said; of each what the JSON result has.
+"""Pairs judged from the recording to the verdict:
+
+unreadable packets, losses, and the sentences about them.
 """
 from __future__ import annotations
 
@@ -25,7 +26,7 @@ from .test_judging_verdicts import verdict_of
 
 STORY, HELLO, ACCENT = example("story.stl"), example("hello.stl"), example("accent.stl")
 UNREAD = "nothing of the recording was read, and --severity leaves no fault an error"
-EVERY = ["--every", "40"]  # frames: two sendings in a row may be missing
+EVERY = ["--every", "40"]  # frames; two page transmissions in a row may be missing
 BITS = {33: (6, 0xC0), 34: (7, 0x80), 35: (8, 1), 36: (13, 1), 37: (DATA - 1, 0x30),
         38: (DATA + UNIT + 1, 1), 39: (DATA + UNIT + 3, 1), 40: (DATA + UNIT + 2, 0x0F)}
 NAMES = {33: "Flags", 34: "NoTime", 35: "HeaderLength", 36: "Time", 37: "DataId",
@@ -33,16 +34,14 @@ NAMES = {33: "Flags", 34: "NoTime", 35: "HeaderLength", 36: "Time", 37: "DataId"
 
 
 def broken(packet: bytes, number: int) -> bytes:
-    """A PES packet of which this number is told."""
+    """Damage a PES packet so that this number is reported."""
     if number == 61:
         return packet[:9] + pts_bytes(pts_in(packet) + 90) + packet[14:]
     at, bits = BITS[number]
     return packet[:at] + bytes([packet[at] ^ bits]) + packet[at + 1:]
 
 
-class Unread(OfProgramme):
-    """Recordings of which some can't be read, or is lost: what follows is judged."""
-
+class UnreadablePackets(OfProgramme):
     due, every, origin = [(60 * at, 60 * at + 60) for at in range(2, 22)], 12, ORIGIN
 
     def setUp(self) -> None:
@@ -50,8 +49,6 @@ class Unread(OfProgramme):
         self.frames = [(pts_in(one) - ORIGIN) // TICKS for one in self.pes]
 
     def test_judges_what_follows_unreadable_pes_packets(self) -> None:
-        """For each number two PES packets in a row, one of the next number right after them, and
-        two numbers one after the other: up to where each goes, in the list and in the result."""
         runs = [(number, 5 * at + 1, 5 * at + 2) for at, number in enumerate([*BITS, 61])]
         runs += [(33, 48, 48), (34, 49, 49), (45, 55, 56), (45, 60, 60)]
         some = list(self.pes)
@@ -73,7 +70,6 @@ class Unread(OfProgramme):
         agrees(self, found.result)
 
     def test_trusts_frames_around_two_gap_markers(self) -> None:
-        """Two marks, and what may be trusted around them: before the first, between, and behind."""
         some = [*self.pes[:22], MARK, *self.pes[24:61], MARK, *self.pes[62:]]
         found = judged(self, self.stl, self.write("one.pes", b"".join(some)), *EVERY, "--origin",
                        str(ORIGIN))
@@ -98,9 +94,7 @@ class Unread(OfProgramme):
             found = judged(self, self.stl, self.path("one.pes"), *EVERY, *words)
             self.must(f"{words}", found.word == word, found.said)
 
-    def test_nothing_is_read(self) -> None:
-        """Of a subtitle file that is refused, or of PES packets none of which can be read: not
-        judged where all faults are warnings, whatever else there is."""
+    def test_is_not_judged_if_nothing_could_be_read(self) -> None:
         unread = b"".join(broken(one, 37) for one in packets(example_bytes("hello.pes")))
         pes = self.write("unread.pes", unread)
         every = self.write("warnings", b"others warning\n")
@@ -120,10 +114,8 @@ class Unread(OfProgramme):
 
 
 class Steps(Case):
-    """What the steps of a pair hand on."""
-
     def pair(self, *words: str, count: int = 0) -> Pair:
-        """A pair with parts that were judged."""
+        """Return a pair with judged parts."""
         verdict, nothing = verdict_of([part_with(0, 9, 0, number=number)
                                        for number in range(1, count + 1)]), mock.Mock()
         verdict.request = asked_for("one.stl", "one.pes", *words)
@@ -131,8 +123,6 @@ class Steps(Case):
             "one", "", None), nothing, False)
 
     def test_gives_each_part_its_subtitles_and_files(self) -> None:
-        """Each part has its number, its subtitles, its files; one alone those of the pair. Of
-        several, also of two, each subtitle has to be in one."""
         found = [Found(at, at + 9, Clock(0, GIVEN), None, Between(at, at + 10))
                  for at in (10, 20, 30)]
         for count in (1, 2, 3):
@@ -151,8 +141,7 @@ class Steps(Case):
                 [(alignment.between, 30) for alignment in found[:count]] if count > 1
                 else [(ALL_DAY, 30)]), made)
 
-    def test_asks_for_expected_pages_with_the_options_of_the_part(self) -> None:
-        """What is due is asked with the options of the part."""
+    def test_requests_expected_pages_with_the_options_of_the_part(self) -> None:
         of_part = asked_for("one.stl", "one.pes", *"--page 150 --option german --from 00:00:01:00 "
                             "--to 00:00:02:00 --layout double".split())
         with mock.patch.object(pair, "due_pages_of") as due:
@@ -160,9 +149,7 @@ class Steps(Case):
         due.assert_called_once_with(self.bench.program, "", [], (1, 0x50), "german",
                                     Between(25, 50), of_part.words_of_pages())
 
-    def test_never_sent(self) -> None:
-        """A page that is never sent is a fault beside those that are known, and what there is of
-        the recording is said."""
+    def test_adds_a_fault_for_a_page_never_sent(self) -> None:
         hidden, never = NamedFault(NOT_SHOWN, "hidden"), NamedFault(NEVER_SENT, "never")
         one, recording = self.pair(), mock.Mock()
         recording.survey.lines.return_value = ["one", "two"]
@@ -175,13 +162,10 @@ class Steps(Case):
         listener.said.assert_has_calls([mock.call("one"), mock.call("two")])
 
 
-class Said(OfProgramme):
-    """What is said of a pair, of one part."""
-
+class Sentences(OfProgramme):
     due, first = times(20), 50
 
-    def test_says_how_many_subtitles_are_late(self) -> None:
-        """Of all but the first, of some in the middle, of one; of what is accepted and waived."""
+    def test_counts_late_subtitles(self) -> None:
         def moved(places: Sequence[int], by: int = 7) -> Sent:
             sent = self.sent
             for place in places:
@@ -217,7 +201,6 @@ class Said(OfProgramme):
                       found.result["sentence"] == wanted, found.said)
 
     def test_names_a_subtitle_by_its_place_and_number(self) -> None:
-        """Of a subtitle its place in the file, and its SN where that is another, in each member."""
         found = self.judge(one_late(3, 7)(self.sent))
         place = {"position": 3, "number": 52, "begin": "00:00:12:00", "end": "00:00:14:10"}
         causes, faults = found.result["causes"], found.result["faults"]
@@ -229,9 +212,7 @@ class Said(OfProgramme):
                   and (causes[0]["name"], causes[0]["frames"], causes[0]["expected_text"]) ==
                   ("late", 7, "Number 52"), causes)
 
-    def test_texts_of_others(self) -> None:
-        """A subtitle in whose place another one is sent, the first too: which, and what; also where
-        not all of the file is judged."""
+    def test_names_another_subtitles_text(self) -> None:
         rows: list[tuple[int, list[str]]] = [(5, []), (1, []), (5, ["--from", "00:00:08:00"])]
         for number, words in rows:
             other = next(some for pts, some in self.sent if pts == 100 * number * TICKS)
@@ -247,8 +228,7 @@ class Said(OfProgramme):
                 found.result["cause_counts"]["another subtitle's text"] == 1 and
                 "1 subtitle: 1 another subtitle's text" in found.lines("causes of "), causes)
 
-    def test_says_where_reading_stops(self) -> None:
-        """A page that is not sent again before it is due to go: where reading stops, and why."""
+    def test_reports_where_reading_stops(self) -> None:
         early = [(pts - 3000 * TICKS, some) for pts, some in self.sent[-1:]]
         doubt = list(self.sent)
         broken_at = next(at for at, (pts, _) in enumerate(doubt) if pts == 300 * TICKS)
@@ -263,8 +243,7 @@ class Said(OfProgramme):
             'subtitle 3 (SN 52) at 00:00:12:00, "Number 52": late by 4 frames'] and
             found.parts("pes") == [(f"4-{len(self.sent) + 3}",)], found.said)
 
-    def test_judges_by_a_given_clock_what_nobody_can_estimate(self) -> None:
-        """A clock that is given judges what nobody can fit; of several runs one is to be said."""
+    def test_judges_by_a_given_clock_what_cannot_be_estimated(self) -> None:
         others = self.write("two.stl", random_subtitles(7)[0])
         self.schedule(others, "two.pes")
         three = programme(self, times(3), name="three.stl")
@@ -288,8 +267,7 @@ class Said(OfProgramme):
             self.must(f"{words}: to type", words[:5] == "--pes" or [
                 line.split()[-2:] for line in typed] == [["--pes", "I-J"]], found.said)
 
-    def test_says_by_how_much_all_subtitles_are_late(self) -> None:
-        """By how much all that is sent is late or early, by a clock that is given."""
+    def test_reports_the_delay_of_all_subtitles(self) -> None:
         for by, words in ((0, None), (2, "all subtitles are 2 frames late"),
                           (-1, "all subtitles are 1 frame early")):
             blank = [(300 * TICKS, self.sent[-1][1])]
@@ -301,8 +279,7 @@ class Said(OfProgramme):
             self.must(f"{by}: noted", found.result["notes"][:-1] == [words] * bool(words)
                       and found.result["notes"][-1].endswith(FEW), found.result["notes"])
 
-    def test_first_faults(self) -> None:
-        """Hints: the first letter, and the first header with other control bits."""
+    def test_gives_hints_for_the_first_faults(self) -> None:
         whole = "the whole file draws in --option swedish, italian, french, spanish, czech"
         found = judged(self, ACCENT)
         self.must("list", "1 faults" in found.said, found.said)
@@ -327,7 +304,6 @@ class Said(OfProgramme):
             found.result["faults"][0]["meaning"] == words, found.said)
 
     def test_judges_by_each_option(self) -> None:
-        """Complete pages, the page, the national option, severities."""
         stl = subtitle_file(self, [(90_000, 90_050, b"Gr\xc8u\xfbe"), (90_100, 90_150, b"Ja")],
                             "two.stl", language=b"08")
         self.schedule(stl, "two.pes", "--page", "1A9", "--option", "german", "--origin", "4242")

@@ -1,4 +1,4 @@
-"""Pairs in parts, and pairs within some frames, judged from the recording to the verdict."""
+"""Recordings with several parts, and recordings judged with a tolerance."""
 from __future__ import annotations
 
 import random
@@ -31,9 +31,7 @@ def cause_of(number: int, begin: int, by: int) -> str:
         f'{counted(by, "frame")}'
 
 
-class Parts(OfProgramme):
-    """Three parts of eight subtitles, after breaks and where PTS go back."""
-
+class SeveralParts(OfProgramme):
     due = times(24)
 
     def setUp(self) -> None:
@@ -42,7 +40,8 @@ class Parts(OfProgramme):
 
     def judge_parts(self, shifts: tuple[int, ...], changes: dict[int, int], *words: str,
                     marks: Sequence[int] = ()) -> Judged:
-        """Some subtitles are so many frames late, and before some PES packets there is a mark."""
+        """Judge parts with shifted PTS, delayed subtitles, and gap markers before some PES packets.
+        """
         sent = self.sent
         for number, by in changes.items():
             sent = one_late(number, by)(sent)
@@ -52,8 +51,6 @@ class Parts(OfProgramme):
                       *words)
 
     def test_judges_each_part_by_its_own_clock(self) -> None:
-        """The frames of each, its clock, its PES packets; the clock that is given is that of the
-        first part alone."""
         edges = ((100, 860), (900, 1660), (1700, 2460))
         begins = (100, 885, 1685)
         given = ["--origin", str(ORIGIN)]
@@ -96,7 +93,6 @@ class Parts(OfProgramme):
                 "part", "from", "to", "origin", "pes", "verdict") == members, of_all.said)
 
     def test_refuses_a_fault_in_any_part(self) -> None:
-        """The first, the second and the last part, by the file's numbers; nothing is advised."""
         every: list[dict[int, int]] = [
             {3: 2}, {10: 3}, {19: 1}, {3: 2, 10: 4, 19: 3}, {3: 5, 19: 2}, {10: 2, 19: 6},
             {3: 7, 10: 1}]
@@ -131,8 +127,7 @@ class Parts(OfProgramme):
             self.must(f"{changes}: counts", found.lines("causes of ") == [
                 f"{len(changes)} subtitle{'s' * (len(changes) > 1)}: {len(changes)} late"])
 
-    def test_sums_up_parts_that_are_judged_within_frames(self) -> None:
-        """Where parts are judged within N: the sums."""
+    def test_sums_up_the_delays_of_all_parts(self) -> None:
         found = self.judge_parts((1000, 3000), {10: 2, 19: 4}, "--within", "1")
         self.must("refused", "subtitles are whole after 0 to 4 frames, 0 in the middle" in
                   found.said[-5:], found.said)
@@ -140,8 +135,6 @@ class Parts(OfProgramme):
         self.must("accepted", found.word == "accepted")
 
     def test_counts_a_gap_marker_in_the_part_that_it_ends(self) -> None:
-        """A mark in the first part, the second and the last; one behind the last of a part is of
-        that one: where it is, and whether the verdict speaks of it."""
         every, clock = ["--every", "50"], ["--origin", str(ORIGIN)]
         rows: list[tuple[list[int], list[int]]] = [
             ([3], [1]), ([self.at[1000]], [2]), ([self.at[885]], [1]), ([3, self.at[2000]], [1, 3]),
@@ -161,10 +154,7 @@ class Parts(OfProgramme):
                                        marks=places)
             self.must(f"{at}: allowed", allowed.word == ("waived" if own else "accepted"))
 
-    def test_what_each_adds(self) -> None:
-        """Faults without a number, notes and warnings: those of the subtitle file, and of each
-        part; what a later one has hides none of an earlier one. Whether the page is announced
-        elsewhere is asked of the time of all."""
+    def test_collects_notes_and_warnings_of_each_part(self) -> None:
         def left(_: object, pid: int, found: object, within: int, number: int) -> PicturesFound:
             return PicturesFound([NamedFault(PICTURES_LEFT, f"left {number}", part=number)] * (
                 number in own), [f"note {number}"])
@@ -196,8 +186,7 @@ class Parts(OfProgramme):
             self.must(f"{own}: parts", [one[:2] for one in found.parts("part", "verdict")] == [
                 (1, "refused"), (2, "accepted"), (3, "accepted")], found.said)
 
-    def test_no_break(self) -> None:
-        """A break that is not said, and one that is said and is none."""
+    def test_refuses_a_wrong_number_of_breaks(self) -> None:
         data = self.write("one.pes", joined(apart(self.sent, 1000, 3000)))
         found = judged(self, self.stl, data, "--breaks", "1")
         self.must("one of two", found.word == "not judged" and not any(
@@ -207,50 +196,46 @@ class Parts(OfProgramme):
             self.must(count, judged(self, self.stl, whole, "--breaks", count).word == word)
 
 
-# Ways in which what is right is sent over several frames.
+# Correct transmissions that take several frames.
 
 def in_fields(sent: Sent) -> Sent:
-    """The header in the first field of each frame, the rows in the second."""
+    """Send the header in the first field of a frame and the rows in the second."""
     return [one for pts, some in sent for one in ((pts, some[:1]), (pts + TICKS // 2, some[1:]))]
 
 
 def in_fields_at_once(sent: Sent) -> Sent:
-    """The same, and both have the PTS of the frame."""
+    """Send header and rows apart, with the PTS of the frame."""
     return [one for pts, some in sent for one in ((pts, some[:1]), (pts, some[1:]))]
 
 
 def with_late_rows(sent: Sent, by: int = 1) -> Sent:
-    """The rows some frames after their header."""
+    """Send the rows some frames after their header."""
     return [one for pts, some in sent for one in (
         [(pts, some)] if len(some) == 2 else [(pts, some[:1]), (pts + TICKS * by, some[1:])])]
 
 
 def in_three_frames(sent: Sent) -> Sent:
-    """The header in one frame, and each of two rows in one of its own."""
+    """Send the header and each of two rows in a frame of its own."""
     return [(pts + TICKS * number, part) for pts, some in sent for number, part in enumerate(
         [some] if len(some) == 2 else [some[:1], some[1:2], some[2:]])]
 
 
 def with_jitter(sent: Sent) -> Sent:
-    """Each PTS a few milliseconds off."""
+    """Shift each PTS by a few milliseconds."""
     chance = random.Random(1)
     return [(pts + chance.randrange(-EARLY // 2, EARLY // 2), some) for pts, some in sent]
 
 
 def under_load(sent: Sent) -> Sent:
-    """Each sending up to two frames late."""
+    """Delay each page transmission by up to two frames."""
     chance = random.Random(2)
     return [(pts + TICKS * chance.randrange(3), some) for pts, some in sent]
 
 
-class Within(OfProgramme):
-    """Recordings in which pages come over several frames."""
-
+class Tolerances(OfProgramme):
     lines, origin, words = 2, ORIGIN, ()
 
-    def test_accepts_late_rows_within_some_frames(self) -> None:
-        """Refused without, accepted within some frames, with the clock that is given and with one
-        that is found; and after how many frames subtitles are whole then."""
+    def test_accepts_late_rows_within_the_tolerance(self) -> None:
         ways: list[tuple[str, Change, int, int]] = [
             ("fields", in_fields, 1, 0), ("fields at once", in_fields_at_once, 1, 0),
             ("late rows", with_late_rows, 1, 1), ("jitter", with_jitter, 1, 0),
@@ -269,9 +254,7 @@ class Within(OfProgramme):
                 self.must(f"{name}: the clock", abs(
                     found.result["parts"][0]["origin"] - ORIGIN) < EARLY, found.said)
 
-    def test_estimates_the_clock_within_some_frames(self) -> None:
-        """The most cues agree within N frames, and of equals the one of which the first is not
-        late; within 0 that of the beginnings, as a page that each repeat erases does not change."""
+    def test_estimates_the_clock_with_a_tolerance(self) -> None:
         ways: list[tuple[str, Change, int, int | None]] = [
             ("fields", in_fields, 1, 0), ("late rows", with_late_rows, 1, 0),
             ("jitter", with_jitter, 1, None), ("load", under_load, 2, 0)]
@@ -295,9 +278,7 @@ class Within(OfProgramme):
                       any(f"all ends are {early} early compared with" in line
                           for line in origin.lines), origin)
 
-    def test_of_each_subtitle(self) -> None:
-        """After how many frames it was whole: of the first, one between, and the last; where it
-        never was, or nobody heard it begin."""
+    def test_measures_the_delay_of_each_subtitle(self) -> None:
         early = (self.sent[0][0] - 40 * TICKS, self.sent[-1][1])
         rows: list[tuple[Sent, list[int | None]]] = [
             (self.sent, [0] * 10), ([early, *self.moved(1, 2)], [2, *[0] * 9]),
@@ -323,9 +304,7 @@ class Within(OfProgramme):
         begin = ORIGIN + EACH * number * TICKS
         return [one for one in self.sent if not begin <= one[0] < begin + LASTS * TICKS]
 
-    def test_finds_causes_within_some_frames(self) -> None:
-        """Fields with one PTS are no wrong colour; a repeat that erases the page for longer is not
-        late; frames of a pause and of what is late after it add up."""
+    def test_finds_causes_with_a_tolerance(self) -> None:
         hello = [(ORIGIN + pts, some) for pts, some in sendings(self, HELLO)]
         pauses = programme(self, [(103 * at, 103 * at + 100) for at in range(1, 6)], name="two.stl")
         sent = [(ORIGIN + pts, some) for pts, some in sendings(self, pauses)]
@@ -346,9 +325,7 @@ class Within(OfProgramme):
         self.must("of six in a row", judged(self, pauses, self.path("one.pes"), "--origin",
                                             str(ORIGIN), "--within", "6").word == "accepted")
 
-    def test_finds_the_pes_packet_of_a_fault_in_a_frame_of_several(self) -> None:
-        """A fault of a packet has the PES packet that holds it, though the packets of a frame are
-        counted on; one of a frame's end the last of its PES packets."""
+    def test_finds_the_pes_packet_in_a_frame_with_several(self) -> None:
         for at, bits, wanted in ((10, 0x80, (68, 1, 1, "10:00:00:00")),
                                  (22, 0x06, (72, 1, None, "10:00:00:00"))):
             some = in_fields(sendings(self, HELLO))

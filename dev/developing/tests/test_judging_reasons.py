@@ -1,4 +1,4 @@
-"""Why a pair is refused or not judged; headers that keep the page."""
+"""The reasons for which a pair is refused or not judged, and headers that keep the page."""
 from __future__ import annotations
 
 from typing import Sequence
@@ -26,15 +26,14 @@ from .transmissions import (
     CLOSING, HEADER, PAGE, Sent, in_pipe, joined, programme, row, scheduled, times)
 
 
-# Why a recording is refused, or not judged: the reason that is told is the sender's fault.
+# The reported reason is the sender's fault.
 
 WORDS = "--every", "100"
-OTHER_PAGE = packet(0, 0, [0, 0, 0, 8, 0, 0, 0, 0], b" " * 32)  # a header of 800
+OTHER_PAGE = packet(0, 0, [0, 0, 0, 8, 0, 0, 0, 0], b" " * 32)  # a header of page 800
 
 
 def changed(one: bytes, at: int, off: int, on: int) -> bytes:
-    """A header of page 888 with some bits of one of its numbers clear, and others set; another
-    packet as it is."""
+    """Clear and set bits of one number in a header of page 888; return other packets unchanged."""
     address = address_of(one)
     numbers = header_of(one) if address and address[1] == 0 else None
     if numbers is None or numbers[:2] != b"\x08\x08":
@@ -47,10 +46,7 @@ def all_changed(sent: Sent, at: int, off: int, on: int) -> Sent:
 
 
 class Reasons(OfProgramme):
-    """Ten subtitles, with a page transmission a second."""
-
     def test_reports_headers_that_never_erase(self) -> None:
-        """C4 is clear in all headers: that is told, and nothing of PES packets of one frame."""
         found = self.judge(all_changed(self.sent, 3, 8, 0), *WORDS)
         words = "C4 (erase page) is clear in 49 of 49 headers"
         self.must("said", found.word == "refused" and found.verdict.sentence ==
@@ -59,9 +55,7 @@ class Reasons(OfProgramme):
                   found.result["hints"] == [f"67: {words}"] and
                   not any(IN_PARTS in line for line in found.said), found.said)
 
-    def test_says_why_a_decoded_page_is_refused(self) -> None:
-        """Why a page is not due at a frame at whose end it is held: several PES packets, bytes of
-        even parity."""
+    def test_reports_why_a_decoded_page_is_refused(self) -> None:
         text = row(20, b"Text")
         even = text[:10] + bytes([text[10] ^ 0x80]) + text[11:]
         for name, sent, words in (
@@ -78,7 +72,6 @@ class Reasons(OfProgramme):
         self.must("behind one that goes back", found == UNSEEN, found)
 
     def test_reports_a_scrambled_pid(self) -> None:
-        """A PID that is scrambled is told so, in files and feeds; no other page is advised."""
         data = bytearray(beside_video(b"".join(self.pes)))
         for at in range(0, len(data), 188):
             if (data[at + 1] & 31, data[at + 2]) == (TELETEXT_PID >> 8, TELETEXT_PID & 255):
@@ -90,8 +83,7 @@ class Reasons(OfProgramme):
                       f"Not judged: {recording} has no header of page 888; {words}." and
                       not any("type " in line for line in found.told), found.told)
 
-    def test_headers_of_another_length(self) -> None:
-        """The PID, how long the PES headers are, and how long they have to be."""
+    def test_reports_the_length_of_pes_headers(self) -> None:
         for length in (0, 5, 14, 0x23, 0x25, 36 + 184):
             of_length = [one[:4] + (len(one) - 6 + length - 36).to_bytes(2, "big") + one[6:8]
                          + bytes([length]) + one[9:14].ljust(length, b"\xff")[:length] + one[45:]
@@ -114,9 +106,7 @@ class Reasons(OfProgramme):
         path = self.write("none", b"\x47\x41\x01\x30\xff".ljust(188, b"\0") * 9)
         self.assertEqual(read_pes_header(self.bench.program, path, TELETEXT_PID, 188), b"refused 6")
 
-    def test_rows_of_a_page_that_is_not_open(self) -> None:
-        """Another header, or one that ends all pages, between header and rows: that is told with
-        the origin, and without."""
+    def test_reports_rows_of_a_closed_page(self) -> None:
         for name, between in (("FF", CLOSING), ("800", OTHER_PAGE)):
             sent = [(pts, [some[0], between, *some[1:]]) for pts, some in self.sent]
             path = self.write("one.pes", joined(sent))
@@ -129,8 +119,7 @@ class Reasons(OfProgramme):
                 "Not judged: the origin is not clear: rows came while 888 was not open, in "),
                 reason)
 
-    def test_sub_pages(self) -> None:
-        """Sub-pages that alternate are told, with their subcodes; those that do not are not."""
+    def test_reports_alternating_sub_pages(self) -> None:
         alternate = [one for pts, some in all_changed(self.sent, 2, 15, 1) for one in (
             (pts, some), (pts + 4 * TICKS, [changed(HEADER, 2, 15, 2), row(20, b"Other"),
                                             CLOSING]))]
@@ -146,7 +135,6 @@ class Reasons(OfProgramme):
         self.assertEqual(subcode_of(bytes([8, 8, 1, 8 + 2, 3, 8 + 2, 1, 0])), "2321")
 
     def test_finds_sub_pages_that_alternate(self) -> None:
-        """From how many turns on sub-pages alternate, however PES packets have them."""
         def sent(*codes: str) -> Packets:
             return Packets(0, [Run(at, int(word[0]), 0, 0, "h", "+".join(
                 f"88{one}80810" for one in word[1:])) for at, word in enumerate(codes)])
@@ -163,8 +151,7 @@ class Reasons(OfProgramme):
             self.assertEqual(len(turns_of(once, inside)), count, inside)
         self.assertEqual([*other_words(sent("11", "12"), PAGE)], [])
 
-    def test_losses_by_the_clock(self) -> None:
-        """Of more packets than a counter counts the PCR tells how long they took."""
+    def test_estimates_losses_by_the_pcr(self) -> None:
         stl = programme(self, [(2000 + 25 * at, 2020 + 25 * at) for at in range(40)],
                         name="long.stl")
         made = multiplexed(scheduled(self, stl, "--every", "1"), Shape(4000, 1800))
@@ -196,7 +183,7 @@ class Reasons(OfProgramme):
                          "the PCR; their counter tells 3 of them, 4 TS packets scrambled")
 
 
-# Headers that keep the page: what is told of them, by which table; and pairs with such repeats.
+# Headers that keep the page: their descriptions, and pairs with such repeats.
 
 NUMBERS = bytes([8, 8, 0, 8, 0, 8, 1, 0])  # of HEADER
 KEEPS = bytes([8, 8, 0, 0, 0, 8, 1, 0])
@@ -206,12 +193,15 @@ CLEAR = "C4 (erase page) is clear"
 
 
 def of_subcode(header: bytes, digit: int) -> bytes:
-    """The header with another first digit of its subcode."""
+    """Return the header with another first digit of its subcode."""
     return header[:2] + bytes([digit]) + header[3:]
 
 
 def numbers(**places: int) -> bytes:
-    """A header that keeps the page, with other numbers at some places, `p5` for the fifth."""
+    """Return the numbers of a header that keeps the page, some of them changed (`p5`:
+
+    the fifth).
+    """
     made = bytearray(KEEPS)
     for name, value in places.items():
         made[int(name[1:])] = value
@@ -219,11 +209,7 @@ def numbers(**places: int) -> bytes:
 
 
 class Headers(Case):
-    """What is told of one header."""
-
-    def test_knows_the_header_before_each_header(self) -> None:
-        """The headers of a PES packet, each with the one before it, and whether the page is open:
-        behind nothing, behind a page, and one behind another."""
+    def test_knows_the_previous_header_of_each_header(self) -> None:
         one, other = "88000810", "88100810"
         heard = TUNED._replace(is_heard=True, is_open=True, header=NUMBERS)
         first, second = KEEPS, of_subcode(KEEPS, 1)
@@ -238,8 +224,7 @@ class Headers(Case):
             found = [tuple(header) for header in headed(run, state)]
             self.must(f"{does} {control}", found == wanted, found)
 
-    def test_why_it_has_to_erase(self) -> None:
-        """By what is asked, the header before, and whether the page is open."""
+    def test_explains_why_a_header_must_erase(self) -> None:
         other = of_subcode(KEEPS, 1)
         subcode = f"{CLEAR}, and the sub-code is another one than before: 0000 after 0001"
         is_open = f"{CLEAR}, and the page was still open: no header had ended it"
@@ -257,8 +242,6 @@ class Headers(Case):
             self.must(f"{header} {words}", found == wanted, found)
 
     def test_describes_the_first_wrong_header_of_several(self) -> None:
-        """Of several headers the first of which something is wrong, by what is asked: what that is,
-        and what the page does."""
         good, keeps, german, plain = map(Headed, (
             NUMBERS, KEEPS, bytes([*NUMBERS[:7], 8]), bytes([*NUMBERS[:5], 0, 1, 0])))
         other, clear = "the header is German, and english is asked for", "C6 (subtitle) is clear"
@@ -274,8 +257,7 @@ class Headers(Case):
             self.must(f"{headers} {words}", header_words(headers, asked) == said and
                       effect in (None, effect_of(headers, asked)), effect_of(headers, asked))
 
-    def test_other_bits(self) -> None:
-        """C4 is told first, and nothing of it where it may be clear."""
+    def test_reports_c4_first(self) -> None:
         self.must("may be", control_words(KEEPS, "english") == [])
         found = control_words(numbers(p5=0), "english", REPEATS)
         self.must("both", found == [REPEATS, "C6 (subtitle) is clear"], found)
@@ -284,11 +266,8 @@ class Headers(Case):
             self.must(option.word, found == [], found)
 
 
-class Counted(Case):
-    """What is told of all headers of a part."""
-
+class HeaderCounts(Case):
     def test_counts_headers_that_keep_the_page(self) -> None:
-        """None that keeps, one, all; one with another wrong bit, of any that is there."""
         rows: list[tuple[dict[bytes, int], str, tuple[int, int] | None]] = [
                 ({}, "english", None), ({NUMBERS: 7}, "english", None),
                 ({KEEPS: 1}, "english", (1, 1)), ({NUMBERS: 7, KEEPS: 3}, "english", (10, 3)),
@@ -300,8 +279,7 @@ class Counted(Case):
             found = kept_in(headers, option)
             self.must(f"{headers} {option}", (found and found[:2]) == wanted, found)
 
-    def test_names_rows_that_are_left_out(self) -> None:
-        """No row came, one is told, one is not; and how many more are left out."""
+    def test_names_missing_rows(self) -> None:
         cases: list[tuple[list[int], int | None, int, str]] = [
                 ([], 22, 0, ""), ([22], 22, 0, "row 22"), ([22], None, 0, "row 22"),
                 ([20, 22], 20, 0, "rows 20 and 22"), ([1, 2, 24], 1, 0, "rows 1, 2 and 24"),
@@ -313,8 +291,8 @@ class Counted(Case):
             self.must(f"{rows} {told} {came}", found == wanted, found)
 
 
-def at(frames: Sequence[tuple[int, list[bytes]]]) -> bytes:
-    """The PES packets of some frames."""
+def packets_at(frames: Sequence[tuple[int, list[bytes]]]) -> bytes:
+    """Return the PES packets of some frames."""
     return b"".join(pes_packet(TICKS * frame, some) for frame, some in frames)
 
 
@@ -322,93 +300,85 @@ WHOLE, AGAIN = [HEADER, FIRST, SECOND, CLOSING], [KEEPING_HEADER, FIRST, SECOND,
 ONE_LESS, BARE = [KEEPING_HEADER, FIRST, CLOSING], [KEEPING_HEADER, CLOSING]
 
 
-def frame_words(frame: int) -> str:
-    """The place of a frame, as it is told."""
+def frame_text(frame: int) -> str:
+    """Format a frame as in a fault line."""
     return f"frame {time_of(frame)}"
 
 
-class RowsLeftOut(Case):
-    """Rows that are left out behind a header that keeps the page."""
-
-    def held(self, *frames: tuple[int, list[bytes]], within: int = 0) -> tuple[Timeline, Rows]:
-        """What is held, and the page that is sent first."""
-        found = timeline_of(self, at(frames), within=within)
+class MissingRows(Case):
+    def decode(self, *frames: tuple[int, list[bytes]], within: int = 0) -> tuple[Timeline, Rows]:
+        """Return the decoded pages, and the first page."""
+        found = timeline_of(self, packets_at(frames), within=within)
         return found, found.page_at(frames[0][0])
 
-    def told_at(self, frame: int, *before: str) -> Answer:
-        """What `check --all` tells where the content of row 22 is refused at a frame."""
-        lines = [*before, f"refused 72 Content {frame_words(frame)} row 22 column 0"]
+    def answer_at(self, frame: int, *before: str) -> Answer:
+        """Return the answer of `check --all` if row 22 is refused at a frame."""
+        lines = [*before, f"refused 72 Content {frame_text(frame)} row 22 column 0"]
         return answer([*lines, f"{len(lines)} faults"], path=self.path("told"))
 
-    def test_at_a_frame(self) -> None:
-        """By the last header, and what came behind it; where another page is held, nothing."""
-        held, due = self.held((0, WHOLE), (25, AGAIN), (50, ONE_LESS), (75, BARE), (100, WHOLE))
+    def test_finds_the_rows_missing_at_a_frame(self) -> None:
+        held, due = self.decode((0, WHOLE), (25, AGAIN), (50, ONE_LESS), (75, BARE), (100, WHOLE))
         for frame, wanted in (
                 (0, ""), (24, ""), (50, "row 22"), (60, "row 22"), (75, "rows 20 and 22"),
                 (99, "rows 20 and 22"), (100, "")):
-            found = left_at(held, due, frame, self.told_at(frame))
+            found = left_at(held, due, frame, self.answer_at(frame))
             self.must(f"{frame}", found == wanted, found)
-        self.must("the row", [self.told_at(frame).row_at(9) for frame in (0, 9, 10)] ==
+        self.must("the row", [self.answer_at(frame).row_at(9) for frame in (0, 9, 10)] ==
                   [22, 22, None])
         self.must("nothing told", left_at(held, due, 50, None) == "a row")
         self.must("another page is due", left_at(held, BLANK_PAGE, 50, None) == "")
-        nothing = timeline_of(self, at([(5, [CLOSING])]))
+        nothing = timeline_of(self, packets_at([(5, [CLOSING])]))
         self.must("no header", left_at(nothing, BLANK_PAGE, 5, None) == "")
 
-    def test_changed_rows(self) -> None:
-        """A row that came otherwise since the page was erased: the first one counts, which is not
-        held; of one before that, and of one after the frame, nothing is known."""
-        held, due = self.held((0, WHOLE), (20, WHOLE), (25, ONE_LESS), (50, ONE_LESS))
+    def test_a_changed_row_is_not_missing(self) -> None:
+        held, due = self.decode((0, WHOLE), (20, WHOLE), (25, ONE_LESS), (50, ONE_LESS))
         for frame, wanted in ((0, "row 22"), (19, "row 22"), (20, ""), (25, ""), (26, "row 22")):
-            told = self.told_at(25, f"refused 69 RowChanged {frame_words(frame)} packet 1")
+            told = self.answer_at(25, f"refused 69 RowChanged {frame_text(frame)} packet 1")
             found = left_at(held, due, 25, told)
             self.must(f"{frame}", found == wanted, found)
-        held, due = self.held((0, AGAIN), (25, ONE_LESS))
-        told = self.told_at(25, f"refused 69 RowChanged {frame_words(0)} packet 1")
+        held, due = self.decode((0, AGAIN), (25, ONE_LESS))
+        told = self.answer_at(25, f"refused 69 RowChanged {frame_text(0)} packet 1")
         self.must("none erases", left_at(held, due, 25, told) == "")
 
-    def test_in_parts(self) -> None:
-        """Within frames all that comes up to then counts."""
+    def test_counts_rows_up_to_the_tolerance(self) -> None:
         frames = (0, WHOLE), (25, [KEEPING_HEADER]), (26, [FIRST]), (50, WHOLE)
-        held, due = self.held(*frames, within=2)
-        self.must("both frames", left_at(held, due, 27, self.told_at(27)) == "row 22")
-        held, due = self.held(*frames)
-        self.must("one frame", left_at(held, due, 25, self.told_at(25)) == "rows 20 and 22")
+        held, due = self.decode(*frames, within=2)
+        self.must("both frames", left_at(held, due, 27, self.answer_at(27)) == "row 22")
+        held, due = self.decode(*frames)
+        self.must("one frame", left_at(held, due, 25, self.answer_at(25)) == "rows 20 and 22")
 
-    def test_finds_rows_left_out_behind_a_keeping_header(self) -> None:
-        """Why a page is not as it is due at a frame at whose end it is held."""
-        held, due = self.held((0, WHOLE), (25, BARE), (50, ONE_LESS))
+    def test_finds_rows_missing_after_a_keeping_header(self) -> None:
+        held, due = self.decode((0, WHOLE), (25, BARE), (50, ONE_LESS))
         one = Subtitle(1, 1, 0, 100, 20, 2, b"1")
-        namer = Namer(DuePages([one], [due]), held, self.told_at(50))
+        namer = Namer(DuePages([one], [due]), held, self.answer_at(50))
         for frame, wanted in ((0, ""), (25, "rows 20 and 22"), (50, "row 22")):
             self.must(f"{frame}", namer.rows_left(frame) == wanted, namer.rows_left(frame))
         namer.held.lost = Meeting([Span(50, 50)])
         self.must("not received", namer.rows_left(50) == "" and namer.rows_left(25) != "")
         several = (25, [KEEPING_HEADER]), (25, [FIRST, CLOSING])
         for within, wanted in ((0, ""), (1, "row 22")):
-            held, due = self.held((0, WHOLE), *several, within=within)
-            namer = Namer(DuePages([one], [due]), held, self.told_at(25))
+            held, due = self.decode((0, WHOLE), *several, within=within)
+            namer = Namer(DuePages([one], [due]), held, self.answer_at(25))
             self.must(f"in two, {within}", namer.rows_left(25) == wanted, namer.rows_left(25))
 
 
-    def test_not_erased(self) -> None:
-        """A header without rows before its TCI erases no subtitle that is due; one behind it does.
-        """
+    def test_an_early_header_without_rows_erases_nothing(self) -> None:
         one, faulty = Subtitle(1, 1, 25, 100, 20, 2, b"1"), Faulty()
         for frame, name, words in ((0, "unknown", f"it has not come at {time_of(25)}"),
                                    (30, "erased", "by a header without rows, at 00:00:01:05")):
             bare, whole = (frame, [HEADER, CLOSING]), (26 if not frame else 25, WHOLE)
-            held, _ = self.held(*sorted([bare, whole, (50, WHOLE)]), within=1)
+            held, _ = self.decode(*sorted([bare, whole, (50, WHOLE)]), within=1)
             due = held.page_at(50)
             faulty.within = Span(25 if not frame else 30, 35)
-            cause = Namer(DuePages([one], [due]), held, self.told_at(25)).cause(0, faulty)
+            cause = Namer(DuePages([one], [due]), held, self.answer_at(25)).cause(0, faulty)
             self.must(name, (cause.name, cause.words) == (name, words), cause)
 
 
-def as_houses(sent: Sent, way: str = "", frames: int = 0) -> Sent:
-    """The page transmissions, with headers that keep the page where they are the one before once
-    more: whole; the third of these with no row, or with another subcode; or with the rows so many
-    frames later."""
+def with_keeping_repeats(sent: Sent, way: str = "", frames: int = 0) -> Sent:
+    """Use headers that keep the page for repeats:
+
+    completely, with a missing row, with another subcode, or with late rows.
+    """
     made: Sent = []
     before: list[bytes] = []
     count = 0
@@ -428,47 +398,40 @@ def as_houses(sent: Sent, way: str = "", frames: int = 0) -> Sent:
     return made
 
 
-class Pairs(OfProgramme):
-    """Three subtitles of two seconds and more, with a page transmission a second."""
-
+class KeepingRepeats(OfProgramme):
     due = times(3)
 
     def judged(self, way: str, *words: str, frames: int = 0) -> Judged:
-        return self.judge(as_houses(self.sent, way, frames), *words)
+        return self.judge(with_keeping_repeats(self.sent, way, frames), *words)
 
     def test_accepts_keeping_headers_only_if_they_are_allowed(self) -> None:
-        """Accepted where repeats may keep the page, which is typed and stands in the result; else
-        that is said."""
         found = self.judged("", "--keeping")
         self.must("accepted", found.word == "accepted" and
                   found.result["request"]["keeping"] is True
                   and any(" --keeping " in line for line in found.lines("+ ")), found.said)
         found = self.judged("")
         keeping = sum(one != other for (_, one), (_, other) in zip(
-            as_houses(self.sent), self.sent))
+            with_keeping_repeats(self.sent), self.sent))
         words = f"{CLEAR} in {keeping} of {len(self.sent)} headers"
         self.must("refused", found.word == "refused" and found.result["hints"] == [f"67: {words}"]
                   and words in found.verdict.sentence and
                   found.result["request"]["keeping"] is False
                   and all(one["meaning"] == REPEATS for one in found.result["faults"]), found.said)
 
-    def test_left_out(self) -> None:
-        """No row comes with one of them: by --keeping that is the cause."""
+    def test_names_missing_rows_as_the_cause(self) -> None:
         found = self.judged("left out", "--keeping")
         self.must("a cause", found.word == "refused" and {one["number"] for one in found.result[
             "faults"]} == {CONTENT} and [one["line"] for one in found.result["causes"]] ==
             [f"not repeated whole: row 22 {REPEATED}"] and
             "(row 22 left out behind a header" in found.verdict.sentence, found.said)
 
-    def test_refuses_another_sub_code_all_the_same(self) -> None:
-        """Another subcode is refused all the same."""
+    def test_refuses_another_subcode_with_keeping(self) -> None:
         found = self.judged("subcode", "--keeping")
         self.must("by it", found.word == "refused" and found.result["hints"] == [
             f"67: {CLEAR}, and the sub-code is another one than before: 0001 after 0000"],
             found.said)
 
-    def test_takes_rows_of_the_next_frame_for_a_late_page(self) -> None:
-        """Rows that come a frame later are of a page that is late, and within one it is right."""
+    def test_rows_of_the_next_frame_make_the_page_late(self) -> None:
         found = self.judged("", "--keeping", "--no-complete", frames=1)
         self.must("late", found.word == "refused", found.said)
         found = self.judged("", "--keeping", "--within", "1", frames=1)

@@ -1,5 +1,6 @@
-"""Recordings judged in process: files of PES packets, transport streams, feeds; what is written and
-kept of them, and what is said where something is not clear.
+"""Judged files of PES packets, transport streams and pipes:
+
+warnings, stored copies, missing and foreign data.
 """
 from __future__ import annotations
 
@@ -20,11 +21,7 @@ from .test_judging_pairs import ACCENT, HELLO, STORY, broken
 
 
 class Recordings(Case):
-    """Files of PES packets, transport streams, feeds."""
-
-    def test_the_same_of_all(self) -> None:
-        """What is refused of a file of PES packets is refused of a stream, and of each as a feed:
-        with faults, with what can't be read, with causes; and what is accepted is."""
+    def test_judges_all_kinds_of_recordings_the_same(self) -> None:
         five = list(packets(example_bytes("five-faults.pes")))
         for at in (2, 3, 7):
             five[at] = broken(five[at], 37)
@@ -62,11 +59,9 @@ class Recordings(Case):
             self.must(f"{name}: the same list", len(lists) == 1, lists)
 
     def test_warns_without_changing_the_status_unless_strict(self) -> None:
-        """What is strange of a stream: said, in the result, and no change of the status unless it
-        counts."""
         pes = example_bytes("story.pes")
         french = self.write("french.stl", example_bytes("story.stl")[:14] + b"00" +
-                            example_bytes("story.stl")[16:])  # of no language
+                            example_bytes("story.stl")[16:])  # without a language
         rows: list[tuple[str, bytes, int, list[str]]] = [
             (STORY, teletext_descriptor(), 0, []), (STORY, teletext_descriptor(), 90_000, []),
             (STORY, teletext_descriptor(), -1, ["pts_behind"]),
@@ -91,8 +86,7 @@ class Recordings(Case):
                 "warned" if kinds else "accepted") and (not kinds or strict.said[-1].startswith(
                     f"not accepted, since warnings count ({', '.join(kinds)}): ")), strict.said)
 
-    def test_what_is_not_whole(self) -> None:
-        """A recording whose end is cut after the last TCO; a cut subtitle file."""
+    def test_handles_truncated_files(self) -> None:
         pes = example_bytes("story.pes")
         stream = in_stream((TELETEXT_PID, pes))
         later = pes_packet(pts_in(packets(pes)[-1]) + 100 * TICKS, [HEADER] * 5)  # two TS packets
@@ -105,8 +99,7 @@ class Recordings(Case):
         self.must("counts", judged(self, cut, "--strict").said[-1].startswith(
             "not accepted, since warnings count (blocks, subtitles): "))
 
-    def test_feeds_in_parts(self) -> None:
-        """A break of what comes through a pipe."""
+    def test_judges_a_pipe_in_parts(self) -> None:
         stl = programme(self, times(24))
         sent = sendings(self, stl)
         data = joined(apart(sent, 1000))
@@ -116,9 +109,7 @@ class Recordings(Case):
             found.parts("origin") == [
             (ORIGIN,), (ORIGIN + 1000 * TICKS,)], found.said)
 
-    def test_judges_losses_of_the_page_s_own_pid(self) -> None:
-        """The PID with the page, the first or the second; a loss of it counts, and none of the
-        other one."""
+    def test_counts_losses_of_the_page_pid_only(self) -> None:
         stl = programme(self, times(10), 2)
         sent = sendings(self, stl)
         own = joined(sent)
@@ -139,9 +130,7 @@ class Recordings(Case):
                                   found.result["losses"]] == [(True, 1)] * (lost == page),
                       found.said)
 
-    def test_other_bytes(self) -> None:
-        """Bytes between TS packets, packets of 192 and 204 bytes, and what is no PES packet at the
-        end of a feed: what is said of them."""
+    def test_reports_foreign_bytes(self) -> None:
         pes = example_bytes("story.pes")
         whole = in_stream((TELETEXT_PID, pes))
         junk = whole[:188 * 20] + b"x" * 40 + whole[188 * 20:]
@@ -159,8 +148,7 @@ class Recordings(Case):
             self.must(words, found.word == "accepted" and
                       any(cut in one for one in found.said) == bool(words), found.said)
 
-    def test_what_there_is(self) -> None:
-        """Two PIDs with the page, none, one with something else, none at all; what to type."""
+    def test_reports_missing_or_ambiguous_pids(self) -> None:
         pes = example_bytes("story.pes")
         both = self.write("both.ts", in_stream((TELETEXT_PID, pes), (0x102, pes)))
         one = self.write("one.ts", in_stream((TELETEXT_PID, pes)))
@@ -197,8 +185,7 @@ class Recordings(Case):
             found = judged(self, STORY, both, "--pid", pid)
             self.must(pid, found.word == "accepted" and found.parts("pid") == [(int(pid, 16),)])
 
-    def test_keeps_a_recording_and_its_sums(self) -> None:
-        """What is written and kept of a file and of a feed, and the sums of what was read."""
+    def test_stores_a_recording_and_its_hashes(self) -> None:
         pes = example_bytes("story.pes")
         data = in_stream((TELETEXT_PID, pes))
         path = self.write("one.ts", data)
@@ -224,8 +211,7 @@ class Recordings(Case):
             self.must(f"{words} {recording}: kept", "recording.pes" not in kept or
                       self.read(f"{out}/one.recording.pes") == pes)
 
-    def test_recording_that_is_not_read(self) -> None:
-        """A subtitle file alone, and one that is refused: the report says so."""
+    def test_reports_that_the_recording_was_not_read(self) -> None:
         judged(self, STORY, "-o", self.path("alone"))
         self.must("alone", sorted(os.listdir(self.path("alone"))) == [
             "one.html", "one.json", "one.txt"])
@@ -233,8 +219,7 @@ class Recordings(Case):
         self.must("said", found.word == "refused" and b"one.ts: it was not read" in
                   self.read("out/one.html"), found.said)
 
-    def test_subtitle_files(self) -> None:
-        """Alone: right, of one subtitle, refused."""
+    def test_judges_a_subtitle_file_alone(self) -> None:
         for stl, lines in ((STORY, ["Accepted: nothing is wrong with 3 subtitles.",
                                     "3 subtitles, nothing is wrong with them"]),
                            (HELLO, ["Accepted: nothing is wrong with 1 subtitle.",

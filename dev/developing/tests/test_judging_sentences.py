@@ -1,4 +1,4 @@
-"""What is said of a verdict in one sentence, and what a viewer sees of it."""
+"""The sentence about a verdict, and subtitles that viewers can't see."""
 from __future__ import annotations
 
 import ctypes
@@ -33,18 +33,16 @@ from .test_formats_characters import ANY_SUBCODE, CHARACTER, LEVEL_1, Receiver, 
 from .test_judging_faults import cause, causes_of
 
 
-# What is said of a verdict in words: its sentence, and its first header that is refused (67).
+# The sentence about a verdict, and about its first refused header (67).
 
 ADD = f"was not checked: {clock_advice(False)}"
-OF_PACKETS = {3, 4}  # refusals of `normal`, which `check` does not have
+OF_PACKETS = {3, 4}  # refusals of `normal` that `check` does not have
 VERB = re.compile(r"\b(is|are|has|have|was|were|does|ends|comes|begins?|differs|fall|shows|stands?|"
                   r"cannot)\b")
 
 
-class Words(unittest.TestCase):
-    """In words, of a header that is refused."""
-
-    def test_each_option_in_each_other(self) -> None:
+class HeaderOptions(unittest.TestCase):
+    def test_names_the_option_of_a_header(self) -> None:
         for sent, asked in itertools.product(OPTIONS, repeat=2):
             words = f"the header is {sent.name}, and {asked.word} is asked for"
             with self.subTest(sent=sent.word, asked=asked.word):
@@ -53,10 +51,7 @@ class Words(unittest.TestCase):
 
 
 class Sentences(unittest.TestCase):
-    """Each verdict in a sentence."""
-
-    def test_words_each_verdict(self) -> None:
-        """Each verdict, whatever is known."""
+    def test_describes_each_verdict(self) -> None:
         fault = fault_of_line("refused 73 Gap frame 10:00:00:00")
         packet = fault_of_line("refused 34 Pts pes 0")
         block = fault_of_line("refused 24 Unfinished block 12")
@@ -117,9 +112,7 @@ class Sentences(unittest.TestCase):
             self.assertTrue(found.startswith(begin) and found.endswith(".") and
                             found.count(".") == 1 and "`" not in found, found)
 
-    def test_each_number(self) -> None:
-        """The sentence of each number that `check` has, at each kind of place: one clause, with its
-        verb, and none of the letters that stand for a place in the manual."""
+    def test_has_a_sentence_for_each_number(self) -> None:
         self.assertEqual(set(WORDS), REFUSALS - OF_PACKETS)
         known = {number for number, one in meanings().items() if number in REFUSALS}
         self.assertLessEqual(known - OF_PACKETS, set(WORDS))
@@ -134,8 +127,7 @@ class Sentences(unittest.TestCase):
                     self.assertRegex(words, VERB)
                     self.assertNotRegex(words, r"TIME|\bN frames|\bK\b|`|[;.] |--complete")
 
-    def test_each_cause(self) -> None:
-        """The sentence of each cause, of one subtitle and of two: what is wrong, and with which."""
+    def test_has_a_sentence_for_each_cause(self) -> None:
         for name in [one for one in NAMES if one != IN_PAUSE]:
             for several in ([cause(2, name, 3)], [cause(2, name, 3), cause(4, name, 5)]):
                 words = describe_causes(causes_of(*several), "english")
@@ -147,8 +139,7 @@ class Sentences(unittest.TestCase):
                     self.assertRegex(words, r"^(at \d\d:\d\d:\d\d:\d\d |2 of )")
 
 
-# What is told first of a verdict: what a viewer sees, in the sentence and wherever else a pair is
-# named; and a range that has no PES packet.
+# What leads: faults that a viewer sees, in all outputs; and an empty range.
 
 BEGIN = 900_000
 TIMES = [(BEGIN + 50 * at, BEGIN + 50 * at + 40) for at in range(6)]
@@ -157,8 +148,8 @@ CONTROL, CONTENT = "67 Control frame 10:00:01:00 packet 0", \
     "72 Content frame 10:00:04:00 row 22 column 14"
 
 
-def changed(sent: Sent) -> Sent:
-    """One repeat that keeps the page, and later a wrong text."""
+def with_two_faults(sent: Sent) -> Sent:
+    """Let one repeat keep the page, and send a wrong text later."""
     found = list(sent)
     found[1:2] = [(found[1][0], [KEEPS, *found[1][1][1:]])]
     at = next(number for number, (_, some) in enumerate(sent) if b"3" in joined_rows(some))
@@ -167,21 +158,18 @@ def changed(sent: Sent) -> Sent:
 
 
 def joined_rows(packets: list[bytes]) -> bytes:
-    """The text bytes of some packets, without parity."""
+    """Return the text bytes of packets without parity."""
     return b"".join(bytes(byte & 0x7F for byte in one[2:]) for one in packets[1:2])
 
 
-class First(OfProgramme):
-    """A recording whose first fault by time nobody sees, and that has a wrong text."""
-
+class LeadingFaults(OfProgramme):
     due = TIMES
 
     def setUp(self) -> None:
         super().setUp()
-        self.told = self.judge(changed(self.sent), "-o", self.path("out"))
+        self.told = self.judge(with_two_faults(self.sent), "-o", self.path("out"))
 
-    def test_a_pair(self) -> None:
-        """The sentence names the text; report, JSON result and JUnit begin with it."""
+    def test_the_result_of_a_pair_leads_with_the_visible_fault(self) -> None:
         told = self.told
         lead = told.result["worst_fault"]
         self.must("lead", told.result["line"].startswith("refused 67 ") and
@@ -190,8 +178,7 @@ class First(OfProgramme):
         page = self.read("out/one.html").decode()
         self.must("report", f'id="verdict">{lead}<' in page and "<title>" in page)
 
-    def test_many_pairs(self) -> None:
-        """The table and the page over all lead with it; JUnit has the sentence."""
+    def test_the_table_of_a_batch_leads_with_the_visible_fault(self) -> None:
         self.write("list", f"{self.path('one.stl')} {self.path('one.pes')} --origin 0\n".encode())
         done = self.tool("qc", "--batch", self.path("list"), "-o", self.path("many"), "--junit",
                          self.path("many.xml"), "-p", self.bench.program)
@@ -203,11 +190,8 @@ class First(OfProgramme):
         self.must("junit", [one.get("message") for one in failures] == [known["sentence"]])
 
 
-class Ends(OfProgramme):
-    """What is said of the ends of a recording of ten subtitles."""
-
-    def test_cut_off(self) -> None:
-        """How many subtitles were cut off, which are judged without them, and the sentence."""
+class RecordingEnds(OfProgramme):
+    def test_counts_subtitles_that_are_cut_off(self) -> None:
         whole = (100, 1060)
         rows: list[tuple[str, int, tuple[int, int], list[str], str]] = [
             ("all are late, none is cut off", 2, whole, [], "all 10 subtitles are 2 frames late"),
@@ -231,7 +215,6 @@ class Ends(OfProgramme):
             self.must(name, sentence in found.verdict.sentence, found.verdict.sentence)
 
     def test_never_leads_with_a_waived_fault(self) -> None:
-        """A fault that is waived leads neither the sentence nor the last line."""
         sent = one_late(3, 2)(self.sent)
         pts, (header, text, *more) = sent[0]
         sent[0] = pts, [header, text[:-1] + bytes([text[-1] ^ 0x80]), *more]
@@ -248,14 +231,10 @@ class Ends(OfProgramme):
             self.must(waived, found.said[-1].startswith(last), found.said[-1])
 
 
-class Places(OfProgramme):
-    """What is said of headers and letters: of which subtitle, and what a viewer sees."""
-
+class NamedPlaces(OfProgramme):
     due, words = TIMES, ("--origin", "0", "--option", "german")
 
-    def test_headers_and_letters(self) -> None:
-        """The first of them; in a pause behind which subtitle; where old text is left in which; by
-        the letters of the national option."""
+    def test_names_subtitles_of_headers_and_characters(self) -> None:
         sent = sendings(self, programme(self, TIMES, text=b"Number %d, \xc8Osl"), *self.words[2:])
         name = 'subtitle 3, "Number 3, Ösl"'
 
@@ -301,13 +280,10 @@ class Places(OfProgramme):
             [(pts, rows[0][2](some)) for pts, some in sent]).said))
 
 
-class Ranges(OfProgramme):
-    """`--pes` of a recording that has fewer."""
-
+class EmptyRanges(OfProgramme):
     due, words = TIMES, ()
 
-    def test_none_of_them(self) -> None:
-        """It is said how many there are, whether an origin is given or not."""
+    def test_reports_a_range_without_pes_packets(self) -> None:
         for words in ((), ("--origin", "0")):
             for pes, is_none in (("100-200", True), ("7-7", True), ("6-200", False)):
                 told = self.judge(self.sent[:7], "--pes", pes, *words)
@@ -316,14 +292,14 @@ class Ranges(OfProgramme):
                           (told.word == "not judged") >= is_none, told.told)
 
 
-# Rows of a subtitle file that no set shows, or only some: as a table, beside libzvbi, judged.
+# Rows that no receiver or only some show: as a table, compared with libzvbi, and judged.
 
 NO_BOX = 'no set shows "Hi", outside of a box'
 ALIKE = 'no set shows "Hi", in the colour of its background'
 ONE = 'libzvbi does not show "Hi", behind one start box (0B), and ffmpeg does'
-# The cells of a row, what is seen of it, and what is said.
+# Cells of a row, its visibility, and the message.
 ROWS: tuple[tuple[bytes, Sight, str], ...] = (
-    (b"", Sight.ALL, ""), (b"\x0b\x0b\x0a\x0a", Sight.ALL, ""),  # no letters
+    (b"", Sight.ALL, ""), (b"\x0b\x0b\x0a\x0a", Sight.ALL, ""),  # no characters
     (b"\x0b\x0bHi\x0a\x0a", Sight.ALL, ""), (b"\x0b\x0bHi", Sight.ALL, ""),
     (b"\x0b\x0b\x0aHi", Sight.ALL, ""),  # one end box closes nothing
     (b"\x0b\x0b\x03\x1d\x04Hi", Sight.ALL, ""),  # blue on yellow
@@ -345,11 +321,11 @@ ROWS: tuple[tuple[bytes, Sight, str], ...] = (
 HIDDEN, OPACITY_AT, INK_AT, PAPER_AT = 0, 2, 3, 4  # of a character of libzvbi
 
 
-class Drawn(Receiver):
-    """libzvbi, and which letters it draws."""
+class DrawingReceiver(Receiver):
+    """libzvbi, and the characters that it shows."""
 
     def letters(self, cells: bytes) -> str:
-        """The letters of a row that can be seen."""
+        """Return the visible characters of a row."""
         text = self.row([HEADER, packet(0, 20, (), cells.ljust(40)), CLOSING], 20)
         page = ctypes.create_string_buffer(65536)
         self.library.vbi_fetch_vt_page(self.decoder, page, 0x888, ANY_SUBCODE, LEVEL_1, 25, 0)
@@ -361,10 +337,8 @@ class Drawn(Receiver):
         return found
 
 
-class Rows(Case):
-    """What is seen of rows."""
-
-    def test_sees_letters_as_decoders_draw_them(self) -> None:
+class VisibleRows(Case):
+    def test_knows_which_characters_decoders_show(self) -> None:
         for cells, sight, words in ROWS:
             self.must(cells.hex(), (sight_of(cells), hidden_words(cells, "english")) ==
                       (sight, words), (sight_of(cells), hidden_words(cells, "english")))
@@ -373,19 +347,16 @@ class Rows(Case):
                 cells = b"\x0b\x0b%c\x1d%c%sHi" % (paper + of_paper, ink + of_ink, behind)
                 self.assertEqual(sight_of(cells), Sight.NONE if wanted else Sight.ALL, cells)
 
-    def test_as_libzvbi(self) -> None:
-        """It draws just the letters that are said to be seen by it."""
+    def test_agrees_with_libzvbi(self) -> None:
         try:
-            receiver = Drawn()
+            receiver = DrawingReceiver()
         except OSError:
             self.skipTest("what libzvbi draws, which is not installed")
         for cells, _, _ in ROWS:
             wanted = "".join(chr(one.code) for one in letters_in(cells) if one.is_seen)
             self.must(cells.hex(), receiver.letters(cells) == wanted, receiver.letters(cells))
 
-    def test_each_row(self) -> None:
-        """Each row of each page that is not seen as a whole is told, as a fault with the first
-        block of its subtitle or as a warning, whatever stands before it."""
+    def test_reports_each_hidden_row_with_its_block(self) -> None:
         blank = BLANK_PAGE[0]
         rows = [blank, *(next(cells for cells, sight, _ in ROWS if sight == one).ljust(40)
                          for one in Sight)]
@@ -407,9 +378,7 @@ class Rows(Case):
                                               for is_none, words, _, when in said if not is_none],
                              cells)
 
-    def test_may_hide(self) -> None:
-        """A file is looked at where one of its texts has a code that hides letters, wherever it
-        stands, or there is a layout."""
+    def test_checks_only_files_with_codes_that_may_hide(self) -> None:
         for code, has_layout, at in itertools.product(range(256), (False, True), range(3)):
             texts = [b"one", b"two", b"three"]
             texts[at] = texts[at][:at] + bytes([code]) + texts[at][at:]
@@ -420,9 +389,7 @@ class Rows(Case):
             self.assertEqual(found, has_layout or code in (0x0A, 0x0B, 0x1D), (code, at))
             self.assertTrue(found or all(sight_of(one) == Sight.ALL for one in drawn), code)
 
-    def test_refuses_a_row_of_which_nobody_sees_a_letter(self) -> None:
-        """A row of which nobody sees a letter is refused, with its block, also where it is sent as
-        it is due; of one that some show there is a warning. `check` accepts both."""
+    def test_refuses_an_invisible_row_and_warns_of_a_partly_visible_one(self) -> None:
         times = [(900_000 + 50 * at, 900_040 + 50 * at) for at in range(3)]
         option, first = ("--option", "german"), "subtitle 1 (SN 7) at 10:00:00:00, row 22: "
         for text, word, why in (

@@ -1,4 +1,4 @@
-"""The verdict in one word, the worst of it, and the lines that tell faults."""
+"""The verdict, the worst fault, and fault lines."""
 from __future__ import annotations
 
 import itertools
@@ -23,9 +23,9 @@ from .bench import Case
 from .parts import answer, part_with
 
 
-# Status 0 to 3: the whole table of what decides it; nothing but a verdict gives 0, 1 or 3.
+# Status 0 to 3: all combinations that decide it.
 
-ERROR, WARNING, NUMBER = 72, 67, 38  # of faults: the file below names the second a warning
+ERROR, WARNING, NUMBER = 72, 67, 38  # of faults; the file below makes the second a warning
 ENDS_READING, LOST_PACKETS, SILENT = (30, 31, 32, 44), 45, 79
 RIGHT = {
     "accepted": Said(0, is_accepted=True),
@@ -56,7 +56,7 @@ WRONG = {
 LOSSES: Sequence[Sequence[bool]] = (
     (), (False,), (True,), (True, False, False), (False, True), (False, False, True), (True, True))
 OUTPUTS: Sequence[Sequence[str]] = ((), ("one.json: full",), ("one.csv: full", "one.xml: full"))
-# With a clock, without one, and with --relative, which changes nothing if there is a clock.
+# With a clock, without one, and with --relative, which has no effect with a clock.
 CLOCKS: Sequence[dict[str, Any]] = (
     {"has_clock": True}, {"has_clock": False},
     {"has_clock": False, "is_relative_allowed": True},
@@ -64,7 +64,7 @@ CLOCKS: Sequence[dict[str, Any]] = (
 
 
 def severity_of(*lines: str, is_loss_allowed: bool = False) -> Severity:
-    """The severities of a file with these lines."""
+    """Return the severities of a file."""
     with tempfile.NamedTemporaryFile("w", suffix=".severity") as file:
         file.write("".join(f"{line}\n" for line in lines))
         file.flush()
@@ -72,7 +72,7 @@ def severity_of(*lines: str, is_loss_allowed: bool = False) -> Severity:
 
 
 def by_clock(word: str, clock: dict[str, Any]) -> tuple[str, int]:
-    """Return the word and the status of what has a verdict with a clock."""
+    """Return the verdict and status, given the verdict with a clock."""
     if clock["has_clock"] or word not in (ACCEPTED, WAIVED):
         return word, STATUSES[word]
     return RELATIVE, 0 if "is_relative_allowed" in clock else 3
@@ -83,10 +83,8 @@ ALLOWING = [severity_of(f"{WARNING} warning", is_loss_allowed=True),
             severity_of(f"{WARNING} warning", f"{LOST_PACKETS} warning")]
 
 
-class Parts(unittest.TestCase):
-    """What the program said of a part."""
-
-    def test_only_in_so_many_words(self) -> None:
+class PartVerdicts(unittest.TestCase):
+    def test_takes_only_valid_answers_for_a_verdict(self) -> None:
         for name, said in RIGHT.items():
             with self.subTest(name):
                 self.assertEqual(word_of(said), ACCEPTED if "accepted" in name else REFUSED)
@@ -95,23 +93,19 @@ class Parts(unittest.TestCase):
                 self.assertEqual(word_of(said), NOT_JUDGED)
 
 
-class Decided(unittest.TestCase):
-    """The verdict on one to three parts."""
-
+class Decisions(unittest.TestCase):
     def test_decides_by_each_part_at_each_place(self) -> None:
-        """Each kind of part at each place, with a clock and without: nothing hides behind another
-        one."""
         kinds = RIGHT | WRONG
         for count, clock in itertools.product((1, 2, 3), CLOCKS):
             for names in itertools.product(kinds, repeat=count):
-                wanted = by_clock(self.word_by_names(names), clock)
+                wanted = by_clock(self.expected_word(names), clock)
                 found = decide(Grounds([kinds[name] for name in names], NAMED, **clock))
                 if (found.word, found.status) != wanted:
                     self.fail(f"{names} {clock}: {found}, and not {wanted}")
 
     @staticmethod
-    def word_by_names(names: Sequence[str]) -> str:
-        """The verdict on parts of these kinds, where nothing is lost."""
+    def expected_word(names: Sequence[str]) -> str:
+        """Return the expected verdict on such parts without losses."""
         if set(names) & WRONG.keys():
             return NOT_JUDGED
         if any(name.startswith("refused") for name in names):
@@ -120,26 +114,23 @@ class Decided(unittest.TestCase):
             return NOT_JUDGED
         return WAIVED if "waived" in names else ACCEPTED
 
-    def test_losses_and_warnings(self) -> None:
-        """A loss at each place, each warning, each word that allows or forbids, each clock: of what
-        is accepted, waived, refused, and not judged."""
+    def test_decides_by_losses_and_warnings(self) -> None:
         for name, losses, is_allowed, warnings, is_strict, clock in itertools.product(
                 ("accepted", "waived", "refused", "silent"), LOSSES, (False, True),
                 ((), ("page",), ("repeat", "page")), (False, True), CLOCKS):
             parts = [RIGHT["accepted"], (RIGHT | WRONG)[name], RIGHT["accepted"]]
             for severity in ALLOWING if is_allowed else [NAMED]:
-                self.decides(name, Grounds(parts, severity, losses, warnings, is_strict, **clock),
+                self.check_decision(name,
+                                    Grounds(parts, severity, losses, warnings, is_strict, **clock),
                              is_allowed, clock)
 
-    def test_faults_without_a_number(self) -> None:
-        """Each name, an error or a warning by the file, beside each kind of part and without any:
-        an error refuses what was judged, and where nothing was; a warning never accepts that."""
+    def test_decides_by_faults_without_a_number(self) -> None:
         kinds, warned = RIGHT | WRONG, severity_of(
             f"{WARNING} warning", *(f"{name} warning" for name in FAULT_NAMES))
         for name, is_error, count in itertools.product(FAULT_NAMES, (True, False), (0, 1, 2)):
             severity = NAMED if is_error else warned
             for parts in itertools.product(kinds, repeat=count):
-                word = self.word_by_names(parts) if parts else NOT_JUDGED
+                word = self.expected_word(parts) if parts else NOT_JUDGED
                 if is_error and not set(parts) & WRONG.keys():
                     word = REFUSED
                 elif word == ACCEPTED:
@@ -156,8 +147,10 @@ class Decided(unittest.TestCase):
         self.assertEqual(decide(Grounds([], warned, names=[NEVER_SENT])),
                          Decision(NOT_JUDGED, UNREAD))
 
-    def decides(self, name: str, seen: Grounds, is_allowed: bool, clock: dict[str, Any]) -> None:
-        """One of these: --allow-lost, and a severity file that names 45 a warning, are one rule."""
+    def check_decision(self, name: str, seen: Grounds, is_allowed: bool,
+                       clock: dict[str, Any]) -> None:
+        """Check a decision; --allow-lost and a severity file that makes 45 a warning are
+        equivalent."""
         found, losses, warnings = decide(seen), seen.losses, seen.warnings
         if name in ("refused", "silent"):
             wanted = REFUSED if name == "refused" else NOT_JUDGED
@@ -171,20 +164,18 @@ class Decided(unittest.TestCase):
                           strict=seen.is_strict, clock=clock):
             self.assertEqual((found.word, found.status), by_clock(wanted, clock))
 
-    def test_what_failed(self) -> None:
-        """A reason, or an output that failed, is not judged, whatever was said."""
+    def test_is_not_judged_after_a_failure(self) -> None:
         for name, said in (RIGHT | WRONG).items():
             for failed, reasons in itertools.product(OUTPUTS, ((), ("stopped",))):
                 found = decide(Grounds([said, said], NAMED, reasons=reasons, failed=failed,
                                        has_clock=True))
                 is_clean = not failed and not reasons
                 with self.subTest(name, failed=failed, reasons=reasons):
-                    self.assertEqual(found.word, self.word_by_names([name]) if is_clean
+                    self.assertEqual(found.word, self.expected_word([name]) if is_clean
                                      else NOT_JUDGED)
                     self.assertEqual(found.status == 2, found.word == NOT_JUDGED)
 
-    def test_says_why_a_pair_is_not_judged(self) -> None:
-        """What is not judged says why, where nobody else does."""
+    def test_gives_a_reason_if_not_judged(self) -> None:
         accepted, unread = RIGHT["accepted"], RIGHT["waived, not read"]
         rows: list[tuple[list[Said], str]] = [
             ([], UNSAID), ([accepted, WRONG["silent"]], UNSAID), ([unread], UNREAD),
@@ -194,11 +185,8 @@ class Decided(unittest.TestCase):
         self.assertEqual(decide(Grounds([accepted], NAMED, has_clock=True)), Decision(ACCEPTED))
 
 
-class Several(unittest.TestCase):
-    """The status of several verdicts, and of the call that made one."""
-
-    def test_of_all(self) -> None:
-        """The first of 2, 1, 3, 0 that occurs; 2 of none, of others, and if pairs are missing."""
+class BatchStatus(unittest.TestCase):
+    def test_takes_the_worst_status(self) -> None:
         rows: list[tuple[list[int], bool, int]] = [
             ([0], False, 0), ([0, 0], False, 0), ([0, 1], False, 1), ([1, 0], False, 1),
             ([1], False, 1), ([3], False, 3), ([0, 3], False, 3), ([3, 0], False, 3),
@@ -210,8 +198,7 @@ class Several(unittest.TestCase):
             with self.subTest(statuses=statuses, stopped=is_stopped):
                 self.assertEqual(of_all(statuses, is_stopped), status)
 
-    def test_of_a_call(self) -> None:
-        """A JSON result counts if its call ended with its status, one that its word can have."""
+    def test_takes_a_result_only_with_its_own_status(self) -> None:
         for word, status, ended in itertools.product([*STATUSES, "fine"], range(5),
                                                      (0, 1, 2, 3, -9, -15)):
             is_possible = status == STATUSES.get(word) or (word, status) == (RELATIVE, 0)
@@ -220,12 +207,7 @@ class Several(unittest.TestCase):
 
 
 class Severities(unittest.TestCase):
-    """Numbers and names, and whether they count, by the lines of a file."""
-
     def test_reads_severities_line_by_line(self) -> None:
-        """Of no line, of one, of several in each order; of all others, whoever is named; of what is
-        lost. What ends reading is an error whatever a file says, and each other number what it says
-        of that."""
         each: dict[int | str, str] = {number: "warning" for number in REFUSALS}
         ends: dict[int | str, str] = {number: "error" for number in ENDS_READING}
         names: dict[int | str, str] = {name: "error" for name in FAULT_NAMES}
@@ -255,7 +237,7 @@ class Severities(unittest.TestCase):
         self.assertEqual((Severity(None).of(72), Severity(None, True).of(45)),
                          ("error", "warning"))
 
-    def test_wrong_lines(self) -> None:
+    def test_refuses_wrong_lines(self) -> None:
         none = (0, 5, 9, 26, 29, 41, 43, 46, 49, 58, 59, 75, 81, 83, 90, 100)
         for line in ("72", "72 fatal", "x error", "others", "72 warning now", "warning 72",
                      "٧٢ error", "sent error", "never error", "never sent", "never  sent wrong",
@@ -264,7 +246,7 @@ class Severities(unittest.TestCase):
                 severity_of("", line)
 
 
-# What is said first of what is refused: by rank, and by place among those of one rank.
+# Which fault leads: by rank, then by position.
 
 BEGIN, CONTENT, END = "refused 63 Begin frame 10:00:00:00", \
     "refused 72 Content frame 10:00:01:00 row 22 column 3", "refused 74 Late frame 10:00:09:00"
@@ -280,17 +262,13 @@ OF_PACKETS = {3, 4, 76, 82}  # refusals that `check` does not have
 SECOND = 25
 
 
-def told(*lines: str, path: str) -> Answer:
-    """The list of some faults."""
+def answer_with(*lines: str, path: str) -> Answer:
+    """Return an answer with these fault lines."""
     return answer([*lines, f"{len(lines)} faults"], path=path)
 
 
-class Worst(Case):
-    """What is said first."""
-
+class LeadingFaults(Case):
     def test_ranks_each_cause_and_number(self) -> None:
-        """Each cause and each number has one. What the manual calls `now` comes before what nobody
-        has seen, and what it calls `next` after that."""
         self.must("causes", set(OF_CAUSE) == set(NAMES))
         self.must("numbers", set(OF_NUMBER) == REFUSALS - OF_PACKETS,
                   set(OF_NUMBER) ^ (REFUSALS - OF_PACKETS))
@@ -298,7 +276,7 @@ class Worst(Case):
             rank = rank_of(number)
             if number in STL_FAULTS:
                 self.must(f"{number}", rank == Rank.FILE)
-            elif number in (63, 74):  # where there is no cause the recording is too short
+            elif number in (63, 74):  # without a cause the recording is too short
                 self.must(f"{number}", rank == Rank.UNSEEN)
             elif one.name.partition("</a>")[2].startswith("now"):
                 self.must(f"{number}", rank <= Rank.SOME, rank)
@@ -308,8 +286,7 @@ class Worst(Case):
         self.must("order of causes", names[0] == "never sent" and names[-4:] == [
             "late", "early", "wrong colour or attribute", "not received"], names)
 
-    def test_without_causes(self) -> None:
-        """The first of the list among those of the worst rank."""
+    def test_takes_the_first_fault_of_the_worst_rank(self) -> None:
         for lines, wanted in (
                 ([CONTROL], CONTROL), ([CONTENT], CONTENT), ([CONTROL, CONTENT], CONTENT),
                 ([CONTROL, CONTENT, LATER], CONTENT), ([CONTROL, GAP, LATER, CONTENT], LATER),
@@ -322,15 +299,13 @@ class Worst(Case):
                 ([UNDECIDED, CONTENT], CONTENT), ([CONTROL, UNDECIDED], CONTROL),
                 ([GAP, UNDECIDED], UNDECIDED), ([LETTER, UNDECIDED, CONTENT], LETTER),
                 ([CONTENT, LETTER], LETTER)):
-            part = part_with(0, 9, 0, told(*lines, path=self.path("list")))
+            part = part_with(0, 9, 0, answer_with(*lines, path=self.path("list")))
             self.must(f"{lines}", part.lead == wanted and part.answer.line == lines[0]
                       and part.leading and part.leading.line == wanted, part.lead)
         part = part_with(0, 9, 0, answer(["accepted 10 frames 2 transmissions"]))
         self.must("none", part.leading is None and part.lead == part.answer.line)
 
-    def test_ranks_faults_that_have_a_name(self) -> None:
-        """Of faults that have a name in the place of a number too; they come first where they are
-        as bad as what else is refused."""
+    def test_ranks_named_faults(self) -> None:
         self.must("each", set(OF_NAME) == set(FAULT_NAMES))
         never, left, hidden = (NamedFault(name, "") for name in FAULT_NAMES)
         rows: tuple[tuple[list[NamedFault], Rank | None, NamedFault | None], ...] = (
@@ -341,19 +316,15 @@ class Worst(Case):
         for faults, rank, wanted in rows:
             self.must(f"{[one.name for one in faults]} {rank}", worst_name(faults, rank) is wanted)
 
-    def test_beside_refused(self) -> None:
-        """Of the transmission, without what the subtitle file is refused for and what is not
-        decided for that."""
+    def test_ignores_faults_of_refused_subtitles(self) -> None:
         rows: tuple[tuple[list[str], str | None], ...] = (
             ([LETTER, UNDECIDED, GAP, CONTROL], CONTROL), ([LETTER, UNDECIDED], None))
         for lines, wanted in rows:
-            part = part_with(0, 9, 0, told(*lines, path=self.path("list")))
+            part = part_with(0, 9, 0, answer_with(*lines, path=self.path("list")))
             sent = part.worst_sent
             self.must(f"{lines}", (sent and sent.fault.line) == wanted, sent)
 
-    def test_by_causes(self) -> None:
-        """The subtitle with the worst cause, the first of several; its first fault. A fault without
-        a cause is said first where it is worse, and not where it is as bad."""
+    def test_takes_the_subtitle_with_the_worst_cause(self) -> None:
         def at(second: int) -> str:
             return f"refused 72 Content frame 10:00:0{second}:00 row 22 column 3"
 
@@ -373,20 +344,20 @@ class Worst(Case):
                 named={place: Cause(place, name, 1, None, None, "", 0)
                        for place, name in enumerate(names)})
             causes.all = lambda causes=causes: [*causes.named.values()]
-            lead = lead_of(told(*some, path=self.path("list")), causes)
+            lead = lead_of(answer_with(*some, path=self.path("list")), causes)
             self.must(f"{names}", lead and lead.fault.line == wanted, lead)
         for edges, wanted in (({63: 0}, BEGIN), ({74: 0, 63: 0}, BEGIN), ({63: 1}, at(1)),
                               ({74: 0, 63: 1}, END)):
             causes.of_edge = edges
-            lead = lead_of(told(BEGIN, *lines, END, path=self.path("list")), causes)
+            lead = lead_of(answer_with(BEGIN, *lines, END, path=self.path("list")), causes)
             self.must(f"{edges}", lead and lead.fault.line == wanted, lead)
         causes.of_edge, causes.first_frames = {}, {0: 900_000 + SECOND + 9}
-        lead = lead_of(told(*lines, path=self.path("list")), causes)
+        lead = lead_of(answer_with(*lines, path=self.path("list")), causes)
         self.must("the fault that stands then", lead and lead.fault.line == at(1), lead)
         self.must("no cause", worst_cause([]) is None)
 
 
-# The lines of the program as values: those of `check --all`, and those of `show`.
+# Lines of `check --all` and of `show`.
 
 FIRST = "00001 00:00:01:00 00:00:02:00 vp 20 jc 2 text 41"
 SECOND_LINE = "00002 00:00:02:00 00:00:04:00 vp 22 jc 1 text -"
@@ -394,11 +365,8 @@ ONE, TWO = Subtitle(1, 1, 25, 50, 20, 2, b"A"), Subtitle(2, 2, 50, 100, 22, 1, b
 NONE = None
 
 
-class Lines(Case):
-    """Lines as values."""
-
-    def test_tell_places(self) -> None:
-        """A line with a number, for each kind of place."""
+class ParsedLines(Case):
+    def test_parses_each_kind_of_place(self) -> None:
         for line, wanted in (
                 ("refused 60 Empty",
                  ("refused", 60, "Empty", NONE, NONE, NONE, NONE, NONE, NONE, NONE)),
@@ -424,8 +392,7 @@ class Lines(Case):
                      " refused 72 Content", "accepted 72 Content"):
             self.must(f"no such line: {line}", fault_of_line(line) is None, fault_of_line(line))
 
-    def test_tell_ends(self) -> None:
-        """What is accepted, trusted and counted; no other line is."""
+    def test_parses_accepted_trusted_and_count_lines(self) -> None:
         self.must("accepted", accepted_of("accepted 226 frames 5 transmissions") ==
                   Accepted(226, 5))
         self.must("trusted", trusted_of("trusted frames 00:00:01:00 00:00:02:00") ==
@@ -436,8 +403,7 @@ class Lines(Case):
             found = [accepted_of(line), trusted_of(line), count_of(line)]
             self.must(f"none of {line}", found == [None] * 3, found)
 
-    def test_show_subtitles(self) -> None:
-        """Subtitles with their count; those before a refusal; lines that are none."""
+    def test_parses_subtitles(self) -> None:
         for lines, wanted in (([FIRST, SECOND_LINE, "2 subtitles"], [ONE, TWO]),
                               (["0 subtitles"], []),
                               ([FIRST, "refused 16 Cumulative block 2"], [ONE]),

@@ -1,4 +1,4 @@
-"""What is decided about a pair and its parts, by tables."""
+"""Tables of decisions about a pair and its parts."""
 from __future__ import annotations
 
 import itertools
@@ -46,27 +46,22 @@ from .transmissions import CLOSING, HEADER, PAGE
 from .test_formats_characters import character_set_packet
 
 
-# What is decided about a pair, by tables: what is strange of a recording, how PTS lie, when the
-# first picture was.
+# Notices about a recording, PTS off their frames, the first picture.
 
 
 def said(warned: Iterable[Notice]) -> list[tuple[str, str, str | None]]:
     return [(one.kind, one.line, one.time) for one in warned]
 
 
-class Clocks(unittest.TestCase):
-    """The parts with the clocks that are found."""
-
+class PartClocks(unittest.TestCase):
     def test_takes_parts_only_if_the_origin_is_clear(self) -> None:
-        """None where that is not clear; else with what agrees."""
         whole = Found(3, 9, Clock(7, GIVEN))
         self.assertEqual(found_in(Origin(1, [OfPart(5)]), whole), [])
         told = Selection("origin", "5", "origin: 3 of 4", 3, 4)
         self.assertEqual(found_in(Origin(0, [OfPart(5, (1, 2), None, 3, 4, "3 of 4")]), whole),
                          [Found(3, 9, Clock(5, RECORDING, evidence=told), (1, 2))])
 
-    def test_looks_for_all_that_was_requested(self) -> None:
-        """All that is asked is looked for, and cut out; of a part its own PES packets."""
+    def test_searches_with_all_requested_options(self) -> None:
         asked = asked_for("a.stl", "a.pes", *"--page 150 --option german --within 3 --breaks 2 "
                           "--every 30 --from 00:00:01:00 --late 0:9,3:1/0:12".split())
         programme = PartSearch(asked, Found(3, 9, Clock(7, GIVEN)), (2, 8), frozenset({4}))
@@ -79,16 +74,13 @@ class Clocks(unittest.TestCase):
         with mock.patch.object(timing, "cut_of") as cut:
             for packets, inside, begin, is_continued in (
                     (None, (2, 8), 3, False), ((4, 5), (4, 5), 3, False), (None, (2, 8), 3, True),
-                    (None, (2, 8), 5, True)):  # of which the first subtitle is not that of the file
+                    (None, (2, 8), 5, True)):  # the first subtitle is not that of the file
                 part = programme.whole._replace(packets=packets, begin=begin)
                 cut_within(programme._replace(is_continued=is_continued), recording, part, 6)
                 self.assertEqual(cut.call_args.args, (
                     "packets", begin, 9, 7, 30, 6, inside, is_continued and begin == 3))
 
-    def test_reports_where_each_video_leaves_the_subtitles(self) -> None:
-        """Each video of each programme with the Teletext leaves it, and no other one: what is wrong
-        has the number of the part, and what is not clear is counted in its time; a clock that the
-        first picture tells counts what was before all PES packets too."""
+    def test_reports_where_a_video_departs_from_the_subtitles(self) -> None:
         away, unclear = (Departure(TICKS * 50, TICKS * 49, 5 * TICKS),
                          Departure(TICKS * 60, TICKS * 59, None))
         before, behind = (Departure(TICKS * 5, TICKS * 4, 2 * TICKS),
@@ -105,12 +97,8 @@ class Clocks(unittest.TestCase):
                                  (source, count))
 
 
-class Warnings(Case):
-    """What is strange of a recording."""
-
-    def test_warns_of_clock_jumps_in_what_is_judged(self) -> None:
-        """Those of the frames that are judged, the first and the last too, each in its direction.
-        """
+class Notices(Case):
+    def test_warns_of_clock_jumps_in_the_judged_range(self) -> None:
         for origin in (0, CLOCK - 15 * TICKS):
             jumps = [ClockJump(None, 90_000), *(ClockJump((origin + TICKS * frame) % CLOCK, ticks)
                                            for frame, ticks in (
@@ -127,9 +115,7 @@ class Warnings(Case):
                              (8641 * 90_000, "2:24:01")):
             self.assertEqual(duration_text(ticks), words, ticks)
 
-    def test_warns_of_what_the_pmt_announces(self) -> None:
-        """What the PMT announces: nothing, others, the page among others; in the second programme
-        too."""
+    def test_warns_of_pages_that_the_pmt_announces(self) -> None:
         own, other = Announced(PAGE, "eng", 2), Announced((1, 0x50), "ger", 5)
         stl = self.write("one.stl", gsi_block(b"", 0, 0))
         asked = asked_for(stl, "one.ts")
@@ -148,8 +134,7 @@ class Warnings(Case):
             self.assertEqual([kind for kind, *_ in found], ["page"] * bool(words), pages)
             self.assertTrue(not found or found[0][1].endswith(words), found)
 
-    def test_character_sets(self) -> None:
-        """Of two packets the first, the second, or each names another set."""
+    def test_warns_of_each_other_character_set(self) -> None:
         for sets, count in (((0,), 0), ((8,), 1), ((0, 8), 1), ((8, 0), 1), ((8, 9), 2)):
             packets = packets_told(self, pes_packet(0, [HEADER, *(
                 character_set_packet(number, one) for number, one in zip((29, 28), sets)),
@@ -158,7 +143,6 @@ class Warnings(Case):
             self.assertEqual([one[0] for one in found], ["character_set"] * count, (sets, found))
 
     def test_warns_of_wrong_counts_in_the_gsi_block(self) -> None:
-        """The counts of a GSI block beside what is there: each one less, right, and one more."""
         blocks = [subtitle_blocks(at, 25 * at, 25 * at + 20, 20, 2, b"a") for at in (1, 2)]
         for told_blocks, told_subtitles in itertools.product((1, 2, 3), repeat=2):
             data = gsi_block(b"", told_blocks, told_subtitles) + b"".join(blocks)
@@ -180,8 +164,7 @@ class Warnings(Case):
             self.assertEqual(said(count_notices(SubtitleFile(self.write("one.stl", data)))), [],
                              count)
 
-    def test_warns_of_pauses_of_what_comes_in_each_frame(self) -> None:
-        """Frames without a PES packet, of what sends one in each but few: one in twenty."""
+    def test_warns_of_pauses_in_a_regular_stream(self) -> None:
         def pauses(frames: Sequence[int], origin: int = 0) -> list[tuple[str, str | None]]:
             pts = [(origin + TICKS * frame) % CLOCK for frame in frames]
             warned = pause_notices(pts, asked_for("one.stl", "one.pes"), origin)
@@ -199,8 +182,7 @@ class Warnings(Case):
                      [*three, ("no PES packet for 5 frames", "00:00:01:15")]), ([], []), ([5], [])):
                 self.assertEqual(pauses(frames, origin), wanted, frames)
 
-    def test_warns_of_a_repeat_bound_that_sees_no_missing_repeat(self) -> None:
-        """A page that comes so often that a repeat that is missing would not be seen."""
+    def test_warns_of_a_repeat_limit_that_is_too_long(self) -> None:
         def warned(step: int, every: int) -> list[str]:
             headers = [TICKS * frame for frame in range(0, 600, step)]
             asked = asked_for("one.stl", "one.pes", "--every", str(every))
@@ -212,11 +194,8 @@ class Warnings(Case):
             self.assertEqual((len(found), words in "".join(found)), (bool(words), True),
                              (step, every))
 
-class Grids(Case):
-    """How PTS lie beside frames."""
-
+class FrameGrids(Case):
     def test_measures_how_far_pts_are_off_their_frames(self) -> None:
-        """By how many ticks at most, before and after; over half a frame it is the other one's."""
         for origin in (0, CLOCK - 3 * TICKS):
             of_offs: list[tuple[list[int], int]] = [
                 ([0, 0], 0), ([1, 0], 1), ([0, -1], 1), ([1799, 0], 1799), ([1800, 5], 1800),
@@ -227,8 +206,7 @@ class Grids(Case):
                                for at, off in enumerate(offs)]
                     self.assertEqual(most_off(several, origin), most, (offs, hours))
 
-    def test_start_frames(self) -> None:
-        """As it is given, and as the GSI block has it; what is none there."""
+    def test_reads_start_times(self) -> None:
         for code, frame in ((b"00000000", 0), (b"10000001", 900_001), (b"23595924", 2_159_999),
                             (b"24000000", None), (b"        ", None), (b"1000000 ", None),
                             (b"100000\xb90", None), (b"00000025", None)):
@@ -247,22 +225,19 @@ class Grids(Case):
             start_frame(short)
 
 
-# What a call names, hears and follows, and what differs on pages: row by row.
+# Names of files, calls, differences of pages.
 
 
 def page_with(*rows: tuple[int, bytes]) -> tuple[bytes, ...]:
-    """A page with codes in some rows, from column 0 on."""
+    """Return a page with codes in some rows."""
     page = list(BLANK_PAGE)
     for number, text in rows:
         page[number - 1] = text.ljust(40)
     return tuple(page)
 
 
-class Named(Case):
-    """Files, and calls as they are typed."""
-
+class NamesOfFiles(Case):
     def test_names_the_files_of_a_pair_and_its_parts(self) -> None:
-        """Of a pair and of a part: as they are typed, and where they stand."""
         for out in (None, "out"):
             names = Names("one", self.folder, out)
             for one, name in ((names, "one"), (names.of_part(2), "one.2")):
@@ -275,8 +250,6 @@ class Named(Case):
                                                                    None))
 
     def test_gives_no_two_results_the_same_name(self) -> None:
-        """No two have the same, of pairs, of their parts and of lines; none is that of the page
-        over all, begins with a point, or has what a terminal would obey."""
         of_names = {"film": "film", "film.1": "film%2E1", "film.12": "film%2E12",
                     "film~12": "film%7E12", "line 12": "line%2012", "film.v2": "film.v2",
                     "index": "%69ndex", "index.1": "index%2E1", ".film": "%2Efilm",
@@ -305,8 +278,7 @@ class Named(Case):
         self.must("of lines", [names.line(one) for one in (2, 3, 2)] ==
                   ["line 2", "line 3", "line 2~2"])
 
-    def test_what_an_earlier_call_left(self) -> None:
-        """Files of the pair and of its parts, and of no other pair."""
+    def test_finds_the_files_of_an_earlier_call(self) -> None:
         out = self.path("out")
         os.mkdir(out)
         own = ["one.1.txt", "one.12.cut.pes", "one.3.txt", "one.9.html", "one.5.html"]
@@ -326,14 +298,13 @@ class Named(Case):
             self.must(name, path in kept and os.path.join(out, "one.1.txt") not in kept, kept)
         self.must("no folder", len(files_in(self.path("none"), "one")) == 6)
 
-    def test_types_the_same_call_with_other_options(self) -> None:
-        """The same call with more words: an option that is said anew stands once."""
+    def test_prints_the_call_with_other_options(self) -> None:
         typed = CommandWords("tools/qc", self.bench.program)
         asked = asked_for("one.stl", "one.ts", "--page", "150", "--every", "50", "--no-complete",
                           "--pid", "0x101", "--origin", "7", "--within", "2", "--breaks", "1",
                           "--pes", "2-9", "--option", "german")
         whole = "tools/qc one.stl one.ts --page 150 --every 50 --option german --origin 7 " \
-            "--no-complete --pid 0x101 --breaks 1 --pes 2-9 --within 2"  # in the table's order
+            "--no-complete --pid 0x101 --breaks 1 --pes 2-9 --within 2"  # in the order of the table
         for more, wanted in (((), whole), (("--page", "P"), whole.replace(" --page 150", "")
                                            + " --page P"),
                              (("--origin", "T"), whole.replace(" --origin 7", "") + " --origin T"),
@@ -356,11 +327,8 @@ class Named(Case):
                       os.path.normpath(program), made.beside())
 
 
-class Kinds(Case):
-    """What a file is, by its first bytes."""
-
-    def test_knows_a_recording_by_its_first_bytes(self) -> None:
-        """Whether it begins as a recording does."""
+class RecordingKinds(Case):
+    def test_recognises_a_recording_by_its_first_bytes(self) -> None:
         for data, is_one in (
                 (pes_packet(0, []), True), (pes_packet(0, [])[:4], True), (b"G" * 400, True),
                 (gsi_block(b"", 0, 0), False), (b"\0\0\1\xbdG" + b"\0" * 300, True),
@@ -372,13 +340,10 @@ class Kinds(Case):
             self.must(f"{data[:6]!r}", is_recording(self.write("one", data)) == is_one)
 
 
-class Pages(Case):
-    """In what two pages differ, and what a letter of a file is."""
-
+class PageDifferences(Case):
     ONE, TWO = b"\x0b\x0bHello", b"\x03\x0b\x0bHello"
 
     def test_names_the_first_difference_of_two_pages(self) -> None:
-        """The first that differs: a row, a column, a cell, the ends of a row."""
         own = page_with((20, self.ONE), (22, b"  two"))
         for other, place in (
                 (page_with((18, self.ONE), (22, b"  two")), "row 18 instead of 20"),
@@ -424,8 +389,7 @@ class Pages(Case):
                          ["alpha black", "alpha white", "release mosaics", "a space", "21", "7F"])
         self.assertEqual((len(ATTRIBUTES), ATTRIBUTES[0x0D]), (32, "double height"))
 
-    def test_control_bits(self) -> None:
-        """Each bit of a header of subtitles wrong by itself."""
+    def test_describes_each_wrong_control_bit(self) -> None:
         good = [8, 8, 0, 8, 0, 8, 1, 0]
         of_bits: list[tuple[int, int, list[str]]] = [
             (0, 8, []), (3, 0, []), (5, 0, ["C6"]), (6, 0, ["C7"]), (5, 12, ["C5"]),
@@ -440,8 +404,7 @@ class Pages(Case):
         self.assertEqual(control_words(bytes(good), "german"),
                          ["the header is English, and german is asked for"])
 
-    def test_letters_of_a_file(self) -> None:
-        """A subtitle of two blocks among comments and user data: its text, its bytes, advice."""
+    def test_finds_characters_of_a_subtitle_with_several_blocks(self) -> None:
         first = tti_block(7, 25, 50, 20, 2, b"a\xc2e\x80", 0)
         last = tti_block(7, 25, 50, 20, 2, b"\xf9\xff")
         comment = tti_block(7, 25, 50, 20, 2, b"no", comment=1)
@@ -472,11 +435,8 @@ class Pages(Case):
                          "the whole file draws in --option german, swedish")
 
 
-class Repeats(unittest.TestCase):
-    """How often a page comes."""
-
+class RepeatIntervals(unittest.TestCase):
     def test_measures_repeats_between_cues(self) -> None:
-        """Between edges, and not up to five frames before one; of few there is no measure."""
         steady = list(range(0, 200, 10))
         of_frames: list[tuple[list[int], list[int], int | None]] = [
                 (steady, [], 10), (steady[:5], [], 10), (steady[:4], [], None),
@@ -492,7 +452,7 @@ class Repeats(unittest.TestCase):
             self.assertEqual(repeat_distance(frames, edges), every, (frames, edges))
         with mock.patch.object(gaps, "sum", side_effect=sum, create=True) as summed:
             self.assertEqual(repeat_distance(range(1000), []), 1)
-        self.assertLess(summed.call_count, 3)  # not once for each sending
+        self.assertLess(summed.call_count, 3)  # not once for each page transmission
         of_gaps: list[tuple[list[int], int]] = [([], 0), ([5], 0), ([5, 5], 0), ([9, 5, 30], 21)]
         for frames, gap in of_gaps:
             self.assertEqual(longest_gap(frames), gap, (frames, gap))

@@ -1,5 +1,4 @@
-"""Verdicts of one part to three: each question is asked of the first part, the second and the last.
-"""
+"""Verdicts on one to three parts."""
 from __future__ import annotations
 
 import dataclasses
@@ -35,33 +34,29 @@ OTHER = ("refused 38 UnitLength pes 7", "refused 70 Repeat frame 00:00:09:00", "
 
 
 def verdict_of(parts: Sequence[Part], severity: Severity | None = None) -> Verdict:
-    """A verdict on some parts, by a clock that was given."""
+    """Return a verdict on parts with a given clock."""
     return Verdict(of_pair(), severity or Severity(None), "now", list(parts))
 
 
 def of_pair(*words: str) -> Request:
-    """The request for a pair with a clock."""
+    """Return a request with a clock."""
     return asked_for("one.stl", "one.pes", "--origin", "0", *words)
 
 
-def place_of(before: int | None, after: int | None, shift: int = 0, **more: Any) -> Place:
-    """A place between two frames."""
+def loss_between(before: int | None, after: int | None, shift: int = 0, **more: Any) -> Place:
+    """Return a loss between two frames."""
     first, last = (None if one is None else (shift + TICKS * one) % CLOCK
                    for one in (before, after))
     return Place(first, last, **more)
 
 
 class Verdicts(Case):
-    """Several parts."""
-
     def three(self, *refused: int) -> list[Part]:
-        """Three parts of a hundred frames each, some of which are refused."""
+        """Return three parts of a hundred frames each, some of them refused."""
         return [part_with(100 * at, 100 * at + 99, 5, answer(REFUSED if at in refused else
                           ("accepted 10 frames 2 transmissions",)), at + 1) for at in range(3)]
 
     def test_chooses_the_last_line_and_the_leading_fault(self) -> None:
-        """What became of it, the line that says so, and the one that is said first: by its parts,
-        by faults without a number, by what is lost and strange, by the clock and the profile."""
         left, never = NamedFault(PICTURES_LEFT, "away", "00:00:01:00"), NamedFault(NEVER_SENT, "")
         lost = [Gap(None, None, "", Place(1, 2, missing=9), True)]
         strange = [Notice(kind, kind, None) for kind in ("pause", "page", "pause")]
@@ -120,9 +115,7 @@ class Verdicts(Case):
             self.must(f"{names} {known}", (verdict.word, verdict.line, verdict.lead) ==
                       (word, line, lead or line), (verdict.word, verdict.line, verdict.lead))
 
-    def test_does_not_judge_if_there_is_a_reason_or_a_failed_output(self) -> None:
-        """Whatever is said of the parts, a reason and outputs that failed are not judged, and each
-        is told; it is so another time too, where the machine did what was asked."""
+    def test_is_not_judged_with_a_reason_or_a_failed_output(self) -> None:
         rows: list[tuple[Unjudged | None, list[str], str, bool]] = [
             (Unjudged("why"), [], "why", True), (None, ["full", "broken"], "full\nbroken", False),
             (Unjudged("why"), ["full"], "why\nfull", False),
@@ -137,14 +130,12 @@ class Verdicts(Case):
         self.must("judged", verdict_of(self.three()).is_final)
 
     def test_keeps_each_warning_once(self) -> None:
-        """Each once, of one call and of two; others of a kind are others."""
         one, other, verdict = Notice("pause", "1", None), Notice("pause", "2", None), verdict_of([])
         verdict.warn([one, one])
         verdict.warn([other, one])
         self.must("each", verdict.warnings == [one, other], verdict.warnings)
 
-    def test_sentence_of_losses(self) -> None:
-        """The first place that is judged, and how many more there are."""
+    def test_the_sentence_names_the_first_loss(self) -> None:
         verdict = verdict_of(self.three())
         verdict.gaps = [Gap("1", "9", f"{at} lost", Place(1, 2, 3), one)
                         for at, one in enumerate((False, True, False, True, True))]
@@ -158,33 +149,29 @@ class Verdicts(Case):
         self.must("of a part", (alone.parts, alone.gaps) == (verdict.parts[1:2], verdict.gaps[3:4])
                   and "and in" not in alone.sentence, alone.sentence)
 
-    def test_places_of_a_part(self) -> None:
-        """A mark that is judged with it; where none stands each hole that one of its frames may be
-        in, also where one end is not known. What has no clock has none."""
+    def test_finds_the_losses_of_a_part(self) -> None:
         part = part_with(100, 199, 0, pes=(5, 9))
         marks = [mark for mark in range(12) if is_in(Place(None, None, 1, mark=mark), part)]
         self.must("marks", marks == [*range(5, 10)], marks)
         ends = (None, 0, 99, 100, 101, 198, 199, 200)
         for before, after in itertools.product(ends, repeat=2):
             is_of = (after is None or after > 100) and (before is None or before < 199)
-            self.must(f"{before} {after}", is_in(place_of(before, after), part) == is_of)
-        self.must("no clock", not is_in(place_of(1, 2), part_with(None, None, None)))
+            self.must(f"{before} {after}", is_in(loss_between(before, after), part) == is_of)
+        self.must("no clock", not is_in(loss_between(1, 2), part_with(None, None, None)))
 
     def test_counts_losses_of_any_part(self) -> None:
-        """Those of the first part, the second and the last, and of none, in any order."""
         for shift in (0, CLOCK - 150 * TICKS):
             verdict = verdict_of([part_with(100 * at, 100 * at + 99, shift, number=at + 1)
                                   for at in range(3)])
             for frames in ([10, 110, 210], [99, 299, -5], [99, 150], [150, 99], [10, 299, -9]):
-                verdict.gaps = gaps_of([place_of(frame, frame + 1, shift) for frame in frames],
+                verdict.gaps = gaps_of([loss_between(frame, frame + 1, shift) for frame in frames],
                                        verdict.parts)
                 found, judged = verdict.seen().losses, [frame % 100 < 99 and 0 < frame < 300
                                                         for frame in frames]
                 self.must(f"{shift} {frames}", found == judged and
                           verdict.is_lost == any(judged), found)
 
-    def test_announced_jumps(self) -> None:
-        """Those of each part, whichever has some."""
+    def test_finds_announced_jumps_of_each_part(self) -> None:
         recording: Any = SimpleNamespace(places=lambda jumps: [
             Place(before, after, is_announced=True) for before, after in jumps])
         for own in ((0,), (1,), (2,), (0, 2), (0, 1, 2), ()):
@@ -195,8 +182,7 @@ class Verdicts(Case):
             self.must(f"{own}", found == [(time_of(100 * at + 50), True) for at in own] and [
                 len(part.places()) for part in parts] == [at in own for at in range(3)], found)
 
-    def test_clocks_of_losses(self) -> None:
-        """A loss has the times of its part; one that is in none those of the first."""
+    def test_a_loss_has_the_times_of_its_part(self) -> None:
         for frame, times in ((50, ("00:00:02:00", "00:00:02:01")),
                              (150, ("00:00:06:00", "00:00:06:01")),
                              (2350, ("00:00:14:00", "00:00:14:01")),
@@ -205,8 +191,7 @@ class Verdicts(Case):
             gap, = gaps_of([Place(TICKS * frame, TICKS * (frame + 1), 1)], parts)
             self.must(f"{frame}", (gap.after, gap.before) == times, gap)
 
-    def test_times_of_losses(self) -> None:
-        """To the frame before a PTS; of none, and of one before the day or behind it, nothing."""
+    def test_formats_the_times_of_losses(self) -> None:
         for before, after, words in (
                 (TICKS * 25, TICKS * 51 - 1, "between 00:00:01:00 and 00:00:02:00"),
                 (None, TICKS, "between the beginning and 00:00:00:01"),
@@ -223,8 +208,6 @@ class Verdicts(Case):
                           found.is_judged and found.place is place, found)
 
     def test_trusts_no_frame_of_a_loss(self) -> None:
-        """Of each part, in the result as on its page, without the frames of a hole that the PCR
-        alone tells."""
         said = ["trusted frames 00:00:04:00 00:00:07:24", "accepted 10 frames 2 transmissions"]
         hole, other = (Place(TICKS * at - 5, TICKS * (at + 10) - 5, missing=9) for at in (151, 121))
         mark, early = Place(TICKS * 170, TICKS * 180, 1, mark=7), ("--within", "1")
@@ -242,7 +225,6 @@ class Verdicts(Case):
                 (2, time_of(first), time_of(last)) for first, last in wanted)], found)
 
     def test_counts_faults_of_each_number_in_all_parts(self) -> None:
-        """How many faults there are of each number in all parts, but for some; and in all."""
         verdict = verdict_of([part_with(0, 9, 0, answer(one)) for one in (REFUSED, OTHER, OTHER)])
         counts = [tuple(one) for one in counts_of_numbers(verdict.parts, {70})]
         verdict.named.append(NamedFault(NEVER_SENT, ""))
@@ -267,12 +249,7 @@ class Verdicts(Case):
 
 
 class Read(Case):
-    """Whether something of a recording could be read."""
-
     def test_is_read(self) -> None:
-        """PES packets of which some were passed over: each, two, the first or the last; a run of
-        them; with faults of other kinds; some of a recording's, or more than it has; a file without
-        any; and beside refused subtitles, where a line of the list is of them."""
         refused, accepted = "50 Character block 1 at 4", "accepted 51 frames 2 transmissions"
         trusted = "trusted frames 10:00:00:00 10:00:01:24"
         of_lists: list[tuple[int, tuple[int, int] | None, list[str], bool]] = [
@@ -302,12 +279,10 @@ class Read(Case):
         lines = [f"refused {refused}", trusted, "1 faults"]
         for first, last in ((900_000, 900_024), (900_000, 900_049)):  # of 50 that may be trusted
             part = part_with(900_000, 900_050, 0, answer(lines), pes=(0, 1), places=[
-                place_of(first - 1, last + 2, missing=9)])
+                loss_between(first - 1, last + 2, missing=9)])
             self.must(f"a hole from {first} to {last}", part.is_read() == (last < 900_049))
 
     def test_counts_the_headers_of_its_own_pes_packets(self) -> None:
-        """Those of its own PES packets: each that is heard, as often as it was sent; and the
-        national options of all, but for the one that is reserved."""
         runs = [Run(0, 2, 0, 9, "h", "88080812"), Run(2, 4, 20, 9, "h", "88080810"),
                 Run(6, 1, 60, 0, "hh", "88080818+88080810"), Run(7, 1, None, 0, "h", "88080814"),
                 Run(8, 1, 80, 0, "h", "8808081E", fault=38), Run(9, 1, 90, 0, "h", "8808081A")]
@@ -318,7 +293,6 @@ class Read(Case):
                   part.options_sent())
 
     def test_what_is_held(self) -> None:
-        """Of the PES packets that are judged, in the frames that are asked for."""
         packets = packets_told(self, b"".join(pes_packet(TICKS * at - 5, [
             HEADER, row(20, b"%d" % at), CLOSING]) for at in range(10, 60, 10)))
         recording: Any = SimpleNamespace(packets=packets)
@@ -336,8 +310,6 @@ class Read(Case):
         file.assert_called_once_with("", asked.between, {4})
 
     def test_what_tells_causes(self) -> None:
-        """What is held around the frames, but for all that is lost of a stream; what never came is
-        known where the recording was read to its end."""
         places = [Place(TICKS * at, TICKS * (at + 9), missing=9) for at in (120, 150)]
         for refusal, is_stream in itertools.product((None, 31), (True, False)):
             recording: Any = SimpleNamespace(
@@ -358,8 +330,6 @@ class Read(Case):
             self.must("named", found is causes.return_value)
 
     def test_passed_over(self) -> None:
-        """Runs of PES packets that were passed over: one that ends is a run up to there, if it is
-        the end of the same fault; the last may have none."""
         of_lines: list[tuple[tuple[str, ...], list[tuple[int, int]]]] = [
             ((), []), (("refused 38 X pes 3",), [(3, 3)]),
             (("refused 38 X pes 3", "ended 38 X pes 5"), [(3, 5)]),
@@ -380,14 +350,10 @@ class Read(Case):
 
 
 class Numbers(Case):
-    """Numbers, and what is told of them."""
-
     def test_sets_of_numbers(self) -> None:
-        """Where pages are moved."""
         self.must("pages are moved", MOVED == {30, 31, 32, 44, 45, 60, 62, 63, 71, 72, 74, 77})
 
     def test_ends_of_faults(self) -> None:
-        """Of the first fault of a number, the second and the third, beside those of others."""
         lines = ["refused 72 Content frame 00:00:01:00 row 1 column 1",
                  "refused 38 UnitLength pes 4", "ended 72 Content frame 00:00:02:00",
                  "refused 72 Content frame 00:00:03:00 row 1 column 1", "ended 38 UnitLength pes 9",

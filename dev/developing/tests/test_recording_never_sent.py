@@ -1,5 +1,7 @@
-"""A page that the PMT announces and that never comes on its PID: refused by that name, or not
-judged where nobody can tell which programme is meant, or whether something was due."""
+"""A page that the PMT announces but that is never sent:
+
+refused, or not judged if it is unclear whether it was expected.
+"""
 from __future__ import annotations
 
 import itertools
@@ -29,39 +31,34 @@ PAGE = (0, 0x88)
 ONE, TWO, THREE = 257, 258, 259
 
 
-def heard(*lines: str) -> list[Announcement]:
-    """What is announced of the page by lines of `survey`."""
+def announcements(*lines: str) -> list[Announcement]:
+    """Return the announcements of the page in lines of `survey`."""
     return [*find_announcements(surveyed(*lines).programmes, PAGE)]
 
 
-def at(seconds: float | None) -> int | None:
-    """A PCR."""
+def pcr_at(seconds: float | None) -> int | None:
+    """Return a PCR."""
     return None if seconds is None else int(seconds * SECOND)
 
 
-def table(number: int, *pids: int, clock: int = 100, page: str = "888") -> list[str]:
-    """The lines of a PMT that announces a page."""
+def pmt_lines(number: int, *pids: int, clock: int = 100, page: str = "888") -> list[str]:
+    """Return the lines of a PMT that announces a page."""
     return [f"programme {number} {clock}", *(line for pid in pids for line in (
         f"stream {pid} 6", f"announce {pid} {page} 656e67 2"))]
 
 
-class Announced(Case):
-    """By tables."""
-
+class Announcements(Case):
     def test_knows_when_a_pmt_announces_the_page(self) -> None:
-        """From the PCR before a PMT up to the one before the next of that programme, of each PMT
-        that announces the page."""
-        lines = [*table(1, ONE), f"pcr 100 {SECOND}", *table(1, TWO), f"pcr 100 {9 * SECOND}",
-                 *table(2, THREE, clock=200), *table(1, ONE, page="150")]
-        found = heard(*lines)
+        lines = [*pmt_lines(1, ONE), f"pcr 100 {SECOND}", *pmt_lines(1, TWO),
+                 f"pcr 100 {9 * SECOND}",
+                 *pmt_lines(2, THREE, clock=200), *pmt_lines(1, ONE, page="150")]
+        found = announcements(*lines)
         self.must("when", found == [
             Announcement(1, frozenset({ONE}), None, SECOND),
             Announcement(1, frozenset({TWO}), SECOND, 9 * SECOND),
             Announcement(2, frozenset({THREE}), None, None)], found)
 
     def test_warns_of_pts_behind_the_pcr(self) -> None:
-        """From when on PTS are behind the PCR, wherever they begin anew; before the day by its PTS.
-        """
         for origin, frame in itertools.product((0, CLOCK - 60 * TICKS), (50, 90, -5)):
             pts = (origin + frame * TICKS) % CLOCK
             packets = Packets(1, samples=[(pts, -SECOND // 10), (pts, 9), (pts, 9)])
@@ -72,8 +69,6 @@ class Announced(Case):
                 "of 3 that were looked at", time)], [*timing_notices(packets, origin)])
 
     def test_finds_an_announced_page_that_is_not_sent(self) -> None:
-        """Of the subtitles' time, from 10 to 20 seconds, by the programme that carries the page,
-        or by any where none announces its PID: one of several PIDs is enough."""
         begin, end = 10 * SECOND, 20 * SECOND
         own = Announcement(1, frozenset({ONE}), None, None)
         other = Announcement(1, frozenset({TWO}), None, None)
@@ -90,7 +85,7 @@ class Announced(Case):
               for first, last, is_in in (
                   (None, 12.5, True), (None, 12, False), (None, 9, False), (17.5, None, True),
                   (18, None, False), (25, None, False), (5, 30, True), (12, 15, True))
-              for one in [Announcement(1, frozenset({TWO}), at(first), at(last))])]
+              for one in [Announcement(1, frozenset({TWO}), pcr_at(first), pcr_at(last))])]
         for name, announced, carriers, wanted in rows:
             self.must(name, find_unsent(announced, carriers, begin, end) == wanted)
             shifted = [one._replace(begin=one.begin and (one.begin - 15 * SECOND) % CLOCK,
@@ -100,18 +95,19 @@ class Announced(Case):
             self.must(f"{name}: over the wrap", (found is None) == (wanted is None), found)
 
     def test_finds_programmes_that_never_send_the_page(self) -> None:
-        """Of several programmes those that never send it, where one does."""
         rows: list[tuple[list[str], set[int], set[int]]] = [
-                ([*table(1, ONE)], {ONE}, set()), ([*table(1, ONE), *table(2, TWO)], {ONE}, {TWO}),
-                ([*table(1, ONE), *table(2, TWO), *table(3, THREE)], {ONE, TWO}, {THREE}),
-                ([*table(1, ONE), *table(2, TWO)], {ONE, TWO}, set()),
-                ([*table(1, ONE), *table(2, TWO)], set(), set()),
-                ([*table(1, ONE), *table(2, TWO)], {THREE}, set()),
-                ([*table(1, ONE, TWO)], {ONE}, set()),
-                ([*table(1, ONE), *table(2, ONE)], {ONE}, set())]
+                ([*pmt_lines(1, ONE)], {ONE}, set()),
+                ([*pmt_lines(1, ONE), *pmt_lines(2, TWO)], {ONE}, {TWO}),
+                ([*pmt_lines(1, ONE), *pmt_lines(2, TWO), *pmt_lines(3, THREE)], {ONE, TWO},
+                 {THREE}),
+                ([*pmt_lines(1, ONE), *pmt_lines(2, TWO)], {ONE, TWO}, set()),
+                ([*pmt_lines(1, ONE), *pmt_lines(2, TWO)], set(), set()),
+                ([*pmt_lines(1, ONE), *pmt_lines(2, TWO)], {THREE}, set()),
+                ([*pmt_lines(1, ONE, TWO)], {ONE}, set()),
+                ([*pmt_lines(1, ONE), *pmt_lines(2, ONE)], {ONE}, set())]
         for lines, carriers, wanted in rows:
-            self.must(f"{lines} {carriers}", silent_pids(heard(*lines), carriers) == wanted)
-            for pes in (None, (0, 9)):  # of a range it is known which is meant
+            self.must(f"{lines} {carriers}", silent_pids(announcements(*lines), carriers) == wanted)
+            for pes in (None, (0, 9)):  # a range makes the programme clear
                 found = self.why_unclear(lines, carriers, pes)
                 pids = [f"--pid 0x{pid:X}" for pid in sorted(carriers | wanted)]
                 self.must(f"{lines} {carriers} {pes}: refused", found == (
@@ -119,7 +115,7 @@ class Announced(Case):
 
     def why_unclear(self, lines: list[str], carriers: set[int], pes: tuple[int, int] | None) \
             -> list[str] | None:
-        """What a person may type where several programmes announce a page, and one is silent."""
+        """Return the advice if several programmes announce a page and one never sends it."""
         asked = mock.Mock(page=PAGE, pes=pes)
         recording = mock.Mock(survey=surveyed(*lines), request=asked, said=str)
         recording.again = lambda *words: " ".join(words)
@@ -130,8 +126,6 @@ class Announced(Case):
         return None
 
     def test_expects_the_page_if_a_subtitle_is_recorded(self) -> None:
-        """By an origin where all of a subtitle's time is recorded; without one where so much is as
-        the programme takes; also over the wrap."""
         subtitles = [(100, 150), (500, 600)]
         for first, last, origin, wanted in (
                 (0, 1000, 0, True), (100, 150, 0, True), (101, 599, 0, False),
@@ -146,28 +140,29 @@ class Announced(Case):
         self.must("no subtitle", not is_page_expected((0, CLOCK // 2), [], 0))
 
     def test_refuses_a_page_that_is_sent_nowhere(self) -> None:
-        """Nowhere, or elsewhere alone; not where a PID is asked for that is not announced, what one
-        of them carries is not known, or nothing is due by the first picture."""
         clock = ["pcr 100 0", f"pcr 100 {60 * SECOND}"]
         sent, scrambled = f"pes {ONE} 0 1 {SECOND} 0 h/ 1 0", f"end {TWO} 0 0 9 9 0 0 -"
-        known = f"pes {TWO} 0 1 {SECOND} 0 -/ 1 0; end {TWO} 0 0 9 9 31 0 -"  # and refused later
+        known = f"pes {TWO} 0 1 {SECOND} 0 -/ 1 0; end {TWO} 0 0 9 9 31 0 -"  # refused later
         short = f"pcr 200 0; pcr 200 {SECOND}"
         start = [f"stream {THREE} 2", f"video {THREE} 0", f"picture {THREE} {90 * SECOND}"]
         rows: list[tuple[list[str], list[str], bool]] = [
-            (table(1, ONE), [], True), (table(1, TWO), ["--pid", f"{TWO}"], True),
-            (table(1, ONE), ["--pid", f"{TWO}"], False),
-            ([*table(1, ONE, TWO), scrambled], [], False), ([*table(1, TWO), scrambled], [], False),
-            ([*table(1, TWO), known], [], True), ([*table(1, ONE, TWO), known, short], [], True),
-            ([*table(1, ONE, clock=100), *table(2, TWO, clock=200), short], [], True),
-            ([*table(1, ONE, clock=200), *table(2, TWO, clock=100), short], [], True),
-            ([*table(1, ONE, clock=200), short], [], False),
-            ([*table(1, ONE), scrambled], [], True), ([*table(1, ONE), *start], [], True),
-            ([*table(1, ONE), *start], ["--start", "00:00:00:00"], False),
-            ([*table(1, ONE), *start], ["--start", "00:01:30:00"], True),
-            ([sent, *table(1, TWO)], [], True), ([sent, *table(1, TWO), scrambled], [], False),
-            ([sent, f"pes {TWO} 0 1 {SECOND} 0 -/ 1 0", *table(1, TWO)], [], True),
-            ([sent, *table(1, TWO, THREE), scrambled], [], False),
-            ([sent, *table(1, TWO)], ["--pid", f"{ONE}"], False)]
+            (pmt_lines(1, ONE), [], True), (pmt_lines(1, TWO), ["--pid", f"{TWO}"], True),
+            (pmt_lines(1, ONE), ["--pid", f"{TWO}"], False),
+            ([*pmt_lines(1, ONE, TWO), scrambled], [], False),
+            ([*pmt_lines(1, TWO), scrambled], [], False),
+            ([*pmt_lines(1, TWO), known], [], True),
+            ([*pmt_lines(1, ONE, TWO), known, short], [], True),
+            ([*pmt_lines(1, ONE, clock=100), *pmt_lines(2, TWO, clock=200), short], [], True),
+            ([*pmt_lines(1, ONE, clock=200), *pmt_lines(2, TWO, clock=100), short], [], True),
+            ([*pmt_lines(1, ONE, clock=200), short], [], False),
+            ([*pmt_lines(1, ONE), scrambled], [], True), ([*pmt_lines(1, ONE), *start], [], True),
+            ([*pmt_lines(1, ONE), *start], ["--start", "00:00:00:00"], False),
+            ([*pmt_lines(1, ONE), *start], ["--start", "00:01:30:00"], True),
+            ([sent, *pmt_lines(1, TWO)], [], True),
+            ([sent, *pmt_lines(1, TWO), scrambled], [], False),
+            ([sent, f"pes {TWO} 0 1 {SECOND} 0 -/ 1 0", *pmt_lines(1, TWO)], [], True),
+            ([sent, *pmt_lines(1, TWO, THREE), scrambled], [], False),
+            ([sent, *pmt_lines(1, TWO)], ["--pid", f"{ONE}"], False)]
         for lines, words, is_refused in rows:
             survey, found = Survey(), ""
             for line in "; ".join([*lines, *clock]).split("; "):
@@ -183,12 +178,10 @@ class Announced(Case):
             self.must(f"{lines} {words}", bool(found) == is_refused, found)
         stl = self.write("none.stl", b" " * 1024)
         self.must("no TCP", find_origin(asked_for(stl, "a.ts", "--start", "tcp"), surveyed(
-            *table(1, ONE), *start, f"stream {ONE} 6"), ONE) is None)
+            *pmt_lines(1, ONE), *start, f"stream {ONE} 6"), ONE) is None)
 
 
-class Judgements(OfProgramme):
-    """Ten subtitles, with a page transmission a second."""
-
+class JudgedStreams(OfProgramme):
     words = ()
 
     def judge_plan(self, plan: Sequence[tuple[int, int]], sent: Carried, *words: str,
@@ -199,10 +192,10 @@ class Judgements(OfProgramme):
         return [(OLD, self.pes[at])]
 
     def bare(self, at: int) -> Sequence[tuple[int, bytes]]:
-        """The PID is there, and carries nothing of the page."""
+        """Return a PES packet without the page on the new PID."""
         return [(NEW, pes_packet(pts_in(self.pes[at]), []))]
 
-    def is_never_sent(self, name: str, told: Judged, words: str) -> None:
+    def check_never_sent(self, name: str, told: Judged, words: str) -> None:
         fault, = told.result["faults"]
         known = told.result
         self.must(name, (told.word, known["status"], known["line"], known["worst_fault"]) == (
@@ -213,15 +206,14 @@ class Judgements(OfProgramme):
                   and any("announced 888" in line for line in told.said), told.said)
 
     def test_refuses_a_page_that_comes_on_another_pid(self) -> None:
-        """On a PID that no PMT announces, from the beginning or from some time on; not where that
-        is behind the subtitles, nor where the PID that has the page is typed."""
         told = self.judge_plan([(0, OLD)], self.on_old, "--every", "25")
         self.must("sent", told.word == "accepted")
         words = "page 888 is announced in PID 0x111, never sent (no TS packet of PID 0x111); " \
             "PID 0x101 has it"
-        self.is_never_sent("announced elsewhere", self.judge_plan([(0, NEW)], self.on_old), words)
+        self.check_never_sent("announced elsewhere", self.judge_plan([(0, NEW)], self.on_old),
+                              words)
         half = len(self.pes) // 2
-        self.is_never_sent("moved", self.judge_plan([(0, OLD), (half, NEW)], self.on_old), words)
+        self.check_never_sent("moved", self.judge_plan([(0, OLD), (half, NEW)], self.on_old), words)
         rows: list[tuple[str, list[tuple[int, int]], list[str]]] = [
             ("typed", [(0, NEW)], ["--pid", f"0x{OLD:X}"]),
             ("at the end", [(0, OLD), (len(self.pes) - 1, NEW)], [])]
@@ -229,9 +221,7 @@ class Judgements(OfProgramme):
             told = self.judge_plan(plan, self.on_old, "--every", "25", *more)
             self.must(name, told.word == "accepted", told.said)
 
-    def test_refuses_a_page_that_never_comes_while_it_is_due(self) -> None:
-        """Refused where it is due by the clock, or the recording is as long as the programme; of a
-        short one nobody knows."""
+    def test_refuses_a_page_that_never_comes_while_it_is_expected(self) -> None:
         words = "page 888 is announced in PID 0x111, never sent"
         rows: list[tuple[str, int | None, list[str], bool]] = [
                 ("all", None, [], True), ("a third", len(self.pes) // 3, [], False),
@@ -241,13 +231,11 @@ class Judgements(OfProgramme):
         for name, count, more, is_due in rows:
             told = self.judge_plan([(0, NEW)], self.bare, *more, count=count)
             if is_due:
-                self.is_never_sent(name, told, words)
+                self.check_never_sent(name, told, words)
             else:
                 self.must(name, told.word == "not judged", told.said)
 
-    def test_of_several(self) -> None:
-        """Where one programme sends it, and another one that announces it never does, nobody knows
-        which is meant."""
+    def test_reports_that_one_of_several_programmes_never_sends_it(self) -> None:
         first, frames = pts_in(self.pes[0]), frame_at(pts_in(self.pes[-1]), 0) or 0
         made = shown([Programme({OLD: self.pes}, first),
                       Programme({NEW: []}, first, VIDEO_PID + 1)], frames)
@@ -257,8 +245,7 @@ class Judgements(OfProgramme):
                 line.split()[-1] for line in told.told if line.startswith(("type ", "or "))] == [
                     "0x101", "0x111"], told.said)
 
-    def test_beside_refused(self) -> None:
-        """A subtitle that is refused is, and it is said why the others were not judged."""
+    def test_reports_a_refused_subtitle_first(self) -> None:
         with open(self.stl, "rb") as file:
             bad = self.write("bad.stl", file.read().replace(b"Number 3", b"Number \xe6"))
         told = judged(self, bad, self.write("one.ts", in_turn(self.pes, [(0, NEW)], self.on_old)))
@@ -267,14 +254,12 @@ class Judgements(OfProgramme):
                   told.told[0].startswith("the other subtitles were not judged: page 888 is "
                                           "announced in PID 0x111, never sent "), told.said)
 
-    def test_does_not_judge_if_that_fault_is_waived(self) -> None:
-        """A file may name it a warning: then nothing is judged."""
+    def test_is_not_judged_if_the_fault_is_waived(self) -> None:
         path = self.write("severity", b"never sent warning\n")
         told = self.judge_plan([(0, NEW)], self.bare, "--severity", path)
         self.must("a warning", told.word == "not judged", told.said)
 
     def test_writes_report_and_result_of_a_page_never_sent(self) -> None:
-        """Its report and its result in a folder."""
         out = self.path("out")
         self.judge_plan([(0, NEW)], self.bare, "-o", out)
         page = self.read("out/one.html").decode()
@@ -282,24 +267,19 @@ class Judgements(OfProgramme):
                   json.loads(self.read("out/one.json"))["status"] == 1, page[:2000])
 
 
-class Dead(OfProgramme):
-    """A source that sends headers of the page, or none, and never a row."""
-
+class DeadSources(OfProgramme):
     words = ("--every", "25")
 
     def blank(self, first: int = 0, last: int = 1 << 30) -> Sent:
-        """What is sent, from one frame to another one without rows."""
+        """Return the transmission without the rows between two frames."""
         return [(pts, [some[0], some[-1]] if first <= pts // TICKS <= last and some else some)
                 for pts, some in self.sent]
 
     def without(self, last: int) -> Sent:
-        """What is sent, up to a frame without Teletext packets."""
+        """Return the transmission with no Teletext packets up to a frame."""
         return [(pts, some if pts // TICKS > last else []) for pts, some in self.blank()]
 
-    def test_is_refused_where_a_subtitle_is_expected(self) -> None:
-        """By what was sent: without a clock in the whole recording, with one up to the last TCO. A
-        clock by which nothing is expected, a row, or a PES packet that can't be read change that.
-        """
+    def test_refuses_headers_without_rows_if_a_subtitle_is_expected(self) -> None:
         end = self.due[-1][1]
         later = [(pts + TICKS * 2 * end, some) for pts, some in self.sent]
         count, own = len(self.sent), "is never sent while subtitles are expected: "
@@ -335,14 +315,12 @@ class Dead(OfProgramme):
                                                 found.result["parts"]),
                            ("refused", "refused never sent", []))
 
-    def test_is_refused_in_a_stream(self) -> None:
-        """By its PCR."""
+    def test_refuses_headers_without_rows_in_a_stream(self) -> None:
         found = self.judge_stream(in_pcr(self.blank()))
         self.check("stream", (found.word, "headers, no row" in found.verdict.sentence),
                    ("refused", True))
 
-    def test_blank_subtitles_are_sent_by_headers(self) -> None:
-        """Of a file without a letter nothing else is expected."""
+    def test_accepts_headers_for_blank_subtitles(self) -> None:
         stl = programme(self, self.due, text=b" ", name="blank.stl")
         found = judged(self, stl, self.write("one.pes", joined(self.blank())), *self.words,
                        "--origin", "0")

@@ -1,4 +1,4 @@
-"""A recording as it is read, by tables: which PID is chosen, what is said of it, what is kept."""
+"""How a recording is read: the chosen PID, the messages, the stored copy."""
 from __future__ import annotations
 
 import itertools
@@ -24,9 +24,9 @@ from .parts import asked_for, surveyed
 ONE, TWO, THREE = 257, 258, 259
 
 
-def recorded(survey: Survey, *words: str, name: str = "one.ts", kind: int = stat.S_IFREG,
+def read_recording(survey: Survey, *words: str, name: str = "one.ts", kind: int = stat.S_IFREG,
              folder: str = "") -> Any:
-    """A recording of which this is told."""
+    """Return a recording with these lines of `survey`."""
     lines = list[str]()
     listener: Any = SimpleNamespace(lines=lines, said=lines.append,
                                     chosen=lambda one: lines.append(one.line))
@@ -38,42 +38,40 @@ def recorded(survey: Survey, *words: str, name: str = "one.ts", kind: int = stat
     return made
 
 
-def header(pid: int, does: str = "heob", number: int = 0, pts: int = SECOND) -> str:
-    """The line of a PES packet."""
+def pes_line(pid: int, does: str = "heob", number: int = 0, pts: int = SECOND) -> str:
+    """Return the line of a PES packet."""
     return f"pes {pid} {number} 1 {pts} 0 {does}/{'0' * ('h' in does)} 1 0"
 
 
-def table(number: int, pid: int) -> list[str]:
-    """The lines of a PMT that announces the page, and of a minute of its clock."""
+def pmt_lines(number: int, pid: int) -> list[str]:
+    """Return the lines of a PMT that announces the page, and of a minute of PCR."""
     return ["pcr 100 0", f"programme {number} 100", f"stream {pid} 6",
             f"announce {pid} 888 656e67 2", f"pcr 100 {60 * SECOND}"]
 
 
-class Chosen(Case):
-    """Which PID."""
-
+class ChosenPids(Case):
     def test_chooses_the_only_pid_with_the_page(self) -> None:
-        """The only one with a header of the page, whatever it shows, or the one of --pid. Else what
-        the operator may type, also if the PMT moves the page from one to the other."""
-        both = [header(ONE), header(TWO, "he")]
-        moves = [*table(7, ONE), header(ONE), *table(7, TWO), header(TWO, pts=60 * SECOND)]
-        others = [header(ONE), f"sub {TWO} 888", f"sub {THREE} 801"]
+        both = [pes_line(ONE), pes_line(TWO, "he")]
+        moves = [*pmt_lines(7, ONE), pes_line(ONE), *pmt_lines(7, TWO),
+                 pes_line(TWO, pts=60 * SECOND)]
+        others = [pes_line(ONE), f"sub {TWO} 888", f"sub {THREE} 801"]
         rows: list[tuple[list[str], list[str], object]] = [
-            ([header(ONE)], [], ONE), ([header(ONE, "he")], [], ONE),
-            ([header(ONE), header(TWO, "-")], [], ONE), ([header(TWO), header(ONE, "-")], [], TWO),
+            ([pes_line(ONE)], [], ONE), ([pes_line(ONE, "he")], [], ONE),
+            ([pes_line(ONE), pes_line(TWO, "-")], [], ONE),
+            ([pes_line(TWO), pes_line(ONE, "-")], [], TWO),
             (both, [], ["--pid 0x101", "--pid 0x102"]),
             (both[::-1], [], ["--pid 0x101", "--pid 0x102"]),
-            ([header(ONE, "-")], [], []), ([header(ONE, "-"), f"sub {TWO} 801"], [],
+            ([pes_line(ONE, "-")], [], []), ([pes_line(ONE, "-"), f"sub {TWO} 801"], [],
              ["--page 801"]),
-            ([], [], []), ([header(ONE, "-"), *table(7, ONE)], [], NeverSent),
+            ([], [], []), ([pes_line(ONE, "-"), *pmt_lines(7, ONE)], [], NeverSent),
             (moves, [], ["--pid 0x101", "--pid 0x102"]),
             (others, ["--pid", f"{ONE}"], ONE), (both, ["--pid", f"{TWO}"], TWO),
-            ([header(ONE), header(TWO, "-")], ["--pid", f"{TWO}"], TWO),
+            ([pes_line(ONE), pes_line(TWO, "-")], ["--pid", f"{TWO}"], TWO),
             (others, ["--pid", f"{THREE}"], [f"--pid 0x{TWO:X}"]),
-            ([header(ONE)], ["--pid", f"{TWO}"], ["--pid PID"]),
-            ([header(ONE, "-"), *table(7, ONE)], ["--pid", f"{ONE}"], NeverSent)]
+            ([pes_line(ONE)], ["--pid", f"{TWO}"], ["--pid PID"]),
+            ([pes_line(ONE, "-"), *pmt_lines(7, ONE)], ["--pid", f"{ONE}"], NeverSent)]
         for lines, words, wanted in rows:
-            recording = recorded(surveyed("size 188", *lines), *words)
+            recording = read_recording(surveyed("size 188", *lines), *words)
             found: object = None
             try:
                 packets = recording.chosen()
@@ -85,11 +83,10 @@ class Chosen(Case):
                 found = [*reason.to_type]
             self.must(f"{lines} {words}", found == wanted, found)
         for count in (0, 1):
-            packets = recorded(surveyed("size 0", *[header(PES)] * count)).chosen()
+            packets = read_recording(surveyed("size 0", *[pes_line(PES)] * count)).chosen()
             self.must(f"{count}", (packets.pid, packets.count) == (PES, count))
 
-    def test_what_it_is(self) -> None:
-        """A file, what comes through a pipe; PES packets, or a stream."""
+    def test_distinguishes_files_pipes_and_streams(self) -> None:
         file, pipe = stat.S_IFREG, stat.S_IFIFO
         rows: list[tuple[str, int, int, bool, tuple[str, str | None]]] = [
             ("one.ts", file, 188, False, ("one.ts", "recording.pes")),
@@ -100,17 +97,16 @@ class Chosen(Case):
             ("-", file, 188, True, ("one.recording.ts", "recording.ts")),
             ("-", pipe, 0, True, ("one.recording.pes", "recording.pes"))]
         for name, kind, packet_size, is_piped, wanted in rows:
-            one = recorded(surveyed(f"size {packet_size}"), name=name, kind=kind)
+            one = read_recording(surveyed(f"size {packet_size}"), name=name, kind=kind)
             one.packets = Packets(ONE)
             self.must(f"{name} {kind} {packet_size}", (
                 one.is_piped, one.path, one.stream(), (one.shown, one.kept_ending)) == (
                     is_piped, "one.recording" if is_piped else name,
                     (ONE, packet_size) if packet_size else None, wanted), vars(one))
-        jumped = recorded(Survey())
+        jumped = read_recording(Survey())
         self.must("jumps", [one.is_announced for one in jumped.places([(5, 9)])] == [True])
 
-    def test_no_recording(self) -> None:
-        """What it is is told."""
+    def test_reports_what_is_no_recording(self) -> None:
         for head, size, words in (
                 (b"", None, "is empty"), (b"850STL25", None, "is a subtitle file"),
                 (b"\0\0\1\xe0", None, "stream_id E0 instead of BD"), (b"\0\0\1\xe0", 188, ""),
@@ -125,19 +121,16 @@ class Chosen(Case):
             self.must(f"{head!r} {size}", words in found and bool(words) == bool(found), found)
 
 
-class Told(Case):
-    """What is said of one that was read."""
-
-    def assertSaid(self, lines: Sequence[str], wanted: Sequence[str]) -> None:
-        """In each line what it has to say, and no other line."""
+class Messages(Case):
+    def check_lines(self, lines: Sequence[str], wanted: Sequence[str]) -> None:
+        """Check that each line contains its expected text."""
         self.assertEqual(len(lines), len(wanted), (lines, wanted))
         self.assertTrue(all(map(str.__contains__, lines, wanted)), (lines, wanted))
 
-    def test_what_is_missing(self) -> None:
-        """Each of several: why it ends, why nothing more is given, what is skipped, each mark."""
+    def test_reports_what_is_missing(self) -> None:
         for damage, refusal, skipped, marks, size in itertools.product(
                 (None, "is damaged"), (0, 31), (0, 40), range(3), (0, 188)):
-            one = recorded(surveyed(f"size {size}", f"over {skipped} 9"))
+            one = read_recording(surveyed(f"size {size}", f"over {skipped} 9"))
             one.packets = Packets(ONE, [Run(0, 9, 0, TICKS, "-", "")] + [
                 Run(9 + at, 1, None, 0, "m", "") for at in range(marks)], damage=damage,
                 refusal=refusal, marks=[Mark(9 + at, 8 * TICKS, 1, 0) for at in range(marks)])
@@ -146,29 +139,26 @@ class Told(Case):
                 *["refused 31 Start"] * bool(refusal),
                 *["40 bytes of no TS packet"] * bool(skipped),
                 *["1 TS packet lost"] * marks] * bool(size)]
-            self.assertSaid(one.listener.lines, [*wanted[0], *wanted[1]])
+            self.check_lines(one.listener.lines, [*wanted[0], *wanted[1]])
 
     def test_warns_of_a_cut_and_of_damage(self) -> None:
-        """An end within a PES packet, and damage."""
         for is_cut, refusal, damage, size in itertools.product(
                 (False, True), (0, 31), (None, "is damaged"), (0, 188)):
-            one = recorded(surveyed(f"size {size}"))
+            one = read_recording(surveyed(f"size {size}"))
             one.packets = Packets(ONE, is_cut=is_cut, refusal=refusal, damage=damage)
             found = [notice.line.split(" ", 1)[1] for notice in one.strange()]
             ends = ["ends within"] * (is_cut and not refusal and size > 0) + ["is damaged"] * bool(
                 damage)
-            self.assertSaid(found, ends)
+            self.check_lines(found, ends)
 
-    def test_keeps_the_pid_as_it_is_extracted(self) -> None:
-        """The PID as it is extracted, up to a PES packet that is refused; where that fails nothing
-        is given for whole."""
+    def test_stores_the_extracted_pid(self) -> None:
         path = self.write("program", b'#!/bin/sh\nfor file; do :; done\necho "$3" >"$file"\n'
                                      b'[ "$3" != 0x103 ] || exit 2\n[ "$3" != 0x104 ]\n')
         os.chmod(path, 0o755)
         rows: list[tuple[int, bytes | None]] = [(ONE, b"0x101\n"), (THREE, None),
                                                 (0x104, b"0x104\n")]
         for pid, wanted in rows:
-            one, found = recorded(surveyed("size 188"), folder=self.folder), None
+            one, found = read_recording(surveyed("size 188"), folder=self.folder), None
             one.typed.program_path, one.packets = path, Packets(pid)
             try:
                 found = b"".join(one.kept())

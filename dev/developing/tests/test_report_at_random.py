@@ -1,4 +1,4 @@
-"""Reports at random, read again beside what the program prints."""
+"""Random reports, compared with the output of the program."""
 from __future__ import annotations
 
 import os
@@ -21,20 +21,18 @@ from .bench import BENCH, example_bytes
 from .judged import Judged, judged_by
 
 
-# Reports at random, each made by a number, and read again beside what the program prints.
-
-COUNT, EACH = 240, 8  # reports, and how many a test has
+COUNT, EACH = 240, 8  # reports, and reports for each test
 TEXTS = [b"Good evening.", b"Here is the news.", b"No! <&>", b"Thank you, Anne."]
 HTML = "{http://www.w3.org/1999/xhtml}"
 FOREIGN = re.compile(r"<script|<link|<img|<iframe|@import|\burl\(|\bsrc=|\bon\w+="
                      r"|https?://(?!www\.w3\.org/1999/xhtml)")
 BYTES = {3: (0, 0xF0, 0xFE, 7), 4: (1, 9), 5: (24,), 8: (25, 0), 9: (0, 23), 10: (60, 1),
          13: (0, 23, 24), 14: (4,), 15: (1, 2), 19: (0x61, 0xC2, 0x8A, 0x0E), 2: (1,),
-         22: (0x81, 0x8A, 0x0D)}  # of a TTI block: what is wrong at which byte
+         22: (0x81, 0x8A, 0x0D)}  # bytes of a TTI block and wrong values for them
 
 
-class Made:
-    """The files of a report in a folder, and what is asked."""
+class RandomPair:
+    """The files and the request of a random report."""
 
     def __init__(self, number: int, folder: str) -> None:
         self.chance = chance = random.Random(number)
@@ -50,7 +48,7 @@ class Made:
         self.stl = self.subtitle_file()
 
     def subtitle_file(self) -> bytes:
-        """Subtitles, some of which touch; a comment, and user data."""
+        """Return subtitles, some adjoining, with a comment and user data."""
         chance, frame, made = self.chance, self.begin, list[bytes]()
         count = chance.choice((60, 300)) if self.is_long else chance.choice((2, 1, 3, 3, 5, 8))
         gaps = (0, 20, 1000) if self.is_long else (0, 0, 5, 40, 120, 700)
@@ -73,20 +71,20 @@ class Made:
         return head + b"".join(made)
 
     def wrong_block(self, block: bytes) -> bytes:
-        """A block in which something is wrong at times."""
+        """Damage a block sometimes."""
         data = bytearray(block)
         for at in self.chance.choices(list(BYTES), k=self.chance.choice((0, 1, 1, 2))):
             data[at] = self.chance.choice(BYTES[at])
         return bytes(data)
 
-    def sent(self) -> bytes:
-        """What is sent: the program's own transmission, with something wrong."""
+    def transmission(self) -> bytes:
+        """Return the transmission by `schedule`, with faults."""
         words = ["--every", str(self.every), "--origin", str(self.origin), "--option", self.option,
                  "--page", page_name(*self.page)]
         subprocess.run([BENCH.program, "schedule", self.path_of_stl, self.path_of_pes, *words],
                        check=False, stdout=subprocess.DEVNULL)
         with open(self.path_of_pes, "rb") as file:
-            # A file without subtitles sends nothing.
+            # An empty subtitle file gives no transmission.
             pes = complete_packets(file.read() or example_bytes("hello.pes"))
         kinds: list[Callable[[list[bytes], int], None]] = [
             self.lose, self.stop_reading, self.move, self.hit, self.swap, self.send_late, self.cut,
@@ -100,17 +98,17 @@ class Made:
         del pes[at:at + self.chance.choice((1, 1, 3))]
 
     def stop_reading(self, pes: list[bytes], at: int) -> None:
-        """Some in a row can't be read, for one reason or another."""
+        """Damage some PES packets in a row."""
         byte = self.chance.choice((6, 7, 8, 45, 47, 48))
         for number in range(at, min(at + self.chance.choice((1, 1, 2)), len(pes))):
             pes[number] = pes[number][:byte] + b"\5" + pes[number][byte + 1:]
 
     def move(self, pes: list[bytes], at: int) -> None:
-        """One has another PTS."""
+        """Change the PTS of one PES packet."""
         self.shift(pes, at, self.chance.choice((-90, 5, 1800, TICKS)), 1)
 
     def send_late(self, pes: list[bytes], at: int) -> None:
-        """All from one on, or some, come earlier or later."""
+        """Shift some PES packets, or all from one on."""
         self.shift(pes, at, TICKS * self.chance.choice((-2, 1, 3, 40)),
                    self.chance.choice((2, len(pes))))
 
@@ -120,7 +118,7 @@ class Made:
                               for one in pes[at:at + count]]
 
     def hit(self, pes: list[bytes], at: int) -> None:
-        """A bit of a Teletext packet is wrong, or two: of an address, a header, or a row."""
+        """Flip one or two bits of an address, a header or a row."""
         if pes:
             data = bytearray(pes[at])
             unit = DATA + UNIT * self.chance.randrange(3)
@@ -129,7 +127,7 @@ class Made:
             pes[at] = bytes(data)
 
     def send_elsewhere(self, pes: list[bytes], at: int) -> None:
-        """The first row that is sent is another one, with another text."""
+        """Replace the first row."""
         if pes:
             sent = packet(self.page[0], self.chance.choice((1, 2, 24)), (),
                           b"\x0b\x0bElsewhere".ljust(40))
@@ -140,18 +138,18 @@ class Made:
         pes[at:at + 2] = pes[at:at + 2][::-1]
 
     def cut(self, pes: list[bytes], at: int) -> None:
-        """The file ends within one, or before it."""
+        """Truncate the file."""
         pes[at:] = [one[:self.chance.choice((20, 100))] for one in pes[at:at + self.chance.choice(
             (0, 1))]]
 
     def words(self) -> list[str]:
-        """The words of a call of qc, of files that are written here."""
+        """Write the files; return the arguments of the call."""
         chance = self.chance
         with open(self.path_of_stl, "wb") as file:
             file.write(self.stl)
         words = [self.path_of_stl]
         if not self.is_refused_file:
-            data = self.sent()
+            data = self.transmission()
             with open(self.path_of_pes, "wb") as file:
                 file.write(data)
             words.append(self.path_of_pes)
@@ -162,7 +160,7 @@ class Made:
 
 
 def run(*words: str) -> list[str]:
-    """The lines of the program."""
+    """Return the output lines of the program."""
     return subprocess.run([BENCH.program, *words], stdin=subprocess.DEVNULL, check=False,
                           stdout=subprocess.PIPE, text=True).stdout.splitlines()
 
@@ -172,9 +170,9 @@ def text_of(item: tree.Element) -> str:
 
 
 def report_made(number: int, folder: str) -> tuple[Judged, str]:
-    """The pair of a number, judged, and its report; nothing where there is none."""
+    """Return the judged pair of a seed and its report, or ""."""
     out = os.path.join(folder, "out")
-    found = judged_by(BENCH.program, *Made(number, folder).words(), "-o", out)
+    found = judged_by(BENCH.program, *RandomPair(number, folder).words(), "-o", out)
     path = os.path.join(out, "one.html")
     if not os.path.exists(path):
         return found, ""
@@ -190,12 +188,12 @@ class CueRow(NamedTuple):
     cells: list[str]
 
     def frame(self, at: int) -> int | None:
-        """The frame of one of its times."""
+        """Return the frame of a time in the row."""
         return frame_of(self.cells[at])
 
 
 def cue_rows(page: tree.Element) -> list[CueRow]:
-    """The cue list of a page."""
+    """Return the rows of the cue list."""
     return [CueRow(int(row.get("id", "")[1:]), set(row.get("class", "").split()),
                    [text_of(cell) for cell in row])
             for row in page.iter(HTML + "tr") if re.fullmatch(r"s\d+", row.get("id", ""))]
@@ -204,9 +202,9 @@ def cue_rows(page: tree.Element) -> list[CueRow]:
 class Reports(unittest.TestCase):
     """Reports that qc makes of pairs at random."""
 
-    def stands(self, page: str) -> None:
-        """A page is XML, and stands alone: nothing is fetched or run, each name is there once, each
-        link leads to one, heads of tables have a scope, and pictures and links have words."""
+    def check_page(self, page: str) -> None:
+        """Check that a page is well-formed, fetches and runs nothing, has unique anchors, valid
+        links, scopes of headers, and texts for pictures and links."""
         items = list(tree.fromstring(page).iter())
         self.assertIsNone(FOREIGN.search(page))
         names = [item.get("id") for item in items if item.get("id")]
@@ -221,9 +219,9 @@ class Reports(unittest.TestCase):
             elif item.tag == f"{HTML}a":
                 self.assertTrue("".join(item.itertext()).strip())
 
-    def has_all(self, found: Judged, told: list[FaultLine], rows: list[CueRow]) -> None:
-        """Each subtitle that is judged has a row, none is right at whose time a fault is reported,
-        and all are if nothing is."""
+    def check_rows(self, found: Judged, told: list[FaultLine], rows: list[CueRow]) -> None:
+        """Check that each judged subtitle has a row, and that rows are right only without faults at
+        their time."""
         part = found.verdict.parts[0]
         judged = [one.index for one in part.due().subtitles]
         self.assertLessEqual(set(judged), {row.position for row in rows})
@@ -237,16 +235,16 @@ class Reports(unittest.TestCase):
         if found.verdict.word == "accepted":
             self.assertEqual(set[str]().union(*(row.classes for row in rows)), {"ok"})
 
-    def counts(self, found: Judged, page: tree.Element) -> None:
-        """The table has each number with its count."""
+    def check_counts(self, found: Judged, page: tree.Element) -> None:
+        """Check that the table has each number with its count."""
         table = {row.get("id"): text_of(row[1]) for row in page.iter(HTML + "tr")
                  if re.fullmatch(r"n\d+", row.get("id", ""))}
         self.assertEqual(table, {f"n{number}": f"{count:,}" for number, count in
                                  found.verdict.parts[0].answer.counts.items()})
 
-    def times(self, found: Judged, rows: list[CueRow]) -> None:
-        """At an actual in-cue the program's receiver holds the page that is due, and at the frame
-        before and at the out-cue another one."""
+    def check_times(self, found: Judged, rows: list[CueRow]) -> None:
+        """Check that the expected page is displayed from the actual in-cue up to the out-cue, and
+        another page just outside."""
         asked = found.verdict.request
         receiver = ["--origin", str(asked.origin), "--page", page_name(*asked.page)]
         due = asked.stl + ".due"
@@ -269,33 +267,33 @@ class Reports(unittest.TestCase):
             if end is not None and end != row.frame(3):
                 self.assertNotEqual(held(asked.recording or "", end, *within), page, row)
 
-    def read(self, number: int, folder: str) -> None:
-        """A report of a number."""
+    def check_report(self, number: int, folder: str) -> None:
+        """Check the report of a seed."""
         found, page = report_made(number, folder)
         out = os.path.join(folder, "out")
         if not page:
             return
-        self.stands(page)
+        self.check_page(page)
         if found.verdict.word != "not judged" and found.verdict.parts:
             root = tree.fromstring(page)
             rows = cue_rows(root)
             with open(os.path.join(out, "one.txt"), encoding="utf-8") as file:
                 told = [fault for fault in map(fault_of_line, file.read().splitlines())
                         if fault and fault.is_fault]
-            self.has_all(found, told, rows)
-            self.counts(found, root)
+            self.check_rows(found, told, rows)
+            self.check_counts(found, root)
             passed = found.verdict.parts[0].answer.numbers & {*PASSED_OVER, *ENDS_READING, 62}
             if found.verdict.request.recording and not passed:
-                self.times(found, rows)
+                self.check_times(found, rows)
 
 
 def reports_from(first: int) -> Callable[[Reports], None]:
-    """The test of the reports from a number on."""
+    """Return the test of some reports."""
 
     def test(self: Reports) -> None:
         for number in range(first, first + EACH):
             with self.subTest(number), tempfile.TemporaryDirectory() as folder:
-                self.read(number, folder)
+                self.check_report(number, folder)
 
     return test
 

@@ -1,4 +1,4 @@
-"""The cue list, the timeline, refused subtitles, and the box of a verdict."""
+"""The cue list, the timeline, refused subtitles, and the box with the verdict."""
 from __future__ import annotations
 
 from types import SimpleNamespace
@@ -23,12 +23,12 @@ from .test_judging_status import severity_of
 
 
 def page(text: bytes) -> Rows:
-    """A page with a text in row 20."""
+    """Return a page with a text in row 20."""
     return (*BLANK_PAGE[:19], text.ljust(40), *BLANK_PAGE[20:])
 
 
-def holding(*changes: tuple[int, Rows]) -> Timeline:
-    """Pages by the frames from which on they are held, up to frame 1000."""
+def timeline_of_pages(*changes: tuple[int, Rows]) -> Timeline:
+    """Return a timeline of pages by their first frames, up to frame 1000."""
     held = Timeline(Packets(PES), (0, 0x88), 0)
     held.first, held.last = 0, 1000
     for frame, rows in changes:
@@ -36,14 +36,10 @@ def holding(*changes: tuple[int, Rows]) -> Timeline:
     return held
 
 
-class Cues(Case):
-    """When a receiver held the page of a subtitle."""
-
+class ActualCues(Case):
     ONE, TWO = page(b"one"), page(b"two")
 
     def test_finds_the_frames_of_a_decoded_subtitle(self) -> None:
-        """By what is held, and by the cause: the first and the last frame of a subtitle that is
-        expected from 100 to 200, behind which another one is expected from 200 to 300."""
         one, blank, two = self.ONE, BLANK_PAGE, self.TWO
         wrong = page(b"onf")
         late, text, never = (Cause(0, name, frames, sent, None, "", 0) for name, frames, sent in (
@@ -58,35 +54,30 @@ class Cues(Case):
                 ("by another one", None, [(100, one), (150, two)], (100, 150)),
                 ("up to the end", None, [(100, one)], (100, None))):
             subtitles = [Subtitle(1, 1, 100, 200, 20, 2, b""), Subtitle(2, 2, 200, 300, 20, 2, b"")]
-            held = holding(*changes)
+            held = timeline_of_pages(*changes)
             made = decoded_cue(Cue(subtitles[0], one, cause), 0, DuePages(subtitles, [one, two]),
                                held, 0)
             self.must(name, (made.begin, made.end) == wanted, (made.begin, made.end))
             self.must(f"{name}: late", made.late_in == (
                 None if wanted[0] is None else wanted[0] - 100), made.late_in)
 
-    def test_same_page_twice(self) -> None:
-        """Two subtitles that adjoin and have the same page: the cue between them is as expected."""
+    def test_finds_the_cue_between_equal_pages(self) -> None:
         subtitles = [Subtitle(1, 1, 100, 200, 20, 2, b""), Subtitle(2, 2, 200, 300, 20, 2, b"")]
-        held = holding((100, self.ONE), (300, BLANK_PAGE))
+        held = timeline_of_pages((100, self.ONE), (300, BLANK_PAGE))
         due = DuePages(subtitles, [self.ONE, self.ONE])
         made = [decoded_cue(Cue(one, self.ONE, None), place, due, held, 0)
                 for place, one in enumerate(subtitles)]
         self.must("times", [(one.begin, one.end) for one in made] == [(100, 200), (200, 300)], made)
 
 
-class Judged(Case):
-    """The verdict on one subtitle, from frame 100 to 200, of a part that is refused."""
-
+class CueVerdicts(Case):
     def test_decides_by_the_cause_and_by_other_faults_at_its_time(self) -> None:
-        """Nothing wrong is right or waived but by a severity file, and what nobody has seen is
-        neither right nor wrong."""
         subtitle = Subtitle(1, 1, 100, 200, 20, 2, b"")
         programme = DuePages([subtitle], [page(b"one")])
         waived = severity_of("67 warning"), severity_of("72 warning"), severity_of("others warning")
         rows: list[tuple[str | None, list[int], int, list[str]]] = [
-            # cause, the other numbers at its time, the first frame that is trusted; with the
-            # severities: 67 is a warning, 72 is, all are.
+            # cause, other numbers at its time, first trusted frame; severities: 67 a warning, 72 a
+            # warning, all warnings
             (None, [], 100, ["right", "right", "right"]),
             (None, [], 101, ["not known", "not known", "not known"]),
             (None, [67], 100, ["waived", "wrong", "waived"]),
@@ -109,11 +100,8 @@ class Judged(Case):
             self.check(f"{name}, {numbers}, trusted from {first} on", found, wanted)
 
 
-class Words(Case):
-    """Texts with marks, numbers with signs."""
-
+class TextMarkup(Case):
     def test_marks_characters_that_differ(self) -> None:
-        """The characters that differ are marked in both texts."""
         for first, second, wanted in (
                 ("abc", "abd", ("ab[c]", "ab[d]")), ("abc", "abc", ("abc", "abc")),
                 ("a b", "axxb", ("a[ ]b", "a[xx]b")), ("abcd", "abd", ("ab[c]d", "abd")),
@@ -127,24 +115,19 @@ class Words(Case):
         self.must("signs", [signed(one) for one in (None, 0, 12, -3)] == ["", "0", "+12", "-3"])
 
     def test_breaks_no_option_between_lines(self) -> None:
-        """Options are not broken between two lines."""
         for text, wanted in (("give --origin or --start", "give <b>--origin</b> or <b>--start</b>"),
                              ("--every 25 <x>", "<b>--every 25</b> &lt;x&gt;"), ("a - b", "a - b")):
             self.must(text, in_page(with_options(text)) == wanted, in_page(with_options(text)))
 
     def test_gives_each_verdict_a_class_and_a_shape(self) -> None:
-        """Each verdict has a class and a shape of its own."""
         words = (ACCEPTED, WAIVED, RELATIVE, REFUSED, LOST, WARNED, NOT_JUDGED)
         self.must("all", set(SHAPES) == set(words))
         self.must("classes", len({kind for kind, _ in SHAPES.values()}) == len(words))
         self.must("shapes", len({in_page(drawn) for _, drawn in SHAPES.values()}) == len(words))
 
 
-class BlocksOfFile(Case):
-    """A subtitle file that is refused: its subtitles."""
-
+class RefusedFiles(Case):
     def test_shows_the_field_that_a_fault_names(self) -> None:
-        """The field that a fault is about, as it stands in the file; of no other fault one."""
         path = self.write("two.stl", gsi_block(b"", 1, 1) + bytes(range(16)) + b"\x8f" * 112)
         made = SubtitleFile(path)
         fields = {11: "DFC STL25.01", 12: "DFC STL25.01", 13: "DSC 1", 14: "CCT 00", 15: "EBN 03",
@@ -157,7 +140,6 @@ class BlocksOfFile(Case):
         self.must("no block", in_page(field_markup(made, fault_of("refused 14 Cct"))) == "")
 
     def test_marks_the_byte_or_line_that_a_fault_names(self) -> None:
-        """The byte or the line that a fault names, in a text and in tables."""
         def marked(*lines: str) -> str:
             return in_page(marked_text(b"a b\x8ac", [fault_of(line) for line in lines]))
 
@@ -172,7 +154,6 @@ class BlocksOfFile(Case):
         self.must("letters", letters == ["\u2423", "A", "~", "<i>7F</i>", "<i>1F</i>"])
 
     def test_marks_the_times_that_a_fault_names(self) -> None:
-        """Those that a fault is about are marked."""
         begin, end = "00:00:02:10", "00:00:02:20"
         one = NamedSubtitle(3, 3, begin, end)
         for line, wanted in (

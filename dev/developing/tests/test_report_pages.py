@@ -1,4 +1,4 @@
-"""Pages as they are drawn."""
+"""Teletext pages as a report draws them."""
 from __future__ import annotations
 
 import itertools
@@ -13,25 +13,20 @@ from subtitles.stream.receiver import BLANK_PAGE, HIT, OLD, Rows
 from .parts import in_page
 
 
-# Pages as a report draws them, in process: spacing attributes, rows, frames, what a cell holds.
-
 SUBTITLE_HEADER, PLAIN_HEADER = bytes([8, 8, 0, 8, 0, 8, 1, 0]), bytes([8, 8, 0, 8, 0, 0, 1, 0])
 
 
 def page(**rows: bytes) -> Rows:
-    """A page with some rows, by their numbers."""
+    """Return a page with some rows, by their numbers."""
     return tuple(rows.get(f"r{number}", b"").ljust(40) for number in range(1, 25))
 
 
 class Attributes(unittest.TestCase):
-    """How cells look, by the spacing attributes before them (EN 300 706, 12.2)."""
-
     def look(self, row: bytes, number: int = 20, is_boxed_page: bool = True) -> CellStyle:
-        """The look of the last cell of a row."""
+        """Return the style of the last cell of a row."""
         return styled_spans(row, number, 0, is_boxed_page)[-1]
 
     def test_applies_each_spacing_attribute_until_it_ends(self) -> None:
-        """White on black outside of a box at first; each attribute by itself, and what ends it."""
         plain = CellStyle("A", 7, 0, False, False, False)
         rows: list[tuple[bytes, dict[str, Any]]] = [
                 (b"A", {}), (b"\x0b\x0bA", {"boxed": True}), (b"\x0bA", {}), (b"\x0b \x0bA", {}),
@@ -50,8 +45,7 @@ class Attributes(unittest.TestCase):
         for row in (b"A", b"\x0b\x0bA", b"\x0a\x0aA"):
             self.assertTrue(self.look(row, is_boxed_page=False).boxed, row)
 
-    def test_at_once_and_from_the_next_on(self) -> None:
-        """A colour, flash and double height hold from the next cell on, the others at once."""
+    def test_applies_attributes_at_once_or_from_the_next_cell(self) -> None:
         rows: list[tuple[bytes, dict[str, Any]]] = [
                          (b"\1", {"ink": 7}), (b"\x08", {"flash": False}),
                          (b"\x0d", {"double": False}), (b"\1\x1d", {"paper": 1}),
@@ -64,8 +58,6 @@ class Attributes(unittest.TestCase):
                 self.assertEqual({name: getattr(found, name) for name in own}, own)
 
     def test_draws_rows_as_ffmpeg_and_libzvbi_do(self) -> None:
-        """Rows that ffmpeg and libzvbi draw the same: of each cell the ink, the paper, and whether
-        it is in a box, flashes, and is of double height."""
         for codes, *wanted in (
                 ("0b 0b 03 1d 61 04 62 1c 63 0a 0a 64", "777333444444", "000333300000",
                  " bbbbbbbbb  ", " " * 12, " " * 12),
@@ -80,20 +72,15 @@ class Attributes(unittest.TestCase):
                  " d"[cell.double]) for cell in cells))]
             self.assertEqual(found, wanted, codes)
 
-    def test_draws_mosaics_from_a_colour_of_mosaics_on(self) -> None:
-        """From a colour of mosaics on, up to one of letters; capital letters stay."""
+    def test_draws_mosaics_after_a_mosaic_colour(self) -> None:
         for row, letters in ((b"\x11a", "\u2592"), (b"\x11A", "A"), (b"\x11 ", " "),
                              (b"\x11\1a", "a"), (b"\x11!", "\u2592"), (b"a", "a"),
                              (b"\x10a", "\u2592"), (b"\x17a", "\u2592"), (b"\x0fa", "a")):
             self.assertEqual(self.look(row).letters, letters, row)
 
 
-class Rowed(unittest.TestCase):
-    """Rows and pages as SVG."""
-
-    def test_draws_the_rows_in_use(self) -> None:
-        """Rows in use, none that is below one of double height; letters in boxes and outside,
-        and frames."""
+class Drawings(unittest.TestCase):
+    def test_draws_the_used_rows(self) -> None:
         rows = page(r20=b"\x0b\x0b\x0dtall", r21=b"\x0b\x0bcovered", r22=b"\x0b\x0b\1seen <")
         drawn = in_page(picture(rows, SUBTITLE_HEADER, (19, 23), [(22, 3), (22, 4)]))
         self.assertEqual(("tall" in drawn, "covered" in drawn, "seen &lt;</text>" in drawn),
@@ -116,7 +103,6 @@ class Rowed(unittest.TestCase):
                          [False, True, True, True])
 
     def test_frames_neighbouring_cells_once(self) -> None:
-        """One for neighbours, and for rows that are alike; two lines for double height."""
         rows: list[tuple[list[tuple[int, int]], list[int], int]] = [
             ([], [], 0), ([(5, 1)], [], 1), ([(5, 1), (5, 2)], [], 1), ([(5, 1), (5, 3)], [], 2),
             ([(5, 1), (6, 1)], [], 1), ([(5, 1), (7, 1)], [], 2), ([(5, 1), (7, 1)], [5], 1),
@@ -128,8 +114,7 @@ class Rowed(unittest.TestCase):
         self.assertIn('x="12" y="60" width="12" height="30"',
                       in_page(frames_of([(6, 1), (5, 1)], set())))
 
-    def test_shows_the_rows_in_use_and_one_more_on_each_side(self) -> None:
-        """The rows in use of all pages, and one more on each side."""
+    def test_shows_the_used_rows_and_one_more_on_each_side(self) -> None:
         for pages, wanted in (
                 ([BLANK_PAGE], LOW_ROWS), ([page(r20=b"x")], (19, 21)),
                 ([page(r1=b"x")], (1, 2)), ([page(r24=b"x")], (23, 24)),
@@ -137,7 +122,6 @@ class Rowed(unittest.TestCase):
             self.assertEqual(rows_to_draw(pages), wanted, pages)
 
     def test_finds_cells_whose_codes_differ(self) -> None:
-        """Cells whose codes differ, whatever says more than the code."""
         one = page(r20=b"abc", r22=b"x")
         for other, wanted in ((one, []), (page(r20=b"abd", r22=b"x"), [(20, 2)]),
                               (page(r20=b"Abd"), [(20, 0), (20, 2), (22, 0)]),
@@ -149,8 +133,7 @@ class Rowed(unittest.TestCase):
             other = (*one[:row], bytes(cells), *one[row + 1:])
             self.assertEqual(differences(one, other), [(row + 1, column)], (row, column))
 
-    def test_draws_letters_of_the_header_s_option(self) -> None:
-        """Each picture has the letters of its header's national option, of the same row too."""
+    def test_draws_characters_of_the_header_option(self) -> None:
         for option, letter in ((0, "\u2190"), (4, "\u00c4"), (0, "\u2190"), (7, "\u25a1")):
             header = bytes([*SUBTITLE_HEADER[:7], option << 1])
             self.assertIn(f">{letter}</text>", in_page(picture(

@@ -1,4 +1,4 @@
-"""The actual times of subtitles, beside those at which they were sent."""
+"""The actual times of subtitles in a report, compared with the times of the transmission."""
 from __future__ import annotations
 
 import csv
@@ -11,13 +11,13 @@ from .bench import Case
 from .judged import Judged, judged
 from .transmissions import scheduled, subtitle_file
 
-COUNT, SEEDS, EACH = 50, 20, 5  # subtitles, programmes, and how many programmes a test has
+COUNT, SEEDS, EACH = 50, 20, 5  # subtitles, programmes, and programmes for each test
 ORIGIN = 900_000
 SYLLABLES = ("ba", "ke", "lo", "mi", "nu", "ra", "se", "to", "vi", "wo")
 
 
 class Timed(NamedTuple):
-    """A subtitle of a file: from when to when it is expected, and its text."""
+    """A subtitle of a file: first frame, end frame, text."""
 
     begin: int
     end: int
@@ -25,7 +25,7 @@ class Timed(NamedTuple):
 
 
 def random_programme(chance: random.Random) -> list[Timed]:
-    """Return subtitles with unlike texts, some of which adjoin."""
+    """Return subtitles with different texts, some of which adjoin."""
     subtitles, begin = list[Timed](), 900_050
     for _ in range(COUNT):
         end = begin + chance.randint(40, 90)
@@ -36,7 +36,7 @@ def random_programme(chance: random.Random) -> list[Timed]:
 
 
 def edited(subtitles: list[Timed], chance: random.Random) -> list[Timed]:
-    """Return the subtitles with a quarter of them moved or misspelt, but none of the ends."""
+    """Move or misspell a quarter of the subtitles, but not the first and the last."""
     changed = [*subtitles]
     for place in chance.sample(range(1, COUNT - 1), COUNT // 4):
         (begin, end, text), before, after = changed[place], changed[place - 1], changed[place + 1]
@@ -49,9 +49,7 @@ def edited(subtitles: list[Timed], chance: random.Random) -> list[Timed]:
     return changed
 
 
-class Times(Case):
-    """What was sent is the program's own transmission of the subtitles before they were edited."""
-
+class ActualTimes(Case):
     def sent(self, subtitles: list[Timed]) -> list[bytes]:
         """Return the PES packets of a transmission of some subtitles."""
         return scheduled(self, subtitle_file(self, subtitles, "sent.stl"), "--every", "25",
@@ -62,8 +60,7 @@ class Times(Case):
         return judged(self, subtitle_file(self, expected), self.write(
             "one.pes", b"".join(packets)), "--origin", str(ORIGIN), *words)
 
-    def test_cut_recordings(self) -> None:
-        """Only what a receiver had is right, and what was not recorded has no actual time."""
+    def test_gives_no_time_to_what_was_not_recorded(self) -> None:
         subtitles = random_programme(random.Random(1))
         packets = self.sent(subtitles)
         frames = [frame_in(pts_in(packet), ORIGIN) for packet in packets]
@@ -80,8 +77,7 @@ class Times(Case):
                 place for place, one in enumerate(subtitles, 1)
                 if begin <= one.begin and one.end <= last + 1], right)
 
-    def test_writes_a_line_of_csv_for_each_subtitle(self) -> None:
-        """A line for the verdict, then one for each subtitle with what the JSON result has."""
+    def test_writes_a_csv_row_for_each_subtitle(self) -> None:
         subtitles = random_programme(random.Random(1))
         expected = edited(subtitles, random.Random(1))
         found = self.judge(self.sent(subtitles), expected, "--csv", self.path("one.csv"))
@@ -94,8 +90,7 @@ class Times(Case):
             {name: "" if value is None else str(value) for name, value in row.items()}
             for row in found.result["subtitles"]], rows)
 
-    def test_csv_of_what_is_not_judged(self) -> None:
-        """One line with the reason, so that nobody takes it for right."""
+    def test_writes_a_csv_row_with_the_reason(self) -> None:
         found = judged(self, subtitle_file(self, random_programme(random.Random(1))),
                        self.write("empty.pes", b""), "--csv", self.path("one.csv"))
         with open(self.path("one.csv"), encoding="utf-8", newline="") as file:
@@ -103,10 +98,10 @@ class Times(Case):
         self.must("row", rows == [("not judged", found.verdict.why_not)], rows)
 
 
-def programmes_from(first: int) -> Callable[[Times], None]:
-    """Return the test of the programmes from a number on."""
+def programmes_from(first: int) -> Callable[[ActualTimes], None]:
+    """Return the test of some programmes."""
 
-    def test(self: Times) -> None:
+    def test(self: ActualTimes) -> None:
         for seed in range(first, first + EACH):
             chance = random.Random(seed)
             sent = random_programme(chance)
@@ -124,4 +119,4 @@ def programmes_from(first: int) -> Callable[[Times], None]:
 
 
 for FIRST in range(0, SEEDS, EACH):
-    setattr(Times, f"test_from_{FIRST:02}", programmes_from(FIRST))
+    setattr(ActualTimes, f"test_from_{FIRST:02}", programmes_from(FIRST))

@@ -1,4 +1,4 @@
-"""A whole page of a verdict, and what it is made of: it hides nothing."""
+"""A complete page of a verdict shows everything that is known."""
 from __future__ import annotations
 
 import itertools
@@ -27,9 +27,7 @@ from .transmissions import CLOSING, HEADER
 from .test_judging_verdicts import verdict_of
 
 
-class Whole(Case):
-    """A verdict on some parts."""
-
+class CompletePage(Case):
     KINDS = {"a": ["accepted 10 frames 2 transmissions"], "r": [
         "refused 68 Parity frame 00:00:03:10 packet 1", "refused 67 Control frame 00:00:03:12 "
         "packet 0", "refused 68 Parity frame 00:00:03:15 packet 1", "3 faults"], "b": [
@@ -41,7 +39,8 @@ class Whole(Case):
             TICKS * frame, [HEADER, CLOSING]) for frame in (75, 85, 87, 90)))
 
     def verdict(self, kinds: str, is_fitted: bool = False, is_read: bool = True) -> Verdict:
-        """A verdict on parts, of which the last is fitted; with places, notes, warnings."""
+        """Return a verdict with losses, notes and warnings on parts, the last with an estimated
+        clock."""
         parts = []
         for number, kind in enumerate(kinds, 1):
             given: dict[str, Any] = {
@@ -62,10 +61,7 @@ class Whole(Case):
         verdict.date = "now"
         return verdict
 
-    def test_hides_nothing(self) -> None:
-        """Whatever was judged, the page has the sentence, the line, each place at which something
-        is lost, each note, each warning, each fault without a number, and of each part its line,
-        its faults and what is drawn otherwise."""
+    def test_shows_all_losses_notes_warnings_and_faults(self) -> None:
         typed = CommandWords("tools/qc", self.bench.program)
         cases: list[tuple[bool, int, str | None]] = [
             (False, 0, None), (True, 0, None), (False, 1, None), (True, 3, None), (False, 1, "why")]

@@ -1,4 +1,4 @@
-"""Which mode a call has, and words that are wrong."""
+"""The mode of a call, and wrong arguments."""
 from __future__ import annotations
 
 import argparse
@@ -32,7 +32,7 @@ from .bench import Case, Done, example, is_python, script, tool_path
 from .parts import defaults
 
 
-# Which option of tools/qc goes with what: the parser and the refusals say the same.
+# The options of each mode of tools/qc; parser and error messages agree.
 
 CALLS: dict[Mode, list[str]] = {
     PAIR: ["a.stl", "a.ts"], ALONE: ["a.stl"], BATCH: ["--batch", "in"], WATCH: ["--watch", "in"],
@@ -48,20 +48,20 @@ MANUAL = os.path.join(TOP, "docs", "manual", "qc.md")
 MODE_OPTIONS = {"--batch", "--watch", "--collect", "--measure", "--help", "-h", "--version"}
 
 
-def words_of(name: str, folder: str) -> list[str]:
-    """An option with its value; a profile, which is read, stands in a folder."""
+def option_arguments(name: str, folder: str) -> list[str]:
+    """Return an option with its value; write the profile that it needs."""
     if name == "--profile":
         return [name, os.path.join(folder, "house")]
     return [name, VALUES[name]] if name in VALUES else [name]
 
 
 def refusal(mode: Mode, name: str, folder: str) -> str | None:
-    """What is said of an option that is given with a mode; `None` where it is taken."""
+    """Return the error message about an option in a mode, or `None`."""
     try:
         if mode is LINE:
-            request_of_line(["a.stl", "a.ts", *words_of(name, folder)], defaults())
+            request_of_line(["a.stl", "a.ts", *option_arguments(name, folder)], defaults())
         else:
-            line = [*CALLS[mode], *words_of(name, folder)]
+            line = [*CALLS[mode], *option_arguments(name, folder)]
             refuse_options(make_parser(""), line, find_mode(make_parser("").parse_args(line)))
     except Stop as reason:
         return str(reason)
@@ -69,10 +69,7 @@ def refusal(mode: Mode, name: str, folder: str) -> str | None:
 
 
 class Modes(Case):
-    """The table."""
-
-    def test_options_and_refusals(self) -> None:
-        """Each option with each of what can be asked for: taken, or refused by its name."""
+    def test_each_mode_accepts_or_refuses_each_option(self) -> None:
         self.write("house", b"--every 25\n")
         for name, taken_by in OPTION_MODES.items():
             for mode in MODES:
@@ -80,8 +77,7 @@ class Modes(Case):
                 is_right = said is None if mode in taken_by else said is not None and name in said
                 self.must(f"{name} and {mode.words}", is_right, said)
 
-    def test_options_that_come_twice(self) -> None:
-        """The last one counts; each is refused where it does not go with what is asked for."""
+    def test_takes_the_last_of_repeated_options(self) -> None:
         for words, name, value in (
                 ("--every 25 --every 50", "every", 50), ("--json a --json b", "json", "b"),
                 ("--no-complete --complete", "is_complete", True),
@@ -96,7 +92,7 @@ class Modes(Case):
                 ("--jobs 2 --settled 3", BATCH,
                  "--settled goes with --watch, not with --batch"),
                 ("--every 25 --breaks 1", COLLECT, "--every goes with"),
-                # Also where the value is the one that is taken without.
+                # also if the value is the default
                 ("--pes=1-2", ALONE, "--pes goes with"),
                 ("--breaks 0", ALONE, "--breaks goes with"),
                 ("--breaks=0", ALONE, "--breaks goes with"),
@@ -105,9 +101,7 @@ class Modes(Case):
                 refuse_options(make_parser(""), [*CALLS[mode], *words.split()], mode)
             self.must(words, str(refused.exception).startswith(said), refused.exception)
 
-    def test_what_is_called(self) -> None:
-        """Each call by its own function, with what is taken where nothing is said, and 0 as it is.
-        """
+    def test_calls_the_function_of_each_mode(self) -> None:
         rows: list[tuple[list[str], ModuleType, str, dict[str, object]]] = [
             (CALLS[PAIR], single, "judge_command", {"recording": "a.ts", "out": None}),
             (CALLS[ALONE], single, "judge_command", {"stl": "a.stl", "recording": None}),
@@ -131,13 +125,11 @@ class Modes(Case):
             with self.assertRaises(Stop):
                 main.dispatch("", "tools/qc", line)
 
-    def test_names_all_options(self) -> None:
-        """The table has each option that the parser has."""
+    def test_the_table_has_all_options(self) -> None:
         names = {name for action in make_parser("")._actions for name in action.option_strings}
         self.must("all", names - MODE_OPTIONS == set(OPTION_MODES), names ^ set(OPTION_MODES))
 
-    def test_modes_of_words(self) -> None:
-        """What is asked for, by the words; two at once are refused."""
+    def test_finds_the_mode_of_a_call(self) -> None:
         for mode, line in CALLS.items():
             found = find_mode(make_parser("").parse_args(line))
             self.must(mode.words, found is mode, found)
@@ -146,8 +138,7 @@ class Modes(Case):
             with self.assertRaises(Stop):
                 find_mode(make_parser("").parse_args(line))
 
-    def test_ends_a_call(self) -> None:
-        """Nothing is done: one line, and status 2."""
+    def test_ends_a_wrong_call_with_status_2(self) -> None:
         self.write("list", b"one.stl\n")
         for words in (["a.stl", "--pid", "5"], ["--collect", ".", "-o", "out"],
                       ["--batch", "list", "--settled", "5"]):
@@ -156,8 +147,7 @@ class Modes(Case):
                       and words[2] in done.told[0] + words[2] and " goes with " in done.told[0],
                       done)
 
-    def test_names_as_typed(self) -> None:
-        """Of a tool and of the program beside it, in a repository and where they are installed."""
+    def test_prints_the_names_of_tools_as_typed(self) -> None:
         self.write("subttx-qc", b"#!/bin/sh\n")
         os.chmod(self.path("subttx-qc"), 0o755)
         program = self.bench.program
@@ -172,10 +162,8 @@ class Modes(Case):
                     typed.tool("air"), typed.beside()))
 
 
-class Words(unittest.TestCase):
-    """Words of a command line, whatever else is wrong with it."""
-
-    def test_finds_the_file_of_an_option_in_wrong_words(self) -> None:
+class PartialCommandLines(unittest.TestCase):
+    def test_finds_an_output_file_in_wrong_arguments(self) -> None:
         paths: list[tuple[list[str], str | None]] = [
                            (["--json", "x"], "x"), (["--json=x"], "x"), (["--json", "-"], "-"),
                            (["--json", "--page"], None), (["--json"], None), (["--json="], None),
@@ -192,9 +180,7 @@ class Words(unittest.TestCase):
         for line, name in names:
             self.assertEqual(pair_name_in(line), name, line)
 
-    def test_says_in_each_requested_file_why_a_call_ended_early(self) -> None:
-        """Of a call that ends early each file that is asked for says why; whichever of the others
-        can't be written, or holds what no call wrote."""
+    def test_writes_the_reason_into_each_requested_file(self) -> None:
         with tempfile.TemporaryDirectory() as folder:
             for at, kinds in enumerate(itertools.product(("new", "none", "other"), repeat=3)):
                 paths: dict[str, str | None] = {}
@@ -210,7 +196,7 @@ class Words(unittest.TestCase):
                     self.assertEqual(("the reason" in data, data == "other"),
                                      (kind == "new", kind == "other"), (kinds, option))
 
-    def test_takes_numbers_within_their_bounds(self) -> None:
+    def test_takes_numbers_within_their_limits(self) -> None:
         for taken, good, bad in (
                 (read_line_number, ("1", "9999999"), ("0", "10000000", "-1", "", "x", "\u00b2")),
                 (read_jobs, ("1", "9999"), ("0", "10000", "-1", "", "x", "\u00b2")),
@@ -221,7 +207,7 @@ class Words(unittest.TestCase):
                 self.assertRaises(argparse.ArgumentTypeError, taken, word)
 
 
-# Words and files that are wrong: one line on standard error, status 2, nothing written.
+# Wrong arguments and files: one line on standard error, status 2, nothing written.
 
 STL, PES = example("hello.stl"), example("hello.pes")
 WRONG: dict[str, list[list[str]]] = {
@@ -249,47 +235,42 @@ WRONG: dict[str, list[list[str]]] = {
 }
 
 
-def names() -> list[str]:
-    """All tools, of tools/ and of dev/."""
+def tool_names() -> list[str]:
+    """Return the names of all tools in tools/ and dev/."""
     listed = {name for folder in ("tools", "dev") for name in os.listdir(os.path.join(TOP, folder))}
     return [name for name in sorted(listed)
             if os.access(tool_path(name), os.X_OK) and os.path.isfile(tool_path(name))]
 
 
 @functools.lru_cache(None)
-def loaded(name: str) -> Any:
-    """A tool as a module, which is made once for all calls in this process."""
+def tool_module(name: str) -> Any:
+    """Import a tool once for this process."""
     return script(name)
 
 
-def called_here(name: str, words: Sequence[str]) -> Done:
-    """How a call of a tool in Python ends in this process."""
-    module, out, told = loaded(name), io.StringIO(), io.StringIO()
+def call_in_process(name: str, words: Sequence[str]) -> Done:
+    """Call a Python tool in this process."""
+    module, out, told = tool_module(name), io.StringIO(), io.StringIO()
     with mock.patch.object(sys, "argv", [tool_path(name), *words]), \
             contextlib.redirect_stdout(out), contextlib.redirect_stderr(told):
         status = ended(module.called if name == "qc" else module.main, words)
     return Done(status, out.getvalue().encode(), told.getvalue().splitlines())
 
 
-class WrongWords(Case):
-    """Calls that are wrong."""
-
-    def test_refuses_wrong_words(self) -> None:
-        """In this process, but for scripts of the shell."""
+class WrongArguments(Case):
+    def test_refuses_wrong_arguments(self) -> None:
         self.addCleanup(os.chdir, os.getcwd())
         os.chdir(self.folder)
-        for name in names():
+        for name in tool_names():
             for words in [*WRONG.get(name, []), ["--colour"], ["---"]]:
                 before = sorted(os.listdir(self.folder))
-                done = called_here(name, words) if is_python(tool_path(name)) else \
+                done = call_in_process(name, words) if is_python(tool_path(name)) else \
                     self.tool(name, *words)
                 self.must(f"{name} {' '.join(words)}", done.status == 2 and not done.out
                           and len(done.told) == 1 and done.told[0].startswith(name + ": ")
                           and sorted(os.listdir(self.folder)) == before, done)
 
-    def test_leaves_what_is_asked_for(self) -> None:
-        """A call of qc that is wrong, or whose files are, leaves one entry that is not judged in
-        each file that is asked for, once more too; and nothing in the place of another file."""
+    def test_writes_one_unjudged_entry_into_each_requested_file(self) -> None:
         names = {"--json": "one.json", "--csv": "one.csv", "--junit": "one.xml"}
         files = [f"{option}={self.path(name)}" for option, name in names.items()]
         for words in ([STL, PES, "--page", "8FF"], [STL, PES, "--colour"],
@@ -319,10 +300,9 @@ class WrongWords(Case):
             self.must(f"{option}: something else", self.read(name) == b"something else")
 
     def test_prints_the_help_and_the_version(self) -> None:
-        """--help, and what it says first is what the script says first; --version."""
         with open(os.path.join(TOP, "VERSION"), encoding="utf-8") as file:
             version = file.read().strip()
-        for name in names():
+        for name in tool_names():
             done = self.tool(name, "--version")
             self.must(f"{name} --version", (done.status, done.out.decode()) ==
                       (0, f"{name} {version}\n"), done)
@@ -331,7 +311,7 @@ class WrongWords(Case):
                 first = file.read().splitlines()[1].lstrip('"# ')
             self.must(name, done.status == 0 and done.out.decode().startswith(first), done)
 
-    def test_tells_a_full_device(self) -> None:
+    def test_reports_a_full_device(self) -> None:
         if not os.path.exists("/dev/full"):
             self.skipTest("a full device, since there is no /dev/full")
         for name, *words in (["qc", STL, PES, "-p", self.bench.program],
@@ -340,8 +320,7 @@ class WrongWords(Case):
                               tool_path(name), *words])
             self.must(name, done.status == 2 and done.told and "No space" in done.told[-1], done)
 
-    def test_refuses_devices_that_do_not_end(self) -> None:
-        """Where all of a file is read: by name, and as standard input, also through a link."""
+    def test_refuses_endless_devices(self) -> None:
         os.symlink("/dev/zero", self.path("link"))
         for device in ("/dev/zero", "/dev/full", "/dev/urandom", self.path("link")):
             if not os.path.exists(device):
@@ -368,7 +347,6 @@ class WrongWords(Case):
                   (2, b"", ["poke: /dev/null is a device: give a file or a pipe"]), done)
 
     def test_changes_bytes_up_to_the_last_one(self) -> None:
-        """One change after another, up to the last byte and no farther; so many bytes of that."""
         for words, wanted in (
                 (["0=41", "5=5A"], b"AbcdeZ"), (["0=4142", "1=5A"], b"AZcdef"),
                 (["0=@3+3"], b"defdef"), (["3=@0+3", "0=5A"], b"Zbcabc"),
@@ -379,8 +357,7 @@ class WrongWords(Case):
             refused = 2, b"", ["poke: - has only 6 bytes"]
             self.must(f"{words}", done == (refused if wanted is None else (0, wanted, [])), done)
 
-    def test_names_files_as_they_were_typed(self) -> None:
-        """No part of a name, no number and no name that was made on the way."""
+    def test_names_files_as_they_were_given(self) -> None:
         for words, named in ((["qc", STL, "no/folder.pes"], "no/folder.pes"),
                              (["qc", "-"], "qc: - is"), (["qc", ""], "an empty name"),
                              (["qc", "--", "-x.stl"], "qc: -x.stl"),

@@ -1,4 +1,4 @@
-"""Options, profiles, and how they go on."""
+"""The table of options, profiles, and the options of a list's lines."""
 from __future__ import annotations
 
 import argparse
@@ -26,10 +26,7 @@ from .parts import asked_for, call_words, defaults
 from .transmissions import subtitle_file
 
 
-# The table of options: a row that is added is found wherever an option stands, and what each row
-# of the table comes to.
-
-# Adds two options to the table before anything is made of it, and prints what then is made.
+# Add two options to the table before it is used, and print all that depends on them.
 ADDED = """
 import dataclasses, json, sys, developing
 from subtitles.common.shapes import Flag, Maybe, Text
@@ -82,7 +79,7 @@ print(json.dumps({
                  taken("--collect", "x", "--new-one", "5")],
     "line": REQUEST.made(request_of_line([*pair, *given], defaults()))}))
 """
-# An option with its words, and its member of a result.
+# An option with its value, and its member of a result.
 ROWS: list[tuple[str, str, Any]] = [
     ("--page", "8A1", "8A1"), ("--every", "7", 7), ("--option", "german", "german"),
     ("--origin", "0", 0), ("--pid", "0x101", 257), ("--severity", "a file", "a file"),
@@ -92,13 +89,11 @@ ROWS: list[tuple[str, str, Any]] = [
     ("--allow-lost", "", True), ("--strict", "", True), ("--open", "", True),
     ("--keeping", "", True), ("--relative", "", True),
     ("--late", "0:31,5:69/0:100", "0:31,5:69/0:100")]
-BACK = {"--complete", "--no-allow-lost", "--no-keeping"}  # what they say holds without them too
+BACK = {"--complete", "--no-allow-lost", "--no-keeping"}  # options that restore a default
 
 
-class Added(Case):
-    """An option that is added to the table."""
-
-    def test_is_found_everywhere(self) -> None:
+class NewOptions(Case):
+    def test_a_new_option_is_used_everywhere(self) -> None:
         done = self.call([sys.executable, "-c", ADDED, self.bench.program, self.folder], env={
             **os.environ, "COLUMNS": "2000", "PYTHONPATH": os.pathsep.join(
                 [DEV, *os.environ.get("PYTHONPATH", "").split(":")])})
@@ -132,12 +127,8 @@ class Added(Case):
                   "--new-one goes with" in collect, made["not with"])
 
 
-class Rows(Case):
-    """What each row comes to."""
-
-    def test_all_rows(self) -> None:
-        """Of each option by itself, and of all: the words of a call and the call to type give the
-        same, and it is in the result; a line of a list has it too."""
+class OptionRows(Case):
+    def test_each_option_survives_all_conversions(self) -> None:
         names = [one.name for one in OPTIONS]
         self.must("all", {*names} == {*BACK, "--profile", *(name for name, _, _ in ROWS)})
         parser = Words("")
@@ -168,9 +159,7 @@ class Rows(Case):
             self.must(f"{name}: typed", (f" {name}" in typed) == (name != "--start"), typed)
         self.must("complete", options_of(asked_for("a", "b", "--complete")) == [[]] * len(OPTIONS))
 
-    def test_what_stands_in_a_row(self) -> None:
-        """Each says what it is and what holds without it, and each but those that take another one
-        back has a member."""
+    def test_each_row_is_complete(self) -> None:
         for one in OPTIONS:
             self.must(one.name, bool(one.means and one.without and one.modes) and
                       {*one.modes} <= {*JUDGED, MEASURE} and one.help == plain(one.help), one)
@@ -180,9 +169,7 @@ class Rows(Case):
             "--option", "--severity", "--strict", "--from", "--to", "--layout", "--open",
             "--profile"])
 
-    def test_judges_the_subtitles_of_some_frames(self) -> None:
-        """In which frames subtitles come that are judged: from the first of a day, and up to the
-        last, by what is typed and as a part of a programme."""
+    def test_selects_subtitles_by_time(self) -> None:
         day = FRAMES_OF_A_DAY
         for words, first, end in (
                 ("", 0, day), ("--from 00:00:00:00", 0, day), ("--to 00:00:00:00", 0, 0),
@@ -196,8 +183,7 @@ class Rows(Case):
             with self.assertRaises(Stop):
                 asked_for("a.stl", "a.ts", option, time)
 
-    def test_words_of_a_value(self) -> None:
-        """None where it is what is taken without them."""
+    def test_omits_default_values(self) -> None:
         number = Option("--n", "N", "", JUDGED, field="n", default=5, shape=Text())
         flag = Option("--f", None, "", JUDGED, field="f", default=False, shape=Flag())
         other = Option("--no-f", None, "", JUDGED, field="f", default=True, sets=False)
@@ -210,18 +196,15 @@ class Rows(Case):
             self.must(text, plain(text) == wanted, plain(text))
 
 
-# Profiles: what a file of options says, what is typed beside it, and where it is found.
+# Profiles: their lines, overriding options, and their paths.
 
 STORY, RECORDING = example("story.stl"), example("recording.ts")
 MAY = "--page, --every, --option, --origin, --complete, --no-complete, --pid, --allow-lost, " \
     "--severity, --start, --relative, --within, --late, --layout, --keeping, --pace"
 
 
-class Files(Case):
-    """What stands in a profile."""
-
+class ProfileFiles(Case):
     def test_reads_an_option_from_each_line(self) -> None:
-        """An option a line, as in a line of a list; a comment and an empty line say nothing."""
         rows: list[tuple[str, dict[str, object]]] = [
             ("", {}), ("# nothing\n\n  # here\n", {}), ("--every 25", {"every": 25}),
             ("--every=25  # each second\r\n--keeping\r\n", {"every": 25, "may_keep": True}),
@@ -243,9 +226,7 @@ class Files(Case):
             self.must(f"{text}: sum", (profile.name, profile.sha256) == (
                 self.path("house"), hashlib.sha256(text.encode()).hexdigest()))
 
-    def test_keeps_a_subtitle_file_that_comes_through_a_pipe(self) -> None:
-        """A subtitle file that comes through a pipe is kept, and tells its option then; any other
-        one is where it is."""
+    def test_stores_a_subtitle_file_from_a_pipe(self) -> None:
         data = subtitle_file(self, [(0, 9, b"text")], "one.stl", language=b"08")
         os.mkfifo(self.path("pipe"))
         for name in (data, self.path("pipe")):
@@ -269,8 +250,7 @@ class Files(Case):
         writer.join()
         self.must("typed", (typed.option, typed.language) == ("swedish", None), typed)
 
-    def test_wrong_lines(self) -> None:
-        """Named by number: what is of one recording, what is no option, a wrong value."""
+    def test_refuses_wrong_lines_by_number(self) -> None:
         not_there = f"is no option of a profile, which may have {MAY}"
         for text, number, said in (
                 ("--every 25\n\n--breaks 1", 3, f"--breaks {not_there}"),
@@ -296,12 +276,10 @@ class Files(Case):
             self.must(text, str(refused.exception) == f"{path}, line {number}: {said}",
                       refused.exception)
 
-    def test_may_have(self) -> None:
-        """Which options: those that a refusal names."""
+    def test_allows_the_options_that_its_message_lists(self) -> None:
         self.assertEqual(", ".join(one.name for one in OPTIONS if one.in_profile), MAY)
 
-    def test_takes_shares_of_rising_delays(self) -> None:
-        """Shares of delays: rising, none of them empty."""
+    def test_reads_delay_counts(self) -> None:
         for text, begins, ends in (
                 ("0:1/0:1", {0: 1}, {0: 1}),
                 ("1:31,50:1000000/0:7,2:1", {1: 31, 50: 1_000_000}, {0: 7, 2: 1})):
@@ -316,18 +294,14 @@ class Files(Case):
                 self.assertRaises(argparse.ArgumentTypeError, late_word, text)
 
 
-class Beside(Case):
-    """What is typed beside a profile, in a call and in a line of a list."""
-
-    def asked(self, call: str, line: str | None) -> Request:
-        """What is asked of a pair of a call, or of a line of its list, in the folder."""
+class Overrides(Case):
+    def request(self, call: str, line: str | None) -> Request:
+        """Return the request of a call, or of a line of its list."""
         words = defaults(*call.split())
         return asked_for("a.stl", "a.ts", *call.split()) if line is None else \
             request_of_line(["a.stl", "a.ts", *line.split()], words, self.folder)
 
-    def test_who_wins(self) -> None:
-        """What is typed beside a profile, which comes before what is known without it. A line's own
-        comes before all that its call says, and none of the call's stands beside it."""
+    def test_given_options_override_the_profile(self) -> None:
         house = self.write("house", b"--every 25\n--keeping\n--within 2\n--late 0:1,2:1/0:1\n")
         self.write("other", b"--every 50\n--no-complete\n")
         shares = Lateness({0: 1, 2: 1}, {0: 1})
@@ -354,15 +328,13 @@ class Beside(Case):
                 ("--every 9", "--profile house --within 2", (25, True, 2, shares, True)),
                 ("--every 9", "--profile house --within 3", (25, True, 3, None, True)),
                 ("--within 1 --late 0:1,1:1/0:1", "--within 0", (250, False, 0, None, True))):
-            asked = self.asked(call, line)
+            asked = self.request(call, line)
             found = (asked.every, asked.may_keep, asked.within, asked.late, asked.is_complete)
             self.must(f"{call} | {line}", found == wanted, found)
             again = asked_for("a.stl", "a.ts", *call_words(asked)[:-3])
             self.must(f"{call} | {line}: again", again == asked, again)
 
     def test_replaces_one_clock_by_another(self) -> None:
-        """A clock replaces another one: a line's that of the call, and a typed one that of a
-        profile, also if it is given by the other option."""
         self.write("other", b"--every 50\n")
         tcp = self.write("tcp", b"--start tcp\n")
         rows: list[tuple[str, str | None, tuple[int | None, str | None]]] = [
@@ -377,20 +349,18 @@ class Beside(Case):
             ("--origin 9", "--profile other --start tcp", (None, "tcp")),
             ("--start tcp", "--profile other --origin=0", (0, None))]
         for call, line, wanted in rows:
-            asked = self.asked(call, line)
+            asked = self.request(call, line)
             self.must(f"{call} | {line}", (asked.origin, asked.start) == wanted, asked)
         two = self.write("two", b"--start tcp\n--origin 0\n")
         for words in ("--start tcp --origin 0", f"--profile {two}"):
             with self.assertRaisesRegex(Stop, "--start and --origin both give the clock"):
-                self.asked(words, None)
+                self.request(words, None)
 
-    def test_shares_go_with_a_bound(self) -> None:
+    def test_delay_counts_need_a_tolerance(self) -> None:
         for words in ("--late 0:1,1:1/0:1", "--late 0:1/0:1,3:1 --within 2"):
             self.assertRaises(Stop, asked_for, "a.stl", "a.ts", *words.split())
 
-    def test_finds_the_profile_of_a_line_beside_the_list(self) -> None:
-        """The path of a line's profile begins at the list; a wrong line of it is that of the line.
-        """
+    def test_finds_a_profile_in_the_folder_of_the_list(self) -> None:
         os.mkdir(self.path("in"))
         for name, data in (("in/house", b"--every 25\n"), ("in/bad", b"#\n--breaks 1\n"),
                            ("a.stl", b""), ("a.ts", b"")):
@@ -406,12 +376,8 @@ class Beside(Case):
                   none.reason)
 
 
-
-class Verdicts(Case):
-    """What is said of a profile, and of what it lets pass."""
-
-    def test_last_line(self) -> None:
-        """What makes a verdict of this pair more lenient has a word there, unless it is typed."""
+class ProfileVerdicts(Case):
+    def test_the_last_line_names_lenient_profile_options(self) -> None:
         some = self.write("some", b"--every 250\n")
         waive = self.write("waive", b"--allow-lost\n--severity levels\n")
         levels = self.write("levels", b"73 warning\n")
@@ -432,8 +398,7 @@ class Verdicts(Case):
             found = judged(self, STORY, RECORDING, "--origin", "5000000000", *words)
             self.must(f"{words}", found.said[-1] == last == found.result["line"], found.said[-1])
 
-    def test_says_what_a_profile_sets(self) -> None:
-        """All that it says, in a line and in the result, with its sum."""
+    def test_prints_and_stores_what_a_profile_sets(self) -> None:
         data = b"--every 25  # each second\n--no-complete\n--layout 'fit,up'\n"
         path = self.write("house", data)
         asked = asked_for("a.stl", "a.ts", "--profile", path, "--every", "50")
@@ -447,8 +412,7 @@ class Verdicts(Case):
             "name": path, "sha256": hashlib.sha256(data).hexdigest()} and
             (known["every"], known["complete"], known["layout"]) == (50, False, "up"), known)
 
-    def test_is_no_output(self) -> None:
-        """It is an input: nothing is written over it. A wrong one ends the call."""
+    def test_never_overwrites_a_profile(self) -> None:
         path = self.write("house", b"--every 25\n")
         bad = self.write("bad", b"\n--every")
         for words, said in (

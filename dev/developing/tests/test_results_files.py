@@ -1,4 +1,4 @@
-"""JSON results, written, read back and collected."""
+"""JSON results that are written, read back and collected."""
 from __future__ import annotations
 
 import argparse
@@ -31,15 +31,15 @@ from .results import (
     REQUEST, FAULT, result, row, schema as read_schema, second_reader, wrong_by_schema, wrong_in)
 
 
-# JSON results: the schema is made of their table, all that is written fits it, and whatever stands
-# in a file that is read back is a result, or a pair that was not judged.
+# The schema follows from the table, all results match it, and any file that is read back is a valid
+# result or an unjudged pair.
 
 SEED, CHANGES = 20261128, 900
 STRANGE: list[Any] = [
     None, True, False, -1, 0, 1, 80, 5.5, 1 << 53, 1 << 62, "", "x", "refused 72 X", "\x1b[31m",
     "\ud800", "\udce9", "<script>alert(1)</script>", "=1+1", "99:99:99:99", "x" * 70_000, "\n", [],
     {}, [[]], [{}], {"a": 1}, "accepted", "refused", "not judged", "2026-99-99T99:99:99Z"]
-# Texts of files, and why each is no result.
+# File contents, and why each is no result.
 TEXTS = {
     b"[" * 100_000: "it is too deep", b'{"a":' * 100_000: "it is too deep",
     b'{"verdict": ' + b"9" * 5_000 + b"}": "is no number", b'{"verdict": NaN}': "is no number",
@@ -49,7 +49,7 @@ TEXTS = {
 
 
 def changed(known: Any, chance: random.Random) -> Any:
-    """A result of which one value is another one, is gone, or stands beside another one."""
+    """Replace, delete or add one value of a result."""
     made = copy.deepcopy(known)
     places = [*places_in(made)]
     holder, key = chance.choice(places)
@@ -68,7 +68,7 @@ def changed(known: Any, chance: random.Random) -> Any:
 
 
 def places_in(value: Any) -> Iterator[tuple[Any, Any]]:
-    """Each list or object with each place in it."""
+    """Yield each list or object with each of its places."""
     keys: Sequence[Any] = list(value) if isinstance(value, dict) else \
         range(len(value)) if isinstance(value, list) else ()
     for key in keys:
@@ -76,17 +76,13 @@ def places_in(value: Any) -> Iterator[tuple[Any, Any]]:
         yield from places_in(value[key])
 
 
-class Written(Case):
-    """The schema, and what is written."""
-
-    def test_schema_is_made(self) -> None:
-        """It is what dev/make-pages makes of the table, and is a schema."""
+class WrittenResults(Case):
+    def test_the_schema_file_is_up_to_date(self) -> None:
         self.must("made", read(os.path.join(TOP, SCHEMA)) == format_json(schema()) + "\n",
                   "dev/make-pages")
         self.must("read", second_reader() is None or second_reader().schema == read_schema())
 
-    def test_new_member(self) -> None:
-        """A row of the table is a member of what is written, of the schema, and of what is read."""
+    def test_a_new_row_of_the_table_is_used_everywhere(self) -> None:
         row = ROWS_OF_FAULT.members[0]._replace(name="new", shape=Integer(3, 3), of=lambda _: 3)
         with mock.patch.multiple(ROWS_OF_FAULT, members=(*ROWS_OF_FAULT.members, row),
                                  shapes={**ROWS_OF_FAULT.shapes, "new": row.shape},
@@ -102,20 +98,18 @@ class Written(Case):
         self.must("no more", misfit(found) == ".faults[0].new")
 
     def judge(self) -> dict[str, Any]:
-        """The result of a recording with four faults."""
+        """Return the result of a recording with four faults."""
         stl = self.write("story.stl", example_bytes("story.stl"))
         return judged(self, stl, self.write("x.pes", example_bytes("five-faults.pes"))).result
 
-    def test_numbers_of_faults(self) -> None:
-        """All that `check` refuses."""
+    def test_the_schema_allows_all_fault_numbers(self) -> None:
         for number, fits in ((9, False), (10, True), (UNDECIDED, True), (SILENT, True),
                              (80, False)):
             known = result(faults=[{**FAULT, "number": number}])
             self.must(f"{number}", (misfit(known) is None) == fits != any(
                 wrong_in(known, read_schema())))
 
-    def test_counts_what_is_left_out_of_each_list(self) -> None:
-        """What is left out is counted, of each list; what fits no more is not begun."""
+    def test_counts_omitted_items_of_each_list(self) -> None:
         whole = self.judge()
         self.must("all", not any(whole["omitted"].values()), whole["omitted"])
         faults = next(one for one in LISTS if one.name == "faults").shape
@@ -134,9 +128,7 @@ class Written(Case):
             with mock.patch.object(files, "MOST_BYTES", room):
                 self.must(f"{room}", self.judge()["omitted"]["subtitles"] == left)
 
-    def test_a_clock_and_a_verdict(self) -> None:
-        """Each word with each status and clock: nothing is accepted or waived without a clock, and
-        `relative` has status 0 by --relative alone, for a reader of the schema too."""
+    def test_allows_no_accepted_result_without_a_clock(self) -> None:
         rows: list[tuple[str, int, dict[str, Any], bool]] = [
             ("accepted", 0, {"origin": 0}, True), ("accepted", 0, {"start": "tcp"}, True),
             ("accepted", 0, {}, False), ("accepted", 0, {"relative": True}, False),
@@ -151,7 +143,6 @@ class Written(Case):
                       (not [*wrong_by_schema(known)]) == fits, misfit(known))
 
     def test_cuts_a_text_that_is_too_long(self) -> None:
-        """A text that is too long is cut."""
         self.must("cut", len(unjudged("x", "y" * 70_000)["reason"]) == 65_536 and
                   misfit(unjudged("x", "y" * 70_000)) is None)
         found = judged(self, self.write("story.stl", example_bytes("story.stl")))
@@ -161,11 +152,8 @@ class Written(Case):
         self.must("not judged", known["verdict"] == "not judged" and misfit(known) is None)
 
 
-class ReadBack(Case):
-    """Results that strangers wrote."""
-
-    def test_table_and_schema_agree(self) -> None:
-        """Of changed results both say the same; so does a second reader, where there is one."""
+class UntrustedResults(Case):
+    def test_table_and_schema_agree_on_changed_results(self) -> None:
         chance, fitting = random.Random(SEED), 0
         known = [self.known(), unjudged("one", "why")]
         for number in range(CHANGES):
@@ -181,13 +169,13 @@ class ReadBack(Case):
         self.must("some of each", CHANGES // 20 < fitting < CHANGES // 2, fitting)
 
     def known(self) -> dict[str, Any]:
-        """A result with something of each kind."""
+        """Return a result with all kinds of values."""
         stl = self.write("story.stl", example_bytes("story.stl"))
         ts = self.write("x.pes", example_bytes("five-faults.pes"))
         return judged(self, stl, ts, "--every", "25").result
 
     def words(self, **more: Any) -> argparse.Namespace:
-        """The words of a call over a folder of results."""
+        """Return the arguments of a call on a folder of results."""
         for name in ("in", "out"):
             os.makedirs(self.path(name), exist_ok=True)
         words = argparse.Namespace(**vars(defaults()))
@@ -198,7 +186,7 @@ class ReadBack(Case):
         return words
 
     def all_read(self) -> list[dict[str, Any]]:
-        """What each mode that reads results says of those in a folder; the names of all."""
+        """Return the messages of each mode that reads results, and the names of all pairs."""
         words, typed = self.words(), CommandWords("tools/qc", self.bench.program)
         with contextlib.redirect_stdout(io.StringIO()), contextlib.redirect_stderr(io.StringIO()):
             status = collection.collect(words)
@@ -215,8 +203,7 @@ class ReadBack(Case):
         self.must("all fit", all(misfit(one) is None for one in pairs))
         return pairs
 
-    def test_changed_results(self) -> None:
-        """No changed result ends a call, and each is a pair by its name."""
+    def test_reads_any_changed_result(self) -> None:
         chance, known = random.Random(SEED + 1), self.known()
         self.words()
         for number in range(CHANGES // 6):
@@ -229,8 +216,7 @@ class ReadBack(Case):
         self.must("by name", all("request" in one or one["name"] in {"none", *(
             f"{number:03}" for number in range(CHANGES))} for one in pairs))
 
-    def test_no_results(self) -> None:
-        """What is too deep, too large, or no JSON at all."""
+    def test_refuses_deep_large_and_invalid_json(self) -> None:
         self.known()
         self.words()
         for number, (text, told) in enumerate(TEXTS.items()):
@@ -249,8 +235,7 @@ class ReadBack(Case):
         os.mkdir(self.path("empty"))
         self.assertRaises(Stop, collection.collect, self.words(collect=self.path("empty")))
 
-    def test_written_is_read(self) -> None:
-        """The greatest number of items is less than half of what is read back."""
+    def test_reads_back_the_largest_result(self) -> None:
         known = self.known()
         self.must("it fits", misfit(known) is None and known["format"] == FORMAT)
         self.must("all lists", {one.name for one in VERDICT.members
@@ -262,18 +247,12 @@ class ReadBack(Case):
                   values < files.MOST_VALUES, values)
 
 
-# What is printed and written of many pairs, by their JSON results.
-
-
-class Collected(Case):
-    """What is printed and written of many pairs."""
-
+class CollectedResults(Case):
     ROWS = [row("one", "accepted", "accepted 5 frames"), row("second", "refused", "refused 72 "
             "Content frame 1; more", "a hint", 12), row("c", "not judged", "why\nmore"),
             row("d", "waived", "waived: refused 5 X", "", 3)]
 
     def test_prints_columns_as_wide_as_their_widest_cell(self) -> None:
-        """Columns as wide as their widest, and how many there are of which verdict."""
         self.must("table", list(collection.summary_table(self.ROWS)) == [
             "pair    verdict     faults  worst fault", "one     accepted         0",
             "second  refused         12  72 Content frame 1: a hint",
@@ -283,7 +262,7 @@ class Collected(Case):
         self.must("one", list(collection.summary_table(self.ROWS[:1]))[-1] == "1 pair: 1 accepted")
 
     def end(self, **outputs: str) -> tuple[int, str, str]:
-        """The status of all rows, what is printed, and what is told."""
+        """Return status, output and error output for all rows."""
         words = argparse.Namespace(csv=None, junit=None, json=None)
         vars(words).update(outputs)
         paths = [self.path(f"{one.name}.json") for one in self.ROWS]
@@ -296,8 +275,7 @@ class Collected(Case):
             status = collection.write_collection(words, self.ROWS, paths)
         return status, out.getvalue(), told.getvalue()
 
-    def test_prints_the_table_on_standard_output_unless_a_file_goes_there(self) -> None:
-        """The table goes to standard output unless a file does, and what failed is told."""
+    def test_prints_the_table_unless_a_file_uses_standard_output(self) -> None:
         table = "".join(f"{line}\n" for line in collection.summary_table(self.ROWS))
         self.must("none", self.end() == (2, table, ""), self.end())
         for name in ("csv", "junit", "json"):
@@ -317,10 +295,9 @@ class Collected(Case):
         self.must("lines", len(self.read("lines").splitlines()) == 6)
         self.must("cases", self.read("cases").count(b"<testcase") == 4)
 
-    def test_reader_that_leaves(self) -> None:
-        """Who reads the table may want no more: all is written, with its status."""
+    def test_ignores_a_closed_output(self) -> None:
         class Gone(io.StringIO):
-            """A pipe that nobody reads any more."""
+            """A pipe without a reader."""
 
             def write(self, text: str) -> int:
                 raise BrokenPipeError
@@ -334,7 +311,6 @@ class Collected(Case):
                   silenced.call_args == mock.call(out), silenced)
 
     def test_collects_the_results_of_a_folder(self) -> None:
-        """The objects of a folder, whatever else is in it; the status is the worst."""
         words = argparse.Namespace(csv=None, junit=None, json=None, collect=self.path("in"))
 
         def collect() -> tuple[int, str, str]:
@@ -360,9 +336,7 @@ class Collected(Case):
         self.must("not judged", collect()[0] == 2)
         self.must("index", b"three" in self.read("in/index.html"))
 
-    def test_objects_that_went(self) -> None:
-        """One that can't be read by then is not judged, in the object of all and in the lines; of
-        one that can be what fits is written."""
+    def test_lists_a_deleted_result_as_not_judged(self) -> None:
         path = self.path("gone.json")
         for data in (None, b"[]", b"{"):
             if data is not None:

@@ -1,10 +1,10 @@
-"""Right recordings that are made to trip the rules of a verdict: nothing is wrong in any.
+"""Correct recordings that could mislead the rules of a verdict.
 
-Inserters that are late in eleven ways, PES packets at fourteen kinds of distances, breaks, several
-programmes, airings. A rule that refuses right ones is worse than none, so `LOST` has how many of
-each kind may be refused, and how many not judged, and no more are. The gate judges some of each
-kind; from dev/, `python3 -m developing.tests.test_right_recordings PROGRAM` judges all and prints
-each that is not accepted, and the counts.
+Inserters with eleven kinds of delays, PES packets at fourteen kinds of intervals, breaks, several
+programmes, repeats. A rule that refuses correct recordings is worse than none, so `LOST` limits how
+many of each kind may be refused or not judged. The gate judges some of each kind; from dev/,
+`python3 -m developing.tests.test_right_recordings PROGRAM` judges all, and prints each that is not
+accepted, and the counts.
 """
 from __future__ import annotations
 
@@ -23,50 +23,50 @@ from .streams import (
 from .transmissions import CLOSING, HEADER, Sent, joined, programme, sendings
 from .test_judging_paced import WRONG, large
 
-FIRST, EACH, LASTS = 900_000, 100, 60  # frames: of the first TCI, from one to the next, of each
+FIRST, EACH, LASTS = 900_000, 100, 60  # frames: first TCI, from one to the next, length of each
 SILENT_PID, OTHER_PID, LATER_PMT = 0x121, 0x111, 0x110
 INSERTERS, ONE_A_FRAME, TWO_A_FRAME = "inserters", "one a frame", "two a frame"
 BREAKS, PROGRAMMES, AIRINGS = "breaks", "programmes", "airings"
-GATE = 8  # of so many of a kind the gate judges one
+GATE = 8  # the gate judges one of so many of a kind
 
 
 class Bound(NamedTuple):
-    """How many recordings there are of a kind, and how many of these may be refused and not judged.
-    """
+    """The number of recordings of a kind, and how many may be refused and not judged."""
 
     recordings: int
     refused: int
     not_judged: int
 
 
-# Late inserters whose clock is not known, silences that are no loss, breaks under five seconds, and
-# a page that two programmes announce. Nobody can tell the refused ones from wrong ones: `Twins`.
+# Late inserters without a clock, silences that are no loss, breaks under five seconds, and a page
+# of two programmes. The refused ones can't be distinguished from faulty ones: see `Twins`.
 LOST = {
     INSERTERS: Bound(66, 2, 12), ONE_A_FRAME: Bound(30, 7, 0), TWO_A_FRAME: Bound(28, 6, 0),
     BREAKS: Bound(9, 0, 5), PROGRAMMES: Bound(8, 0, 2), AIRINGS: Bound(11, 0, 0)}
 
 
 class Recording(NamedTuple):
-    """A right recording by its kind and its name; judged by some words, with its subtitle file."""
+    """A correct recording: kind, name, files, and arguments."""
 
     kind: str
     name: str
-    made: Callable[[Case], tuple[str, str]]  # of a case the paths of the subtitle file, and of it
+    # writes the files; returns the paths of subtitle file and recording
+    made: Callable[[Case], tuple[str, str]]
     words: Sequence[str]
 
     def judge(self, case: Case) -> Judged:
-        """What is said of it."""
+        """Judge the recording."""
         stl, path = self.made(case)
         return judged(case, stl, path, *self.words)
 
 
 def evenly(count: int, is_adjoining: bool = False) -> list[tuple[int, int]]:
-    """The times of subtitles, a hundred frames apart."""
+    """Return the frames of subtitles, a hundred frames apart."""
     lasts = EACH if is_adjoining else LASTS
     return [(FIRST + EACH * at, FIRST + EACH * at + lasts) for at in range(count)]
 
 
-# Inserters: how many frames begins and ends are late, by chance, and N.
+# Inserters: possible delays of begins and ends in frames.
 
 SHARES: dict[str, tuple[Sequence[int], Sequence[int]]] = {
     "const": ((0,), (0,)), "b1": ((1,), (0,)), "rows": ((1, 1, 2, 2, 3), (0,)),
@@ -79,7 +79,7 @@ SHARES: dict[str, tuple[Sequence[int], Sequence[int]]] = {
 
 
 def late_inserter(kind: str, count: int, is_adjoining: bool) -> Callable[[Case], tuple[str, str]]:
-    """A programme of which each begin and each end is late by chance."""
+    """Return a programme with random delays of begins and ends."""
     def made(case: Case) -> tuple[str, str]:
         chance = random.Random(f"{kind} {count} {is_adjoining}")
         begins, ends = SHARES[kind]
@@ -99,7 +99,8 @@ def late_inserter(kind: str, count: int, is_adjoining: bool) -> Callable[[Case],
 
 
 def inserters() -> Iterator[Recording]:
-    """Each by twelve, 24 and 80 subtitles, of which half adjoin, or none; the clock is fitted."""
+    """Yield recordings of each inserter with 12, 24 and 80 subtitles, adjoining or not, without a
+    clock."""
     for kind, (begins, ends) in SHARES.items():
         within = max([1, *begins, *ends])
         for count in (12, 24, 80):
@@ -109,20 +110,20 @@ def inserters() -> Iterator[Recording]:
                                                  "--no-complete"])
 
 
-# PES packets: in which frames one comes, beside those with the page.
+# In which frames PES packets come besides page transmissions.
 
 def all_but(left_out: Callable[[int], bool]) -> Callable[[random.Random, int], list[int]]:
-    """Each frame but some."""
+    """Return each frame except some."""
     return lambda chance, frames: [at for at in range(frames) if not left_out(at)]
 
 
 def share_of(one_in: int) -> Callable[[random.Random, int], list[int]]:
-    """Each frame but one in so many by chance."""
+    """Return each frame except a random one in so many."""
     return lambda chance, frames: [at for at in range(frames) if chance.randrange(one_in)]
 
 
 def steps(step: Callable[[random.Random], int]) -> Callable[[random.Random, int], list[int]]:
-    """From one to the next by chance."""
+    """Return frames with random steps."""
     def made(chance: random.Random, frames: int) -> list[int]:
         at, found = 0, list[int]()
         while at < frames:
@@ -148,7 +149,7 @@ DISTANCES: dict[str, Callable[[random.Random, int], list[int]]] = {
 
 
 def paced_sent(case: Case, name: str, count: int, each: int) -> tuple[str, Sent]:
-    """A programme whose PES packets come so, so many in each of these frames."""
+    """Return a programme with `each` PES packets in such frames."""
     chance, times = random.Random(f"{name} {count}"), evenly(count)
     stl = programme(case, times)
     known = dict(sendings(case, stl))
@@ -162,7 +163,7 @@ def paced_sent(case: Case, name: str, count: int, each: int) -> tuple[str, Sent]
 
 
 def paced(name: str, count: int, each: int) -> Callable[[Case], tuple[str, str]]:
-    """The same as a stream."""
+    """Return the same as a stream."""
     def made(case: Case) -> tuple[str, str]:
         stl, sent = paced_sent(case, name, count, each)
         return stl, case.write("paced.ts", in_stream(sent))
@@ -171,7 +172,8 @@ def paced(name: str, count: int, each: int) -> Callable[[Case], tuple[str, str]]
 
 
 def paces() -> Iterator[Recording]:
-    """One a frame, also the page alone and a PES packet each third frame; two a frame."""
+    """Yield recordings with one PES packet a frame, also only pages and one in three frames; and
+    two a frame."""
     for kind, each, names in ((ONE_A_FRAME, 1, [*DISTANCES, "alone"]),
                               (TWO_A_FRAME, 2, [*DISTANCES])):
         for name in names:
@@ -184,15 +186,17 @@ def paces() -> Iterator[Recording]:
 # Streams.
 
 class Service(NamedTuple):
-    """A programme of a multiplex: its number, and the pages that it announces by their PIDs, each
-    with its type and number."""
+    """A programme of a multiplex:
+
+    its number, and PID, type and number of the pages that it announces.
+    """
 
     number: int
     pages: Sequence[tuple[int, int, int]]
 
 
 def tables_of(services: Sequence[Service]) -> list[tuple[int, bytes]]:
-    """The PAT, and a PMT for each; all have one PCR."""
+    """Return the PAT and a PMT for each programme, with one PCR."""
     pids = [PMT_PID if not at else LATER_PMT + at for at in range(len(services))]
     made = [(0, program_association([(one.number, pid) for one, pid in zip(services, pids)]))]
     for one, pid in zip(services, pids):
@@ -207,8 +211,11 @@ OWN = Service(1, [(TELETEXT_PID, 2, 0x88)])
 
 def in_stream(sent: Sent, plan: Sequence[tuple[int, Sequence[Service]]] = ((0, (OWN,)),),
               beside: Sequence[int] = ()) -> bytes:
-    """A stream of PES packets, each behind a PCR, whose tables are those of a plan from the PES
-    packet with a number on. On other PIDs PES packets without Teletext come beside."""
+    """Return a stream of PES packets, each after a PCR.
+
+    `plan` has the tables from given PES packets on. PES packets without Teletext come on other
+    PIDs.
+    """
     maker = Maker([])
     for number, (pts, some) in enumerate(sent):
         for begin, services in plan:
@@ -223,7 +230,8 @@ def in_stream(sent: Sent, plan: Sequence[tuple[int, Sequence[Service]]] = ((0, (
 
 
 def services() -> Iterator[Recording]:
-    """Several programmes, and tables that change outside of the subtitles' time."""
+    """Yield recordings with several programmes, and tables that change outside the subtitles' time.
+    """
     silent = Service(2, [(SILENT_PID, 2, 0x88)])
     other_page = Service(2, [(SILENT_PID, 2, 0x89)])
     twice = Service(1, [(TELETEXT_PID, 2, 0x88), (SILENT_PID, 5, 0x88)])
@@ -248,10 +256,10 @@ def services() -> Iterator[Recording]:
         yield Recording(PROGRAMMES, name, made, ["--every", "40", "--no-complete"])
 
 
-# Breaks, and the programme more than once.
+# Breaks, and repeated programmes.
 
 def broken(*lengths: int) -> Callable[[Case], tuple[str, str]]:
-    """A programme in parts, with breaks of so many frames behind twenty subtitles each."""
+    """Return a programme in parts of twenty subtitles, with breaks of some frames."""
     def made(case: Case) -> tuple[str, str]:
         stl = programme(case, evenly(20 * (len(lengths) + 1)))
         sent = []
@@ -264,7 +272,7 @@ def broken(*lengths: int) -> Callable[[Case], tuple[str, str]]:
 
 
 def breaks() -> Iterator[Recording]:
-    """Of one to ten seconds, also two."""
+    """Yield recordings with one or two breaks of one to ten seconds."""
     for lengths in ((25,), (50,), (100,), (124,), (125,), (126,), (250,), (400, 50), (400, 150)):
         yield Recording(BREAKS, f"{lengths}", broken(*lengths), [
             "--breaks", f"{len(lengths)}", "--every", "40", "--no-complete"])
@@ -329,15 +337,11 @@ def recordings() -> list[Recording]:
 
 
 class Right(Case):
-    """Some of each kind."""
-
     def test_tries_as_many_recordings_of_each_kind_as_it_says(self) -> None:
-        """As many of each kind as there are to be."""
         counts = collections.Counter(one.kind for one in recordings())
         self.must("counts", counts == {kind: one.recordings for kind, one in LOST.items()}, counts)
 
     def test_accepts_right_recordings_of_each_kind(self) -> None:
-        """Of some of each kind no more are lost than of all of them, and some are accepted."""
         for kind in LOST:
             several = [one for one in recordings() if one.kind == kind][::GATE]
             words = [one.judge(self).word for one in several]
@@ -345,20 +349,13 @@ class Right(Case):
 
 
 class Twins(Case):
-    """A right recording that is refused has the bytes of a wrong one, too: whoever accepts it
-    accepts that one."""
-
     def test_a_silence_is_what_a_loss_leaves(self) -> None:
-        """16 TS packets that were lost, or 32, in which there were as many PES packets, one with a
-        wrong page: the counter goes on, and all that is left has the same bytes."""
         for each, names in ((1, [*SILENT, "1 in 20 left out"]), (2, SILENT)):
             for name in names:
                 _, sent = paced_sent(self, name, 12, each)
                 self.check(f"{name}, {each} a frame", lossy(sent, each) == in_stream(sent), True)
 
     def test_rare_delays_are_what_early_subtitles_leave(self) -> None:
-        """The clock alone tells which of two are right: the many that are late, or the few that
-        come before them."""
         for one in inserters():
             if one.name in ("rare 80 False", "rare 80 True"):
                 stl, path = one.made(self)

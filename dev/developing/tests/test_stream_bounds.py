@@ -1,4 +1,4 @@
-"""Bounds of time, each at its very value and beside it, and wherever PTS begin anew."""
+"""Time limits at their exact values and next to them, for PTS that wrap anywhere."""
 from __future__ import annotations
 
 import itertools
@@ -24,31 +24,26 @@ from .parts import asked_for
 ORIGINS = 0, 7, CLOCK - 100 * SECOND - 5, CLOCK - 20 * SECOND, CLOCK - 5
 
 
-def at(seconds: float | None, origin: int = 0) -> int | None:
-    """A PTS, so many seconds behind another one."""
+def pts_at(seconds: float | None, origin: int = 0) -> int | None:
+    """Return a PTS some seconds after another one."""
     return None if seconds is None else round(origin + seconds * SECOND) % CLOCK
 
 
-def sent(times: Sequence[float | None], origin: int = 0, does: str = "he") -> Packets:
-    """PES packets at some seconds; `None` for one without a PTS."""
-    return Packets(257, [Run(number, 1, at(one, origin), 0, does, "")
+def packets_at(times: Sequence[float | None], origin: int = 0, does: str = "he") -> Packets:
+    """Return PES packets at some seconds; `None` for one without a PTS."""
+    return Packets(257, [Run(number, 1, pts_at(one, origin), 0, does, "")
                          for number, one in enumerate(times)])
 
 
 class Silences(unittest.TestCase):
-    """Times at which nothing comes, of which something may be missing."""
-
-    def test_what_may_be_missing(self) -> None:
-        """As much as lies between two PES packets; what is not known has room for all."""
+    def test_needs_room_for_missing_packets(self) -> None:
         for origin, (before, after, ticks, wanted) in itertools.product(ORIGINS, (
                 (0, 2, 2 * SECOND, True), (0, 2, 2 * SECOND + 1, False), (0, 2, 1, True),
                 (None, 2, 9 * SECOND, True), (0, None, 9 * SECOND, True))):
-            place = Place(at(before, origin), at(after, origin))
+            place = Place(pts_at(before, origin), pts_at(after, origin))
             self.assertEqual(is_within(ticks, place), wanted, (origin, before, after, ticks))
 
-    def test_in_which_nothing_had_to_come(self) -> None:
-        """Near another one; longer than is usual, as the repeat bound allows; before the programme
-        or behind it; up to the end of a pause, as in most pauses that are as long."""
+    def test_ignores_silences_in_which_nothing_was_expected(self) -> None:
         every, begin, end = 400, 1000, 1500
         pause: Pauses = [(begin, end)]
         rows: list[tuple[tuple[int, int], Pauses, bool]] = [
@@ -66,7 +61,7 @@ class Silences(unittest.TestCase):
                 lull = Lull(first, last, is_near)
                 self.assertEqual(idle_of([lull], every, pauses), [lull] * (wanted or is_near),
                                  (first, last, pauses))
-        # In most of those that are as long: shorter ones tell nothing.
+        # In most pauses of that length; shorter ones don't count.
         silence = Lull(begin + 400, end, False)
         of_others: list[tuple[list[int], bool]] = [
             ([], True), ([500], False), ([499], True), ([499, 499], True), ([500, 499], False),
@@ -77,8 +72,6 @@ class Silences(unittest.TestCase):
             self.assertEqual(idle_of([silence], 50, pauses), [silence] * wanted, others)
 
     def test_finds_the_longest_time_without_a_header(self) -> None:
-        """The longest time without a header of the page, up to the end of the recording, and from
-        when on it is; what is usual while nothing of the page changes."""
         steady = [*range(0, 100, 10)]
         rows: list[tuple[list[float], float | None, list[int], tuple[object, ...] | None]] = [
             ([], None, [], None), ([], 9, [], None), ([5, 5], None, [], None),
@@ -95,8 +88,7 @@ class Silences(unittest.TestCase):
             found = repeats_in(pts, end, origin, [*zip(edges, edges[1:])])
             self.assertEqual(found and (*found[:4],), wanted, (origin, frames, last, edges))
 
-    def test_how_many_are_told(self) -> None:
-        """Twenty, then how many more; a hole that the PCR alone tells is no mark."""
+    def test_prints_twenty_losses_and_counts_the_others(self) -> None:
         for count in (0, 1, TOLD - 1, TOLD, TOLD + 1, TOLD + 2):
             lines = [f"{number}" for number in range(count)]
             more = count - TOLD
@@ -115,11 +107,8 @@ class Silences(unittest.TestCase):
             self.assertEqual(found[:1], [f"between {times}: 1 TS packet lost"][:count], count)
 
 
-class Pictures(unittest.TestCase):
-    """The clock of the first picture."""
-
+class FirstPictures(unittest.TestCase):
     def test_takes_the_later_of_the_last_pts_and_pcr(self) -> None:
-        """The last PTS or PCR, whichever is later, over the wrap too."""
         for origin, (pts, pcr, last) in itertools.product(ORIGINS, (
                 (None, None, None), (4, None, 4), (None, 7, 7), (4, 7, 7), (7, 4, 7))):
             clock, begun, wanted = ((None if one is None else (origin + one) % CLOCK)
@@ -128,8 +117,7 @@ class Pictures(unittest.TestCase):
                 clock_of=lambda _: None if clock is None else (0, clock)))
             self.assertEqual(Recording.last(known), wanted, (origin, pts, pcr))
 
-    def test_ticks_after_a_frame(self) -> None:
-        """As most PTS are; within some frames as most of those that are near it."""
+    def test_computes_ticks_after_a_frame(self) -> None:
         for origin, (times, exact, near) in itertools.product(ORIGINS, (
                 ([0, 0, 5], 0, 0), ([5, 5, 0], 5, 5), ([EARLY, 1800, 1800], 1800, EARLY),
                 ([EARLY + 1, 1800, 1800], 1800, 1800), ([-EARLY, 1800, 1800], 1800, TICKS - EARLY),
@@ -140,8 +128,6 @@ class Pictures(unittest.TestCase):
             self.assertEqual(found, [exact, near], (origin, times))
 
     def test_refuses_subtitles_before_and_after_the_recording(self) -> None:
-        """A subtitle before the first picture, and one that goes over a second after the last PTS.
-        """
         asked, last = asked_for("a.stl", "a.ts"), 1000
         for origin, (begin, end, is_told, is_refused) in itertools.product((
                 *ORIGINS, CLOCK - last * TICKS), (
@@ -160,14 +146,11 @@ class Pictures(unittest.TestCase):
                 refuse_outside(asked, began._replace(frame=0), 0, FRAMES_A_SECOND + 1, origin)
 
 
-class Received(unittest.TestCase):
-    """PES packets that were heard, by their numbers and frames."""
-
-    # The number of the first, and the frame of each.
+class ReceivedFrames(unittest.TestCase):
+    # The number of the first PES packet, and the frame of each.
     RUNS = ((0, [10]), (1, [11, 12, 13]), (6, [20, 20, 21]), (9, [30]))
 
-    def test_before_and_after(self) -> None:
-        """The frames that were heard last before one, and next after it; those of a frame."""
+    def test_finds_the_frames_around_a_pes_packet(self) -> None:
         order = Timeline(Packets(5), (0, 0x88), 0)
         for first, frames in self.RUNS:
             run = Run(first, len(frames), TICKS * frames[0], TICKS, "h", "")
@@ -186,8 +169,6 @@ class Received(unittest.TestCase):
         self.assertEqual(ReceivedPackets().first, NO_FRAME)
 
     def test_knows_which_frames_were_received_completely(self) -> None:
-        """All rows of four frames, of which something is not heard before one, and some are lost:
-        what is heard, from where on nothing is, and which frames are seen."""
         for frames, gap in itertools.product(itertools.product(range(4), repeat=4), range(5)):
             lost = [Span(3, 3)] * (gap % 2)
             order = ReceivedPackets(lost)
@@ -204,8 +185,7 @@ class Received(unittest.TestCase):
                     one.first <= last and first <= one.last for one in doubts + lost)
                 self.assertEqual(order.is_seen(first, last), is_seen, (frames, gap))
 
-    def test_spans_that_meet(self) -> None:
-        """In any order, and where there is none."""
+    def test_finds_spans_that_meet(self) -> None:
         some = [Span(*one) for one in itertools.combinations_with_replacement(range(4), 2)]
         for several in ((), *itertools.permutations(some, 3)):
             for first, last in some:
@@ -214,8 +194,8 @@ class Received(unittest.TestCase):
 
     @staticmethod
     def timeline(sent: str, **more: Any) -> Timeline:
-        """What is held of PES packets: of each its frame, with ! where it is refused, what it does,
-        and the text that is told behind it."""
+        """Return the timeline of PES packets, each as frame (with ! if refused), actions and text.
+        """
         packets = Packets(5)
         for number, word in enumerate(filter(None, sent.split(" "))):
             frame, does, *told = word.split(":")
@@ -225,8 +205,7 @@ class Received(unittest.TestCase):
                              for text in told]
         return Timeline(packets, (0, 0x88), 0, **more)
 
-    def test_holds_the_pages_that_were_sent(self) -> None:
-        """The pages that are held, when the page turns open or closed, and its headers."""
+    def test_decodes_the_transmitted_pages(self) -> None:
         rows: list[tuple[str, str, str, list[int], list[int]]] = [
             ("none", "", "", [], []), ("before a header", "5:c 7:o:a 10:heo:b", "10 b", [10], [10]),
             ("a space that was hit", "10:heo:a\xa0b", "10 a b", [10], [10]),
@@ -248,8 +227,7 @@ class Received(unittest.TestCase):
                              name)
             self.assertEqual(held.closed_from(99), None if len(turns) % 2 else 99, name)
 
-    def test_how_a_timeline_is_heard(self) -> None:
-        """Where it begins, what goes back, and what is lost of it."""
+    def test_handles_steps_back_and_losses(self) -> None:
         for frame, halt in ((299, None), (300, 2), (310, 2)):
             held = self.timeline(f"200:he {frame}:he 290:he", begin=300)
             self.assertEqual(held.halt, halt, frame)
@@ -275,9 +253,7 @@ class Received(unittest.TestCase):
                                        (Span(30, 30), texts[1])])
         self.assertEqual([*held.ends], [10, 20, 30])
 
-    def test_near_what_is_due(self) -> None:
-        """From 250 frames before it, or as many as the repeat bound, to as many behind it; of some
-        PES packets alone; nothing where none comes then."""
+    def test_decodes_only_packets_near_the_subtitle(self) -> None:
         runs = [Run(at, 1, TICKS * 10 * at, 0, "heo" if at != 75 else "-", "0" * (at != 75))
                 for at in range(300)]
         packets = Packets(5, runs, held=[(at, ((20, b"%d" % at),)) for at in range(300)])
@@ -294,8 +270,7 @@ class Received(unittest.TestCase):
         held = timeline_near(packets, (0, 0x88), 0, 0, Span(9000, 9100), 25)
         self.assertEqual((held.count, held.first), (0, NO_FRAME))
 
-    def test_what_was_told_before(self) -> None:
-        """Of a range: the rows that were told last, and whether the page was erased before it."""
+    def test_starts_a_range_with_the_last_printed_rows(self) -> None:
         for does, is_told in itertools.product(("he", "h"), (True, False)):
             runs = [Run(at, 1, TICKS * at, 0, one, "0") for at, one in enumerate(
                 (does, "h", "ho", "he"))]
@@ -310,9 +285,7 @@ class Received(unittest.TestCase):
                 b"a", b" " * len(marks) + b"b"), marks)
 
 
-class Clear(unittest.TestCase):
-    """Whether an origin is clear."""
-
+class ClearOrigins(unittest.TestCase):
     @staticmethod
     def fit(agree: int, letters: int, texts: int = 0, among: int = 5, start: int = 0) -> Fit:
         return Fit(9, agree, letters, texts, agree, among, None, None, start)
@@ -322,9 +295,7 @@ class Clear(unittest.TestCase):
         return SimpleNamespace(best=best, others=others, early=early,
                                sent=SimpleNamespace(apart=lambda _: apart))
 
-    def test_as_good(self) -> None:
-        """By cues and letters; of fewer than five cues also by those that are more than erased.
-        Where beginnings and ends are apart that of the ends is none, nor one without texts."""
+    def test_compares_origins_by_cues_and_characters(self) -> None:
         five, four, apart = self.fit(5, 5, 2), self.fit(4, 4, 2), Apart(True, 3, 5, 5)
         for best, other, is_apart, wanted in (
                 (five, self.fit(5, 4, 9), False, False), (five, self.fit(5, 5), False, True),
@@ -340,8 +311,6 @@ class Clear(unittest.TestCase):
                              (best, other, is_apart))
 
     def test_accepts_an_origin_with_which_half_of_the_cues_agree(self) -> None:
-        """Half of the cues agree, or begins and ends are apart; and early ones are not many, unless
-        the clock is known."""
         for agree, among, is_apart, wanted in ((5, 10, False, True), (5, 11, False, False),
                                                (5, 11, True, True), (0, 0, False, True)):
             part = self.part(self.fit(agree, agree, among=among),

@@ -1,4 +1,4 @@
-"""Which items of a layout are taken: those that subtitles show, and that take from no page."""
+"""Which items of a layout are proposed: those that subtitles show and that hide nothing."""
 from __future__ import annotations
 
 import random
@@ -14,14 +14,11 @@ from .bench import Case
 from .test_stream_layouts import HOUSES, programme
 
 
-# Which items of a layout are taken: those that ten subtitles show, and that take from no page what
-# a viewer sees.
-
 SHORT_TEXTS = [b"cat", b"dog", b"the sun", b"and then", b"who knows", b"yes"]
 
 
-class One(NamedTuple):
-    """A text with its justification code, and the one that is sent in its place."""
+class SentText(NamedTuple):
+    """A text with its justification code, and the text transmitted for it."""
 
     text: bytes
     sent: bytes
@@ -29,23 +26,24 @@ class One(NamedTuple):
 
 
 class Row(NamedTuple):
-    """What is in a file of 100 subtitles otherwise than it was sent, in how many; the TEXT that is
-    taken, and what is left to be said, with how many it would draw."""
+    """How many of 100 subtitles are transmitted differently; the layout that is proposed; the one
+    that is left out, and how many subtitles it would draw."""
 
     name: str
-    one: One
+    one: SentText
     times: int
     taken: str
     left: str = ""
     more: int = 0
 
 
-COLOUR, FLASH, DOUBLE = One(b"\3Hi", b"Hi"), One(b"\x08Hi", b"Hi"), One(b"\x0dHi", b"Hi")
-SPACES, EMPTY = One(b"  Hi", b"Hi"), One(b"Hi\x8a\x8aHo", b"Hi\x8aHo")
-WHITE, STEADY = One(b"\7Hi", b"Hi"), One(b"\x09Hi", b"Hi")
-NEW_BACKGROUND, BLACK = One(b"\x04\x1d\7Hi", b"\4\7Hi"), One(b"\x1cHi", b"Hi")
-NO_BOX = One(b"\x00Hi", b"Hi")  # 00 is no code of a page
-# Sent as if it were without its colour, its flash, ..: an item would draw it.
+COLOUR, FLASH, DOUBLE = SentText(b"\3Hi", b"Hi"), SentText(b"\x08Hi", b"Hi"), SentText(b"\x0dHi",
+                                                                                       b"Hi")
+SPACES, EMPTY = SentText(b"  Hi", b"Hi"), SentText(b"Hi\x8a\x8aHo", b"Hi\x8aHo")
+WHITE, STEADY = SentText(b"\7Hi", b"Hi"), SentText(b"\x09Hi", b"Hi")
+NEW_BACKGROUND, BLACK = SentText(b"\x04\x1d\7Hi", b"\4\7Hi"), SentText(b"\x1cHi", b"Hi")
+NO_BOX = SentText(b"\x00Hi", b"Hi")  # 00 is no code of a page
+# Transmitted without its colour, its flash and so on: an item would draw it.
 ROWS = [
     *(Row(f"{name}, {count}", one, count, "", left, count)
       for name, one, left in (("colour", COLOUR, "strip=03"), ("flash", FLASH, "strip=08"),
@@ -60,7 +58,7 @@ ROWS = [
                               ("00", NO_BOX, "strip=00")) for count in (1, 9, 10)),
     Row("none", COLOUR, 0, ""),
 ]
-# A layout, and its items as TEXTs; what the layout is without each.
+# A layout, its items, and the layout without each.
 ITEMS = [
     ("strip=0307", [("strip=03", "strip=07"), ("strip=07", "strip=03")]),
     ("before=0D*0B0B", [("before=0D*0B0B", ""), ("before=0D*0B0B", "before=0D0B0B")]),
@@ -69,8 +67,8 @@ ITEMS = [
     ("after=0A,fit,left=2", [("after=0A", "fit,left=2"), ("fit", "after=0A,left=2"),
                              ("left=2", "after=0A,fit")]),
     ("", [])]
-OVERRULING = (*range(0x01, 0x08), 0x09, 0x0C)  # behind a line's own codes
-# A layout, and what of it takes from a page what a viewer sees.
+OVERRULING = (*range(0x01, 0x08), 0x09, 0x0C)  # after a line's own codes
+# A layout, and which of its items hide something from a viewer.
 TAKEN = [
     ("strip=0A0B", ""), ("strip=0D", "strip=0D"), ("strip=0D,before=0D0B0B", ""),
     ("strip=0D,before=0B0B*0D", ""), ("strip=0A0B,before=", "before=,strip=0B"),
@@ -86,38 +84,37 @@ TAKEN = [
 
 
 def meant(text: str) -> Layout:
-    """The layout that a TEXT means."""
+    """Parse a layout."""
     found = layout_of(text) if text else PLAIN
     assert found is not None, text
     return found
 
 
 def rows_of(text: bytes, justify: int, layout: Layout, row: int = 18) -> tuple[bytes, ...]:
-    """The page that a layout draws."""
+    """Return the page that a layout draws."""
     lines = drawn(text, row, justify, layout, ENGLISH)
     assert not isinstance(lines, Refused), text
     return page_rows(lines)
 
 
-def sent_of(several: Sequence[One], layout: Layout = PLAIN) -> list[Sent]:
-    """What is sent of texts by a layout."""
+def sent_of(several: Sequence[SentText], layout: Layout = PLAIN) -> list[Sent]:
+    """Return the transmission of texts in a layout."""
     return [Sent(one.text, 18, one.justify, rows_of(one.sent, one.justify, layout))
             for one in several]
 
 
-def plain(count: int) -> list[One]:
-    """Texts that are sent as they are."""
-    return [One(text, text) for at in range(count) for text in [SHORT_TEXTS[at % len(SHORT_TEXTS)]]]
+def plain(count: int) -> list[SentText]:
+    """Return texts that are transmitted unchanged."""
+    return [SentText(text, text) for at in range(count)
+            for text in [SHORT_TEXTS[at % len(SHORT_TEXTS)]]]
 
 
 def moved(one: Sent, columns: int) -> Sent:
-    """A subtitle that was sent so many columns farther left."""
+    """Return a subtitle that was transmitted some columns farther left."""
     return one._replace(rows=tuple(row[columns:] + row[:columns] for row in one.rows))
 
 
-class Items(Case):
-    """Functions that decide."""
-
+class ItemDecisions(Case):
     def test_reads_and_writes_layout_items(self) -> None:
         for text, items in ITEMS:
             layout = meant(text)
@@ -128,7 +125,7 @@ class Items(Case):
             self.must(f"{text}, all", without(layout, items_in(layout)) == PLAIN
                       and with_items(PLAIN, items_in(layout), layout) == layout)
 
-    def test_what_is_taken_from_a_page(self) -> None:
+    def test_knows_which_items_hide_something(self) -> None:
         for text, gone in TAKEN:
             layout = meant(text)
             told = layout_text(with_items(PLAIN, taken_from(layout), layout))
@@ -146,11 +143,8 @@ class Items(Case):
             self.must(f"{count} of {found}", Choice(PLAIN, count, found).is_clear == is_clear)
 
 
-class Taken(Case):
-    """What is taken of 100 subtitles, some of which were sent otherwise than the file has them."""
-
-    def test_one_of_a_hundred(self) -> None:
-        """The whole table."""
+class ProposedItems(Case):
+    def test_proposes_an_item_that_ten_subtitles_show(self) -> None:
         for row in ROWS:
             several = [row.one] * row.times + plain(100 - row.times)
             closest, choice = choices_of(sent_of(several), ENGLISH)
@@ -160,26 +154,23 @@ class Taken(Case):
                       and left == ([(row.left, row.more)] if row.left else [])
                       and closest.drawn == 100, (closest, choice))
 
-    def test_two_kinds(self) -> None:
-        """What would draw more of each, and of both."""
+    def test_counts_what_each_omitted_item_would_draw(self) -> None:
         several = [COLOUR] * 5 + [SPACES] * 4 + plain(91)
         choice = choices_of(sent_of(several), ENGLISH)[1]
         left = [(one.text, one.more) for one in choice.left]
         self.must("left", left == [("strip=03", 5), ("trim", 4), ("strip=03,trim", 9)], left)
 
     def test_finds_rows_two_columns_off(self) -> None:
-        """Those on the right, two columns off."""
         for count, taken in ((1, ""), (9, ""), (10, "right=2")):
-            right = [moved(one, 2) for one in sent_of([One(b"Hi", b"Hi", 3)] * count)]
+            right = [moved(one, 2) for one in sent_of([SentText(b"Hi", b"Hi", 3)] * count)]
             choice = choices_of([*sent_of(plain(100 - count)), *right], ENGLISH)[1]
             self.must(f"{count}", layout_text(choice.layout) == taken and choice.drawn == 100 - (
                 count if not taken else 0), choice)
 
-    def test_a_colour_that_is_overruled(self) -> None:
-        """By a white behind it, in however many: the codes then stand before a line's own."""
+    def test_puts_codes_before_a_lines_own_colour(self) -> None:
         for count, text, drawn_so in ((1, "before=070B0B", 99), (10, "before=070B0B", 90),
                                       (30, "", 0)):
-            sent = sent_of([One(b"\3Hi", b"\3Hi")] * count + plain(100 - count),
+            sent = sent_of([SentText(b"\3Hi", b"\3Hi")] * count + plain(100 - count),
                            meant("before=*070B0B"))
             closest, choice = choices_of(sent, ENGLISH)
             left = [(one.text, one.more) for one in choice.left]
@@ -187,10 +178,8 @@ class Taken(Case):
                       layout_text(choice.layout) == text and choice.is_clear == bool(text) and
                       left == [("before=*070B0B", 100 - drawn_so)], choice)
 
-    def test_evidence_is_of_what_is_decided(self) -> None:
-        """Of those that an item draws otherwise nine in ten have to be sent so, whatever the others
-        are: ten with two lines by `double`, one or two without."""
-        two = One(b"Hi\x8aHo", b"Hi\x8aHo")
+    def test_needs_nine_in_ten_of_the_affected_subtitles(self) -> None:
+        two = SentText(b"Hi\x8aHo", b"Hi\x8aHo")
         for otherwise, taken in ((0, "double"), (1, "double"), (2, "")):
             sent = [*sent_of([two] * 10, Layout(double=True)), *sent_of([two] * otherwise),
                     *sent_of(plain(100))]
@@ -200,8 +189,7 @@ class Taken(Case):
                       found.rest(Layout(double=True), [("double", 0)]) ==
                       Rest("double", 10 + otherwise, 10), (layout, gone))
 
-    def test_which_goes_first(self) -> None:
-        """The item that decides the fewest; of two with one TEXT the one that does is told."""
+    def test_drops_the_item_with_the_least_evidence_first(self) -> None:
         found = Evidence(sent_of([WHITE] * 3 + [SPACES] * 5 + plain(92)), ENGLISH)
         gone = found.supported(meant("strip=07,trim"))[1]
         self.must("first", gone == [{("strip", 7)}, {("trim", 0)}], gone)
@@ -211,12 +199,11 @@ class Taken(Case):
         self.must("left", [(one.text, one.more) for one in left] == [
             ("strip=03", 5), ("trim", 1), ("strip=03,trim", 6)], left)
         layout = meant("before=0D*0B0B")
-        found = Evidence(sent_of([One(b"\3Hi", b"\3Hi")] * 12 + plain(88), layout), ENGLISH)
+        found = Evidence(sent_of([SentText(b"\3Hi", b"\3Hi")] * 12 + plain(88), layout), ENGLISH)
         told = found.choice(layout).items
         self.must("told", told == (Rest("before=0D*0B0B", 12, 12),), told)
 
-    def test_which_are_found(self) -> None:
-        """By letters, of which there are some; lines by theirs, wherever they stand."""
+    def test_finds_subtitles_by_their_characters(self) -> None:
         blank = (b" " * 40,) * 24
         self.must("no letters", not is_found(Sent(b"", 20, 2, blank), ENGLISH))
         self.must("drawn", draws(PLAIN, sent_of(plain(1))[0], ENGLISH) and not draws(
@@ -229,10 +216,8 @@ class Taken(Case):
                 lines[one.number] == one.cells and shown[one.row - 1] == one.sent and
                 one.place == 7 for one in pairs), pairs)
 
-    def test_items_that_undo_each_other(self) -> None:
-        """Of two lines `last` and `row=1` draw what neither does alone: they rest on the subtitle
-        of one line, however many each decides."""
-        two = One(b"Hi\x8aHo", b"Hi\x8aHo")
+    def test_tests_items_that_cancel_each_other_together(self) -> None:
+        two = SentText(b"Hi\x8aHo", b"Hi\x8aHo")
         layout = Layout(last=True, row=1)
         for count in (1, 9, 10):
             sent = [*sent_of([two] * 90), *sent_of(plain(count), layout)]
@@ -241,32 +226,27 @@ class Taken(Case):
             self.must(f"{count}", alone == [True, True] and found.supported(layout)[0] == (
                 layout if count == 10 else PLAIN), found.supported(layout))
 
-    def test_what_is_seen_stays(self) -> None:
-        """Another item that is not goes alone; and what is left then is counted anew."""
+    def test_drops_a_hidden_item_and_counts_again(self) -> None:
         house = Layout(text=True, after=b"\x0a")
         sent = [*sent_of([*plain(99), COLOUR], house)]
         choice = choices_of(sent, ENGLISH)[1]
         self.must("seen", layout_text(choice.layout) == "after=0A,text" or
                   layout_text(choice.layout) == "after=0A", choice)
         self.must("left", [one.text for one in choice.left] == ["strip=03"], choice)
-        several = [One(b"\x0dHi", b"Hi")] * 20 + plain(80)
+        several = [SentText(b"\x0dHi", b"Hi")] * 20 + plain(80)
         found = Evidence(sent_of(several, Layout(before=b"\x0d\x0b\x0b")), ENGLISH)
         whole = Layout(before=b"\x0d\x0b\x0b", strip=b"\x0d")
         self.must("brought", found.supported(whole) == (whole, []), found.supported(whole))
 
-    def test_many_items(self) -> None:
-        """Of more items than can be looked at in groups one goes after another: none is taken that
-        was not looked at so."""
+    def test_tests_many_items_one_by_one(self) -> None:
         codes = bytes([0x00, 0x07, 0x09, 0x0A, 0x0C, *range(0x10, 0x1B)])
         layout = Layout(strip=codes)
         self.must("many", len(items_in(layout)) > MOST_ITEMS)
-        sent = sent_of([One(codes + b"Hi", b"Hi")] * 10)
+        sent = sent_of([SentText(codes + b"Hi", b"Hi")] * 10)
         taken, gone = Evidence(sent, ENGLISH).supported(layout)
         self.must("few", len(items_in(taken)) <= MOST_ITEMS and len(gone) >= 4, taken)
 
-    def test_finds_how_each_site_draws(self) -> None:
-        """How each house draws is found beside 1, 5 and 20 that are drawn otherwise; of 20 it is
-        the closest, and nothing is taken."""
+    def test_finds_each_layout_although_some_differ(self) -> None:
         for number, (has_codes, leaves_room, text) in enumerate(HOUSES):
             some = random.Random(number)
             sent = programme(some, has_codes, leaves_room, meant(text), 100)

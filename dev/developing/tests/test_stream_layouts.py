@@ -1,4 +1,4 @@
-"""How a house draws: layouts that are searched, and the evidence that they need."""
+"""Layouts: their texts, the rows that they draw, and how they are found."""
 from __future__ import annotations
 
 import os
@@ -19,11 +19,8 @@ from ..every_place.reading import header_of, split_packets, read_packet
 from .bench import Case
 
 
-# Layouts: what a TEXT means, what a line becomes, and which layout is found for pages as houses
-# send them.
-
 GERMAN = BY_WORD["german"]
-# TEXTs that mean no layout.
+# Texts that are no layout.
 NONE = ("", "fit,fit", "before=0", "before=0E", "before=00", "before=0B0B0B0B0B0B0B",
         "after=0A0A0A0A0A", "strip=20", "strip=0A0A", "left=40", "left=007", "row=-23", "row=23",
         "row=+1", "row=--1", "left=-1", "free=0", "free=4", "fit=1", "left", "left=", "fit,",
@@ -31,13 +28,13 @@ NONE = ("", "fit,fit", "before=0", "before=0E", "before=00", "before=0B0B0B0B0B0
         "before=0*B",
         "before=0B0B0B*0B0B0B0B", "before=*0E", "after=0A*", "strip=*0A", "before", "row=1\n",
         "left=\u0661", "left=-0", "free=-1")
-# The same layout in other words, and its simplest TEXT.
+# The same layout in other words, and its simplest text.
 MEANS = [("row=-0,left=00,free=01", ""), ("before=*", "before="), ("before=0b*0d", "before=0B*0D"),
          ("white,up", "up,white"), ("before=0B0B,after=0A0A,strip=", ""), ("row=-22", "row=-22"),
          ("row=22", "row=22"),
          ("strip=1f00", "strip=1F00"), ("right=09", "right=9"), ("before=0B*", "before=0B"),
          ("before=0B0B*07", "before=0B0B*07")]
-# Text, VP, JC, TEXT, and the lines that are drawn: row, column, cells; or the fault.
+# Text, VP, JC, layout, and the drawn lines (row, column, cells) or the fault.
 DRAWN = [
     ("Hi", 22, 2, "", "22 17 0B0B4869 0A0A"), ("Hi", 22, 2, "white", "22 16 0B0B074869 0A0A"),
     ("03 Hi", 22, 2, "before=*0B0B", "22 16 030B0B4869 0A0A"),
@@ -62,8 +59,8 @@ DRAWN = [
     ("0D Hi 8A 8A Ho", 20, 2, "", "20 16 0B0B0D4869 0A0A 22 17 0B0B486F 0A0A"),
     ("03 06 07", 22, 2, "text,before=,after=", "22 17 03 0607"), ("E6", 22, 2, "", "50 at 0")]
 WORDS = "the cat sat on a mat and then it went to see what was there Hi Ho no yes".split()
-# How houses draw: whether a file has codes of its own, and the empty line between its lines that
-# leaves room for double height; what is sent; a TEXT that draws so.
+# Layouts of inserters: whether the file has its own codes; whether an empty line leaves room for
+# double height; a layout that draws so.
 HOUSES = [
     (False, False, "before=0D0B0B,double"), (True, True, ""), (False, False, "text"),
     (False, False, "last"), (False, False, "after=0A"), (False, False, "after="),
@@ -74,13 +71,13 @@ HOUSES = [
 
 
 def text_bytes(said: str) -> bytes:
-    """The bytes of a text, letters as they are."""
+    """Return the bytes of a text."""
     return b"".join(one.encode() if one in ("Hi", "Ho") else bytes.fromhex(one)
                     for one in said.split(" "))
 
 
 def said_of(text: bytes, row: int, justify: int, layout: Layout) -> str:
-    """What is drawn, as the table says it."""
+    """Return what is drawn, in the format of the table."""
     found = drawn(text, row, justify, layout, ENGLISH)
     if isinstance(found, Refused):
         return f"{found.number} at {found.at}"
@@ -89,7 +86,7 @@ def said_of(text: bytes, row: int, justify: int, layout: Layout) -> str:
 
 
 def line(some: random.Random, has_codes: bool) -> bytes:
-    """A line of words, some with a colour; with codes as files have that bring their own."""
+    """Return a random line, with a colour or complete codes."""
     text = " ".join(some.choice(WORDS) for _ in range(some.randrange(1, 5)))[:30].encode()
     colour = some.choice([b"", b"", b"\3", b"\6"])
     return b"\x0d" + colour + b"\x0b\x0b" + text + b"\x0a\x0a" if has_codes else colour + text
@@ -97,7 +94,7 @@ def line(some: random.Random, has_codes: bool) -> bytes:
 
 def programme(some: random.Random, has_codes: bool, leaves_room: bool, layout: Layout,
               count: int = 120) -> list[Sent]:
-    """Subtitles, and what an inserter of this layout sends of them."""
+    """Return subtitles and their transmission in a layout."""
     sent: list[Sent] = []
     while len(sent) < count:
         between = b"\x8a\x8a" if leaves_room else b"\x8a"
@@ -110,9 +107,7 @@ def programme(some: random.Random, has_codes: bool, leaves_room: bool, layout: L
 
 
 class Layouts(Case):
-    """A TEXT, and what it draws."""
-
-    def test_text_means_one_layout(self) -> None:
+    def test_each_text_means_one_layout(self) -> None:
         for text in NONE:
             self.must(f"none: {text!r}", layout_of(text) is None, layout_of(text))
         for text, simple in MEANS:
@@ -123,7 +118,7 @@ class Layouts(Case):
         self.must("the simplest first", sorted(order[::-1], key=lambda text: simplicity(
             layout_of(text) or PLAIN)) == ["", "up", "fit", "last", "text", *order[5:]])
 
-    def test_lines_are_drawn(self) -> None:
+    def test_draws_each_line(self) -> None:
         for said, row, justify, text, want in DRAWN:
             layout = layout_of(text) if text else PLAIN
             assert layout is not None, text
@@ -138,10 +133,8 @@ class Layouts(Case):
         self.must("a pair that is parted", parted == Refused(50, 0), parted)
 
 
-class Searches(Case):
-    """Which layout draws what was sent."""
-
-    def test_finds_how_a_house_draws(self) -> None:
+class LayoutSearch(Case):
+    def test_finds_each_layout(self) -> None:
         some = random.Random(7)
         for has_codes, leaves_room, text in HOUSES:
             layout = layout_of(text) if text else PLAIN
@@ -151,8 +144,7 @@ class Searches(Case):
             self.must(text, found.drawn == found.total == len(sent) and found.is_clear
                       and simplicity(found.layout) <= simplicity(layout), found)
 
-    def test_a_wrong_page_is_no_layout(self) -> None:
-        """One with another letter is not found; one in another column is found and not drawn."""
+    def test_a_wrong_page_shows_no_layout(self) -> None:
         some = random.Random(8)
         sent = programme(some, False, False, Layout(text=True))
         wrong = sent[20]._replace(rows=tuple(row.replace(b"e", b"c") for row in sent[20].rows))
@@ -163,8 +155,7 @@ class Searches(Case):
         self.must("counted", (found.total - found.drawn) == 1
                   and found.total == sum(is_found(one, ENGLISH) for one in sent), found)
 
-    def test_one_drawn_otherwise_hides_no_column(self) -> None:
-        """Whether it is the first or the last, lines of the others say where columns are."""
+    def test_finds_columns_although_one_subtitle_differs(self) -> None:
         house, other = layout_of("left=3,text"), layout_of("left=3,text,after=0A")
         assert house is not None and other is not None
         sent, otherwise = (programme(random.Random(10), False, False, one)
@@ -174,8 +165,7 @@ class Searches(Case):
             found = choices_of(mixed, ENGLISH)[1]
             self.must(f"{place}", found[:3] == (house, len(sent) - 1, len(sent)), found)
 
-    def test_guesses_nothing(self) -> None:
-        """Of another programme, of fewer than ten subtitles, of pages that are drawn in turns."""
+    def test_finds_no_layout_without_evidence(self) -> None:
         some = random.Random(9)
         sent = programme(some, False, False, PLAIN)
         others = [one._replace(rows=other.rows) for one, other in zip(sent, sent[1:])]
@@ -193,10 +183,12 @@ class Searches(Case):
                   and not Choice(PLAIN, 89, 100).is_clear and not Choice(PLAIN, 9, 9).is_clear)
 
 
-class Rows(Case):
-    """What the program sends of a text and a layout, and that it accepts it: `dev/vectors/
-    layouts.tsv` has the bytes of a text, VP, JC, the TEXT or `-`, and each row that is sent, its
-    column and its cells, or the line that is printed."""
+class StoredRows(Case):
+    """Rows of dev/vectors/layouts.tsv:
+
+    text, VP, JC, layout or `-`; then the transmitted rows with columns and cells, or the printed
+    line.
+    """
 
     def rows(self) -> list[list[str]]:
         with open(os.path.join(DEV, "vectors", "layouts.tsv"), encoding="utf-8") as file:
@@ -204,9 +196,7 @@ class Rows(Case):
         self.must("all rows", len(rows) == 161)
         return rows
 
-    def test_drawn_here(self) -> None:
-        """What these tools draw of each is what the program sends, or refuses; its letters are
-        those of the page, whatever the layout."""
+    def test_tools_draw_what_the_program_sends(self) -> None:
         for text, row, justify, words, want in self.rows():
             layout = layout_of(words) if words != "-" else PLAIN
             if layout is None:
@@ -222,7 +212,7 @@ class Rows(Case):
             if not isinstance(lines, Refused):
                 self.must(f"letters of {text}", letters == letters_on(page_rows(lines)), letters)
 
-    def test_schedule_sends_and_check_accepts(self) -> None:
+    def test_the_program_sends_and_accepts_each_row(self) -> None:
         for number, (text, row, justify, layout, want) in enumerate(self.rows()):
             stl = self.write("one.stl", gsi_block(b"One", 1, 1) + subtitle_blocks(
                 1, 0, 50, int(row), int(justify), bytes.fromhex(text)))
@@ -239,7 +229,7 @@ class Rows(Case):
 
 
 def sent_in(pes: bytes) -> str:
-    """The rows of the first page transmission, each with its number, its column and its cells."""
+    """Return the rows of the first page transmission with numbers, columns and cells."""
     page: Page = (0, 0x88)
     sending = read_packet(split_packets(pes)[0][0], 0, 0)
     assert not isinstance(sending, int)
@@ -248,6 +238,6 @@ def sent_in(pes: bytes) -> str:
 
 
 def rows_said(rows: Iterable[tuple[int, bytes]]) -> str:
-    """Rows that have cells, as the table says them."""
+    """Format rows as in the table."""
     return "; ".join(f"{number} {len(codes) - len(codes.lstrip(b' '))} {codes.strip(b' ').hex()}"
                      for number, codes in rows if codes.strip(b" ")) or "blank"
