@@ -16,7 +16,7 @@ from .transmissions import (
     EACH, LASTS, ORIGIN, apart, joined, one_late, packets, programme, sendings, times)
 from .test_clock_delays import EARLIER, FIRST_PTS, STARTED, STORY
 from .test_judging_paced import large, lost
-from .test_stream_pace import alone, filled
+from .test_stream_pace import without_pid, filled
 
 # Members of a result, and parts of its lines, that contain a PTS or depend on the file.
 OF_FILE = {"inputs", "files_at_start", "program", "date", "seconds", "request"}
@@ -87,7 +87,7 @@ class Wraps(Case):
                 ("whole", "accepted", made), ("by the counter", "refused", lost(
                     made, 5, frame=3 * EACH + 20)),
                 ("announced", "lost", lost(made, 3, True, 3 * EACH + 20)),
-                ("of the PID", "refused", alone(self.multiplex(1), place, 16))):
+                ("of the PID", "refused", without_pid(self.multiplex(1), place, 16))):
             self.check_same(name, word, b"".join(one.data for one in some))
 
     def test_reports_losses_by_the_pcr(self) -> None:

@@ -1,4 +1,4 @@
-"""Clones and what is built in them: the program, its proofs, what is released."""
+"""./subttx in fresh clones: which program it runs, tools/prove, and dev/release."""
 from __future__ import annotations
 
 import os
@@ -16,24 +16,23 @@ from ..trial import ANOTHER_USER, Trial
 from .bench import Case, Done, SECONDS
 
 
-# ./subttx in a clone in which nothing is built: which program it runs, and why not another; and
-# how dev/release brings a program there, with lines of the prover that a log tells.
+# ./subttx in a clone without a built program, and dev/release with a log of the prover.
 
 PACKET = ["packet", "00"]
 SOURCE = os.path.join("crates", "ttx_packet", "src", "parity.rt")
 VERSION = "a toolchain"
-# What stands in for the toolchain: it tells its version, and proves nothing.
+# A fake toolchain that prints its version and proves nothing.
 TOOLCHAIN = f'#!/bin/sh\n[ "$1" = version ] && echo {VERSION!r}\n'
 LINE = "logic=proved functions=7"
 NEITHER, PASSED, FAILED = (b"\n%d passed, %d failed\n" % it for it in ((0, 0), (1, 0), (0, 1)))
 NEEDED = ["subttx", "crates.txt", "HANDLES", "tools", "dev", "crates"]
 
 
-KEPT = {"lib.rt", "parity.rt", "Lib.antt"}  # of the files of a crate's parts
+KEPT = {"lib.rt", "parity.rt", "Lib.antt"}  # of the files in a crate's folders
 
 
 def left_out(folder: str, names: list[str]) -> set[str]:
-    """What a copy of the repository does without: of each crate it has two or three sources."""
+    """Return the files that a copy of the repository omits: most sources of each crate."""
     if os.path.basename(folder) in ("src", "specs", "proofs"):
         return set(names) - KEPT
     here = {"tests", "every_place"} if os.path.basename(folder) == "developing" else set()
@@ -42,7 +41,7 @@ def left_out(folder: str, names: list[str]) -> set[str]:
 
 
 class Clone:
-    """A copy of the repository in a case's folder, whose dist/ holds the program of its sources."""
+    """A copy of the repository in a test's folder, whose dist/ has the program of its sources."""
 
     def __init__(self, case: Case) -> None:
         self.case, self.top = case, case.path("clone")
@@ -61,11 +60,11 @@ class Clone:
         return os.path.join(self.top, *names)
 
     def tool(self, name: str, *words: str) -> list[str]:
-        """What a tool of the clone prints, as lines."""
+        """Run a tool of the clone; return its output lines."""
         return self.case.call([self.path("tools", name), *words]).out.decode().splitlines()
 
     def put(self, folder: str, program: str, line: str = LINE) -> None:
-        """Puts a program into a folder, with what PROVED has to say for the sources as they are."""
+        """Put a program into a folder, with PROVED for the current sources."""
         os.makedirs(self.path(folder), exist_ok=True)
         shutil.copy(program, self.path(folder, "subttx"))
         os.chmod(self.path(folder, "subttx"), 0o755)
@@ -83,42 +82,42 @@ class Clone:
             file.write(text)
 
     def build(self) -> None:
-        """Puts the program where the toolchain builds it."""
+        """Put the program where the toolchain builds it."""
         folder = self.path("crates", "subttx", "out")
         os.makedirs(folder)
         shutil.copy(self.case.bench.program, os.path.join(folder, "subttx"))
 
     def give(self, name: str, text: str) -> None:
-        """Puts a script beside rt."""
+        """Put a script next to rt."""
         os.makedirs(self.path("bin"), exist_ok=True)
         self.case.write_program(self.path("bin", name), text)
 
     def give_toolchain(self, text: str = TOOLCHAIN) -> str:
-        """Puts an rt into the clone; the PATH that finds it."""
+        """Put an rt into the clone; return a PATH with it."""
         self.give("rt", text)
         return os.pathsep.join([self.path("bin"), path_without_rt()])
 
     def call(self, command: list[str], path: str, user: int | None = None) -> Done:
-        """Runs a command with this PATH, as another user where one is given."""
+        """Run a command with this PATH, perhaps as another user."""
         done = subprocess.run(command, cwd=self.case.folder, env={**os.environ, "PATH": path},
                               user=user, stdin=subprocess.DEVNULL, stdout=subprocess.PIPE,
                               stderr=subprocess.PIPE, timeout=SECONDS, check=False)
         return Done(done.returncode, done.stdout, done.stderr.decode().splitlines())
 
     def run(self, *words: str, script: str | None = None, user: int | None = None) -> Done:
-        """What ./subttx does where no rt is on the PATH."""
+        """Run ./subttx without an rt on the PATH."""
         return self.call([script or self.path("subttx"), *words], path_without_rt(), user)
 
     def release(self, *words: str) -> Done:
         return self.call([self.path("dev", "release"), *words], self.give_toolchain())
 
-    def runs(self, name: str, done: Done | None = None) -> None:
-        """The program is run, and nothing else is told."""
+    def check_runs(self, name: str, done: Done | None = None) -> None:
+        """Check that the program runs, and nothing else is printed."""
         done = done or self.run(*PACKET)
         self.case.must(name, done == self.case.call([self.case.bench.program, *PACKET]), done)
 
-    def does_not_run(self, name: str, why: str) -> None:
-        """There is no program: that is told, and why, on two lines."""
+    def check_fails(self, name: str, why: str) -> None:
+        """Check that no program runs, with the reason on two lines."""
         done = self.run(*PACKET)
         self.case.must(name, done.status == 2 and not done.out and len(done.told) == 2
                        and why in done.told[0] and "rt is not on the PATH" in done.told[1], done)
@@ -130,7 +129,7 @@ def path_without_rt() -> str:
 
 
 def a_log(clone: Clone, kept: Iterable[str] = ()) -> str:
-    """What rt ci prints: a crate with its tests, one that fails, and those that are kept."""
+    """Return the output of rt ci: a crate with tests, one that fails, and stored ones."""
     lines = []
     for name in clone.crates:
         if name in kept:
@@ -143,10 +142,7 @@ def a_log(clone: Clone, kept: Iterable[str] = ()) -> str:
 
 
 class Clones(Case):
-    """Copies of the repository."""
-
-    def test_runs_what_stands_there(self) -> None:
-        """A clone as it comes, twice; from another folder; through a link."""
+    def test_runs_the_stored_program_in_any_folder(self) -> None:
         clone = Clone(self)
         clone.runs("at first")
         clone.runs("again, with the choice kept")
@@ -154,10 +150,7 @@ class Clones(Case):
         clone.runs("through a link", clone.run(*PACKET, script=self.path("link")))
         self.must("its path", clone.tool("program") == [clone.path("dist", "subttx")])
 
-    def test_helps_who_asks(self) -> None:
-        """Without words the script prints the help on standard error, and the program refuses them;
-        asked for help the program prints the same, and the script does where there is none, which
-        then proves nothing; of other words the program alone says what is wrong."""
+    def test_prints_help_without_arguments(self) -> None:
         clone = Clone(self)
         text = clone.run("--help").out
         none, lines = clone.run(), text.decode().splitlines()
@@ -181,7 +174,6 @@ class Clones(Case):
             self.must(f"{words} without a program", (done.status, done.out) == (0, text), done)
 
     def test_prints_the_version(self) -> None:
-        """`--version` and `-V` print what VERSION has, alone: with another word they are none."""
         clone = Clone(self)
         text = f"subttx {(read(os.path.join(TOP, 'VERSION')) or '').strip()}\n".encode()
         for word in ("--version", "-V"):
@@ -189,8 +181,7 @@ class Clones(Case):
             done = clone.run(word, "check")
             self.must(f"{word} check", (done.status, done.out) == (2, b"usage 0 Words\n"), done)
 
-    def test_finds_damage(self) -> None:
-        """One byte of the program is another; also after the choice was kept."""
+    def test_detects_a_damaged_program(self) -> None:
         clone = Clone(self)
         clone.runs("whole")
         with open(clone.path("dist", "subttx"), "r+b") as file:
@@ -202,9 +193,7 @@ class Clones(Case):
         os.remove(clone.path("dist", "subttx"))
         clone.does_not_run("no file", "dist/subttx is no program")
 
-    def test_finds_changes(self) -> None:
-        """A source is another one, of each kind, is new, or is gone; also after the choice was
-        kept."""
+    def test_detects_changed_sources(self) -> None:
         clone = Clone(self)
         for name in (SOURCE, *(os.path.join("crates", "sub_listing", part, "Lib.antt")
                                for part in ("specs", "proofs")), "crates.txt"):
@@ -220,8 +209,7 @@ class Clones(Case):
         os.rename(clone.path(SOURCE), clone.path(SOURCE + "2"))
         clone.does_not_run("another name", "dist/subttx was built from other sources")
 
-    def test_runs_where_nothing_may_be_written(self) -> None:
-        """The clone belongs to another user, or may only be read."""
+    def test_runs_in_a_read_only_clone(self) -> None:
         clone, user = Clone(self), None if os.geteuid() else ANOTHER_USER
         if user and not Trial.can_run(["test", "-x", clone.path("subttx")], user=user):
             self.skipTest("a read-only clone, since no other user can read it")
@@ -230,8 +218,7 @@ class Clones(Case):
         subprocess.run(["chmod", "-R", "u+w", clone.top], check=True)
         self.must("nothing was written", not os.path.exists(clone.path("out")))
 
-    def test_tells_of_another_machine(self) -> None:
-        """What lies there can't be run, or answers something else."""
+    def test_reports_a_program_for_another_machine(self) -> None:
         clone = Clone(self)
         for name, text in (("no program of this machine", "\x7fELF\x02 and no more"),
                            ("another answer", "#!/bin/sh\necho nothing\n"),
@@ -240,8 +227,7 @@ class Clones(Case):
             clone.put("dist", clone.path("other"))
             clone.does_not_run(name, "dist/subttx does not run here")
 
-    def test_program_that_is_given(self) -> None:
-        """The script of a repository stands for what it runs, any other file for itself."""
+    def test_follows_the_script_of_a_repository(self) -> None:
         clone = Clone(self)
         clone.write("other", "\x7fELF")
         for name, path, program in (
@@ -251,8 +237,7 @@ class Clones(Case):
             found = behind_script(path)
             self.must(name, os.path.realpath(found) == os.path.realpath(program), found)
 
-    def test_takes_first_what_was_built_here(self) -> None:
-        """out/ comes before dist/, as long as it is of the sources; what is left has no word."""
+    def test_prefers_a_program_that_was_built_here(self) -> None:
         clone = Clone(self)
         stored = clone.path("crates", "subttx", "stdout")
         clone.runs("there is none yet")
@@ -264,8 +249,7 @@ class Clones(Case):
         clone.put("dist", self.bench.program)
         clone.runs("dist/, where out/ is older")
 
-    def test_release_takes_what_was_proved(self) -> None:
-        """From a log of rt ci into dist/, also where a part is kept; and not without all lines."""
+    def test_release_takes_only_what_was_proved(self) -> None:
         clone = Clone(self)
         clone.build()
         os.remove(clone.path("dist", "PROVED"))
@@ -292,8 +276,6 @@ class Clones(Case):
         clone.runs("it runs")
 
     def test_release_keeps_lines_of_unchanged_sources(self) -> None:
-        """A line of dist/PROVED is kept for the crate whose sources are the same, and for no other.
-        """
         clone = Clone(self)
         clone.build()
         clone.add_to(SOURCE, "// changed\n")
@@ -305,8 +287,7 @@ class Clones(Case):
         done = clone.release("--compare")
         self.must("other sources are told", done.status == 0 and b"other sources" in done.out, done)
 
-    def test_compare_finds_other_bytes(self) -> None:
-        """Both are of the same sources, and the programs differ; or dist/ is damaged."""
+    def test_compare_reports_different_programs(self) -> None:
         clone = Clone(self)
         shutil.copy(clone.path("dist", "subttx"), self.path("other"))
         with open(self.path("other"), "ab") as file:
@@ -319,11 +300,9 @@ class Clones(Case):
         self.must("damage", done.status == 1 and b"is not the program" in done.out, done)
 
 
-# ./subttx in a clone in which no program fits the sources: tools/prove, with a stand-in for the
-# toolchain, which says of each crate what the prover would.
+# ./subttx in a clone without a matching program: tools/prove with a fake prover.
 
-# It notes the crate, does what is put into FIRST, and proves the crate where all is there that it
-# stands on, but the one of FAILS.
+# It logs the crate, runs FIRST, and proves the crate if its dependencies are there, except FAILS.
 PROVER = """#!/bin/sh
 [ "$1 $2" = 'build --crate-name' ] || exit 2
 crate=$3
@@ -360,11 +339,11 @@ class Bare(Clone):
         self.give("rattle", text.replace("CALLED", self.called))
 
     def start(self) -> Done:
-        """What ./subttx does."""
+        """Run ./subttx."""
         return self.call([self.path("subttx"), *PACKET], self.environment)
 
     def prove(self, *words: str) -> list[str]:
-        """The crates that tools/prove proves, in their order."""
+        """Run tools/prove; return the proved crates in order."""
         self.write(self.called, "")
         self.call([self.path("tools", "prove"), *words], self.environment)
         return (read(self.called) or "").split()
@@ -373,11 +352,8 @@ class Bare(Clone):
         return not os.path.exists(self.path("out", "proving"))
 
 
-class Proving(Case):
-    """Copies of the repository without a program."""
-
+class ProvingClones(Case):
     def test_proves_and_runs_the_program(self) -> None:
-        """Each crate is told, the program is kept with the prover's lines, and run from then on."""
         clone = Bare(self)
         done = clone.start()
         told = [TOLD.fullmatch(line) for line in done.told[1:]]
@@ -393,8 +369,7 @@ class Proving(Case):
         self.must("nothing else is left", clone.has_cleared())
         clone.runs("again, without the toolchain")
 
-    def test_tells_of_a_crate_that_is_not_proved(self) -> None:
-        """The prover's messages of that crate are shown, and no program is left."""
+    def test_reports_a_crate_that_is_not_proved(self) -> None:
         clone = Bare(self, fails="ttx_page")
         done = clone.start()
         self.must("status 2", done.status == 2 and not done.out, done)
@@ -403,9 +378,7 @@ class Proving(Case):
         self.must("nothing is left", clone.has_cleared()
                   and not os.path.exists(clone.path("out", "subttx")))
 
-    def test_refuses_a_line_that_weakens(self) -> None:
-        """The prover tells of something that is not proved, or warns, and ends well all the same.
-        """
+    def test_refuses_a_line_with_unproved_functions(self) -> None:
         clone = Bare(self)
         for name, line in (("a word", f"{LINE} foreign=low::adds"), ("no line", "only=1 proved=1"),
                            ("a warning", f"warning: no call of `low::adds` can meet it\n{LINE}")):
@@ -413,9 +386,7 @@ class Proving(Case):
             done = clone.start()
             self.must(name, done.status == 2 and "was not proved" in done.told[-1], done)
 
-    def test_proves_what_changed(self) -> None:
-        """A crate is proved again where it, or one below it, was changed; or if all is asked for.
-        """
+    def test_proves_only_changed_crates(self) -> None:
         clone = Bare(self)
         self.must("all at first", sorted(clone.prove()) == sorted(clone.crates))
         self.must("then none", not clone.prove())
@@ -425,16 +396,14 @@ class Proving(Case):
             "sub_check", "sub_answer", "sub_headline", "subttx"], proved)
         self.must("all", sorted(clone.prove("--anew")) == sorted(clone.crates))
 
-    def test_finds_a_source_that_changes_meanwhile(self) -> None:
-        """What was proved is then not what stands there."""
+    def test_reports_a_source_that_changes_meanwhile(self) -> None:
         clone = Bare(self, first=f"echo '// changed' >>'{self.path('clone')}/{SOURCE}'")
         done = clone.start()
         self.must("it is told", done.status == 2 and any("were changed" in it for it in done.told),
                   done)
         self.must("nothing is left", not os.path.exists(clone.path("out", "subttx")))
 
-    def test_ends_all_after_an_interrupt(self) -> None:
-        """The toolchain ends too, and its folder is gone."""
+    def test_stops_the_toolchain_after_an_interrupt(self) -> None:
         pids = self.path("pids")
         clone = Bare(self, first=SLEEPS.replace("PIDS", pids))
         running = subprocess.Popen([clone.path("tools", "prove")], stdin=subprocess.DEVNULL,

@@ -1,4 +1,7 @@
-"""What stands in documents: links, quoted sources, lists of tools, man pages, bodies."""
+"""The documents:
+
+links, quoted sources, lists of tools, man pages, and bodies without a contract.
+"""
 from __future__ import annotations
 
 import collections
@@ -20,8 +23,6 @@ from ..sizes import KINDS, count_lines, total
 from .bench import Case, script
 
 
-# The documents: links lead to files and headings that are there, and quoted sources are sources.
-
 NAMES = ["*.md", "docs/*.md", "docs/manual/*.md", "examples/*.md"]
 LINK = re.compile(r"\]\(([^)\s]*)\)")
 HEADING = re.compile(r"^#+ (.*)$", re.M)
@@ -31,31 +32,28 @@ CODE = re.compile(r"`[^`\n]*`")
 
 
 def documents() -> Iterator[tuple[str, str]]:
-    """Each document: its path, and its text."""
+    """Yield the path and text of each document."""
     for form in NAMES:
         for path in sorted(glob.glob(os.path.join(TOP, form))):
             yield path, read(path) or ""
 
 
 def anchors(text: str) -> set[str]:
-    """The headings and anchors of a document, as links name them."""
+    """Return the anchors and headings of a document, as links name them."""
     text = BLOCK.sub("", text)
     return {*ANCHOR.findall(text), *(re.sub(r"[^\w\- ]", "", found.lower()).replace(" ", "-")
                                      for found in HEADING.findall(text))}
 
 
 def sources() -> str:
-    """All definitions and all code."""
+    """Return all specifications and code."""
     paths = [*glob.glob(os.path.join(TOP, "crates", "*", "specs", "**", "*.antt"), recursive=True),
              *glob.glob(os.path.join(TOP, "crates", "*", "src", "**", "*.rt"), recursive=True)]
     return "\n".join(read(path) or "" for path in sorted(paths))
 
 
-class Documents(Case):
-    """README, docs/ and the READMEs of folders."""
-
-    def test_have_links_that_lead_somewhere(self) -> None:
-        """Each link leads to a file, and to a heading of it where it names one."""
+class AllDocuments(Case):
+    def test_links_have_existing_targets(self) -> None:
         count = 0
         for path, text in documents():
             for target in LINK.findall(CODE.sub("", BLOCK.sub("", text))):
@@ -68,8 +66,7 @@ class Documents(Case):
                     not heading or heading in anchors(read(there) or "")))
         self.must("links", count > 100, count)
 
-    def test_quote_sources(self) -> None:
-        """A block of definitions stands in the sources; so does what a change takes away."""
+    def test_quoted_blocks_are_in_the_sources(self) -> None:
         code, count = sources(), 0
         for path, text in documents():
             for kind, block in BLOCK.findall(text):
@@ -86,9 +83,7 @@ class Documents(Case):
                         old.count(line + "\n") == 1 for line in gone), gone)
         self.must("blocks", count > 2, count)
 
-    def test_have_a_picture(self) -> None:
-        """dev/make-picture makes README's picture of a report, PNG, and says whether one is of the
-        report that is made today."""
+    def test_make_picture_detects_an_old_picture(self) -> None:
         tool = [os.path.join(TOP, "dev", "make-picture"), "-p", self.bench.program]
         made = self.write("old.png", b"\x89PNG\r\n\x1a\n")
         done = self.call([*tool, "--compare", made])
@@ -104,7 +99,7 @@ class Documents(Case):
         self.must("a new one", self.call([*tool, "--compare", made]).status == 0)
 
 
-# Man pages and completion: what dev/make-pages makes of the help texts and of the table.
+# Man pages and completion by dev/make-pages.
 
 USAGE = """usage: subttx COMMAND FILES [options]
 
@@ -141,23 +136,17 @@ options:
 """
 
 
-class Made(Case):
-    """What stands in the repository."""
-
-    def test_is_as_it_is_made(self) -> None:
-        """dev/make-pages writes these files."""
+class GeneratedFiles(Case):
+    def test_generated_files_are_up_to_date(self) -> None:
         for name, text in pages.make_pages().items():
             self.must(f"dev/make-pages: {name}", read(os.path.join(TOP, name)) == text)
 
-    def test_has_each_option_of_the_program(self) -> None:
-        """Each option that the manual's chapters name of a command is in the table."""
+    def test_the_table_has_each_option_of_the_program(self) -> None:
         known = {one.name for one in pages.options(read(os.path.join(TOP, pages.TABLE)) or "")}
         self.must("options", {"--page", "--within", "--pes", "--receiver"} < known, known)
 
 
-class Parts(unittest.TestCase):
-    """What is read, and what is made of it."""
-
+class GeneratedParts(unittest.TestCase):
     def test_reads_the_usage(self) -> None:
         found = pages.commands(USAGE)
         self.assertEqual([(one.name, one.files, one.needed) for one in found],
@@ -191,7 +180,6 @@ class Parts(unittest.TestCase):
         self.assertIn("[\\-\\-from TIME] [\\-o OUT]", made["synopsis"])
 
     def test_makes_the_table_of_a_chapter(self) -> None:
-        """Of what `check` has not; without what takes an option back."""
         made = pages.chapter_parts("| `--page P` | `check` | the page | 888 |\n")["options"]
         for name, is_there in (("--page P", False), ("--every N", True), ("--strict", True),
                                ("--no-keeping", False)):
@@ -212,33 +200,31 @@ class Parts(unittest.TestCase):
             pages.replace_parts(text, {"two": ""})
 
 
-# The lists of tools and modules: each has its row, and each row is of one that is there.
+# The lists of tools and modules are complete, and have no other rows.
 
-# The folders whose scripts a section of CONTRIBUTING lists, the folder of packages that it lists
-# too, and the section's heading.
+# The folders whose scripts and packages CONTRIBUTING lists, and the section's heading.
 FOLDERS = [("tools", "subtitles", "Tools"),
            ("dev", None, "For developers of this repository")]
 PACKAGES = [*(os.path.join("tools", "subtitles", name)
               for name in ("common", "formats", "request", "stream", "clock", "recording",
                            "judging", "results", "report", "cli", "air")),
             os.path.join("dev", "developing"), os.path.join("dev", "developing", "every_place")]
-# A row of a README, or an item of its lists: the names in its first cell, or before its words.
+# A row of a table, or an item of a list: the names in its first cell, or before its text.
 ROW = re.compile(r"^[|-] (`.*?`)(?: \||:? )", re.M)
-LINE = re.compile(r"^([a-z_]+) +\S", re.M)  # a line of the list of a package, in its __init__.py
+LINE = re.compile(r"^([a-z_]+) +\S", re.M)  # a line of the module list in __init__.py
 
 
 def entries(folder: str) -> list[str]:
-    """What stands in a folder, as the lists name it: a module without its ending, a folder with a
-    slash."""
+    """Return the names in a folder as lists write them:
+
+    modules without ending, folders with a slash.
+    """
     return sorted(name.removesuffix(".py") + "/" * os.path.isdir(os.path.join(folder, name))
                   for name in os.listdir(folder) if not name.startswith("__"))
 
 
-class Lists(Case):
-    """The lists of CONTRIBUTING and of the packages."""
-
-    def test_are_whole(self) -> None:
-        """CONTRIBUTING lists the scripts of tools/ and dev/, and the packages of tools/."""
+class ModuleLists(Case):
+    def test_contributing_lists_all_scripts_and_packages(self) -> None:
         contributing = read(os.path.join(TOP, "CONTRIBUTING.md")) or ""
         for name, package, heading in FOLDERS:
             folder = os.path.join(TOP, name)
@@ -249,8 +235,7 @@ class Lists(Case):
                       if entry not in ("subtitles/", "developing/")]
             self.must(name, sorted(rows) == sorted(wanted), set(rows) ^ set(wanted))
 
-    def test_are_whole_of_packages(self) -> None:
-        """The head of a package lists its modules."""
+    def test_each_package_lists_its_modules(self) -> None:
         for name in PACKAGES:
             folder = os.path.join(TOP, name)
             rows = LINE.findall((read(os.path.join(folder, "__init__.py")) or "").split('"""')[1])
@@ -258,8 +243,7 @@ class Lists(Case):
                       if "." not in one and "-" not in one]
             self.must(name, sorted(rows) == wanted, set(rows) ^ set(wanted))
 
-    def test_have_one_meaning(self) -> None:
-        """Each class of the tools has a name of its own."""
+    def test_class_names_are_unique(self) -> None:
         places = collections.defaultdict[str, list[str]](list)
         for folder, _, names in os.walk(os.path.join(TOP, "tools", "subtitles")):
             for name in names if not folder.endswith("__pycache__") else ():
@@ -269,24 +253,20 @@ class Lists(Case):
         several = {name: files for name, files in places.items() if len(files) > 1}
         self.must("names of classes", len(places) > 100 and not several, several)
 
-    def test_are_those_of_the_clauses(self) -> None:
-        """Each clause that the index names is one of the sources. A row names where to begin: all
-        that a crate promises is listed by dev/graph --clauses."""
+    def test_the_index_names_existing_clauses(self) -> None:
         text = read(os.path.join(TOP, "docs", "CLAUSES.md")) or ""
         unknown = unknown_clauses(text, Library(TOP))
         self.must("docs/CLAUSES.md", not unknown, unknown)
         self.must("rows", "sub_check/check_files.accepted" in clauses_in(text)
                   and len(clauses_in(text)) > 80, len(clauses_in(text)))
 
-    def test_say_what_a_crate_is(self) -> None:
-        """A reading list has a sentence of each crate: of its library, else of its program."""
+    def test_a_reading_list_describes_each_crate(self) -> None:
         about = script("reading-list").first_paragraph
         for crate in Library(TOP).crates:
             self.must(crate, about(crate).endswith("."), about(crate))
         self.must("none", about("nowhere") == "")
 
-    def test_are_those_of_the_sizes(self) -> None:
-        """The sizes that ASSURANCE tells are right to a tenth: dev/sizes counts them."""
+    def test_stated_sizes_are_right_to_a_tenth(self) -> None:
         text = read(os.path.join(TOP, "docs", "ASSURANCE.md")) or ""
         _, _, told = text.partition("(`dev/sizes`): ")
         numbers = [int(one.replace(",", "")) for one in re.findall(r"\d+,\d+", told)[:len(KINDS)]]
@@ -296,10 +276,10 @@ class Lists(Case):
             for number, kind in zip(numbers, KINDS)), (numbers, counts))
 
 
-# Bodies that no contract holds stand as they were read.
+# Bodies without a contract are unchanged since they were read.
 
 STORED = "dev/bodies-to-read.txt"
-# What asks the system, and what hands it on, by the first words of each body.
+# What calls the system, by the first words of each body.
 HELD = [
     "fn main(rt: HostRuntime)",
     "impl<'a, R: Files + Eprint> FileSystem for SystemFiles<'a, R>",
@@ -325,20 +305,18 @@ HELD = [
     "impl<T: Drop> Release for T",
     "impl Taken",
 ]
-# An impl of Drop, at any indent and over several lines, or another name for it. Comments are none.
+# An impl of Drop, at any indentation and over several lines, or under another name; comments don't
+# count.
 DROP = re.compile(r"\bimpl\b[^{};]*\bDrop\s+for\b|\bDrop\s+as\b")
 COMMENT = re.compile(r"//[^\n]*|/\*.*?\*/", re.DOTALL)
 
 
 class Examples(Case):
-    """Files that the manual shows to be copied."""
-
     def test_jobs_take_the_language_of_each_file(self) -> None:
         self.must("judge.sh", "--option auto" in (
             read(os.path.join(TOP, "docs", "manual", "judge.sh")) or ""))
 
-    def test_severity_file(self) -> None:
-        """Each line of the manual's is a rule, and what it does not name is an error."""
+    def test_the_severity_file_of_the_manual_is_valid(self) -> None:
         manual = read(os.path.join(TOP, "docs", "manual", "qc.md")) or ""
         text = next(text for _, text in BLOCK.findall(manual.partition("**A severity file**")[2]))
         found = Severity(self.write("severity", text.encode()))
@@ -352,13 +330,13 @@ class Examples(Case):
 
 
 def text_of(name: str) -> str:
-    """The text of a file of the repository."""
+    """Return the text of a file of the repository."""
     with open(os.path.join(TOP, name), encoding="utf-8") as file:
         return file.read()
 
 
 def text_of_sources() -> list[str]:
-    """The sources of all crates."""
+    """Return the sources of all crates."""
     crates = os.path.join(TOP, "crates")
     return [os.path.relpath(os.path.join(place, name), TOP)
             for crate in sorted(os.listdir(crates))
@@ -367,15 +345,12 @@ def text_of_sources() -> list[str]:
 
 
 def implements_drop(text: str) -> bool:
-    """Whether a source says what happens where a value ends."""
+    """Return whether a source implements Drop."""
     return DROP.search(COMMENT.sub(" ", text)) is not None
 
 
-class Bodies(unittest.TestCase):
-    """Bodies that were read, since no contract covers them."""
-
-    def test_bodies_are_as_they_were_read(self) -> None:
-        """`main`, the calls that open files, and the devices over those; comments aside."""
+class ReadBodies(unittest.TestCase):
+    def test_bodies_are_unchanged_since_they_were_read(self) -> None:
         parts = text_of(STORED).split("\n== ")[1:]
         bodies = [part.partition("\n")[2] for part in parts]
         self.assertEqual([next((head for head in HELD if body.startswith(f"{head} ")), body)
@@ -388,14 +363,12 @@ class Bodies(unittest.TestCase):
                 self.assertIn(f"\n{body.strip()}\n", code,
                               f"read the change of {name}, and store it in {STORED}")
 
-    def test_no_value_does_anything_when_it_ends(self) -> None:
-        """No crate says itself what happens where a value ends: no clause would speak of it."""
+    def test_no_crate_implements_drop(self) -> None:
         for name in text_of_sources():
             with self.subTest(name):
                 self.assertFalse(implements_drop(text_of(name)))
 
-    def test_what_a_value_does_when_it_ends_is_found(self) -> None:
-        """At any indent and over lines; not in a comment, a bound or a derive."""
+    def test_finds_an_implementation_of_drop(self) -> None:
         rows = [
             ("impl Drop for Line {}", True),
             ("    impl<K: Sink> Drop for Line<K> {}", True),

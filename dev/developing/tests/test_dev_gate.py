@@ -1,4 +1,4 @@
-"""What the gate believes of scripts, the second implementation, and which tests are of a module."""
+"""The gate: shell scripts, the manual's job scripts, last lines, and the selection of tests."""
 from __future__ import annotations
 
 import glob
@@ -20,14 +20,10 @@ from . import runner, table
 from .bench import Case, example_bytes, tool_path
 
 
-# No script of this repository evaluates what it was given; and the engines of the manual.
-
 EVALUATES = re.compile(r"^\s*(?:[^#]*[;&|(]\s*)?(?:eval|exec\s+sh\s+-c)\b")
 
 
 class Scripts(Case):
-    """Shell scripts, and command lines of the documents."""
-
     def test_no_script_evaluates_what_it_was_given(self) -> None:
         names = subprocess.run(["git", "-C", TOP, "ls-files"], stdout=subprocess.PIPE, check=False)
         for name in names.stdout.decode().split("\n"):
@@ -39,10 +35,7 @@ class Scripts(Case):
                 self.must(name, not found, found)
 
 
-class Engines(Case):
-    """The engines of the manual, each on a list with what a shell would obey, lines that are wrong,
-    and a name that stands there twice."""
-
+class JobScripts(Case):
     LINES = ["in/one.stl in/one.pes", "'in/a b; touch hit.stl' in/one.pes --page 888",
              "in/$(touch${IFS}hit).stl in/one.pes", "in/one.stl in/bad.pes",
              "in/one.stl in/one.pes -p /bin/true", "-one.stl in/one.pes"]
@@ -62,8 +55,8 @@ class Engines(Case):
                                             f"'{self.bench.program}'\n")
         self.env = {**os.environ, "PATH": f"{self.path('bin')}:{os.environ['PATH']}"}
 
-    def is_judged(self, name: str) -> None:
-        """Tests that each line has its result, and nothing was run."""
+    def check_results(self, name: str) -> None:
+        """Check that each line has its result, and nothing was executed."""
         os.makedirs(self.path("out"), exist_ok=True)
         found = {path.removesuffix(".json"): (object_at(self.path(f"out/{path}")) or {})["verdict"]
                  for path in os.listdir(self.path("out")) if path.endswith(".json")}
@@ -71,12 +64,11 @@ class Engines(Case):
                   "index.html" not in os.listdir(self.path("out")), found)
 
     def test_runs_each_line_as_a_job_of_slurm(self) -> None:
-        """The script as Slurm calls it; a job that did not judge failed."""
         script = os.path.join(TOP, "docs", "manual", "judge.sh")
         ended = [self.call(["bash", script], env={**self.env, "SLURM_ARRAY_TASK_ID": f"{number}"})
                  for number in range(1, 8)]
         self.must("statuses", [done.status for done in ended] == [0, 0, 0, 0, 1, 1, 1], ended)
-        self.is_judged("results")
+        self.check_results("results")
         shutil.rmtree(self.path("out"))
         for number in ("", "1 2", "1 --line 2"):
             done = self.call(["bash", script], env={**self.env, "SLURM_ARRAY_TASK_ID": number})
@@ -88,10 +80,9 @@ class Engines(Case):
         shutil.rmtree(self.path("out"))
         os.mkdir(self.path("log"))
         self.call(["sbatch", "--wait", "--array=1-6", script], env=self.env)
-        self.is_judged("an array")
+        self.check_results("an array")
 
     def test_runs_each_line_by_gnu_parallel_again_if_not_judged(self) -> None:
-        """The manual's command: what was not judged is tried again, and nothing else."""
         if not shutil.which("parallel"):
             self.skipTest("GNU parallel, which is not here")
         manual = read(os.path.join(TOP, "docs", "manual", "many-pairs.md")) or ""
@@ -100,7 +91,7 @@ class Engines(Case):
         command = command.replace("parallel", "parallel --sshloginfile hosts --workdir .")
         env = {**self.env, "PARALLEL_HOME": self.path("home")}
         done = self.call(["bash", "-c", command], env=env)
-        self.is_judged(f"results: {done}")
+        self.check_results(f"results: {done}")
         times = {name: os.stat(self.path(f"out/{name}.json")).st_mtime_ns for name in self.WANTED}
         self.write("list", "".join(f"{line}\n" for line in [
             *self.LINES[:4], self.LINES[0], self.LINES[5]]).encode())
@@ -111,8 +102,6 @@ class Engines(Case):
 
 
 class Counts(unittest.TestCase):
-    """What check-program counts of a script."""
-
     def test_believes_the_last_line_if_the_status_agrees(self) -> None:
         for said, status, wanted in (
                 ("7 passed, 0 failed\n", 0, (7, 0)), ("a\n7 passed, 2 failed\n", 1, (7, 2)),
@@ -125,14 +114,12 @@ class Counts(unittest.TestCase):
                 self.assertEqual(counts_in(said, status), wanted)
 
 
-# The second implementation: the status of a last line, and what is promised of a recording.
+# The second implementation: the status of a last line, and properties of recordings.
 
 SEEDS = 150
 
 
-class Statuses(unittest.TestCase):
-    """The status that goes with a last line."""
-
+class LastLines(unittest.TestCase):
     def test_gives_each_last_line_its_status(self) -> None:
         for line, status in (
                 ("accepted 51 frames 2 transmissions", 0), ("written 2 transmissions", 0),
@@ -144,18 +131,14 @@ class Statuses(unittest.TestCase):
                 self.assertEqual(status_of(line), status)
 
 
-class Promised(unittest.TestCase):
-    """What is promised of a recording."""
-
-    def test_holds_the_laws_of_carried_packets(self) -> None:
+class RecordingProperties(unittest.TestCase):
+    def test_checks_the_properties_of_extracted_packets(self) -> None:
         for name, law in LAWS.items():
             for seed in range(SEEDS):
                 with self.subTest(name, seed=seed):
                     self.assertIsNone(law(seed))
 
-    def test_losses_are_few_enough(self) -> None:
-        """Fewer than 15 packets with a payload in a row are gone with their repeats; 14 at times.
-        """
+    def test_losses_are_shorter_than_a_counter_cycle(self) -> None:
         most = 0
         for seed in range(SEEDS):
             chance = Random(seed)
@@ -168,11 +151,9 @@ class Promised(unittest.TestCase):
         self.assertEqual(most, UNSEEN - 1)
 
 
-# Which tests run: those of a name, and those of a module of the tools, or of a script.
+# The selection of tests by name, or by module or script of the tools.
 
-class Found(Case):
-    """Which tests are of a word."""
-
+class SelectedTests(Case):
     def test_finds_a_module_by_any_of_its_names(self) -> None:
         for name, wanted in (
                 ("stream/layout.py", "stream/layout.py"), ("stream.layout", "stream/layout.py"),
@@ -182,8 +163,6 @@ class Found(Case):
             self.must(name, table.module_of(name) == wanted, table.module_of(name))
 
     def test_has_tests_for_each_module_and_script(self) -> None:
-        """Each module of the tools has tests, and each class of tests is one; each script that
-        tests name has its row."""
         known, top = table.rows(), os.path.join(TOP, "tools", "subtitles")
         modules = {os.path.relpath(path, top) for path in glob.glob(
             os.path.join(top, "**", "*.py"), recursive=True)}

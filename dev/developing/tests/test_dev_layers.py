@@ -1,4 +1,4 @@
-"""What the tools and scripts are made of: layers, type hints, the graph of clauses."""
+"""Imports, type hints and style of the tools and scripts."""
 from __future__ import annotations
 
 import ast
@@ -14,14 +14,14 @@ from subtitles.common.times import CLOCK, ticks_between, wrapped
 from .bench import Case, SECONDS
 
 
-# What imports what: a package imports of those below it alone. And what has one home has it.
+# Packages import only those below them, and some tasks belong to one module.
 
 ORDER = ["common", "formats", "request", "stream", "clock", "recording", "judging", "results",
          "report", "cli", "air"]  # the packages of users, lowest first
 LONGEST_LINE = 100
-MAIN = "subtitles.cli.main"  # imports what a call needs when it needs it
-IN_ROWS = os.path.join("developing", "signs.py")  # a table: each of its rows is a line
-# The second implementation shares with the tools codes, times, layouts and the blocks of files.
+MAIN = "subtitles.cli.main"  # imports modules on demand
+IN_ROWS = os.path.join("developing", "signs.py")  # a table with one row a line
+# The second implementation shares codes, times, layouts and file blocks with the tools.
 SHARED = {"subtitles." + name for name in (
     "common.command_line", "common.program.TOP", "common.program.built_program", "common.times",
     "formats.layout", *("formats.stl." + name for name in (
@@ -30,15 +30,14 @@ SHARED = {"subtitles." + name for name in (
 
 
 def name_of(path: str) -> str:
-    """The name of a module by its file; a package has that of its folder."""
+    """Return the name of a module by its file; a package has the name of its folder."""
     home = TOOLS if path.startswith(TOOLS + os.sep) else DEV
     words = os.path.relpath(path, home).removesuffix(".py").split(os.sep)
     return ".".join(words[:-1] if words[-1] == "__init__" else words)
 
 
 def imported(text: str, name: str, is_package: bool) -> Iterator[str]:
-    """The names that a module imports, also within functions and for type hints alone; of
-    `from package import module` that of the module too."""
+    """Return the names that a module imports, also in functions and for type hints."""
     here = name.split(".") if is_package else name.split(".")[:-1]
     for node in ast.walk(ast.parse(text)):
         if isinstance(node, ast.Import):
@@ -51,7 +50,7 @@ def imported(text: str, name: str, is_package: bool) -> Iterator[str]:
 
 
 def wrong_imports(name: str, names: Iterator[str]) -> list[str]:
-    """Those that a module must not import."""
+    """Return the imports that a module must not have."""
     here = name.split(".")
     if here[0] == "developing":
         if here[1:2] != ["every_place"]:
@@ -70,20 +69,19 @@ def wrong_imports(name: str, names: Iterator[str]) -> list[str]:
 
 
 def wraps(text: str) -> list[int]:
-    """The lines of a module that wrap something at the clock of PTS themselves."""
+    """Return the lines that wrap PTS by themselves."""
     return [node.lineno for node in ast.walk(ast.parse(text))
             if isinstance(node, ast.BinOp) and isinstance(node.op, (ast.Mod, ast.FloorDiv))
             and isinstance(node.right, ast.Name) and node.right.id == "CLOCK"]
 
 
-# Arguments that functions have since a later Python than 3.9.
+# Arguments of functions that are newer than Python 3.9.
 NEWER_ARGUMENTS = {*((name, "key") for name in ("bisect", "bisect_left", "bisect_right", "insort")),
                    ("dataclass", "slots"), ("dataclass", "kw_only"), ("zip", "strict")}
 
 
 def newer_lines(text: str) -> list[int]:
-    """Return the lines of a module that Python 3.9 refuses to run. A type with `|` is one of them
-    where it is no annotation."""
+    """Return the lines that Python 3.9 rejects, such as `|` in a type outside an annotation."""
     found = []
     for node in ast.walk(ast.parse(text, feature_version=(3, 9))):
         if isinstance(node, ast.Call):
@@ -98,13 +96,12 @@ def newer_lines(text: str) -> list[int]:
 
 
 def long_lines(text: str) -> list[int]:
-    """The numbers of the lines that are too long."""
+    """Return the numbers of lines that are too long."""
     return [number for number, line in enumerate(text.split("\n"), 1) if len(line) > LONGEST_LINE]
 
 
 def cycle_in(imports: dict[str, set[str]]) -> list[str]:
-    """Modules of which each imports the next one, and the last one the first; none where there are
-    no such."""
+    """Return a cycle of imports, or nothing."""
     clear: set[str] = set()
 
     def walk(name: str, way: list[str]) -> list[str]:
@@ -120,11 +117,8 @@ def cycle_in(imports: dict[str, set[str]]) -> list[str]:
     return next(filter(None, (walk(name, []) for name in sorted(imports))), [])
 
 
-class Layers(Case):
-    """What modules import, and what has one home."""
-
-    def test_go_downwards(self) -> None:
-        """Each module of both packages."""
+class Imports(Case):
+    def test_packages_import_only_lower_packages(self) -> None:
         paths = [path for folder in PACKAGES for path in modules(folder)]
         self.must("modules", len(paths) > 50, len(paths))
         for path in paths:
@@ -134,8 +128,7 @@ class Layers(Case):
             wrong = wrong_imports(name, names)
             self.must(name, not wrong, wrong)
 
-    def test_runs_on_python_3_9(self) -> None:
-        """Each module of the tools; a line that does not is found."""
+    def test_modules_run_on_python_3_9(self) -> None:
         for path in modules(os.path.join(TOOLS, "subtitles")):
             with open(path, encoding="utf-8") as file:
                 self.check(name_of(path), newer_lines(file.read()), [])
@@ -144,8 +137,7 @@ class Layers(Case):
             self.check(line, newer_lines(line), [1])
         self.check("annotations", newer_lines("a: int | None = 3\ndef b() -> int | None: pass"), [])
 
-    def test_tells_wrong_ones(self) -> None:
-        """What has to be found, by the module that imports it."""
+    def test_finds_wrong_imports(self) -> None:
         for name, text, is_right in [
                 ("subtitles.judging.pair", "from ..report.page import document", False),
                 ("subtitles.judging.pair", "from .. import report", False),
@@ -165,8 +157,7 @@ class Layers(Case):
             wrong = wrong_imports(name, imported(text, name, False))
             self.must(f"{name}: {text}", (not wrong) == is_right, wrong)
 
-    def test_go_in_no_circle(self) -> None:
-        """No module imports one that imports it, over others or for type hints alone."""
+    def test_modules_have_no_import_cycle(self) -> None:
         for imports, wanted in (({"a": set[str]()}, []), ({"a": {"b"}, "b": set[str]()}, []),
                                 ({"a": {"a"}}, ["a"]), ({"a": {"b"}, "b": {"a"}}, ["a", "b"]),
                                 ({"a": {"b", "c"}, "b": set[str](), "c": {"d"}, "d": {"c"}},
@@ -182,8 +173,7 @@ class Layers(Case):
             for name, text in texts.items()})
         self.must("tools", not found, found)
 
-    def test_end_in_time(self) -> None:
-        """Lines of Python end at column 100."""
+    def test_lines_have_at_most_100_columns(self) -> None:
         self.must("what is found", long_lines("a" * 100 + "\n" + "ä" * 101 + "\n") == [2])
         for path in [*(path for folder in PACKAGES for path in modules(folder)), *scripts()]:
             if not path.endswith(IN_ROWS):
@@ -191,8 +181,7 @@ class Layers(Case):
                     found = long_lines(file.read())
                 self.must(path, not found, found)
 
-    def test_wrap_in_one_place(self) -> None:
-        """PTS are wrapped at 2^33 by `common.times` alone, in what users call."""
+    def test_only_one_module_wraps_pts(self) -> None:
         self.must("what is found", wraps("a = 1\nb = (a - 2) % CLOCK") == [2])
         for path in modules(PACKAGES[0]):
             with open(path, encoding="utf-8") as file:
@@ -200,9 +189,7 @@ class Layers(Case):
             is_home = name_of(path) == "subtitles.common.times"
             self.must(name_of(path), bool(found) == is_home, found)
 
-    def test_are_wrapped(self) -> None:
-        """Ticks as a PTS has them, and how far apart two PTS are, where these begin again between.
-        """
+    def test_wraps_pts_and_differences(self) -> None:
         for ticks, wanted in ((0, 0), (CLOCK - 1, CLOCK - 1), (CLOCK, 0), (-1, CLOCK - 1),
                               (2 * CLOCK + 5, 5)):
             self.must(f"wrapped {ticks}", wrapped(ticks) == wanted, wrapped(ticks))
@@ -215,14 +202,14 @@ class Layers(Case):
             self.must(f"from {first} to {second}", found == wanted, found)
 
 
-# The type hints of tools/, dev/ and bench/, by mypy --strict.
+# Type hints of tools/, dev/ and bench/, by mypy --strict.
 
 TOOLS, DEV, BENCH = (os.path.join(TOP, name) for name in ("tools", "dev", "bench"))
 PACKAGES = [os.path.join(TOOLS, "subtitles"), os.path.join(DEV, "developing")]
 
 
 def is_python(path: str) -> bool:
-    """Whether a file is a script in Python."""
+    """Return whether a file is a Python script."""
     if not os.path.isfile(path):
         return False
     with open(path, "rb") as file:
@@ -230,7 +217,7 @@ def is_python(path: str) -> bool:
 
 
 def modules(folder: str) -> list[str]:
-    """The modules of a folder and of those in it."""
+    """Yield the modules of a folder, recursively."""
     found: list[str] = []
     for name in sorted(os.listdir(folder)):
         path = os.path.join(folder, name)
@@ -242,7 +229,7 @@ def modules(folder: str) -> list[str]:
 
 
 def scripts() -> list[str]:
-    """The scripts in Python."""
+    """Return the Python scripts."""
     paths = (os.path.join(folder, name) for folder in (TOOLS, DEV, BENCH)
              for name in sorted(os.listdir(folder)))
     return list(filter(is_python, paths))
@@ -250,8 +237,10 @@ def scripts() -> list[str]:
 
 @contextlib.contextmanager
 def cache_of(case: Case) -> Iterator[str]:
-    """A folder for what mypy knows of modules as they are: one of the user, which stays, where no
-    other call has it now; in the gate an empty one."""
+    """Return a folder for mypy's cache:
+
+    one of the user that no other call uses, or an empty one in the gate.
+    """
     home = os.environ.get("XDG_CACHE_HOME") or os.path.expanduser("~/.cache")
     kept = os.path.join(home, "subttx-mypy")
     with contextlib.ExitStack() as stack:
@@ -266,10 +255,7 @@ def cache_of(case: Case) -> Iterator[str]:
 
 
 class Hints(Case):
-    """Type hints."""
-
-    def test_are_right(self) -> None:
-        """Each module and each script is taken by mypy."""
+    def test_mypy_accepts_all_modules(self) -> None:
         mypy = shutil.which("mypy")
         if mypy is None and "CI" not in os.environ:
             self.skipTest("type hints, since there is no mypy")

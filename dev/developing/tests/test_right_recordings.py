@@ -279,7 +279,7 @@ def breaks() -> Iterator[Recording]:
 
 
 def with_tail(count: int) -> Callable[[Case], tuple[str, str]]:
-    """Some subtitles once more ten minutes later."""
+    """Return a programme whose last subtitles are repeated ten minutes later."""
     def made(case: Case) -> tuple[str, str]:
         times = [(frame + at * at * 7, end + at * at * 7) for at, (frame, end) in
                  enumerate(evenly(20))]
@@ -292,8 +292,8 @@ def with_tail(count: int) -> Callable[[Case], tuple[str, str]]:
     return made
 
 
-def beside_quick(count: int, is_before: bool) -> Callable[[Case], tuple[str, str]]:
-    """A few subtitles, with six minutes of another programme's quick ones before or behind."""
+def near_short_subtitles(count: int, is_before: bool) -> Callable[[Case], tuple[str, str]]:
+    """Return a few subtitles with six minutes of another programme's short ones before or after."""
     def made(case: Case) -> tuple[str, str]:
         quick = [(FIRST + 20 * at, FIRST + 20 * at + 15) for at in range(450)]
         others = sendings(case, programme(case, quick, text=b"Others %d", name="quick.stl"))
@@ -306,7 +306,7 @@ def beside_quick(count: int, is_before: bool) -> Callable[[Case], tuple[str, str
 
 
 def cut_at(count: int) -> Callable[[Case], tuple[str, str]]:
-    """A break stands where the file adjoins and is cut: the page is erased there."""
+    """Return a programme with a break between adjoining subtitles, at which the page is erased."""
     def made(case: Case) -> tuple[str, str]:
         times = evenly(20, True)
         stl = programme(case, times)
@@ -319,12 +319,13 @@ def cut_at(count: int) -> Callable[[Case], tuple[str, str]]:
 
 
 def airings() -> Iterator[Recording]:
-    """Tails of up to six of twenty subtitles, quick ones, a cut at a break."""
+    """Yield recordings with repeated tails, with short subtitles, and with a break between
+    adjoining subtitles."""
     for count in (0, 3, 6):
         yield Recording(AIRINGS, f"tail {count}", with_tail(count), ["--every", "40"])
     for count in (5, 8, 12):
         for is_before in (False, True):
-            yield Recording(AIRINGS, f"quick {count} {is_before}", beside_quick(
+            yield Recording(AIRINGS, f"quick {count} {is_before}", near_short_subtitles(
                 count, is_before), ["--every", "40", "--no-complete"])
     for count in (8, 12):
         yield Recording(AIRINGS, f"cut {count}", cut_at(count), [
@@ -332,7 +333,7 @@ def airings() -> Iterator[Recording]:
 
 
 def recordings() -> list[Recording]:
-    """All of them."""
+    """Return all recordings."""
     return [*inserters(), *paces(), *breaks(), *services(), *airings()]
 
 
@@ -368,8 +369,8 @@ LARGEST = 9  # TS packets of a PES packet
 
 
 def lossy(sent: Sent, each: int) -> bytes:
-    """Return what is left of a stream with PES packets in each frame, if all are lost with which
-    two frames in a row or more have none in what was sent."""
+    """Return what is left of a stream with PES packets in each frame, if the frames without one in
+    `sent` are lost."""
     maker = Maker([])
     maker.tables = tables_of((OWN,))
     for number, (pts, some) in enumerate(sent):
@@ -392,7 +393,7 @@ def lossy(sent: Sent, each: int) -> bytes:
 
 
 def is_bounded(kind: str, words: Sequence[str]) -> bool:
-    """Whether no more are refused or not judged of a kind than may be."""
+    """Return whether no more recordings of a kind are refused or not judged than allowed."""
     bound = LOST[kind]
     refused = sum(word not in ("accepted", "not judged") for word in words)
     return refused <= bound.refused and \
@@ -400,7 +401,7 @@ def is_bounded(kind: str, words: Sequence[str]) -> bool:
 
 
 def main(program: str) -> None:
-    """Judges all, and prints the counts."""
+    """Judge all recordings; print the counts."""
     BENCH.chosen = program
     case, kinds = Right("test_accepts_right_recordings_of_each_kind"), dict[str, list[str]]()
     case.setUp()

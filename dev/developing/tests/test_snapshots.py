@@ -1,4 +1,4 @@
-"""Test that each call of dev/snapshots/ prints and writes what is stored: see `snapshots`."""
+"""Compare each call of dev/snapshots/ with its stored output: see `snapshots`."""
 from __future__ import annotations
 
 import os
@@ -29,8 +29,6 @@ for FILE in sorted(os.listdir(FOLDER)):
 
 
 class Failures(unittest.TestCase):
-    """What a failure shows."""
-
     def test_shows_a_change_once_with_its_count(self) -> None:
         before = {name: ["status 0", "too few to measure", f"whole: {name:0>8}"] for name in "abc"}
         after = {name: ["status 0", "too few", f"whole: {name}1111111"] for name in "abc"}

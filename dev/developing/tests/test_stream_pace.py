@@ -1,5 +1,7 @@
-"""How far apart PES packets come: which pace is told, by a table; and holes of all lengths of a PID
-that is regular, and of others."""
+"""How far apart PES packets come:
+
+the estimated pace, and losses of all lengths in regular and irregular streams.
+"""
 from __future__ import annotations
 
 import collections
@@ -19,12 +21,12 @@ from .streams import Packet, Shape, TELETEXT_PID, multiplexed, stream, without
 from .transmissions import Sent, in_pipe, programme, sendings
 
 BEGIN = 900_000  # the first frame
-LONG = range(5000)  # frames, of which five may be otherwise
-FOUR = range(400)  # of which three may be
+LONG = range(5000)  # frames; five may be exceptions
+FOUR = range(400)  # three may be exceptions
 
 
 class Row(NamedTuple):
-    """Frames of PES packets, and what they are like: the pace, where one is told."""
+    """Frames of PES packets, the kind of their pace, and its value if there is one."""
 
     name: str
     rows: Sequence[Sequence[int]]
@@ -38,23 +40,23 @@ class Row(NamedTuple):
 
 
 def holed(frames: Sequence[int], *holes: tuple[int, int]) -> list[int]:
-    """Frames without those behind one, so many, for each hole."""
+    """Delete some frames after given ones."""
     gone = {frame for first, count in holes for frame in range(first + 1, first + 1 + count)}
     return [frame for frame in frames if frame not in gone]
 
 
 def without_frames(count: int) -> list[int]:
-    """Two PES packets in each of 400 frames, but for some in a row."""
+    """Return two PES packets in each of 400 frames, without some in a row."""
     return [at // 2 for at in range(800) if not 200 <= at // 2 < 200 + count]
 
 
 def silent_twice(steps: int) -> list[int]:
-    """Frames in a row but for two silences, between which so many PES packets come."""
+    """Return consecutive frames with two silences, and some PES packets between them."""
     return holed(range(800 + steps), (299, 100), (399 + steps, 100))
 
 
 def repeated(steps: Sequence[int], times: int) -> list[int]:
-    """Frames that are so far apart, over and over."""
+    """Return frames with repeated steps."""
     found = [0]
     for step in [*steps] * times:
         found.append(found[-1] + step)
@@ -63,13 +65,16 @@ def repeated(steps: Sequence[int], times: int) -> list[int]:
 
 def regular(name: str, *rows: Sequence[int], frames: int = 2, each: int = 1, every: int = 250,
             pauses: Pauses = (), closer: int = 0) -> Row:
-    """Of which a pace is told: where two PES packets are lost the third comes a frame later."""
+    """Return a row of a regular stream:
+
+    if two PES packets are lost, the third comes a frame later.
+    """
     return Row(name, rows, REGULAR, frames, each, every, pauses, closer)
 
 
 def of_pes(name: str, *rows: Sequence[int], frames: int = 1, every: int = 250, pauses: Pauses = (),
            closer: int = 0) -> Row:
-    """The same of a file of PES packets: the one behind one that is missing comes later."""
+    """Return a row of a regular file: the PES packet after a missing one comes later."""
     return Row(name, rows, REGULAR, frames, 1, every, pauses, closer, False)
 
 
@@ -82,9 +87,9 @@ TABLE = [
     Row("few, over the bound", [range(0, 990, 10)], BY_EVERY, every=29),
     Row("few, one far", [[0, 1, 2, 3, 999]], TOO_FEW),
     Row("three", [[0, 300, 600]], TOO_FEW), Row("four", [[0, 100, 200, 300]], BY_EVERY),
-    # Whatever its TS packets are: two PES packets at least are lost.
+    # At least two PES packets are lost, whatever their size.
     *(regular(f"{each} TS packets", FOUR, each=each) for each in range(1, 10)),
-    # By the distance.
+    # By the interval.
     regular("each fifth frame", repeated([5], 200), frames=14),
     regular("once a second", repeated([25], 200), frames=74, each=2),
     regular("up to the bound", repeated([25], 200), frames=74, every=75),
@@ -92,7 +97,7 @@ TABLE = [
     regular("over the bound nearly everywhere", repeated([*[25] * 300, 1, 1, 1], 1), frames=74,
             every=74, closer=3),
     regular("four in three frames", repeated([1, 1, 0, 1], 100), frames=1),
-    # Where three come in a frame, or in two: a frame more than is usual.
+    # Three in one or two frames: a frame more than usual.
     regular("two in a frame", repeated([0, 1], 200), closer=398),
     regular("three in two frames", repeated([0, 1, 1, 0, 1], 200), closer=998),
     regular("all in one frame", [5] * 400, closer=397),
@@ -109,12 +114,12 @@ TABLE = [
     Row("bursts", [repeated([1] * 20 + [100], 50)], IRREGULAR),
     regular("bursts of two TS packets", repeated([1] * 10 + [60], 50), frames=61, each=2,
             closer=400),
-    # As close as any three are, or where that is too close as all but a few.
+    # As close as any three, or as all but a few if that is too close.
     regular("few bursts", repeated([*[25] * 300, 1, 1, 1], 1), frames=74, each=2, closer=3),
     regular("one burst of two", repeated([*[25] * 300, 1, 1, *[25] * 100], 1), frames=26),
     regular("one of five", repeated([*[25] * 100, *[1] * 5, *[25] * 100], 1), frames=26, closer=3),
     regular("one of six", repeated([*[25] * 100, *[1] * 6, *[25] * 100], 1), frames=26, closer=4),
-    # Holes, which are few: the first, a middle one, the last; long ones; as many as may be.
+    # Few losses: first, middle, last; long ones; the maximum.
     *(regular(f"a hole of {count} behind {first}", holed(LONG, (first, count)))
       for first in (0, 2500, 4700) for count in (1, 15, 16, 17, 32, 160, 249)),
     regular("a hole just before the end", holed(LONG, (4990, 5))),
@@ -123,7 +128,7 @@ TABLE = [
     regular("five of 6000", holed(range(6000), *((1000 * at, 20) for at in range(5)))),
     Row("six of 6000", [holed(range(6000), *((900 * at, 20) for at in range(6)))], IRREGULAR),
     regular("as many as a pace allows", holed(FOUR, *((9 * at, 1) for at in range(40)))),
-    # Pauses of the programme, in which nothing is sent.
+    # Pauses of the programme, without any PES packet.
     *(Row(f"a pause to {end}", [holed(LONG, (999, 100))], PAUSED, pauses=[(999, end)])
       for end in (1095, 1100, 1105)),
     *(regular(f"no pause to {end}", holed(LONG, (999, 100)), pauses=[(999, end)])
@@ -135,7 +140,7 @@ TABLE = [
     regular("before its end", holed(LONG, (999, 100)), pauses=[(0, 500), (1000, None)]),
     Row("before the first", [holed(LONG, (999, 100))], PAUSED, pauses=[(None, 1095), (1500, 1600)]),
     Row("long before it", [holed(LONG, (999, 100))], PAUSED, pauses=[(None, 3000)]),
-    # Where another page of the PID is over, and what is left comes seldom.
+    # Another page of the PID ends, and the rest is rare.
     *(Row(f"seldom at {at}", [[*range(at), *range(at, at + 500, 100), *range(at + 400, 5000)]],
           PAUSED) for at in (1, 2500, 4599)),
     Row("three by three", [[*range(2500), *(2600 + 100 * at + one for at in range(3)
@@ -158,13 +163,13 @@ TABLE = [
     regular("one of two", holed(LONG, (999, 100), (2999, 100)), pauses=[(999, 1100)]),
     Row("two of three", [holed(LONG, (999, 100), (1999, 100), (2999, 100))], PAUSED,
         pauses=[(999, 1100), (2999, 3100)]),
-    # Pauses that a longer bound allows.
+    # Pauses that a longer limit allows.
     regular("300 frames by the usual bound", holed(LONG, (999, 299))),
     *(Row(f"{count + 1} frames of {every}", [holed(LONG, (999, count))], PAUSED, every=every)
       for count, every in ((299, 300), (250, 1500), (1499, 1500), (1999, 9000))),
     *(regular(f"{count + 1} frames of {every}, which are none", holed(LONG, (999, count)),
               every=every) for count, every in ((300, 300), (249, 1500), (1500, 1500), (16, 9000))),
-    # Of a file of PES packets.
+    # Files of PES packets.
     of_pes("a file", FOUR), of_pes("a file, one missing", holed(FOUR, (50, 1))),
     of_pes("three missing", holed(FOUR, (50, 1), (150, 1), (250, 1))),
     of_pes("four missing", holed(FOUR, (50, 1), (150, 1), (250, 1), (300, 1)), frames=2,
@@ -190,11 +195,8 @@ TABLE = [
 ]
 
 
-class Told(Case):
-    """Functions that decide."""
-
+class PaceDecisions(Case):
     def test_measures_the_pace_of_each_row(self) -> None:
-        """The whole table."""
         for row in TABLE:
             pace = pace_of(row.rows, row.each, row.every, row.pauses, row.is_stream)
             self.must(row.name, (pace.kind, pace.frames, pace.closer) == (
@@ -209,9 +211,7 @@ class Told(Case):
         for rows, apart in closest:
             self.must(f"{rows}", pace_of(rows, 1, 250).apart == apart)
 
-    def test_finds_the_distance_that_is_usual(self) -> None:
-        """The longest distance that one in twenty has; none where more than one in a hundred is
-        longer, or more than a few by two frames."""
+    def test_finds_the_usual_interval(self) -> None:
         rows: list[tuple[dict[int, int], int | None]] = [
             ({1: 2000}, 1), ({0: 2000}, 1), ({0: 1900, 2: 100}, 2), ({0: 1901, 2: 99}, None),
             ({0: 1800, 5: 99, 7: 101}, 7), ({1: 1980, 2: 20}, 1), ({1: 1979, 2: 21}, None),
@@ -222,7 +222,6 @@ class Told(Case):
                       == wanted)
 
     def test_finds_the_shortest_loss_that_no_counter_shows(self) -> None:
-        """From how many frames on a hole of 16 TS packets is, by those that came."""
         two = without_frames(0)
         rows: list[tuple[list[list[int]], int, int | None]] = [
             ([], 1, None), ([[7] * 17], 1, None), ([[*range(18)]], 1, 17), ([two], 1, 8),
@@ -232,9 +231,7 @@ class Told(Case):
             self.must(f"{frames} {each}", unseen_from(frames, each) == wanted,
                       unseen_from(frames, each))
 
-    def test_divides_the_frames_at_what_is_not_received(self) -> None:
-        """The frames that are heard: up to marks, PES packets that are refused or have no frame,
-        and where time goes back; also where the clock comes round."""
+    def test_splits_the_frames_at_losses(self) -> None:
         origin = CLOCK - 5 * TICKS
         rows: list[tuple[list[tuple[int, int, float | None, int, int]], int, list[list[int]]]] = [
             ([], 0, []), ([(0, 3, 0, 1, 0)], 0, [[0, 1, 2]]),
@@ -255,7 +252,6 @@ class Told(Case):
         self.must("some", [[*row] for row in frame_rows(packets, (3, 5), origin, 0)] == [[3, 4, 5]])
 
     def test_counts_ts_packets_of_a_pes_packet(self) -> None:
-        """By all TS packets, or by the bytes of a file; more where one holds more; at most nine."""
         for total, size, units, wanted in (
                 (100, None, 0, 1), (103, None, 3, 1), (103, None, 4, 2), (149, None, 0, 1),
                 (151, None, 0, 2), (800, None, 3, 8), (100, None, 35, 9), (5000, None, 1, 9),
@@ -269,8 +265,6 @@ class Told(Case):
         self.must("no PES packet", each_of(Packets(5, packets=3), (0, 0), None) == 1)
 
     def test_finds_silences_between_frames(self) -> None:
-        """All rows of six frames: where so many lie between two, and whether fewer PES packets lie
-        between two such places."""
         for apart, steps in itertools.product(itertools.product((1, 4, 5, 6), repeat=5), (1, 2, 4)):
             row = [*itertools.accumulate(apart, initial=7)]
             places = [at for at, frames in enumerate(apart) if frames >= 5]
@@ -279,32 +273,30 @@ class Told(Case):
         self.must("one a frame", not [*silences_in(range(9), 1, 3)])
 
     def test_finds_the_pauses_between_subtitles(self) -> None:
-        """Before the first subtitle, between two, behind the last; each edge once."""
         self.must("edges", edges_of([(5, 9), (9, 30), (2, 5)]) == [2, 5, 9, 30])
         self.must("none", not pauses_of([]))
         self.must("two", pauses_of([(5, 9), (20, 30)]) ==
                   [(None, 5), (9, 20), (30, None)])
 
 
-# A programme of one minute: a PES packet in each frame, or a second of them at each edge and then
-# none.
+# A programme of one minute: a PES packet in each frame, or for a second from each cue on.
 TIMES = [(BEGIN + 250 * at, BEGIN + 250 * at + 200) for at in range(6)]
 
 
 def filled(sent: Sent) -> Sent:
-    """With a PES packet without Teletext in each other frame."""
+    """Insert a PES packet without Teletext into each other frame."""
     known = dict(sent)
     return [(pts, known.get(pts, [])) for pts in range(sent[0][0], sent[-1][0] + 1, TICKS)]
 
 
 def in_bursts(sent: Sent, times: Sequence[tuple[int, int]]) -> Sent:
-    """Each frame of a second from each edge on alone."""
+    """Insert PES packets for a second from each cue on."""
     return [(pts, some) for pts, some in sent if any(
         edge * TICKS <= pts < (edge + 25) * TICKS for both in times for edge in both)]
 
 
-def alone(made: list[Packet], first: int, count: int) -> list[Packet]:
-    """All but some TS packets of the PID, from one on."""
+def without_pid(made: list[Packet], first: int, count: int) -> list[Packet]:
+    """Delete some TS packets of the PID from one on."""
     own = [at for at, one in enumerate(made) if one.pid == TELETEXT_PID][first:first + count]
     gone = {*own}
     return [one for at, one in enumerate(made) if at not in gone]
@@ -316,9 +308,7 @@ PACE_LINE = "a PES packet comes within 1 frame of the one before, and in 3 at be
     "packets are lost: --pace 2"
 
 
-class Holes(OfProgramme):
-    """Holes of 1 to 48,000 TS packets of the PID alone, and of all."""
-
+class Losses(OfProgramme):
     due = TIMES
 
     def multiplexed(self, sent: Sent, rate: int = 100) -> list[Packet]:
@@ -327,50 +317,46 @@ class Holes(OfProgramme):
     def in_bursts(self, times: Sequence[tuple[int, int]]) -> list[Packet]:
         return self.multiplexed(in_bursts(sendings(self, programme(self, times), every=1), times))
 
-    def is_told(self, name: str, told: Judged, word: str, *lines: str) -> None:
-        """Whether a verdict is one, and which faults are in its list."""
+    def check_faults(self, name: str, told: Judged, word: str, *lines: str) -> None:
+        """Check the verdict and the faults."""
         faults = [line for line in told.listed if line.startswith("refused")]
         self.must(name, told.word == word and faults == [f"refused {line}" for line in lines],
                   (told.word, told.listed, told.told))
 
-    def test_reports_79_where_the_counter_shows_nothing(self) -> None:
-        """A PES packet in each frame: what the counter does not show is 79, at its time."""
+    def test_reports_79_if_the_counter_shows_nothing(self) -> None:
         made = self.multiplexed(filled(self.sent))
         whole = self.judge_stream(made)
-        self.is_told("whole", whole, "accepted")
+        self.check_faults("whole", whole, "accepted")
         self.must("said", whole.lines("pace: ") == [PACE_LINE] and whole.parts("pace") == [(2,)]
                   and " --complete --pace 2 --all" in whole.verdict.commands[-1] and
                   whole.result["request"]["pace"] is None, whole.said)
         first, lost, silent = 660, "45 Lost pes 660", "79 Silent frame 10:00:26:11"
         for count in (1, 2, 14, 15, 16, 17):
             faults = [*([lost] if count % 16 else []), *([silent] if count > 1 else [])]
-            told = self.judge_stream(alone(made, first, count))
-            self.is_told(f"{count}", told, "refused", *faults)
+            told = self.judge_stream(without_pid(made, first, count))
+            self.check_faults(f"{count}", told, "refused", *faults)
         for count in (1, 15, 16, 17):
             faults = [*([lost] if count % 16 else []), *([silent] if count > 1 else [])]
             told = self.judge_stream(without(made, first, count))
-            self.is_told(f"all of {count}", told, "refused", *faults)
-        for cut, count in ((alone, 32), (alone, 160), (without, 160)):
+            self.check_faults(f"all of {count}", told, "refused", *faults)
+        for cut, count in ((without_pid, 32), (without_pid, 160), (without, 160)):
             told = self.judge_stream(cut(made, first, count))
             self.must(f"{cut.__name__} {count}", told.word == "refused" and
                       f"refused {silent}" in told.listed and not any(
                           line.startswith("refused 45") for line in told.listed), told.listed)
-        told = self.judge_stream(alone(made, first, 16))
+        told = self.judge_stream(without_pid(made, first, 16))
         self.must("how long", told.verdict.sentence ==
                   "Refused: at 10:00:26:11 no PES packet has come for as many frames as --pace "
                   "allows: none for 16 frames from 10:00:26:10 on.", told.verdict.sentence)
 
-    def test_two_in_a_frame(self) -> None:
-        """A PES packet for each field: a frame more than is usual is asked for. A hole of 16 TS
-        packets and more is 79, and what a frame without them has is not; one that is shorter may be
-        unseen, which is said."""
+    def test_reports_losses_with_two_pes_packets_a_frame(self) -> None:
         sent = filled(self.sent)
         none: list[bytes] = []
         both = [one for pts, some in sent for one in ((pts, some), (pts + TICKS // 2, none))]
         made = self.multiplexed(both, 400)
         note = "not checked: whether up to 0.08 s of this PID alone is missing, at "
         for count in (0, 16, 32, 48, 160):
-            told = self.judge_stream(alone(made, 1320, count), "--within", "1")
+            told = self.judge_stream(without_pid(made, 1320, count), "--within", "1")
             self.must(f"{count}", told.word == ("refused" if count else "accepted") and bool(
                 count) == ("refused 79 Silent frame 10:00:26:11" in told.listed), told.listed)
             self.must(f"{count}: said", told.lines("pace: ") == ["a PES packet comes within 1 "
@@ -378,13 +364,11 @@ class Holes(OfProgramme):
                           line.startswith(note) for line in told.told) == 1, told.said)
         without_one = [one for at, one in enumerate(both) if at // 2 not in (510, 610)]
         told = self.judge_stream(self.multiplexed(without_one, 400), "--within", "1")
-        self.is_told("frames without", told, "accepted")
+        self.check_faults("frames without", told, "accepted")
 
-    def test_judges_by_the_pace_that_is_given(self) -> None:
-        """None, one that a hole of 16 keeps, one that it does not, and where losses are allowed;
-        of a feed, and of PES packets."""
+    def test_judges_by_the_given_pace(self) -> None:
         made = self.multiplexed(filled(self.sent))
-        holed_then, silent = alone(made, 660, 16), "79 Silent frame 10:00:26:11"
+        holed_then, silent = without_pid(made, 660, 16), "79 Silent frame 10:00:26:11"
         for words, word, pace, lines in (
                 ("--pace=none", "accepted", None, []), ("--pace=17", "accepted", 17, []),
                 ("--pace=16", "refused", 16, []), ("--allow-lost", "waived", 2, [PACE_LINE])):
@@ -394,39 +378,37 @@ class Holes(OfProgramme):
             self.must(f"{words}: asked", told.result["request"]["pace"] == (
                 words[7:] if words.startswith("--pace") else None))
         feed = in_pipe(self, stream(holed_then))
-        self.is_told("a feed", judged(self, self.stl, feed, *self.words), "refused", silent)
+        self.check_faults("a feed", judged(self, self.stl, feed, *self.words), "refused", silent)
         sent = filled(self.sent)
-        self.is_told("PES packets", self.judge(sent[:660] + sent[676:]), "refused",
+        self.check_faults("PES packets", self.judge(sent[:660] + sent[676:]), "refused",
                      "79 Silent frame 10:00:26:10")
 
     def test_notes_what_an_irregular_pace_does_not_show(self) -> None:
-        """A second of them at each edge, then none: a hole of 16 is not seen, and that is said;
-        one that the counter shows is 45."""
         made = self.in_bursts(TIMES)
         first = 155
         for cut, count, word in (
-                (alone, 0, "accepted"), (alone, 1, "refused"), (alone, 15, "refused"),
-                (alone, 16, "accepted"), (alone, 17, "refused"), (without, 16, "lost"),
+                (without_pid, 0, "accepted"), (without_pid, 1, "refused"),
+                (without_pid, 15, "refused"),
+                (without_pid, 16, "accepted"), (without_pid, 17, "refused"), (without, 16, "lost"),
                 (without, 17, "refused")):
             told = self.judge_stream(cut(made, first, count))
-            self.is_told(f"{cut.__name__} {count}", told, word,
+            self.check_faults(f"{cut.__name__} {count}", told, word,
                          *["45 Lost pes 155"] * (word == "refused"))
             self.must(f"{cut.__name__} {count}: said", IRREGULAR_NOTE in told.told and
                       IRREGULAR_NOTE in told.result["notes"] and
                       not told.lines("pace: ") and told.parts("pace") == [(None,)], told.said)
         for words in ("--pace=none", "--pace=180"):
-            told = self.judge_stream(alone(made, first, 16), words)
+            told = self.judge_stream(without_pid(made, first, 16), words)
             self.must(words, told.word == "accepted" and IRREGULAR_NOTE not in told.told)
-        self.is_told("given", self.judge_stream(made, "--pace=100"), "refused", *(
+        self.check_faults("given", self.judge_stream(made, "--pace=100"), "refused", *(
             f"79 Silent frame 10:00:{10 * at + 4:02}:24" for at in range(6)))
 
-    def test_long_irregular(self) -> None:
-        """A hole of more page transmissions is told where they were due, whoever else lost some."""
+    def test_reports_lost_page_transmissions_of_an_irregular_stream(self) -> None:
         made = self.in_bursts([(BEGIN + 250 * at, BEGIN + 250 * at + 200) for at in range(20)])
         content = "72 Content frame 10:00:38:00 row 22 column 14"
         for count, line in ((0, ""), (14, "45 Lost pes 155"), (32, content), (160, content),
                             (320, content)):
-            for cut in (alone, without):
+            for cut in (without_pid, without):
                 told = self.judge_stream(cut(made, 155, count))
                 faults = [one for one in told.listed if one.startswith("refused")]
                 self.must(f"{cut.__name__} {count}", faults[:1] == [f"refused {line}"] * bool(line)
@@ -435,15 +417,13 @@ class Holes(OfProgramme):
                 self.must(f"{cut.__name__} {count}: gap", (count >= 160) == (
                     "refused 73 Gap frame 10:00:40:04" in told.listed), told.listed)
 
-    def test_inserters_that_pause(self) -> None:
-        """Nothing is sent in pauses of more than a minute, which --every allows: no pace is given,
-        and it is said what may be unseen."""
+    def test_notes_that_no_pace_exists_for_a_pausing_inserter(self) -> None:
         for count, note in ((4, UNSEEN.format("0.6") + "pause, for up to 1701 frames"),
                             (6, IRREGULAR_NOTE)):
             times = [(BEGIN + 2000 * at, BEGIN + 2000 * at + 200) for at in range(count)]
             sent = filled(sendings(self, programme(self, times), every=25))
             sent = [one for one in sent if (one[0] // TICKS - BEGIN) % 2000 < 300]
             told = self.judge_stream(self.multiplexed(sent, 25), "--every", "1800")
-            self.is_told(f"{count}", told, "accepted")
+            self.check_faults(f"{count}", told, "accepted")
             self.must(f"{count}: said", note in told.told and told.parts("pace") == [(None,)],
                       told.said)

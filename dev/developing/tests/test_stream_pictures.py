@@ -1,4 +1,4 @@
-"""Whether the pictures leave the Teletext; what the PMT announces."""
+"""Pictures that depart from the Teletext, and announced jumps."""
 from __future__ import annotations
 
 import itertools
@@ -21,7 +21,7 @@ from .streams import Programme, TELETEXT_PID, shown
 from .transmissions import programme, scheduled, times
 
 
-# Whether the pictures leave the Teletext: by the lines of `survey`, as tables.
+# Departures by the lines of `survey`, in tables.
 
 PID, VIDEO = 0x101, 0x200
 SECOND = 25  # frames
@@ -29,8 +29,10 @@ SECOND = 25  # frames
 
 def leads_of(leads: Sequence[float], steps: Mapping[int, float] = {}, first: int = 0,
              each: int = SECOND) -> list[VideoLead]:
-    """Lines so many frames apart, whose leads have these frames. The decoding times go on by some
-    frames more than the number of pictures at some lines, by their places."""
+    """Return lines at regular intervals with these leads in frames.
+
+    `steps` has the lines at which decoding times jump by some frames.
+    """
     found, gone = list[VideoLead](), 0.0
     for at, ahead in enumerate(leads):
         gone += steps.get(at, 0)
@@ -40,17 +42,13 @@ def leads_of(leads: Sequence[float], steps: Mapping[int, float] = {}, first: int
     return found
 
 
-class Departures(Case):
-    """Where the pictures leave, stay, or where that is unclear."""
-
+class PictureDepartures(Case):
     def ticks_of(self, leads: Sequence[VideoLead]) -> list[int | None] | None:
-        """By how many ticks they leave at each place; `None` if no step is usual."""
+        """Return the ticks of each departure, or `None` if no step is usual."""
         departures = departures_of(leads)
         return None if departures is None else [one.ticks for one in departures]
 
     def test_finds_steps_of_the_pictures_against_the_teletext(self) -> None:
-        """If the lead falls by the step of the decoding times the pictures leave. If it stays, or
-        nothing steps, they do not. So it is over the wrap of the clock, too."""
         for by, first in itertools.product((1, 2, 12, 250, -1, -2, -250, 0.5, -0.5),
                                            (0, CLOCK - TICKS * 500)):
             step = {40: by}
@@ -61,8 +59,7 @@ class Departures(Case):
                 self.check(f"{name} by {by} from {first}", self.ticks_of(
                     leads_of([6.0] * 40 + [after] * 40, steps, first)), wanted)
 
-    def test_finds_each_of_several_places(self) -> None:
-        """A place lies between two lines; several of them are found in their order."""
+    def test_finds_several_departures_in_order(self) -> None:
         leads = leads_of([6.0] * 20 + [3.0] * 20 + [6.0] * 20 + [6.0] * 20, {20: 3, 40: -3, 60: 9})
         self.check("three steps", departures_of(leads), [
             Departure(leads[20].pts, leads[19].pts, 3 * TICKS),
@@ -74,22 +71,19 @@ class Departures(Case):
         for count in (0, 1):
             self.check(f"{count} lines", departures_of(leads[:count]), [])
 
-    def test_finds_places_where_pictures_are_lost_too(self) -> None:
-        """If pictures are lost at the place, too, their clock steps by more than the lead falls."""
+    def test_finds_departures_with_lost_pictures(self) -> None:
         for lost in (0, 1, 2, 5, 12):
             self.check(f"{lost} lost", self.ticks_of(
                 leads_of([6.0] * 40 + [6.0 - 50] * 40, {40: 50 + lost})), [50 * TICKS])
         self.check("50 lost alone", self.ticks_of(leads_of([6.0] * 80, {40: 50})), [])
 
     def test_compares_the_lead_to_half_a_frame(self) -> None:
-        """The lead falls by the step, to half a frame."""
         for moved, wanted in ((5.0, [5 * TICKS]), (5.4, [5 * TICKS]), (0.4, []), (0.0, []),
                               (-3.0, [None])):
             self.check(f"moved by {moved}", self.ticks_of(
                 leads_of([8.0] * 9 + [8 - moved] * 9, {9: 5})), wanted)
 
-    def test_tells_what_is_unclear(self) -> None:
-        """One line on a side, a multiplexer that puts the Teletext anywhere, or there and back."""
+    def test_reports_unclear_departures(self) -> None:
         chance = random.Random(1)
 
         def around(frames: float, jitter: float, count: int = 40) -> list[float]:
@@ -107,22 +101,21 @@ class Departures(Case):
             self.check(name, self.ticks_of(leads), wanted)
 
     def test_needs_a_usual_step(self) -> None:
-        """Decoding times that do not go on with the number of pictures tell nothing."""
         chance = random.Random(1)
         steps = {at: float(chance.randrange(-9, 9)) for at in range(40)}
         self.check("at random", departures_of(leads_of([6.0] * 40, steps)), None)
-        for each in (1, 12.5, 50):  # pictures a second: the usual step is what most lines have
+        for each in (1, 12.5, 50):  # pictures a second; most lines have the usual step
             steady = [lead._replace(number=round(each * at))
                       for at, lead in enumerate(leads_of([6.0] * 40))]
             self.check(f"{each} a second", departures_of(steady), [])
 
 
-# Pictures that leave the subtitles, judged: what is early or late for viewers.
+# Judged departures: what is early or late for viewers.
 
 def lines_of(steps: Sequence[tuple[float, int]], origin: int = 0, video: int = VIDEO,
              jitter: int = 0) -> list[str]:
-    """The lines of a recording from frame 500 to 2500 whose pictures go on by some frames more at
-    some frames; every second lead is so many frames less."""
+    """Return the lines of a recording from frame 500 to 2500 whose pictures step by some frames;
+    `jitter` shortens every second lead."""
     found = []
     for frame in range(500, 2500, SECOND):
         away = sum(by for by, at in steps if at <= frame)
@@ -131,9 +124,9 @@ def lines_of(steps: Sequence[tuple[float, int]], origin: int = 0, video: int = V
     return found
 
 
-def surveyed(lines: Sequence[str] = ()) -> Survey:
-    """What is known of pictures that the second of two PMT names, beside others that stay, and
-    those of another programme, which leave."""
+def survey_with(lines: Sequence[str] = ()) -> Survey:
+    """Return a survey with a PMT whose second video departs, others that stay, and another
+    programme that departs."""
     quiet, others = 0x300, 0x302
     survey = Survey()
     for line in [f"programme 1 {VIDEO}", f"stream {PID} 6", f"programme 2 {others}",
@@ -144,20 +137,18 @@ def surveyed(lines: Sequence[str] = ()) -> Survey:
     return survey
 
 
-class Left(Case):
-    """What is wrong of a part from frame 1000 to 2000, which has a line each 25 frames."""
-
-    def found(self, steps: Sequence[tuple[float, int]], within: int = 0, source: str = GIVEN,
+class DepartureFaults(Case):
+    def faults_and_notes(self, steps: Sequence[tuple[float, int]], within: int = 0,
+                         source: str = GIVEN,
               origin: int = 0) -> tuple[list[tuple[str | None, str | None, str]], list[str]]:
-        """The times and the way of each fault, and the notes."""
-        faults, notes = left_by_pictures(surveyed(lines_of(steps, origin)), PID, Found(
+        """Return times and direction of each fault, and the notes."""
+        faults, notes = left_by_pictures(survey_with(lines_of(steps, origin)), PID, Found(
             1000, 2000, Clock(origin, source)), within, 1)
         self.check("kinds", {(one.name, one.part) for one in faults} - {(PICTURES_LEFT, 1)}, set())
         return [(one.time, one.until, one.words.partition(" on subtitles come ")[2].partition(
             " for viewers")[0]) for one in faults], notes
 
-    def test_reports_pictures_that_leave_the_subtitles(self) -> None:
-        """On: early; back: late, except what is allowed of that; there and back; at its ends."""
+    def test_reports_departures_as_early_or_late(self) -> None:
         middle, end = "00:01:00:00", "00:01:19:24"
         unclear = f"{NOT_CHECKED} at 1 place where their decoding times step: the multiplexer's " \
             "delay varies, pictures are lost as well, or it is within a second of the " \
@@ -186,13 +177,12 @@ class Left(Case):
             "a second behind": ([(2, 2001)], 0, [], [])}
         for origin, (name, (steps, within, faults, notes)) in itertools.product(
                 (0, CLOCK - 1400 * TICKS), rows.items()):
-            self.check(f"{name} from {origin}", self.found(steps, within, origin=origin),
+            self.check(f"{name} from {origin}", self.faults_and_notes(steps, within, origin=origin),
                        (faults, notes))
 
     def test_counts_steps_from_the_first_picture_on(self) -> None:
-        """By the clock of the first picture what steps before the first subtitle counts, too."""
-        self.check("by a recording", self.found([(2, 900)], source=RECORDING), ([], []))
-        self.check("by the picture", self.found([(2, 900)], source=START)[0],
+        self.check("by a recording", self.faults_and_notes([(2, 900)], source=RECORDING), ([], []))
+        self.check("by the picture", self.faults_and_notes([(2, 900)], source=START)[0],
                    [("00:00:40:00", "00:01:19:24", "2 frames early")])
         places = [(899, 900), (999, 1000), (1000, 1001), (1998, 1999), (1999, 2000), (2000, 2001)]
         several = [Departure(TICKS * pts, TICKS * since, 9) for since, pts in places]
@@ -201,12 +191,11 @@ class Left(Case):
             self.check(source, [one.ticks for one in found], wanted)
 
     def test_notes_that_no_step_is_usual(self) -> None:
-        """Nothing is judged, and a note says so; without a line there is nothing to say."""
         chance = random.Random(1)
         steps = [(chance.randrange(-9, 9), frame) for frame in range(500, 2500, SECOND)]
         lines = [line for line in lines_of([(by + 0.5, at) for by, at in steps])]
         for name, survey, wanted in (
-                ("at random", surveyed(lines),
+                ("at random", survey_with(lines),
                  [f"{NOT_CHECKED}: their decoding times have no usual step"]),
                 ("no line", Survey(), [])):
             found = left_by_pictures(survey, PID, Found(1000, 2000, Clock(0, GIVEN)), 0, 1)
@@ -214,10 +203,7 @@ class Left(Case):
 
 
 class Pairs(Case):
-    """A pair of which the program tells it."""
-
-    def test_by_recordings(self) -> None:
-        """Of recordings in which they do so in the middle, a minute behind the first group."""
+    def test_reports_departures_of_recordings(self) -> None:
         stl = programme(self, times(20))
         pes = scheduled(self, stl, "--every", "10")
         begin, end = pts_in(pes[0]) // TICKS - 25, pts_in(pes[-1]) // TICKS + 25
@@ -237,11 +223,8 @@ class Pairs(Case):
                 f"refused pictures left frame {time}" for time in several], found.result["line"])
 
 
-class Announced(Case):
-    """Functions that decide."""
-
+class AnnouncedJumps(Case):
     def test_finds_announced_jumps_with_more_time_than_usual(self) -> None:
-        """Of those after which more frames pass than usual, each once; over the wrap too."""
         rows: list[tuple[int, tuple[int, int], list[tuple[int, int]]]] = [
             (1, (0, 7), [(2, 5), (6, 8)]), (2, (0, 7), [(2, 5)]), (3, (0, 7), []),
             (1, (0, 2), []), (1, (3, 7), [(6, 8)]), (1, (2, 3), [(2, 5)])]
@@ -253,9 +236,7 @@ class Announced(Case):
             self.check(f"{origin} {usual} {inside}", announced_jumps(packets, inside, usual), [
                 (pts[frames.index(one)], pts[frames.index(other)]) for one, other in wanted])
 
-    def test_late_jumps(self) -> None:
-        """Of the jumps where a frame at least lies between, those count after which more time
-        passes than is usual; how many others there are. Wherever PTS begin anew."""
+    def test_counts_jumps_with_more_time_than_usual(self) -> None:
         frames = [0, 1, 3, 4, 7, 8, 12, 13]
         rows: list[tuple[int, list[tuple[int, int]], int]] = [
             (0, [(1, 3), (3, 4), (4, 7), (7, 8), (8, 12)], 0),

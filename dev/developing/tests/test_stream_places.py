@@ -1,4 +1,4 @@
-"""Where something is missing of a stream, in words and in multiplexes."""
+"""Losses in transport streams, options of --pace, and reading lists of specifications."""
 from __future__ import annotations
 
 import argparse
@@ -32,18 +32,14 @@ from .parts import asked_for, call_words
 from .transmissions import programme, scheduled
 
 
-# Where something is missing, and how late PTS are.
+# Losses, and how late PTS are.
 
-Jump = Tuple[int, int]  # the PTS around one
-Around = Tuple[Optional[int], Optional[int]]  # those around a place
+Jump = Tuple[int, int]  # the PTS around a jump
+Around = Tuple[Optional[int], Optional[int]]  # the PTS around a loss
 
 
-class Places(Case):
-    """Where something is missing: marks, the PCR, jumps that are announced."""
-
-    def test_lists_each_place_once(self) -> None:
-        """Each once, at the ends too; what is announced is left out where it is known already.
-        Wherever PTS begin anew."""
+class LossPlaces(Case):
+    def test_lists_each_loss_once(self) -> None:
         for shift in range(9):
             pts = [TICKS * (at - shift) % CLOCK for at in range(9)]
             jump, other = (pts[3], pts[5]), (pts[7], pts[8])
@@ -71,9 +67,7 @@ class Places(Case):
         self.must("said", what_of(Place(1, 2, is_announced=True)) == "more time passes than usual, "
                   "and a jump of the counter is announced")
 
-    def test_which_are_one(self) -> None:
-        """Two places are one where both lack what is between the same PES packets: not where one
-        begins with the packet that ends the other. What is not known reaches on."""
+    def test_merges_losses_between_the_same_pes_packets(self) -> None:
         ends = [None, *range(5)]
         pairs = [(first, last) for first, last in itertools.product(ends, ends)
                  if first is None or last is None or first < last]
@@ -86,9 +80,7 @@ class Places(Case):
                                            for one in (pair, other))
             self.assertEqual(overlap(*places), max(first, begin) < min(last, end), places)
 
-    def test_the_longest_hole(self) -> None:
-        """Of two holes that the PCR tells at one mark the longer one counts, whichever comes first.
-        """
+    def test_takes_the_longer_of_two_losses(self) -> None:
         runs = [Run(at, 1, None if at == 4 else at * TICKS, 0, "-", "") for at in range(9)]
         for ticks in ((2, 3), (3, 2), (3, 3)):
             clocks = [Clocked(3 * TICKS, 5 * TICKS, one * TICKS, 9, TICKS, 9, "broken")
@@ -98,11 +90,8 @@ class Places(Case):
             self.must(f"{ticks}", told == [2 * TICKS], told)
 
 
-class Late(Case):
-    """How late PTS were, and up to where all is in a recording."""
-
-    def test_tells_how_late_and_how_early_pts_are(self) -> None:
-        """By the last samples how late PTS are, by the first ones how far they are ahead."""
+class LatePts(Case):
+    def test_measures_how_late_and_how_early_pts_are(self) -> None:
         rows: list[tuple[list[int], int, int]] = [
             ([], 0, 0), ([9], 0, 9), ([-9], 9, 0), ([-9, -30, 5, 7, 6], 30, 7),
             ([-30, *[5] * MOST_LATE], 0, 5), ([*[5] * MOST_LATE, -30], 30, 5),
@@ -120,71 +109,63 @@ class Late(Case):
                     (first + ahead) % CLOCK, 90_000 - late))
 
 
-# Holes of a recording that the counters of its PID do not tell, and clocks that jump.
+# Losses that the counters of the PID don't show, and clock jumps.
 
-BEGIN, COUNT = 900_000, 8  # the first frame, and how many subtitles there are
+BEGIN, COUNT = 900_000, 8  # the first frame, and the number of subtitles
 PAGE = 0, 0x88
 
 
-class Holes(Case):
-    """Holes, pauses and jumps."""
-
+class StreamLosses(Case):
     def programme(self, every: int = 1) -> list[bytes]:
-        """PES packets of a programme of eight seconds."""
+        """Return PES packets of a programme of eight seconds."""
         stl = programme(self, [(begin, begin + 20) for begin in range(
             BEGIN, BEGIN + 25 * COUNT, 25)], text=boxed(b"Number %d"), name="story.stl")
         return scheduled(self, stl, "--every", str(every))
 
-    def heard(self, made: list[Packet]) -> tuple[list[Place], list[ClockJump]]:
-        """The places at which something is missing of a multiplex, and the jumps of its clock."""
+    def survey_losses(self, made: list[Packet]) -> tuple[list[Place], list[ClockJump]]:
+        """Return the losses of a multiplex, and its clock jumps."""
         path = self.write("heard.ts", stream(made))
         found = survey(self.bench.program, path, PAGE).by_pid[TELETEXT_PID]
         return places_of(found), list(jumps_of(found))
 
-    def test_of_whole_streams(self) -> None:
-        """No loss and no jump: rates, PCR each 20 to 100 ms, with null packets, a pause of the
-        PCR, and a jump that is announced; at 40 Mbit/s a hole of 16 packets is seen."""
+    def test_finds_no_loss_in_complete_streams(self) -> None:
         pes = self.programme()
         for shape in (Shape(), Shape(4000, 1800), Shape(700, 9000, True), Shape(pause=(60, 100)),
                       Shape(jump=(60, 500_000), is_announced=True)):
-            places, jumps = self.heard(multiplexed(pes, shape))
+            places, jumps = self.survey_losses(multiplexed(pes, shape))
             self.must(f"{shape}", not places and not jumps, (places, jumps))
         made = b"".join(in_frames(pes, pts_in(pes[0]), 80))
         own = [at for at in range(0, len(made), PACKET)
                if made[at + 1] & 0x1F == TELETEXT_PID >> 8 and made[at + 2] == TELETEXT_PID & 255]
         torn = made[:own[40]] + made[own[56] - 5 * PACKET:]
         for name, data, count in (("whole", made, 0), ("torn", torn, 1)):
-            places, jumps = self.heard([Packet(0, data)])
+            places, jumps = self.survey_losses([Packet(0, data)])
             self.must(name, (len(places), len(jumps)) == (count, 0), (places, jumps))
 
-    def test_of_holes(self) -> None:
-        """16 packets of the PID and more lost: between which PTS; jumps are told too, and a loss
-        where the clock jumps forward is a hole."""
+    def test_finds_losses_of_16_packets_and_more(self) -> None:
         pes = self.programme()
         for shape in (Shape(4000, 1800), Shape(2000, 3600, True)):
             made = multiplexed(pes, shape)
             for count in (16, 64):
-                places, _ = self.heard(without(made, 70, count))
+                places, _ = self.survey_losses(without(made, 70, count))
                 known = [(one.before, one.after) for one in places]
                 first, last = known[0] if known else (None, None)
                 self.must(f"{shape} {count}", len(known) == 1 and first is not None
                           and last is not None and pts_in(pes[66]) <= first <= pts_in(pes[69])
                           and pts_in(pes[70 + count]) <= last <= pts_in(pes[74 + count]), known)
-        places, _ = self.heard(without(made, 70, 17))
+        places, _ = self.survey_losses(without(made, 70, 17))
         self.must("by its counter", [one.lost for one in places] == [1], places)
         for ticks in (8641 * SECOND, -SECOND, CLOCK // 2 - 10 * SECOND):
             made = multiplexed(pes, Shape(jump=(60, ticks)))
-            places, jumps = self.heard(made)
+            places, jumps = self.survey_losses(made)
             self.must(f"{ticks}", len(jumps) == 1 and abs(jumps[0].ticks - ticks) < 400
                       and not places, (jumps, places))
             number = [at for at, one in enumerate(made) if one.pid == TELETEXT_PID][60]
-            places, jumps = self.heard(made[:number - 40] + made[number + 5:])
+            places, jumps = self.survey_losses(made[:number - 40] + made[number + 5:])
             missing = [one for one in places if one.missing]
             self.must(f"{ticks}: a loss", len(missing) <= (ticks > 0) and not jumps, places)
 
-    def test_is_judged(self) -> None:
-        """A hole of 0.64 s is told, and a jump; a PID without a PCR is, where holes may be, since
-        no pace is asked for."""
+    def test_judges_a_stream_with_losses_and_jumps(self) -> None:
         pes = self.programme()
         made = multiplexed(pes, Shape())
         words = [self.path("story.stl"), self.path("one.ts"), "--origin", "0"]
@@ -212,12 +193,10 @@ class Holes(Case):
                 self.must("in the report", told[0] in self.read("out/one.html").decode(), told)
 
 
-# The words of --pace: of a call, of a line of a list, and of a result that is judged again.
+# The value of --pace in a call, in a list, and in a result that is resumed.
 
 
-class Words(Case):
-    """Words of calls: of one pair, of a line of a list, of a batch that goes on."""
-
+class PaceOptions(Case):
     def setUp(self) -> None:
         super().setUp()
         for name in ("one.stl", "one.ts", "two.stl"):
@@ -227,7 +206,6 @@ class Words(Case):
         return make_parser("").parse_args(words)
 
     def test_passes_the_pace_to_check(self) -> None:
-        """What is taken, what `check` gets, and what is asked once more."""
         for word, pace in (("none", None), ("1", 1), ("0025", 25), ("2160000", 2160000)):
             asked = asked_for("one.stl", "one.ts", "--pace", word)
             given = ["--pace", str(pace)] if pace else []
@@ -240,7 +218,6 @@ class Words(Case):
                 asked_for("one.stl", "one.ts", "--pace", word)
 
     def test_takes_the_pace_of_a_line_of_a_list(self) -> None:
-        """Of a list: the pace of the call, one of its own, none, and one that is wrong."""
         line = f"{self.path('one.stl')} {self.path('one.ts')}"
         items = pairs_at(self.write("list", f"{line}\n{line} --pace 9\n{line} --pace none\n"
                                             f"{line} --pace 0\n".encode()),
@@ -250,8 +227,7 @@ class Words(Case):
                       "line 4: argument --pace: 0 is no PES interval: give 1 to 2160000 frames"),
                   items)
 
-    def test_goes_on(self) -> None:
-        """What was judged by another pace, or by one that was measured, is judged again."""
+    def test_judges_again_with_another_pace(self) -> None:
         program = MadeWith("1", "0" * 64, None)
         asked = [asked_for(self.path("one.stl"), self.path("one.ts"), *words)
                  for words in ((), ("--pace", "none"), ("--pace", "16"))]
@@ -265,7 +241,7 @@ class Words(Case):
             self.must(f"{one.pace}: of an earlier tool", not is_current(known, one, program))
 
 
-# tools/reading-list: what a definition or a clause rests on, in a repository of two crates.
+# tools/reading-list: what a definition or clause depends on, in a repository of two crates.
 
 FILES = {
     "crates.txt": "# name: what it stands on\nlow:\nhigh: low\n",
@@ -329,10 +305,7 @@ def library(case: Case) -> Library:
 
 
 class ReadingLists(Case):
-    """Reading lists of two crates."""
-
-    def test_finds_what_is_meant(self) -> None:
-        """Names by their files, what is needed first, and nothing that is only bound."""
+    def test_finds_definitions_by_their_imports(self) -> None:
         them = library(self)
         for name, want in {
                 "total": "low.size low.pair high.total",
@@ -347,9 +320,7 @@ class ReadingLists(Case):
         total = count_reading(*them.reading_list("total"))
         self.must("counts, with no comment", total == (3, 6, 2), total)
 
-    def test_reads_from_the_top(self) -> None:
-        """What names something comes before it, in the order of the text: the higher crate
-        first."""
+    def test_lists_users_before_what_they_use(self) -> None:
         them = library(self)
         for name, want in {
                 "total": "high.total low.pair low.size", "law": "high.IsSize high.size low.size",
@@ -357,15 +328,13 @@ class ReadingLists(Case):
             found = " ".join(f"{one.file.crate}.{one.name}" for one in them.highest_first(name))
             self.must(name, found == want, found)
 
-    def test_holds_how_much_is_to_be_read(self) -> None:
-        """As many lines as there may be, and one more."""
+    def test_limits_the_lines_to_read(self) -> None:
         library(self)
         told = list(too_long(self.folder, {"total": 6, "high/count.other": 2}))
         self.must("lines", told == [
             None, "high/count.other needs 6 lines to be read, at most 2 are allowed"], told)
 
-    def test_refuses_what_is_unclear(self) -> None:
-        """A name of two files, and names of none."""
+    def test_refuses_ambiguous_and_unknown_names(self) -> None:
         them = library(self)
         for name, why in (("size", "high/Things.size"), ("none", "no definition"),
                           ("count.none", "clause")):
@@ -376,7 +345,6 @@ class ReadingLists(Case):
             self.must(name, why in told, told)
 
     def test_reads_an_index(self) -> None:
-        """The clauses of a row's last cell, each once; one that is not there is told."""
         them = library(self)
         text = "| one | two |\n| a | `high/count.other`, `high/law` |\n| b | `high/law` |\n"
         self.must("clauses", clauses_in(text) == ["high/count.other", "high/law"],

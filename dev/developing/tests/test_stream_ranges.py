@@ -1,4 +1,4 @@
-"""Some of a subtitle file judged, by --from and --to; and what the printed commands name."""
+"""Part of a subtitle file judged with --from and --to, and the files that printed commands name."""
 from __future__ import annotations
 
 import os
@@ -21,28 +21,24 @@ BAD = b"no letter: \xe6"
 
 
 def three(first: int) -> list[tuple[int, int]]:
-    """From when to when three subtitles are due, and what they are in a row of 6."""
+    """Return the frames of three subtitles."""
     return [(first + 50 * at, first + 50 * at + 40) for at in range(1, 4)]
 
 
-class Ranges(Case):
-    """A day's file, of which one programme was recorded."""
-
+class DayFiles(Case):
     def day(self, *texts: bytes, name: str = "day.stl") -> str:
-        """Three subtitles in the first minute, and three in the second, with these texts."""
+        """Write a file with three subtitles in the first minute and three in the second."""
         texts = texts or tuple(b"Number %d" % number for number in range(1, 7))
         return subtitle_file(self, [(begin, end, text) for (begin, end), text in zip(
             [*three(0), *three(MINUTE)], texts)], name)
 
-    def sent(self, *words: str) -> str:
-        """The second programme as it was sent, or what the words take of the day."""
+    def transmission(self, *words: str) -> str:
+        """Write the transmission of the second programme, or of the range in `words`."""
         self.schedule(self.day(), "second.pes", *(words or LATER))
         return self.path("second.pes")
 
-    def test_of_a_day(self) -> None:
-        """Found, counted and judged are the subtitles in the range alone; each has its place in the
-        whole file."""
-        day, second = self.day(), self.sent()
+    def test_judges_only_subtitles_in_the_range(self) -> None:
+        day, second = self.day(), self.transmission()
         for words, word, count in (
                 (LATER, "accepted", 3), (("--from", "00:01:02:00"), "accepted", 3),
                 (("--from", "00:01:02:01"), "accepted", 2), ((), "refused", 6),
@@ -63,10 +59,8 @@ class Ranges(Case):
         self.must("files", sorted(os.listdir(self.path("out"))) == [
             "one.html", "one.json", "one.txt"])
 
-    def test_refused_elsewhere(self) -> None:
-        """What is refused outside of the range is not told, and changes nothing; what is in it is,
-        with its place in the file."""
-        second = self.sent()
+    def test_ignores_faults_outside_the_range(self) -> None:
+        second = self.transmission()
         texts = [b"Number %d" % number for number in range(1, 7)]
         first_bad, last_bad = self.day(*texts[:2], BAD, *texts[3:], name="first.stl"), \
             self.day(*texts[:5], BAD, name="last.stl")
@@ -81,9 +75,8 @@ class Ranges(Case):
         for words, word in ((EARLIER, "accepted"), ((), "refused"), (LATER, "refused")):
             self.must(f"alone {words}", judged(self, last_bad, *words).word == word)
 
-    def test_none_left(self) -> None:
-        """A range without a subtitle is not judged, with a recording and without one."""
-        day, second = self.day(), self.sent()
+    def test_refuses_a_range_without_subtitles(self) -> None:
+        day, second = self.day(), self.transmission()
         for words in (("--from", "00:02:00:00", "--to", "00:01:00:00"), ("--from", "00:05:00:00"),
                       ("--to", "00:00:00:00"), (*LATER, "--to", "00:01:02:00")):
             for recording in list[list[str]]([[], [second]]):
@@ -95,16 +88,14 @@ class Ranges(Case):
         self.must("nor has the file one", found.word == "not judged" and
                   found.told[-1] == f"{none} has no subtitle", found.said)
 
-    def test_wrong_times(self) -> None:
-        """A text that is no time is a usage error."""
+    def test_refuses_invalid_times(self) -> None:
         for words in (("--from", "1:00"), ("--to", "24:00:00:00"), ("--from", "00:00:00:25")):
             done = self.tool("qc", self.day(), *words)
             self.must(f"{words}", done.status == 2 and done.told == [
                 f"qc: argument {words[0]}: {words[1]} is no time of the day: give HH:MM:SS:FF, "
                 "25 frames a second"], done)
 
-    def test_parts_in_a_range(self) -> None:
-        """Breaks of a programme in a day's file: parts are of the range alone."""
+    def test_finds_parts_within_the_range(self) -> None:
         times = [(100 * at, 100 * at + 60) for at in range(1, 15)]
         day = programme(self, [*times, (MINUTE * 5, MINUTE * 5 + 9)], name="day.stl")
         sent = [(pts + (pts >= 780 * 3600) * 3600 * 999, some)
@@ -117,8 +108,7 @@ class Ranges(Case):
                   "--from 00:00:04:00 --to 00:00:30:10" in commands[0] and
                   "--from 00:00:32:00 --to 00:00:58:10" in commands[1], commands)
 
-    def test_knows_the_files_that_a_command_names(self) -> None:
-        """The files that a command names; `judged` finds no others in any that is printed."""
+    def test_finds_the_files_that_a_command_names(self) -> None:
         for line, files in (
                 ("subttx check one.stl one.pes --pes 0-9 --all", ["one.stl", "one.pes"]),
                 ("./subttx check 'one of.stl' /dev/null --option german",
@@ -127,11 +117,8 @@ class Ranges(Case):
             self.must(line, shown_files(line) == files, shown_files(line))
 
 
-class Read(Case):
-    """A subtitle file of which some is passed over."""
-
+class SkippedSubtitles(Case):
     def test_leaves_out_subtitles_by_their_first_block(self) -> None:
-        """A subtitle goes with its first block's TCI; one that is no time is never left out."""
         made = [tti_block(1, 25, 50, 20, 2, b"one"), tti_block(2, 75, 99, 20, 2, b"tw", 0),
                 tti_block(2, 0, 0, 20, 2, b"o"), tti_block(3, 100, 150, 20, 2, b"three"),
                 tti_block(4, 0, 0, 20, 2, b"note", comment=1),
@@ -151,8 +138,7 @@ class Read(Case):
             self.must(f"{between}: places", [one and one.position for one in at] == [
                 1, 2, 2, 3, 3, 4, 5], at)
 
-    def test_as_shown(self) -> None:
-        """What is read here is what the program shows, wherever that shows a file."""
+    def test_reads_a_file_as_the_program_shows_it(self) -> None:
         path = programme(self, [(9, 20), (20, 30), (40, 50)], 2)
         with open(path, "rb") as file:
             self.must("read", subtitles_read(file.read()) == subtitles_in(self.bench.program, path))
@@ -164,7 +150,6 @@ class Read(Case):
         self.must("long texts", len(shown) == 4 and subtitles_read(self.read(path)) == shown, shown)
 
     def test_passes_from_and_to_to_check(self) -> None:
-        """The options for some frames, as `check` takes them."""
         for between, words in ((Between(), ""), (Between(25), "--from 00:00:01:00"),
                                (Between(0, 50), "--to 00:00:02:00"), (Between(
                                    9, FRAMES_OF_A_DAY - 1), "--from 00:00:00:09 --to 23:59:59:24")):
@@ -173,7 +158,6 @@ class Read(Case):
         self.must("has", [one.has(frame) for frame in (4, 5, 8, 9)] == [False, True, True, False])
 
     def test_notes_a_title_an_hour_before_the_programme(self) -> None:
-        """A file that begins at 00:00:00:00 and goes on an hour later, at least."""
         rows: list[tuple[list[int], str | None]] = [
             ([0, HOUR], "01:00:00:00"), ([0, HOUR - 1], None), ([1, HOUR], None), ([0], None),
             ([], None), ([0, 0, HOUR + 25, 2 * HOUR], "01:00:01:00"), ([0, 9, HOUR], None),
@@ -184,8 +168,7 @@ class Read(Case):
             self.must(f"{begins}", words.endswith(f"say --from {time}") if time else words == "",
                       words)
 
-    def test_title_told(self) -> None:
-        """It is told, in one sentence; the verdict is that of the whole file, until it is asked."""
+    def test_prints_the_note_on_a_title_once(self) -> None:
         times = [(10 * HOUR + begin, 10 * HOUR + end) for begin, end in three(0)]
         without = programme(self, times, name="without.stl")
         pes = self.write("one.pes", joined(sendings(self, without)))
@@ -204,36 +187,30 @@ class Read(Case):
 
 
 class Adjoining(OfProgramme):
-    """--to at the TCI of a subtitle that adjoins the one before."""
-
     due = [(100, 150), (200, 250), (250, 300), (300, 350), (400, 450), (500, 550)]
 
-    def test_does_not_judge_an_end_between_adjoining_subtitles(self) -> None:
-        """Where the next subtitle comes, as it does, nobody can judge the end: the pauses around
-        are to type. Where another page comes, or something else is wrong too, it is refused; at a
-        pause it is judged."""
+    def test_advises_pauses_instead_of_an_end_between_adjoining_subtitles(self) -> None:
         for frame, near in ((250, (151, 351)), (300, (151, 351))):
-            told = self.judge(self.sent, "--to", time_of(frame))
+            told = self.judge(self.transmission, "--to", time_of(frame))
             self.must(f"{frame}", told.word == "not judged" and told.result["parts"] == [] and [
                 word.rpartition(" ")[2] for word in told.verdict.to_type] == [*map(time_of, near)],
                 (told.said, told.verdict.to_type))
             for end in near:
-                told = self.judge(self.sent, "--to", time_of(end))
+                told = self.judge(self.transmission, "--to", time_of(end))
                 self.must(f"{frame}, {end}", told.word == "accepted", told.said)
-        told = self.judge(self.sent, "--to", time_of(500))
+        told = self.judge(self.transmission, "--to", time_of(500))
         self.must("a pause", told.word == "accepted", told.said)
 
         other = [(pts, [HEADER, row(22, b"Other"), CLOSING]) if pts == 250 * TICKS else
-                 (pts, some) for pts, some in self.sent]
-        one_late = late(1, 200 * TICKS, 200 * TICKS)(self.sent)
+                 (pts, some) for pts, some in self.transmission]
+        one_late = late(1, 200 * TICKS, 200 * TICKS)(self.transmission)
         for name, sent in (("another page", other), ("another fault", one_late)):
             told = self.judge(sent, "--to", time_of(250))
             self.must(name, told.word == "refused", told.said)
         self.check("the fault leads, and not the end", told.verdict.sentence,
                    'Refused: at 00:00:08:00 subtitle 2, "Number 2", is 1 frame late.')
 
-    def test_as_it_is_asked(self) -> None:
-        """What is due then is as the call says it: of an open file, by a layout and an option."""
+    def test_expects_pages_with_the_options_of_the_call(self) -> None:
         words = "--open", "--layout", "row=-2", "--option", "german", "--page", "150"
         stl = subtitle_file(self, [(*one, b"Gr\xc8u\xfbe %d" % one[0]) for one in self.due], row=20)
         with open(stl, "r+b") as file:
@@ -245,8 +222,6 @@ class Adjoining(OfProgramme):
                   told.said)
 
     def test_finds_the_last_tco_at_which_a_subtitle_adjoins(self) -> None:
-        """The last TCO, where one fault of the content is all, and is told there, or within as many
-        frames as are allowed."""
         rows: list[tuple[int, int, list[int], int | None]] = [
             (72, 0, [200], 200), (72, 0, [199], None), (72, 0, [201], None), (72, 0, [], None),
             (72, 2, [202], 200), (72, 2, [203], None), (67, 0, [200], None),
@@ -260,7 +235,6 @@ class Adjoining(OfProgramme):
             self.assertEqual(adjoining_at(part), wanted, (number, within, frames))
 
     def test_finds_the_pauses_near_a_frame(self) -> None:
-        """Before a frame and behind it; the end of the file is one."""
         subtitles = [Subtitle(at, at, begin, end, 22, 2, b"")
                      for at, (begin, end) in enumerate(self.due)]
         for count, frame, wanted in ((6, 300, [150, 350]), (6, 100, [150]), (6, 500, [450, 550]),

@@ -1,7 +1,6 @@
-"""The lines of `survey`: leads over the pictures, first pictures, tables, clocks, PES packets, and
-what ends them; what the tools know by them.
+"""The lines of `survey`, and what the tools read from them.
 
-Recordings are made here, and the lines that there are of them by docs/manual/survey.md.
+The expected lines of made recordings follow docs/manual/survey.md.
 """
 from __future__ import annotations
 
@@ -25,20 +24,20 @@ from .parts import surveyed
 from .transmissions import CLOSING, HEADER, PAGE, row
 from .test_formats_characters import character_set_packet
 
-FIRST = 1_000_000  # the PTS of a first picture, and of a first PES packet of Teletext
-LAST = FIRST + 100_000 * TICKS  # that of a last one
+FIRST = 1_000_000  # PTS of the first picture and of the first PES packet of Teletext
+LAST = FIRST + 100_000 * TICKS  # PTS of the last one
 LATER_PID, OTHER_VIDEO = 0x111, 0x300
 
 
-def told(case: Case, data: bytes, *kinds: str) -> list[str]:
-    """The lines of some kinds."""
+def lines_of_kinds(case: Case, data: bytes, *kinds: str) -> list[str]:
+    """Return the lines of some kinds."""
     status, lines = case.program("survey", case.write("one.ts", data))
     case.must("status", status == 0, status)
     return [line for line in lines if line.split()[0] in kinds]
 
 
 def each_frame(count: int, first: int = FIRST) -> list[bytes]:
-    """A PES packet of Teletext a frame."""
+    """Return a PES packet of Teletext for each frame."""
     return [pes_packet((first + TICKS * frame) % CLOCK, [CLOSING]) for frame in range(count)]
 
 
@@ -46,29 +45,25 @@ def each_frame(count: int, first: int = FIRST) -> list[bytes]:
 
 def lead(frame: int, ticks: int = 0, pid: int = TELETEXT_PID, video: int = VIDEO_PID,
          number: int | None = None, first: int = FIRST) -> str:
-    """The line of the PES packet of a frame, behind the picture of that frame."""
+    """Return the line about the PES packet of a frame after the picture of that frame."""
     return f"lead {pid} {(first + TICKS * frame) % CLOCK} {ticks} {video} " \
         f"{frame + 1 if number is None else number}"
 
 
 def timed_video(pts: int | None, dts: int | None = None, stream_id: int = 0xE0) -> bytes:
-    """A PES packet of video with these times."""
+    """Return a PES packet of video with these times."""
     times = [] if pts is None else [pts_bytes(pts)] if dts is None else [
         pts_bytes(pts), pts_bytes(dts)]
     return b"\0\0\1" + bytes([stream_id, 0, 0, 0x80, (0, 0x80, 0xC0)[len(times)], 5 * len(times)]) \
         + b"".join(times) + mpeg_2_picture()
 
 
-class Leads(Case):
-    """The line `lead`."""
-
+class LeadLines(Case):
     def lines_of(self, *programmes: Programme, frames: int = 60) -> list[str]:
-        """Those of a recording of programmes."""
-        return told(self, shown(programmes, frames).data, "lead")
+        """Return the lines of a recording of programmes."""
+        return lines_of_kinds(self, shown(programmes, frames).data, "lead")
 
     def test_prints_the_lead_once_a_second(self) -> None:
-        """Of the first PES packet of each second, within the first group of pictures and behind it,
-        and over the wrap of the clock."""
         rows: list[tuple[str, tuple[int, ...], int, list[int]]] = [
             ("one group", (0, 12), 0, [0, 0, 0]), ("no group", (), 0, [0, 0, 0]),
             ("a step behind the group", (0, 12), 7200, [0, 0, -7200]),
@@ -82,8 +77,6 @@ class Leads(Case):
                     lead(25 * at, ticks, first=first) for at, ticks in enumerate(wanted)])
 
     def test_leads_the_video_of_its_own_programme(self) -> None:
-        """Of each PID with Teletext, over the video of its own programme, in any order of
-        programmes and PIDs."""
         both = dict.fromkeys((TELETEXT_PID, LATER_PID), each_frame(30))
         self.check("two with Teletext", self.lines_of(Programme(both, FIRST), frames=30),
                    [lead(frame, pid=pid) for frame in (0, 25) for pid in both])
@@ -95,16 +88,14 @@ class Leads(Case):
                            [lead(frame, video=own) for frame in (0, 25)])
 
     def made_of(self, *several: tuple[int, bytes]) -> list[str]:
-        """The lines of PES packets on PIDs of a programme with two of video."""
+        """Return the lines of PES packets on PIDs of a programme with two videos."""
         maker = Maker([*components(), (OTHER_VIDEO, MPEG_2, b"")])
         maker.put_tables()
         for pid, data in several:
             maker.put(pid, data)
-        return told(self, maker.data, "lead")
+        return lines_of_kinds(self, maker.data, "lead")
 
     def test_leads_the_last_picture_with_a_time(self) -> None:
-        """Which picture counts: the last that has a time, DTS or else PTS; of the PID of video that
-        began first; and one Teletext PES packet behind each."""
         def teletext(frame: int) -> tuple[int, bytes]:
             return TELETEXT_PID, pes_packet(FIRST + TICKS * frame, [CLOSING])
 
@@ -145,8 +136,8 @@ class Leads(Case):
 
 def pictures(flagged: Sequence[int], lost: Sequence[int] = (), scrambled: Sequence[int] = (),
              wrong: Sequence[int] = (), twice: Sequence[int] = ()) -> bytes:
-    """Some have the random_access_indicator; TS packets of theirs, by their numbers, are lost,
-    scrambled, flagged as wrong, or sent twice."""
+    """Return a stream in which some pictures have a random_access_indicator, and some TS packets
+    are lost, scrambled, marked as damaged, or repeated."""
     maker = Maker(components())
     maker.put_tables()
     tables = maker.taken()
@@ -160,11 +151,8 @@ def pictures(flagged: Sequence[int], lost: Sequence[int] = (), scrambled: Sequen
     return b"".join(tables + made)
 
 
-class FirstPictures(Case):
-    """The line `pictures`."""
-
+class PictureLines(Case):
     def test_counts_breaks_and_scrambled_packets_of_a_group(self) -> None:
-        """Breaks of the counter and scrambled TS packets of the group, and of no other."""
         group = 3, 15  # its TS packets are 6 to 29
         # LOST SCRAMBLED, and at the end of the recording PASSED STARTED
         rows: list[tuple[str, bytes]] = [
@@ -179,37 +167,37 @@ class FirstPictures(Case):
             ("0 0 3 1", pictures((3,))), ("2 1 3 1", pictures((3,), [17, 40], [59])),
             ("1 1 0 1", pictures((0,), [1], [3])), ("0 0 30 0", pictures(())),
             ("0 0 29 0", pictures((), [6], [8])),
-            ("1 0", pictures((3, 25), lost=range(17, 32))),  # the counter is the same again
+            # the counter has wrapped to the same value
+            ("1 0", pictures((3, 25), lost=range(17, 32))),
             ("0 0 29 0", pictures((), twice=[6, 7, 8], lost=[10]))]
         for number, (wanted, data) in enumerate(rows):
-            lines = told(self, data, "pictures")
+            lines = lines_of_kinds(self, data, "pictures")
             self.must(f"{number}: {wanted}", lines == [f"pictures {VIDEO_PID} {wanted}"], lines)
 
 
     def test_counts_a_packet_sent_twice_once(self) -> None:
-        """A TS packet that is sent twice counts once: each kind of them, and the flagged one."""
         kinds = "video", "picture", "group", "pictures"
-        wanted = told(self, pictures((3, 15)), *kinds)
+        wanted = lines_of_kinds(self, pictures((3, 15)), *kinds)
         for number in range(34):
             self.check(f"TS packet {number} twice",
-                       told(self, pictures((3, 15), twice=[number]), *kinds), wanted)
+                       lines_of_kinds(self, pictures((3, 15), twice=[number]), *kinds), wanted)
 
     def test_takes_no_flag_of_a_damaged_packet(self) -> None:
-        """A TS packet with transport_error_indicator flags no picture, nor the next one."""
         for count, passed in ((0, 3), (1, 14)):
             wrong = [6][:count]
-            self.check(f"{wrong}", told(self, pictures((3, 15), wrong=wrong), "video"),
+            self.check(f"{wrong}", lines_of_kinds(self, pictures((3, 15), wrong=wrong), "video"),
                        [f"video {VIDEO_PID} {passed}"])
 
     def lines_of(self, *several: bytes) -> list[str]:
-        """The lines of TS packets of the video PID."""
+        """Return the lines of TS packets of the video PID."""
         maker = Maker(components())
         maker.put_tables()
-        return told(self, maker.data + b"".join(several), "video", "picture", "group", "pictures")
+        return lines_of_kinds(self, maker.data + b"".join(several), "video", "picture", "group",
+                              "pictures")
 
     def split(self, cuts: Sequence[int], pes: bytes, flagged: bool = False, counter: int = 0
               ) -> list[bytes]:
-        """The TS packets of a PES packet that is cut at some places."""
+        """Return the TS packets of a PES packet that is cut at some places."""
         maker = Maker([])
         maker.counters[VIDEO_PID] = counter + 15
         for begin, end in zip([0, *cuts], [*cuts, len(pes)]):
@@ -219,13 +207,12 @@ class FirstPictures(Case):
         return maker.packets
 
     def test_reads_video_headers_over_several_packets(self) -> None:
-        """Wherever the header of a PES packet is cut, its times and what follows it are read."""
         pes = timed_video(FIRST, FIRST - 7)
         pes = pes[:19] + CLOSED_GROUP + pes[19:]
         second = timed_video(FIRST + TICKS)
         rows: list[list[int]] = [[], *([cut] for cut in range(1, 30)), [1, 2, 3], [*range(1, 28)]]
         for cuts in rows:
-            made = self.split([], second)  # the PID is known from the first stream_id on
+            made = self.split([], second)  # the first stream_id makes the PID known
             made += self.split(cuts, pes, True, 1)
             made += self.split([9], second, counter=len(made) & 15)
             self.check(f"cut at {cuts}", self.lines_of(*made), [
@@ -234,7 +221,6 @@ class FirstPictures(Case):
                 f"group {VIDEO_PID} {FIRST} {FIRST} closed", f"pictures {VIDEO_PID} 0 0 1 1"])
 
     def test_begins_no_picture_if_its_header_is_lost(self) -> None:
-        """Then no picture begins: it may be none."""
         first, rest = self.split([9], timed_video(FIRST), True)
         gap, *_ = self.split([], b"x" * 9, counter=1)
         whole = self.split([], timed_video(FIRST), True, 2)
@@ -246,7 +232,6 @@ class FirstPictures(Case):
         self.check("another follows", self.lines_of(first, gap, *whole), begun)
 
     def test_begins_a_picture_at_stream_id_e0_to_ef(self) -> None:
-        """What has no start code of a PES packet of video, or is damaged."""
         begun = f"picture {VIDEO_PID} {FIRST}"
         rows: dict[str, tuple[bytes, bool]] = {
             "stream_id E0": (timed_video(FIRST), True),
@@ -265,7 +250,6 @@ class FirstPictures(Case):
             self.check(name, lines[2:-2], [begun] * is_picture)
 
     def test_counts_no_announced_jump_as_lost(self) -> None:
-        """A jump of the counter that is announced, here or in a packet before, is no loss."""
         first = self.split([], timed_video(FIRST), True)
         for counter, lost in ((1, 0), (2, 1), (0, 1), (9, 1)):
             second, = self.split([], timed_video(FIRST + TICKS), counter=counter)
@@ -278,22 +262,19 @@ class FirstPictures(Case):
                            f"pictures {VIDEO_PID} {wanted} 0 0 1")
 
 
-# Tables: what PAT and PMT name, and PIDs that they do not.
+# Tables: PAT and PMT, and PIDs outside them.
 
 class Named(NamedTuple):
-    """A row: the PMT's components, or PES packets on PIDs behind the tables; and lines."""
+    """The components of a PMT, or PES packets on PIDs; and the expected lines."""
 
     components: list[tuple[int, int, bytes]]
     wanted: list[str]
 
 
-class Tables(Case):
-    """Lines `programme`, `stream`, `announce` and `teletext`."""
-
+class TableLines(Case):
     kinds = "programme", "stream", "announce", "teletext", "pcr", "ahead"
 
     def test_prints_each_stream_and_page_of_a_pmt(self) -> None:
-        """Each stream and each page of a PMT, of which there may be many."""
         page = teletext_descriptor()
         other = b"\x46" + teletext_descriptor(b"fra", 5, 0x50, 1)[1:]
         two = b"\x56\x0a" + teletext_descriptor(b"deu", 2, 0x77)[2:] \
@@ -324,12 +305,10 @@ class Tables(Case):
             if table[PACKET - 4:]:
                 maker.put_packet(PMT_PID, 0, table[PACKET - 4:].ljust(PACKET - 4, b"\xff"))
             maker.packets += [filler(AUDIO_PID, maker.counters).data] * 5
-            self.check(name, told(self, maker.data, *self.kinds),
+            self.check(name, lines_of_kinds(self, maker.data, *self.kinds),
                        ["programme 1 8191", *row.wanted])
 
     def test_reads_a_pmt_among_other_sections(self) -> None:
-        """Behind the rest of a section, and behind a section of another table; sent twice, it is
-        printed once."""
         table = program_map(1, [(TELETEXT_PID, PRIVATE, teletext_descriptor())], 0x1FFF)
         rows = {"the rest of a section": [b"\x1e" + b"\x55" * 30 + table[1:]],
                 "a private section": [section(0xFE, 9, bytes(5)) + table[1:]],
@@ -339,7 +318,7 @@ class Tables(Case):
             for pid, data in [maker.tables[0], *((PMT_PID, one) for one in several)]:
                 maker.put_packet(pid, BEGINS, data.ljust(PACKET - 4, b"\xff"))
             maker.packets += [filler(AUDIO_PID, maker.counters).data] * 5
-            self.check(name, told(self, maker.data, *self.kinds), [
+            self.check(name, lines_of_kinds(self, maker.data, *self.kinds), [
                 "programme 1 8191", "stream 257 6", "announce 257 888 656e67 2", "teletext 257"])
 
     def test_ignores_tables_that_are_not_in_force(self) -> None:
@@ -367,7 +346,6 @@ class Tables(Case):
             self.check(name, told(self, maker.data, *self.kinds), wanted)
 
     def test_reads_the_last_of_twenty_programmes(self) -> None:
-        """Twenty programmes, of which the last has Teletext and a PCR of its own."""
         maker, pids = Maker([]), range(0x400, 0x414)
         maps = [(pid, program_map(number, [(TELETEXT_PID, PRIVATE, teletext_descriptor())] if
                                   pid == pids[-1] else [(pid + 0x100, MPEG_2, b"")], pid + 0x200))
@@ -380,7 +358,7 @@ class Tables(Case):
                 maker.put_pcr(FIRST + TICKS * frame - (9 if pid == pids[0] + 0x200 else AHEAD))
             maker.put(TELETEXT_PID, pes)
         first, last = pids[0] + 0x200, pids[-1] + 0x200
-        lines = told(self, maker.data, *self.kinds)
+        lines = lines_of_kinds(self, maker.data, *self.kinds)
         self.check("tables", lines[:42], [
             line for number, pid in enumerate(pids, 1) for line in (
                 f"programme {number} {pid + 0x200}",
@@ -393,9 +371,7 @@ class Tables(Case):
                 f"ahead {TELETEXT_PID} {FIRST + TICKS * frame} {AHEAD}")),
             f"pcr {first} {FIRST + TICKS * 29 - 9}", f"pcr {last} {FIRST + TICKS * 29 - AHEAD}"])
 
-    def test_follows_teletext_in_no_pmt(self) -> None:
-        """A PID that no PMT names is followed from the first PES packet on that has its
-        data_identifier within the same TS packet, if that is 10 to 1F."""
+    def test_follows_teletext_outside_any_pmt(self) -> None:
         whole, *others = each_frame(6)
         rows: dict[str, tuple[list[bytes], int, bool]] = {
             "whole": ([whole], 0, True), "45 bytes": ([whole[:45], whole[45:]], 1, True),
@@ -411,7 +387,7 @@ class Tables(Case):
                 maker.put_packet(TELETEXT_PID, BEGINS * (place == 0), part)
             for pes in others:
                 maker.put(TELETEXT_PID, pes)
-            found = told(self, maker.data, "teletext", "end")
+            found = lines_of_kinds(self, maker.data, "teletext", "end")
             count = 6 - missing
             self.check(name, found, [
                 f"teletext {TELETEXT_PID}", f"end {TELETEXT_PID} {count} 0 "
@@ -421,8 +397,8 @@ class Tables(Case):
 # Clocks.
 
 def with_pcr(intervals: Iterable[tuple[int, int]], behind: int = 1) -> bytes:
-    """PCR that come some ticks and some TS packets behind the one before, the others audio, between
-    two PES packets of Teletext; so many TS packets behind the last PCR comes the second."""
+    """Return PCRs with intervals in ticks and TS packets, between two PES packets of Teletext; the
+    second comes some packets after the last PCR."""
     maker, pcr = Maker(components()), FIRST
     maker.put_tables()
     maker.put(TELETEXT_PID, pes_packet(FIRST, []))
@@ -435,13 +411,10 @@ def with_pcr(intervals: Iterable[tuple[int, int]], behind: int = 1) -> bytes:
     return maker.data
 
 
-class Clocks(Case):
-    """Lines `clock` and `ahead`."""
-
+class ClockLines(Case):
     def test_finds_late_pcr(self) -> None:
-        """A PCR that is late by what is usual in the last hundred, or goes back."""
         usual = [(3600, 5)] * 1000
-        # PCR, and TICKS PACKETS USUAL USUALPACKETS of those that are told
+        # PCR, and TICKS PACKETS USUAL USUALPACKETS of reported ones
         rows: list[tuple[str, Sequence[tuple[int, int]], list[str]]] = [
             ("late", [*usual, (10_801, 12)], ["10801 12 3600 5"]),
             ("not late", [*usual, (10_800, 12)], []),
@@ -457,13 +430,13 @@ class Clocks(Case):
             ("four", [*[(3600, 5)] * 4, (20_000, 9)], []),
             ("five", [*[(3600, 5)] * 5, (20_000, 9)], ["20000 9 3600 5"])]
         for name, intervals, wanted in rows:
-            lines = told(self, with_pcr(intervals, 2), "clock")
+            lines = lines_of_kinds(self, with_pcr(intervals, 2), "clock")
             self.must(name, lines == [f"clock {TELETEXT_PID} {FIRST} {LAST} {one} whole"
                                       for one in wanted], lines)
         data = with_pcr([*usual, (20_000, 9)], 2)
         place = len(data) - 3 * PACKET  # of the late PCR
         twice = data[:place] + data[place - PACKET:place] + data[place:]
-        self.check("audio sent twice", told(self, twice, "clock"),
+        self.check("audio sent twice", lines_of_kinds(self, twice, "clock"),
                    [f"clock {TELETEXT_PID} {FIRST} {LAST} 20000 10 3600 5 whole"])
 
     def test_uses_no_adaptation_field_of_a_damaged_packet(self) -> None:
@@ -490,22 +463,20 @@ class Clocks(Case):
             self.check(name, told(self, data[:place] + more + data[place:], "clock"), wanted)
 
     def test_samples_pts_against_pcr_once_a_second(self) -> None:
-        """Once a second, by the last PCR, of a clock that runs fast or slow against the PTS."""
         for first in (FIRST, CLOCK - 40 * TICKS):
             for drift in (0, 1, 30, -7):
                 maker = Maker(components())
                 maker.put_tables()
                 for frame, one in enumerate(each_frame(90, first)):
                     maker.put_pcr(first + (TICKS + drift) * frame - AHEAD)
-                    if frame >= 10:  # the last PCR is never one that `pcr` tells
+                    if frame >= 10:  # the last PCR is never one in a `pcr` line
                         maker.put(TELETEXT_PID, one)
-                lines = told(self, maker.data, "ahead")
+                lines = lines_of_kinds(self, maker.data, "ahead")
                 self.must(f"{first} {drift}", lines == [
                     f"ahead {TELETEXT_PID} {(first + TICKS * frame) % CLOCK} "
                     f"{AHEAD - drift * frame}" for frame in (10, 35, 60, 85)], lines)
 
-    def test_samples_no_pts_behind_a_loss(self) -> None:
-        """The PES packet behind a gap marker is passed over, and the next one sampled."""
+    def test_samples_no_pts_after_a_loss(self) -> None:
         maker = Maker(components())
         maker.put_tables()
         for frame, one in enumerate(each_frame(30)):
@@ -513,14 +484,13 @@ class Clocks(Case):
             maker.put(TELETEXT_PID, one)
             if frame == 24:
                 maker.packets.pop()
-        self.check("frames", told(self, maker.data, "ahead"), [
+        self.check("frames", lines_of_kinds(self, maker.data, "ahead"), [
             f"ahead {TELETEXT_PID} {FIRST + TICKS * frame} {AHEAD}" for frame in (0, 26)])
 
-    def test_ahead_of_none(self) -> None:
-        """Not where the last PCR came four times as many TS packets before as is usual, or 256."""
+    def test_samples_no_pts_after_a_late_pcr(self) -> None:
         for usual, most in ((1, 255), (64, 255), (65, 259), (200, 799)):
             for since in (most, most + 1):
-                lines = told(self, with_pcr([(TICKS, usual)] * 20, since), "ahead")
+                lines = lines_of_kinds(self, with_pcr([(TICKS, usual)] * 20, since), "ahead")
                 wanted = [f"ahead {TELETEXT_PID} {LAST} {LAST - FIRST - TICKS * 20}"]
                 self.must(f"{usual} {since}", lines == wanted[:since <= most], lines)
 
@@ -528,7 +498,7 @@ class Clocks(Case):
 # PES packets.
 
 def of_pes(several: Iterable[bytes]) -> bytes:
-    """A stream of PES packets, each in a TS packet."""
+    """Return a stream with each PES packet in one TS packet."""
     maker = Maker(components())
     maker.put_tables()
     for one in several:
@@ -536,36 +506,33 @@ def of_pes(several: Iterable[bytes]) -> bytes:
     return maker.data
 
 
-def saying(*several: Sequence[bytes]) -> list[bytes]:
-    """PES packets with these Teletext packets, one a frame."""
+def pes_packets_with(*several: Sequence[bytes]) -> list[bytes]:
+    """Return PES packets with these Teletext packets, one a frame."""
     return [pes_packet(FIRST + TICKS * frame, some) for frame, some in enumerate(several)]
 
 
 def with_third(place: int, *new: int) -> list[bytes]:
-    """Five PES packets, the third of which has other bytes at a place."""
+    """Return five PES packets; the third has other bytes at a place."""
     made = each_frame(5)
     made[2] = made[2][:place] + bytes(new) + made[2][place + len(new):]
     return made
 
 
-class PesPackets(Case):
-    """Lines `pes`, `end` and `over`."""
-
+class PesLines(Case):
     def test_joins_pes_packets_that_differ_in_nothing_but_pts(self) -> None:
-        """Those in a row are one line where they differ in nothing but the PTS."""
         again = packet(0, 0, [8, 8, 0, 8, 0, 8, 3, 0], b" " * 32)  # the header, with C8
         # FIRST COUNT PTS STEP DOES/CONTROL UNITS FAULT
         begun = f"0 1 {FIRST} 0 heob/88080810 1 0"
         rows: list[tuple[str, list[bytes], list[str]]] = [
             ("alike", each_frame(5), [f"0 5 {FIRST} {TICKS} b/ 1 0"]),
-            ("DOES", saying([HEADER], [CLOSING], [CLOSING], [CLOSING]), [
+            ("DOES", pes_packets_with([HEADER], [CLOSING], [CLOSING], [CLOSING]), [
                 begun, f"1 1 {FIRST + TICKS} 0 cb/ 1 0", f"2 2 {FIRST + 2 * TICKS} {TICKS} b/ 1 0"
             ]),
-            ("CONTROL", saying([HEADER], [HEADER], [again], [again], [HEADER]), [
+            ("CONTROL", pes_packets_with([HEADER], [HEADER], [again], [again], [HEADER]), [
                 begun, f"1 1 {FIRST + TICKS} 0 heob/88080810 1 0",
                 f"2 2 {FIRST + 2 * TICKS} {TICKS} heob/88080830 1 0",
                 f"4 1 {FIRST + 4 * TICKS} 0 heob/88080810 1 0"]),
-            ("UNITS", saying([CLOSING], [CLOSING] * 2, [CLOSING] * 2, [CLOSING]), [
+            ("UNITS", pes_packets_with([CLOSING], [CLOSING] * 2, [CLOSING] * 2, [CLOSING]), [
                 f"0 1 {FIRST} 0 b/ 1 0", f"1 2 {FIRST + TICKS} {TICKS} b/ 2 0",
                 f"3 1 {FIRST + 3 * TICKS} 0 b/ 1 0"]),
             *((f"FAULT {fault}", with_third(place, byte), [
@@ -578,11 +545,10 @@ class PesPackets(Case):
                 f"0 2 {FIRST} {TICKS} b/ 1 0", "2 1 - 0 -/ 0 34",
                 f"3 2 {FIRST + 3 * TICKS} {TICKS} b/ 1 0"])]
         for name, pes, wanted in rows:
-            lines = told(self, of_pes(pes), "pes")
+            lines = lines_of_kinds(self, of_pes(pes), "pes")
             self.must(name, lines == [f"pes {TELETEXT_PID} {one}" for one in wanted], lines)
 
     def test_reads_teletext_headers_over_two_packets(self) -> None:
-        """Wherever the header of a PES packet is cut, `ahead`, `lead` and `end` have its PTS."""
         for cut in (1, 3, 4, 8, 9, 13, 14, 45, 100):
             maker = Maker(components())
             maker.put_tables()
@@ -591,18 +557,17 @@ class PesPackets(Case):
                 maker.put(VIDEO_PID, timed_video(FIRST + TICKS * frame))
                 maker.put_packet(TELETEXT_PID, BEGINS, pes[:cut])
                 maker.put_packet(TELETEXT_PID, 0, pes[cut:])
-            self.check(f"cut at {cut}", told(self, maker.data, "ahead", "lead", "end"), [
+            self.check(f"cut at {cut}", lines_of_kinds(self, maker.data, "ahead", "lead", "end"), [
                 *(line for frame in (0, 25) for line in (
                     lead(frame), f"ahead {TELETEXT_PID} {FIRST + TICKS * frame} {AHEAD}")),
                 f"end {TELETEXT_PID} 30 0 60 0 0 0 {FIRST + TICKS * 29}"])
 
     def test_reports_what_extract_refuses(self) -> None:
-        """What `extract` refuses, and nothing behind it."""
         length = (184).to_bytes(2, "big"), (10 * 184 - 6).to_bytes(2, "big")
         for pes, refusal in ((each_frame(5), 0), (with_third(3, 0xBE), 31), (with_third(0, 1), 31),
                              (with_third(4, *length[0]), 32), (with_third(4, *length[1]), 32),
                              (with_third(4, 0, 0), 32), (with_third(45, 0x20), 0)):
-            lines = told(self, of_pes(pes), "pes", "end")
+            lines = lines_of_kinds(self, of_pes(pes), "pes", "end")
             count, last = (2, 1) if refusal else (5, 0)
             self.must(f"{refusal}", lines[-1] == f"end {TELETEXT_PID} {count} 0 5 0 {refusal} "
                       f"{last} {FIRST + 4 * TICKS}", lines)
@@ -637,7 +602,6 @@ class PesPackets(Case):
                    [f"end {TELETEXT_PID} 1 0 2 0 0 1 {FIRST}"])
 
     def test_reads_more_than_is_buffered(self) -> None:
-        """More than is read at once, with bytes of no packet before it, in it and behind it."""
         pes = each_frame(1500)
         data, last = of_pes(pes), FIRST + 1499 * TICKS
         run = f"0 1500 {FIRST} {TICKS} b/ 1 0"
@@ -647,18 +611,19 @@ class PesPackets(Case):
                     ("alone", made, 0), ("before", bytes(1000) + made, 1000),
                     ("in it", made[:size * 1000] + bytes(100) + made[size * 1000:], 100),
                     ("behind", made + made[:100], 96 if size == 192 else 100)):  # a time stamp
-                lines = told(self, more, "pes", "end", "over")
+                lines = lines_of_kinds(self, more, "pes", "end", "over")
                 self.must(f"{size} {name}", lines == [
                     f"pes {TELETEXT_PID} {run}", f"end {TELETEXT_PID} 1500 0 1500 0 0 0 {last}",
                     f"over {skipped} 1502"], lines)
         for cut in (0, 100):
-            lines = told(self, b"".join(pes) + pes[0][:cut], "pes", "damaged", "end", "over")
+            lines = lines_of_kinds(self, b"".join(pes) + pes[0][:cut], "pes", "damaged", "end",
+                                   "over")
             self.must(f"a file, {cut}", lines == [
                 f"pes 0 {run}", *["damaged 0 1500 cut"][:cut], f"end 0 1500 0 0 0 0 0 {last}",
                 "over 0 0"], lines)
 
 
-# All lines of a recording, in their order.
+# All lines of a recording, in order.
 
 FRAMES = each_frame(3)
 GAP_MARKER = b"\0\0\1\xbd\0\xb2" + b"\xff" * 178
@@ -666,7 +631,7 @@ GAP_MARKER = b"\0\0\1\xbd\0\xb2" + b"\xff" * 178
 
 def of_teletext(pes: Iterable[bytes], change: Callable[[list[bytes]], list[bytes]] = list
                 ) -> bytes:
-    """Tables, then PES packets of Teletext, whose TS packets may be changed."""
+    """Return tables and PES packets of Teletext, whose TS packets may be changed."""
     maker = Maker(components())
     maker.put_tables()
     tables = maker.taken()
@@ -680,7 +645,7 @@ def without_second(packets: list[bytes]) -> list[bytes]:
 
 
 def repeat_first_for_second(packets: list[bytes]) -> list[bytes]:
-    """In place of the second one, which is lost, the first is sent again."""
+    """Repeat the first in place of the lost second."""
     return [packets[0], packets[0], *packets[2:]]
 
 
@@ -690,54 +655,55 @@ def scramble_second(packets: list[bytes]) -> list[bytes]:
 
 
 def announce_second(packets: list[bytes]) -> list[bytes]:
-    """In place of the second one, which is lost, a jump of the counter is announced."""
+    """Announce a counter jump in place of the lost second."""
     field = bytes([PACKET - 5, 0x80]).ljust(PACKET - 4, b"\xff")
     return [packets[0], head(TELETEXT_PID, 0, ADAPTATION_ALONE) + field, *packets[2:]]
 
 
 def with_units(pes: bytes, data_unit_id: int) -> bytes:
-    """A PES packet whose first data unit has another data_unit_id."""
+    """Replace the data_unit_id of the first data unit."""
     return pes[:46] + bytes([data_unit_id]) + pes[47:]
 
 
 class Listings(Case):
-    """What a recording is, as a whole; docs/manual/survey.md says it line by line."""
+    """Complete output, line by line as in docs/manual/survey.md."""
 
     maxDiff = None
 
     def lines_of(self, data: bytes) -> list[str]:
-        """All lines but the first two, which are the same for each."""
+        """Return all lines except the first two, which are always the same."""
         status, lines = self.program("survey", self.write("one.ts", data))
         self.check("status", status, 0)
         self.check("first lines", lines[:2], ["survey 1", f"head {data[:11].hex()}".rstrip()])
         return lines[2:]
 
     def test_prints_all_lines_of_a_programme(self) -> None:
-        """Of a programme with video and Teletext whose PES packets are those of a row."""
         other = packet(7, 0, [0, 5, 0, 8, 0, 8, 1, 0], b" " * 32)  # page 750
         held = "0b0b4869" + "20" * 36
         begun = f"pes 257 0 1 {FIRST} 0 heob/88080810 1 0"
         rows: dict[str, tuple[bytes, str]] = {
-            "rows": (of_teletext(saying([HEADER, row(20, b"Hi")], [CLOSING], [HEADER])),
+            "rows": (of_teletext(pes_packets_with([HEADER, row(20, b"Hi")], [CLOSING], [HEADER])),
                      f"sub 257 888; pes 257 0 1 {FIRST} 0 heo/88080810 2 0; rows 257 0 20:{held}; "
                      f"pes 257 1 1 1003600 0 c/ 1 0; pes 257 2 1 1007200 0 heob/88080810 1 0; "
                      "rows 257 2 -; subs 257 888 2; end 257 3 0 3 0 0 0 1007200; over 0 5"),
-            "strays": (of_teletext(saying([HEADER, CLOSING, row(20, b"Hi")], [CLOSING])),
+            "strays": (of_teletext(pes_packets_with([HEADER, CLOSING, row(20, b"Hi")], [CLOSING])),
                        f"sub 257 888; pes 257 0 1 {FIRST} 0 hecbs/88080810 3 0; rows 257 0 -; "
                        f"strays 257 0 20:{held}; pes 257 1 1 1003600 0 b/ 1 0; subs 257 888 1; "
                        "end 257 2 0 2 0 0 0 1003600; over 0 4"),
-            "data_unit_id 02": (of_teletext([with_units(one, 2) for one in saying([HEADER])]),
+            "data_unit_id 02": (
+                of_teletext([with_units(one, 2) for one in pes_packets_with([HEADER])]),
                                 f"sub 257 888; {begun}; rows 257 0 -; subs 257 888 1; "
                                 "end 257 1 0 1 0 0 0 1000000; over 0 3"),
-            "data_unit_id 04": (of_teletext([with_units(one, 4) for one in saying([HEADER])]),
+            "data_unit_id 04": (
+                of_teletext([with_units(one, 4) for one in pes_packets_with([HEADER])]),
                                 "pes 257 0 1 1000000 0 b/ 0 0; end 257 1 0 1 0 0 0 1000000; "
                                 "over 0 3"),
-            "two pages": (of_teletext(saying([HEADER], [other], [HEADER])),
+            "two pages": (of_teletext(pes_packets_with([HEADER], [other], [HEADER])),
                           f"sub 257 888; {begun}; rows 257 0 -; sub 257 750; "
                           "pes 257 1 1 1003600 0 ob/ 1 0; pes 257 2 1 1007200 0 heob/88080810 1 0; "
                           "subs 257 888 2; subs 257 750 1; end 257 3 0 3 0 0 0 1007200; over 0 5"),
             "character sets": (
-                of_teletext(saying([HEADER, character_set_packet(28, 0x24)],
+                of_teletext(pes_packets_with([HEADER, character_set_packet(28, 0x24)],
                                    [character_set_packet(29, 0x11, 4)],
                                    [character_set_packet(29, 0x11, 1)])),
                 "sub 257 888; set 257 28 0 4 4; pes 257 0 1 1000000 0 heob/88080810 2 0; "
@@ -786,7 +752,6 @@ class Listings(Case):
             self.check(name, self.lines_of(data), [*tables, *lines.split("; ")])
 
     def test_ends_pictures_with_group_and_pictures(self) -> None:
-        """The first pictures of a video PID end with `group`, then `pictures`."""
         tables = ["size 188", "programme 1 512", "stream 512 2", "stream 257 6",
                   "announce 257 888 656e67 2", "teletext 257"]
         for flagged, passed, count, last in (((3, 15), 3, 12, "0 0"), ((20,), 20, 10, "0 0 20 1")):
@@ -798,7 +763,6 @@ class Listings(Case):
                 "end 257 0 0 0 0 0 0 -", "over 0 62"])
 
     def test_prints_all_lines_of_other_files(self) -> None:
-        """A file of PES packets, one that goes on otherwise or ends within one, and others."""
         two = b"".join(each_frame(2))
         run, end = "pes 0 0 2 1000000 3600 b/ 1 0", "end 0 2 0 0 0 0 0 1003600"
         rows: dict[str, tuple[bytes, list[str]]] = {
@@ -812,13 +776,10 @@ class Listings(Case):
             self.check(name, self.lines_of(data), wanted)
 
 
-# What is known by such lines.
+# What the tools read from such lines.
 
-class Answered(Case):
-    """Whether a program's `survey` told all."""
-
-    def test_believes_a_last_line_whose_status_agrees(self) -> None:
-        """By its last line and its status; whatever else it says, of another version too."""
+class SurveyAnswers(Case):
+    def test_accepts_a_last_line_only_with_its_status(self) -> None:
         begin, over = f"survey {VERSION}", "over 0 9"
         for lines, status, why in (
                 ([begin, over], 0, None), ([begin], 0, "it did not end, status 0"),
@@ -836,8 +797,6 @@ class Answered(Case):
 
 
     def test_reads_each_kind_of_line(self) -> None:
-        """What is known by each kind of line, the first and the last of it; what is told besides is
-        for later versions."""
         def on_5(heard: Survey) -> Packets:
             return heard.by_pid[5]
 
@@ -861,7 +820,7 @@ class Answered(Case):
                    "PID 0x5: announced 888 eng subtitles in programme 1; subtitle pages sent: 210 "
                    f"211 212 213 214 215 216 217 218 219 220 221{more}"])
               for count, more in ((12, ""), (13, " and 1 more"), (14, " and 2 more"))),
-            # The PCR before a PMT is that of its PID, or of a PID before, of eight at most.
+            # The PCR before a PMT is that of its PID, or of an earlier PID, of eight at most.
             *((f"pcr 9 5; programme 1 9; pcr 9 8; {more}",
                lambda it: [one.after for one in it.programmes[1:]], wanted) for more, wanted in (
                    ("pcr 8 20; programme 1 8; programme 1 7; programme 2 7; programme 1 9",
@@ -883,7 +842,7 @@ class Answered(Case):
              [(28, 0, 1, None), (29, 4, None, 7)]),
             ("strays 5 3 20:41,21:4243; strays 5 9 -", lambda it: on_5(it).strays,
              [(3, ((20, b"A"), (21, b"BC"))), (9, ())]),
-            # A space that was hit, and a row of spaces, change no text.
+            # A damaged space, and a row of spaces, change no text.
             ("pes 5 0 1 100 0 he/ 1 0; rows 5 0 20:2041a042; pes 5 1 3 200 50 o/ 1 0; "
              "rows 5 1 20:20412042,21:2020; rows 5 3 -; pes 5 4 1 9 0 o/ 1 0; rows 5 4 20:20412042"
              "; pes 5 5 1 10 0 o/ 1 0; rows 5 5 21:20412042",
@@ -912,9 +871,7 @@ class Answered(Case):
                 heard = surveyed(*(line + more for line in lines.split("; ")))
                 self.must(f"{lines}{more}", known(heard) == wanted, known(heard))
 
-    def test_clock_before_a_map(self) -> None:
-        """The last PCR of its PID; where that has none, of the PID that a PMT of its programme
-        named last of eight at most that have one."""
+    def test_takes_the_last_pcr_before_a_pmt(self) -> None:
         chance = random.Random(7)
         for _ in range(200):
             heard, used, clocks = Survey(), dict[int, list[int]](), dict[int, int]()
@@ -931,8 +888,8 @@ class Answered(Case):
                 self.assertEqual(heard.programmes[-1].after, wanted, (before, pid, clocks))
                 before.append(pid)
 
-    def teller(self, lines: Sequence[str], status: int = 0) -> str:
-        """One that tells these lines, its words as bytes of the head, and what is not ASCII."""
+    def fake_survey(self, lines: Sequence[str], status: int = 0) -> str:
+        """Return a program that prints these lines."""
         path = self.write("program", "\n".join([
             "#!/bin/sh", "echo survey 1", r"printf 'later \377\n'",
             "echo head $(printf %s \"$*\" | od -An -v -tx1 | tr -d ' \\n')",
@@ -940,28 +897,26 @@ class Answered(Case):
         os.chmod(path, 0o755)
         return path
 
-    def test_calls_the_program_and_looks_after_each_line(self) -> None:
-        """What the program is asked for, a look after each line, and its status."""
+    def test_calls_the_listener_after_each_line(self) -> None:
         looks = list[int]()
-        found = survey(self.teller([]), "-one.ts", PAGE, 5, lambda: looks.append(1))
+        found = survey(self.fake_survey([]), "-one.ts", PAGE, 5, lambda: looks.append(1))
         self.must("words", found.head == b"survey --page 888 --pid 0x5 -- -one.ts"
                   and len(looks) == 4, found.head)
-        found = survey(self.teller([]), "one.ts", PAGE)
+        found = survey(self.fake_survey([]), "one.ts", PAGE)
         self.must("no more", found.head == b"survey --page 888 -- one.ts", found.head)
         with self.assertRaises(Unanswered):
-            survey(self.teller([], 3), "one.ts", PAGE)
+            survey(self.fake_survey([], 3), "one.ts", PAGE)
 
-    def test_takes_each_run_before_all_is_printed(self) -> None:
-        """Each run of a file with what is told behind it, before all is told; then the status."""
+    def test_returns_each_run_before_the_program_ends(self) -> None:
         runs = [f"pes 0 {number} 1 {number} 0 -/ 1 0" for number in range(4)]
         rows = "rows 0 0 20:41", "rows 0 2 -", "rows 0 3 20:41"
         lines = [runs[0], rows[0], runs[1], runs[2], rows[1], runs[3], rows[2]]
         for count, wanted in enumerate([[], [((20, b"A"),)], [((20, b"A"),), None]]):
-            told = [*runs_told(self.teller(lines[:2 * count - (count == 2)]), "one.pes", PAGE)]
+            told = [*runs_told(self.fake_survey(lines[:2 * count - (count == 2)]), "one.pes", PAGE)]
             self.must(f"{count}", [texts for _, texts in told] == wanted, told)
         told = list[tuple[Run, Texts | None]]()
         with self.assertRaises(Unanswered):
-            for one in runs_told(self.teller(lines, 3), "one.pes", PAGE):
+            for one in runs_told(self.fake_survey(lines, 3), "one.pes", PAGE):
                 told.append(one)
         self.must("all", [(run.first, texts) for run, texts in told] == [
             (0, ((20, b"A"),)), (1, None), (2, ())], told)

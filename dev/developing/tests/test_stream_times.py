@@ -1,5 +1,4 @@
-"""What is made of the clocks of a recording, by tables: time bases, breaks, the PCR of a programme,
-what is strange of PTS, where something is missing."""
+"""Tables about the clocks of a recording: time bases, breaks, PCRs, unusual PTS, losses, ranges."""
 from __future__ import annotations
 
 import itertools
@@ -23,7 +22,7 @@ from .parts import surveyed
 
 
 def packets_with(pts: Sequence[int | None], **more: Any) -> Packets:
-    """PES packets with these PTS, `None` for a mark."""
+    """Return PES packets with these PTS; `None` for a gap marker."""
     found = Packets(257, **more)
     found.runs = [Run(number, 1, None if one is None else one % CLOCK, 0, "m" if one is None else
                       "h", "") for number, one in enumerate(pts)]
@@ -31,12 +30,12 @@ def packets_with(pts: Sequence[int | None], **more: Any) -> Packets:
 
 
 def clocked(before: int, ticks: int, counters: str, packets: int = 100) -> Clocked:
-    """A strange pair of PCR, of what has one each tenth of a second, and 100 packets between."""
+    """Return an unusual pair of PCRs, with 100 packets between them."""
     return Clocked(before, before + 1, ticks, packets, SECOND // 10, 100, counters)
 
 
 def runs_of(numbers: set[int]) -> list[tuple[int, int]]:
-    """The numbers in a row, by the first and the last of each."""
+    """Join consecutive numbers into (first, last)."""
     firsts = sorted(one for one in numbers if one - 1 not in numbers)
     return list(zip(firsts, sorted(one for one in numbers if one + 1 not in numbers)))
 
@@ -46,7 +45,7 @@ BEFORE = (CLOCK - DAY) // 2  # ticks that a PTS of a day may be before its origi
 
 
 def all_over_the_clock(chance: random.Random) -> Iterator[tuple[int, int]]:
-    """Yield origins, each with distances from it over the 26.5 hours of the clock."""
+    """Yield origins, each with distances over the 26.5 hours of the clock."""
     for origin in (0, 1, TICKS, CLOCK // 2, CLOCK - 1,
                    *(chance.randrange(CLOCK) for _ in range(9))):
         for at in (0, TICKS, CLOCK // 2, DAY, CLOCK - BEFORE, CLOCK, *(
@@ -56,16 +55,12 @@ def all_over_the_clock(chance: random.Random) -> Iterator[tuple[int, int]]:
 
 
 def text_of(number: int, does: str) -> Texts:
-    """The rows after a PES packet with a number that changes the text: blank, the same, or its own.
-    """
+    """Return the rows after a PES packet: blank, the same, or a text of its own."""
     return () if "b" in does else ((20, b"same" if does[-1] == "y" else b"%d" % number),)
 
 
-class Times(unittest.TestCase):
-    """Tables."""
-
-    def test_pts_all_over_the_clock(self) -> None:
-        """Each function on a PTS says what it would say if PTS never wrapped, over 26.5 hours."""
+class ClockTables(unittest.TestCase):
+    def test_treats_pts_as_if_they_never_wrapped(self) -> None:
         for origin, ticks in all_over_the_clock(random.Random(26)):
             pts = (origin + ticks) % CLOCK
             frame, rest = divmod(ticks, TICKS)
@@ -86,8 +81,7 @@ class Times(unittest.TestCase):
                       min(after % TICKS, -after % TICKS), after % TICKS)
             self.assertEqual(found, wanted, (origin, ticks))
 
-    def test_pictures_all_over_the_clock(self) -> None:
-        """Pictures leave out as many frames, whatever their first PTS."""
+    def test_counts_missing_pictures_for_any_first_pts(self) -> None:
         chance = random.Random(27)
         for origin in (0, CLOCK - 5 * TICKS, *(chance.randrange(CLOCK) for _ in range(50))):
             for missing in range(4):
@@ -96,7 +90,6 @@ class Times(unittest.TestCase):
                 self.assertEqual(left_out(pts, False), missing, (origin, pts))
 
     def test_answers_questions_on_spans_as_a_plain_list_does(self) -> None:
-        """What is said of spans, held against the numbers that they have, one by one."""
         chance = random.Random(7)
         for _ in range(300):
             several = [Spans(sorted((first, first + chance.randrange(6)) for first in chance.sample(
@@ -116,9 +109,7 @@ class Times(unittest.TestCase):
         self.assertEqual((list(falling), falling.is_rising()), ([(7, 9), (1, 8)], False))
         self.assertEqual(list(joined_spans([falling])), [(1, 9)])
 
-    def test_within_a_length(self) -> None:
-        """How much later a PTS is than a first one, where those that are asked for come up to so
-        much later: what is before the first has as much room as what is behind them."""
+    def test_computes_a_distance_around_a_wrap(self) -> None:
         for length, first in itertools.product(
                 (0, TICKS, CLOCK // 2 - 1, CLOCK // 2 + TICKS, TICKS * FRAMES_OF_A_DAY),
                 (0, 5, CLOCK // 2, CLOCK - 1)):
@@ -128,7 +119,6 @@ class Times(unittest.TestCase):
                                  (length, first))
 
     def test_answers_questions_on_pes_packets_as_a_plain_list_does(self) -> None:
-        """What is said of PES packets, held against a plain list of them."""
         chance = random.Random(7)
         for _ in range(400):
             packets, known = Packets(5), list[tuple[int, int | None, str]]()
@@ -159,8 +149,6 @@ class Times(unittest.TestCase):
         self.assertEqual(headers_in("0808081f+10"), (bytes([0, 8, 0, 8, 0, 8, 1, 15]), b"\1\0"))
 
     def test_begins_a_time_base_where_pts_go_back(self) -> None:
-        """PTS may go on over 2^33; two in a row before the two that came before begin a base, also
-        back over it."""
         second = 90_000
         for pts, begins in (
                 ([0, 1, 2, 3], [0]), ([second * 9, second * 10, 0, second], [0, 2]),
@@ -171,9 +159,7 @@ class Times(unittest.TestCase):
             self.assertEqual(bases, [range(*pair) for pair in zip(begins, [*begins[1:], len(pts)])],
                              pts)
 
-    def test_many_bases(self) -> None:
-        """PTS that go back at each PES packet: those stretches are looked at in which the page
-        changes most."""
+    def test_selects_the_time_bases_with_the_most_changes(self) -> None:
         edges = [Shown(100 * at, 100 * at + 50, at, b"%d" % at) for at in range(400)]
         for count, wanted in ((MOST_BASES, MOST_BASES), (5000, MOST_BASES)):
             packets = packets_with([10 ** 9 - TICKS * at for at in range(count + 2)])
@@ -186,16 +172,12 @@ class Times(unittest.TestCase):
                            for run in packets.runs]
         self.assertEqual(bases_of(edges, packets, 0)[0].packets, (0, 39))
 
-    def test_many_maps(self) -> None:
-        """The PCR before a PMT is that of its PID, or of one before, however often it changes."""
+    def test_takes_the_pcr_before_each_pmt(self) -> None:
         survey = surveyed("pcr 513 7", *(f"programme 1 {512 + at % 2}" for at in range(200)))
         self.assertEqual({one.after for one in survey.programmes[2:]}, {7})
         self.assertIsNone(survey.programmes[0].after)
 
     def test_parts_a_programme_at_breaks(self) -> None:
-        """An origin that is later by five seconds than in the part before, and than just before;
-        another time base, or a minute that the recording lacks begins a part. What is early by
-        less, or late by less, goes with the one before."""
         five = LEAST_BREAK
         for tracks, ends in (
                 ([(0, 0)], [9]), ([(0, 0), (0, -five)], [9, 18]), ([(0, 0), (0, 1 - five)], [18]),
@@ -205,29 +187,27 @@ class Times(unittest.TestCase):
                 ([(0, 0), (0, -five), (0, -2 * five)], [9, 18, 27]),
                 ([(0, 0), (0, -75), (0, -150)], [27]),  # two delays of three seconds
                 ([(0, 0), (0, -75), (0, -75 - five)], [18, 27]),
-                ([(0, 0), (0, 75), (0, 75 - five)], [27]),  # early, and then late by two seconds
+                ([(0, 0), (0, 75), (0, 75 - five)], [27]),  # early, then late by two seconds
                 ([(0, 0), (0, -five), (0, -1 - five)], [9, 27]),
                 ([(0, 0), (0, 5), (0, 0)], [27]), ([(0, 0), (0, 5), (0, -five)], [18, 27])):
             row: Any = [Stretch(SimpleNamespace(base=base, start=start),  # type: ignore[arg-type]
                                 9 * at, 9 * at + 9) for at, (base, start) in enumerate(tracks)]
             self.assertEqual([one.end for one in by_breaks(row)], ends, tracks)
 
-    def test_clock_of_the_last_map(self) -> None:
-        """Of several programmes with a PID the last one that was told."""
+    def test_takes_the_pcr_pid_of_the_last_programme(self) -> None:
         self.assertIsNone(Survey().clock_of(257))
         survey = surveyed("programme 1 100", "stream 257 6", "programme 2 200", "stream 257 6",
                           "programme 3 300", "stream 258 6", "pcr 100 5", "pcr 200 9", "pcr 300 1",
                           "pcr 100 8", "pcr 200 11")
         self.assertEqual([survey.clock_of(pid) for pid in (257, 258, 259)], [(9, 11), (1, 1), None])
 
-    def test_finds_strange_pts_with_the_worst(self) -> None:
-        """From which PTS on, how many, and the worst of them, early or late."""
+    def test_finds_unusual_pts_with_the_worst(self) -> None:
         rows: list[tuple[list[int], list[tuple[str, int, int]]]] = [
                 ([], []), ([-5, -700, -20], [("behind", 3, -700)]), ([-1], [("behind", 1, -1)]),
                 ([SECOND, SECOND + 1], [("early", 1, SECOND + 1), ("changed", 2, SECOND - 999)]),
                 ([1000 + SECOND // 2], []), ([1001 + SECOND // 2] * 20, [("changed", 20, 45_001)]),
                 ([-45_000, 47_000], [("behind", 1, -45_000), ("changed", 2, -46_000)])]
-        # Behind the first minute, and before it, where PTS begin anew in that.
+        # After the first minute, and before it if PTS wrap in it.
         for begin, (more, wanted) in itertools.product((61, -100), rows):
             ahead = [*enumerate([30_000, *[1000] * 8]), *enumerate(more, begin)]
             samples = [(SECOND * (at - 3) % CLOCK, one) for at, one in ahead]
@@ -240,9 +220,7 @@ class Times(unittest.TestCase):
             self.assertEqual([(one.kind, one.pts) for one in found], [(kind, 7)] * bool(kind),
                              (alone, kind))
 
-    def test_places_marks_and_holes_once(self) -> None:
-        """Marks, and what the PCR and the counters of other PIDs alone tell elsewhere; a clock that
-        goes back is no hole."""
+    def test_lists_gap_markers_and_losses_once(self) -> None:
         hole, back = clocked(500, 99_000, "broken"), clocked(500, -99_000, "broken")
         rows: list[tuple[list[int], list[Clocked], list[tuple[int, int]]]] = [
                 ([], [hole], [(500, 90_000)]), ([], [back], []),
@@ -259,10 +237,11 @@ class Times(unittest.TestCase):
                              (marks, several))
 
     def test_cuts_the_range_of_each_row(self) -> None:
-        """The three questions of a cut of frames 100 to 200: where it begins, where it ends, which
-        PES packets lie in the time. A PES packet is its frame and what it does: a header, which
-        erases, of a page that is blank then, opens it, closes it, changes its text (`x`), to the
-        same one each time (`y`)."""
+        """Table of ranges for frames 100 to 200.
+
+        A PES packet is its frame and letters: header, erase, blank, open, closed, text change (`x`)
+        or the same text (`y`).
+        """
         whole, every, late = (100, 200), (100, 200, 25), (100, 200, 25, 2)
         rows: list[tuple[str, str, tuple[int, ...], tuple[int, int] | None, bool, bool, int]] = [
             # Where it begins.
@@ -348,7 +327,7 @@ class Times(unittest.TestCase):
              "100 heo, 101 c, 200 heob, 201 cb, 202 heob, 225 heob", late, (0, 3), True, True, 5),
             ("late: as late as may be", "100 he, 201 he, 202 he, 203 -", late, (0, 2), True, True,
              4),
-            # Which PES packets lie in the time.
+            # Which PES packets are in the time.
             ("one behind alone", "100 he, 900 he, 150 he, 200 he, 201 -, 202 -", every, (0, 3),
              True, True, 5),
             ("two behind", "100 he, 900 he, 901 he, 200 he", every, (0, 0), False, True, 3),
@@ -403,9 +382,7 @@ class Times(unittest.TestCase):
             self.assertEqual((found.range, found.came, found.has_end), (wanted, first, False),
                              (frames, begin, end))
 
-    def test_marks_at_the_ends_of_a_cut(self) -> None:
-        """A mark just behind the last frame, up to the first PES packet of a later one, is judged;
-        one before the first frame is not."""
+    def test_judges_a_gap_marker_just_after_the_last_frame(self) -> None:
         for frames, wanted in (
                 ([0, 50, None, 75], (0, 2)), ([0, 50, None, None, 75], (0, 3)),
                 ([0, 50, None], (0, 2)), ([0, 50, 75, None], (0, 1)), ([None, 0, 50, 75], (1, 2)),
@@ -415,8 +392,6 @@ class Times(unittest.TestCase):
             self.assertEqual(found, wanted, frames)
 
     def test_cuts_all_of_a_long_programme(self) -> None:
-        """All of a programme is taken, also where it is longer than half of what PTS count, and
-        nothing of what comes before or after it, in whatever runs it comes."""
         hour, step = 90_000, 250
         for hours, before, after in ((1, 3, 9), (9, 0, 9), (13, 1, 1), (14, 0, 0), (14, 1, 8),
                                      (20, 0, 0), (20, 1, 2), (23, 0, 0), (23, 0, 2)):
@@ -430,9 +405,7 @@ class Times(unittest.TestCase):
                 wanted = max(begin // step - 1, 0), min(end // step, count - 1)
                 self.assertEqual(found, wanted, (hours, before, after, length, origin))
 
-    def test_runs_outside(self) -> None:
-        """No run is passed over of which one may be of the time, forward, back, or standing; one
-        far off is."""
+    def test_skips_only_runs_far_from_the_time(self) -> None:
         for first, step, length, shift in itertools.product(
                 range(14), (-2, -1, 0, 1, 3), (1, 2, 5), (0, 5, 7, 9)):
             frames = [first + step * at for at in range(length)]
@@ -443,8 +416,7 @@ class Times(unittest.TestCase):
             self.assertTrue(step < 0 or frames[-1] >= 4 or is_outside(run, low, high), frames)
         self.assertTrue(is_outside(Run(0, 9, None, 0, "m", ""), 0, 9))
 
-    def test_ends_within_some_frames(self) -> None:
-        """Up to the longer of both bounds."""
+    def test_extends_a_range_to_the_longer_limit(self) -> None:
         for (every, within), more in itertools.product(((25, 2), (25, 40), (2, 40)), (0, 1)):
             last = 100 + max(every, within) + more
             made = Packets(257, [Run(at, 1, TICKS * frame, 0, "heo", "") for at, frame in
@@ -454,8 +426,6 @@ class Times(unittest.TestCase):
                              (every, within, more))
 
     def test_finds_clock_jumps_where_nothing_is_missing(self) -> None:
-        """Where nothing is missing, and more packets than a tenth of those of that time would be
-        there: the clock was set anew."""
         for one, wanted in ((clocked(5, 99_000, "whole"), [ClockJump(5, 90_000)]),
                             (clocked(5, 99_000, "broken"), []),
                             (clocked(5, 99_000, "unknown"), []),
@@ -464,8 +434,7 @@ class Times(unittest.TestCase):
                             (clocked(5, -99_000, "whole"), [ClockJump(5, -108_000)])):
             self.assertEqual(list(jumps_of(packets_with([], clocked=[one]))), wanted, one)
 
-    def test_words_of_places(self) -> None:
-        """What is missing, and between which PTS."""
+    def test_describes_losses(self) -> None:
         for place, words in (
                 (Place(1, 2), "a break in the stream"), (Place(1, 2, 1), "1 TS packet lost"),
                 (Place(1, 2, 2, 1), "2 TS packets lost, 1 TS packet scrambled"),

@@ -1,4 +1,4 @@
-"""Transport streams that are written, read again, and read from a pipe; languages."""
+"""Transport streams of dev/pes2ts, `extract`, and the languages of subtitle files."""
 from __future__ import annotations
 
 
@@ -10,17 +10,11 @@ from .bench import Case, example, example_bytes
 from .transmissions import packets
 
 
-# Transport streams that are written, read again, and told as a feed; languages of subtitle files.
-
 PID = 0x101
 
 
-class Written(Case):
-    """Streams that are written."""
-
-    def test_why_nothing(self) -> None:
-        """Why nothing is given of a PID, or nothing more; those of which nothing is are told in
-        the order of the PIDs."""
+class ExtractMessages(Case):
+    def test_reports_why_nothing_is_extracted(self) -> None:
         known = Survey()
         for pid, packets, scrambled, refusal, count, words in (
                 (6, 3, 2, 0, 0, "PID 0x6 has no whole PES packet in 3 TS packets"),
@@ -42,7 +36,6 @@ class Written(Case):
         self.must("silent", silent == [1, 2, 5, 6, 9], silent)
 
     def test_names_the_languages_of_ebu_tech_3264(self) -> None:
-        """EBU Tech 3264, appendix 3: those that national options are for, and others."""
         for code, wanted in (
                 ("09", "eng"), ("08", "deu ger"), ("0A", "spa"), ("0a", "spa"), ("28", "swe"),
                 ("27", "fin"), ("15", "ita"), ("0F", "fra fre"), ("06", "ces cze"), ("1B", "hun"),
@@ -52,11 +45,8 @@ class Written(Case):
             self.must(code, names_of(code) == wanted.split(), names_of(code))
 
 
-class Carried(Case):
-    """dev/pes2ts, and what `subttx extract` takes out of its streams."""
-
+class ConvertedStreams(Case):
     def test_extracts_what_was_put_in(self) -> None:
-        """The same PES packets, with TS packets of each size, from a pipe, behind other bytes."""
         done = self.tool("pes2ts", example("story.pes"), "0x101")
         self.check("made", (done.status, done.told), (0, ["pes2ts: 5 PES packets as PID 0x101"]))
         made = [done.out[at:at + 188] for at in range(0, len(done.out), 188)]
@@ -70,8 +60,7 @@ class Carried(Case):
             self.check(name, (done.status, done.out), (0, b"written 5 pes 0 gaps\n"))
             self.check(f"{name}: bytes", self.read("back.pes") == example_bytes("story.pes"), True)
 
-    def test_names_the_first_that_is_no_teletext(self) -> None:
-        """After the PES packets before it."""
+    def test_reports_the_first_packet_that_is_no_teletext(self) -> None:
         data = example_bytes("story.pes")
         first = packets(data)[0]
         for name, pes, count, line in (
