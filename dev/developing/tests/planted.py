@@ -12,7 +12,7 @@ from subtitles.formats.stl import NEW_LINE
 from .bench import Case
 from .transmissions import CLOSING, HEADER, PAGE, Sent, sendings, subtitle_file
 from .test_judging_reasons import KEEPING_HEADER
-from .test_right_recordings import SHARES
+from .test_correct_recordings import SHARES
 
 FIRST = 900_000  # the earliest frame of the first TCI
 QUIET = 80  # frames before the first and after the last subtitle with only blank pages

@@ -2,7 +2,7 @@
 
 dev/snapshots/GROUP.txt has the arguments, status and printed lines of each call, and from each file
 what the printed lines do not repeat. Seeds and names of calls are those of `random_calls`,
-`random_folders` and `test_report_at_random`. The chosen calls reach every branch of the tools that
+`random_folders` and `test_report_random`. The chosen calls reach every branch of the tools that
 900 such calls reach. `dev/check-tools --update test_snapshots` writes the files again; `git diff`
 then shows what a change means for the user.
 """
@@ -18,7 +18,7 @@ import tempfile
 from typing import Any, Callable, Iterable, Iterator, NamedTuple
 
 from subtitles.common.program import TOP
-from . import random_calls, random_folders, test_report_at_random as reports
+from . import random_calls, random_folders, test_report_random as reports
 from .bench import BENCH
 
 FOLDER = os.path.join(TOP, "dev", "snapshots")

@@ -15,7 +15,7 @@ from .streams import (
 from .transmissions import (
     EACH, LASTS, ORIGIN, apart, joined, one_late, packets, programme, sendings, times)
 from .test_clock_delays import EARLIER, FIRST_PTS, STARTED, STORY
-from .test_judging_paced import large, lost
+from .test_judging_losses import large, lost
 from .test_stream_pace import without_pid, filled
 
 # Members of a result, and parts of its lines, that contain a PTS or depend on the file.

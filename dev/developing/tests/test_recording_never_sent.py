@@ -25,7 +25,7 @@ from .streams import Carried, NEW, OLD, Programme, VIDEO_PID, in_turn, shown
 from .parts import asked_for, surveyed
 from .transmissions import CLOSING, Sent, joined, packets, programme
 from .test_judging_pairs import broken
-from .test_right_recordings import in_stream as in_pcr
+from .test_correct_recordings import in_stream as in_pcr
 
 PAGE = (0, 0x88)
 ONE, TWO, THREE = 257, 258, 259

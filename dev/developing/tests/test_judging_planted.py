@@ -1,7 +1,7 @@
 """Which subtitle and fault a sentence names first.
 
 The gate plants a fault in 100 programmes. From dev/, `python3 -m
-developing.tests.test_judging_named PROGRAM FIRST LAST` tries other seeds and prints each unnamed
+developing.tests.test_judging_planted PROGRAM FIRST LAST` tries other seeds and prints each unnamed
 fault.
 """
 from __future__ import annotations

@@ -3,7 +3,7 @@
 Inserters with eleven kinds of delays, PES packets at fourteen kinds of intervals, breaks, several
 programmes, repeats. A rule that refuses correct recordings is worse than none, so `LOST` limits how
 many of each kind may be refused or not judged. The gate judges some of each kind; from dev/,
-`python3 -m developing.tests.test_right_recordings PROGRAM` judges all, and prints each that is not
+`python3 -m developing.tests.test_correct_recordings PROGRAM` judges all, and prints each that is not
 accepted, and the counts.
 """
 from __future__ import annotations
@@ -21,7 +21,7 @@ from .streams import (
     AHEAD, MPEG_2, PMT_PID, PRIVATE, TELETEXT_PID, VIDEO_PID, Maker, program_association,
     program_map, teletext_descriptor)
 from .transmissions import CLOSING, HEADER, Sent, joined, programme, sendings
-from .test_judging_paced import WRONG, large
+from .test_judging_losses import WRONG, large
 
 FIRST, EACH, LASTS = 900_000, 100, 60  # frames: first TCI, from one to the next, length of each
 SILENT_PID, OTHER_PID, LATER_PMT = 0x121, 0x111, 0x110
