@@ -1,29 +1,28 @@
 #!/usr/bin/env python3
-"""Makes what bench/run and bench/count measure with: inputs.py KIND COUNT STL PES
+"""Make the inputs of bench/run and bench/count: inputs.py KIND COUNT STL PES
 
-A subtitle file (EBU Tech 3264) and its transmission, of COUNT frames, or of many and fresh so many
-subtitles:
+Writes a subtitle file (EBU Tech 3264) and its transmission with COUNT frames, or for many and fresh
+with COUNT subtitles:
 
-day      one subtitle over all frames, each with a sending of one row
-pages    one subtitle of 23 rows of 40 cells over all frames, each with a sending
-many     subtitles of one row, of 20 frames each, one after the other, sent each 25 frames
-fresh    such subtitles of a frame each: no sending is that of the frame before
-service  all that a service sends, as below, whose page `check --every 25` accepts
-late     the same with the rows and the closing header of the page in the frame after its header, as
-         an inserter may that leaves a receiver time to erase it: accepted with `--within 1`
-cells    day, where each sending has another wrong cell than the one before
-passed   day, where no sending can be read, for its data_identifier and for a unit's length by turns
-swing    the first sending of day again and again, by turns at the first frame of the day and at the
-         last one
+day      one subtitle over all frames; each frame has a page transmission of one row
+pages    one subtitle of 23 rows of 40 cells over all frames; each frame has a page transmission
+many     consecutive subtitles of one row and 20 frames, sent every 25 frames
+fresh    such subtitles of one frame: each page transmission differs from the previous one
+service  a complete service, as below, whose page `check --every 25` accepts
+late     the same with the rows and the closing header of the page one frame after its header, so
+         that a receiver has time to erase it: accepted with `--within 1`
+cells    day, with another wrong cell in each page transmission
+passed   day with unreadable page transmissions: a wrong data_identifier or unit length, in turn
+swing    the first page transmission of day, alternately in the first and last frame of the day
 
 Each frame of a service is a PES packet of 920 bytes with 16 Teletext units, on lines 7 to 22 of the
-first field: packets of the magazines 1, 2, 3 and 8 by turns, in parallel mode. Each magazine is a
+first field: packets of the magazines 1, 2, 3 and 8 in turn, in parallel mode. Each magazine is a
 carousel of pages, 100 to 189, 200 to 289, 300 to 389 and 800 to 887: a header with C8, rows 1 to 23
-of random letters and spaces, a packet X/27 of random bytes. A packet 8/30 comes each second. Page
-888 has two lines of text for the first 75 frames of each 100, another text each time. It is sent in
-the frames 0, 25, 50 and 75 of the 100, from the first unit on: header, rows, closing header, and
-then the others. A page of magazine 8 that a sending interrupts begins again after it. The seed is
-fixed, so the same COUNT gives the same files.
+of random letters and spaces, a packet X/27 of random bytes. A packet 8/30 comes every second. Page
+888 has two lines of text in the first 75 of each 100 frames, a new text each time. It is sent in
+frames 0, 25, 50 and 75 of the 100, from the first unit on: header, rows, closing header, then the
+other pages. A page of magazine 8 that is interrupted begins again afterwards. The seed is fixed, so
+the same COUNT gives the same files.
 """
 from __future__ import annotations
 
@@ -48,13 +47,13 @@ from subtitles.formats.stl import NEW_LINE, TTI  # noqa: E402
 from subtitles.formats.teletext import CODE_WORDS, START  # noqa: E402
 
 EVERY = {"day": "1", "pages": "1", "many": "25", "fresh": "1", "service": "25", "late": "25",
-         "cells": "1", "passed": "1", "swing": "1"}  # frames from a sending to the next
-BROKEN = ("cells", "passed", "swing")  # kinds that are made of day
+         "cells": "1", "passed": "1", "swing": "1"}  # frames between page transmissions
+BROKEN = ("cells", "passed", "swing")  # kinds derived from day
 
 
 # Subtitle files
 
-Shown = tuple[int, int, int, bytes]  # the first frame, the frame after the last one, row and text
+Shown = tuple[int, int, int, bytes]  # first frame, end frame, row and text
 
 
 def stl_file(subtitles: list[Shown]) -> bytes:
@@ -64,7 +63,7 @@ def stl_file(subtitles: list[Shown]) -> bytes:
 
 
 def subtitles_of(kind: str, count: int) -> Iterator[Shown]:
-    """The subtitles of day, pages, many or fresh."""
+    """Return the subtitles of day, pages, many or fresh."""
     begin, end = START_BOX * 2, END_BOX * 2
     if kind == "day":
         yield 0, count, 22, DOUBLE_HEIGHT + begin + b"One sending a frame" + end
@@ -78,7 +77,7 @@ def subtitles_of(kind: str, count: int) -> Iterator[Shown]:
             yield frames * index, frames * index + frames, 22, text
 
 
-# What is broken of `day`
+# Faults in `day`
 
 SENDING = 184  # bytes of a PES packet
 LETTERS = 19  # of "One sending a frame", from column 11 on
@@ -86,7 +85,7 @@ FIRST_LETTER = DATA + UNIT + 4 + 2 + 11
 
 
 def break_pes(kind: str, data: bytearray) -> bytearray:
-    """The transmission of day, broken."""
+    """Return the transmission of day with faults."""
     if kind == "cells":
         for number, begin in enumerate(range(0, len(data), SENDING)):
             data[begin + FIRST_LETTER + number % LETTERS] = MIRROR[odd(ord("*"))]
@@ -103,9 +102,9 @@ def break_pes(kind: str, data: bytearray) -> bytearray:
 # A service
 
 UNITS = 16  # in each frame
-ROUND, SHOWN = 100, 75  # frames of a round, and those of them with a subtitle
+ROUND, SHOWN = 100, 75  # frames of a round, and of its subtitle
 ROWS = (20, 22)  # of the two lines, each in double height
-LINE = 31  # letters of a line, which has 36 cells with its codes, and so begins in column 2
+LINE = 31  # characters of a line, which has 36 cells with its codes, and so begins in column 2
 HEAD = START + (914).to_bytes(2, "big") + b"\x84\x80\x24"
 AFTER_PTS = b"\xff" * 31 + b"\x10"
 OTHER, SUBTITLE = 2, 3  # data_unit_id
@@ -117,12 +116,12 @@ Texts = list[tuple[bytes, bytes]]  # of each round in which a subtitle ends
 
 
 def letters(chance: random.Random, length: int) -> bytes:
-    """Random letters, and one time in six a space."""
+    """Return random letters, with spaces at one place in six."""
     return bytes(chance.choices(b"abcdefghijklmnopqrstuvwxyz     ", k=length))
 
 
 def page(chance: random.Random, magazine: int, number: int) -> list[bytes]:
-    """The packets of a page as they are sent: header, rows, packet X/27."""
+    """Return the packets of a page: header, rows, packet X/27."""
     title = b"%d%02d Page of the carousel" % (magazine or 8, number)
     numbers = [number % 10, number // 10, 0, 0, 0, 0, 2, 0]  # C8, update indicator
     made = [packet(magazine, 0, numbers, title.ljust(32))]
@@ -133,14 +132,14 @@ def page(chance: random.Random, magazine: int, number: int) -> list[bytes]:
 
 
 class Carousel:
-    """The pages of a magazine, one after another and again from the first on."""
+    """The pages of a magazine, repeated forever."""
 
     def __init__(self, chance: random.Random, magazine: int, count: int) -> None:
         self.pages = itertools.cycle([page(chance, magazine, number) for number in range(count)])
         self.page, self.place = next(self.pages), 0
 
     def next(self) -> bytes:
-        """The next packet."""
+        """Return the next packet."""
         if self.place == len(self.page):
             self.page, self.place = next(self.pages), 0
         self.place += 1
@@ -148,7 +147,7 @@ class Carousel:
 
 
 class Service:
-    """All that is sent, frame after frame."""
+    """Everything that is sent, frame by frame."""
 
     def __init__(self) -> None:
         chance = random.Random(472)
@@ -158,16 +157,16 @@ class Service:
         self.service_data = mirrored(packet(0, 30, [0], b"") + chance.randbytes(39))
 
     def turn(self, is_waiting: bool) -> Carousel:
-        """The magazine that comes next: while rows are waited for, none of their own magazine."""
+        """Return the next magazine; while rows wait, none of their own magazine."""
         magazine = next(self.turns)
         return next(self.turns) if is_waiting and magazine is self.magazines[-1] else magazine
 
     def frame(self, frame: int, first: list[bytes], is_waiting: bool) -> bytes:
-        """The PES packet of a frame, which begins with these packets of the page; its rows may be
-        waited for after it."""
+        """Return the PES packet of a frame, which begins with these packets of the page; its rows
+        may follow later."""
         units, own = list(first), self.magazines[-1]
         if units and own.place < len(own.page):
-            own.place = 0  # a page of which something is left is sent from its header on
+            own.place = 0  # an unfinished page is repeated from its header
         heads = PLACES[SUBTITLE][:len(units)] + PLACES[OTHER][len(units):]
         if frame % FRAMES_A_SECOND == FRAMES_A_SECOND // 2:
             units.append(self.service_data)
@@ -177,7 +176,7 @@ class Service:
 
 
 def rows_of(texts: Texts, frame: int) -> list[bytes]:
-    """The rows of the page in a frame with a sending; none where it is blank."""
+    """Return the rows of the page in a frame with a transmission; none if it is blank."""
     number, place = divmod(frame, ROUND)
     if place >= SHOWN or number >= len(texts):
         return []
@@ -187,7 +186,7 @@ def rows_of(texts: Texts, frame: int) -> list[bytes]:
 
 def write_service(file: BinaryIO, frames: int, texts: Texts, is_late: bool) -> None:
     service = Service()
-    later: list[bytes] = []  # what is sent in the next frame
+    later: list[bytes] = []  # packets for the next frame
     for frame in range(frames):
         first, later = later, []
         if frame % FRAMES_A_SECOND == 0:
@@ -200,7 +199,7 @@ def write_service(file: BinaryIO, frames: int, texts: Texts, is_late: bool) -> N
 # Files
 
 def make(program: str, kind: str, count: int, stl: str, pes: str) -> None:
-    """Writes the subtitle file and the transmission of a kind."""
+    """Write the subtitle file and the transmission of a kind."""
     if kind in ("service", "late"):
         chance = random.Random(3264)
         texts = [(letters(chance, LINE), letters(chance, LINE))
@@ -228,15 +227,17 @@ def make(program: str, kind: str, count: int, stl: str, pes: str) -> None:
 
 PACKET, PID = 188, 0x101
 FILLING = bytes([0x47, 0x02, 0x00, 0x10])  # the head of a packet of PID 0x200
-CLOCKED = 5  # frames between two times of the tables and the clock
-MIXED = 388  # TS packets for each PES packet; 5 have Teletext where it has 920 bytes
+CLOCKED = 5  # frames between tables and clock
+MIXED = 388  # TS packets for each PES packet; 5 have Teletext if it has 920 bytes
 
 
 def record(pes: str, ts: str, size: int = 0) -> None:
-    """Writes a transport stream of what dev/pes2ts makes of a PES file, of which for each PES
-    packet there are so many TS packets, the others of another PID with random bytes, and the tables
-    and the clock at most each fifth frame. Where the size is 0 the packets with Teletext stand
-    alone."""
+    """Write a transport stream of a PES file by dev/pes2ts.
+
+    Each PES packet gets a fixed number of TS packets, the others with random bytes on another PID;
+    tables and clock come at most every fifth frame. With size 0 only the packets with Teletext are
+    written.
+    """
     chance = random.Random(13818)
     filling = b"".join(FILLING + chance.randbytes(PACKET - len(FILLING)) for _ in range(size))
     with open(ts, "wb") as file, subprocess.Popen(

@@ -1,4 +1,4 @@
-"""The peak of what a command takes of memory, as the system tells it to GNU time."""
+"""The peak memory of a command, as reported by GNU time."""
 from __future__ import annotations
 
 import os
@@ -10,7 +10,7 @@ GNU_TIME = "/usr/bin/time"
 
 
 def lines_of_log(command: list[str], words: list[str]) -> list[str]:
-    """The lines that a command which looks at another one leaves in its log."""
+    """Return the lines that a command that observes another one writes to its log."""
     with tempfile.TemporaryDirectory() as folder:
         log = os.path.join(folder, "log")
         done = subprocess.run([*command, "-o", log, *words], stdout=subprocess.DEVNULL, check=False)
@@ -21,9 +21,9 @@ def lines_of_log(command: list[str], words: list[str]) -> list[str]:
 
 
 def peak(words: list[str]) -> str:
-    """The peak of a command in MB, 10^6 bytes; - where there is no GNU time.
+    """Return the peak memory of a command in MB (10^6 bytes), or - without GNU time.
 
-    A process that Python starts counts as its own what Python had before, so GNU time starts it.
+    GNU time starts the command, since a process started by Python inherits Python's peak.
     """
     if not os.path.exists(GNU_TIME):
         return "-"

@@ -132,7 +132,7 @@ def make_package(program: str, proved: str, version: str, work: str, path: str, 
 
 
 def files_below(folder: str) -> list[str]:
-    """The files of a folder, links left out, by their names from there."""
+    """Return the files of a folder, except links, by their relative paths."""
     files = []
     for place, _, names in os.walk(folder):
         paths = [os.path.join(place, name) for name in names]
@@ -141,7 +141,7 @@ def files_below(folder: str) -> list[str]:
 
 
 def sums_of(folder: str, kind: str) -> str:
-    """A line for each file of a folder: its sum, as md5 or sha256, and its name."""
+    """Return a line with path and checksum (md5 or sha256) for each file of a folder."""
     lines = []
     for name in files_below(folder):
         with open(os.path.join(folder, name), "rb") as file:

@@ -163,7 +163,9 @@ def read_range(data: bytes, options: Options) -> Range:
 
 
 def check_all(stl: bytes, pes: bytes, options: Options, is_failing: bool = False) -> list[str]:
-    """The lines of `check --all`. A PES file, or a transport stream, may fail where its bytes end.
+    """Return the lines of `check --all`.
+
+    A PES file, or a transport stream, may fail where its bytes end.
     """
     subtitles = judge_subtitles(stl, options)
     told = subtitles.lines
@@ -179,7 +181,7 @@ def check_all(stl: bytes, pes: bytes, options: Options, is_failing: bool = False
             transmission.skip(number, sending)
         else:
             transmission.take(number, *sending)
-    # Where the source failed nothing more is told, and nothing ends.
+    # After a failure of the source nothing more is reported, and nothing ends.
     course, is_refused = transmission.course, bool(told)
     if failure := failure_at(read, len(pieces), broken, is_failing):
         return [*told, *lines_of(course, True, is_refused), failure]

@@ -1,4 +1,4 @@
-"""Pairs of files with the lines that `check --all` prints of them, worked out by hand."""
+"""Pairs of files with the lines that `check --all` prints about them, worked out by hand."""
 from __future__ import annotations
 
 import os
@@ -24,13 +24,13 @@ def poked(data: bytes, changes: dict[int, int]) -> bytes:
     return bytes(changed)
 
 
-# One subtitle, sent at its first frame 10:00:00:00 and cleared at 10:00:02:00.
+# One subtitle, sent at 10:00:00:00 and cleared at 10:00:02:00.
 HELLO, SENT = example("hello.stl"), example("hello.pes")
 SENT_25 = example("hello-25.pes")  # also at the frame between them
-BLANK = SENT_25[368:]  # the last of these: a page without rows
-EVEN_H = {117: 0x12}  # the row's H with even parity
+BLANK = SENT_25[368:]  # the last of these PES packets: a page without rows
+EVEN_H = {117: 0x12}  # the row's H, with even parity
 ROW = mirrored(SENT[96:138])  # row 22
-OTHER_ROW = poked(ROW, {21: 0x68})  # with an h in place of its H
+OTHER_ROW = poked(ROW, {21: 0x68})  # with an h instead of the H
 WHOLE = [HEADER, ROW, CLOSING]
 HI = b"\x0d\x0b\x0bHi\x0a\x0a"
 
@@ -61,17 +61,18 @@ def ended(fault: str, time: str) -> str:
 
 
 def trusted(first: str, last: str) -> str:
-    """The line of frames between 10:00:00:00 and 10:00:02:00, without hours and minutes."""
+    """Return the line about frames between 10:00:00:00 and 10:00:02:00; times lack hours and
+    minutes."""
     return f"trusted frames 10:00:{first} 10:00:{last}"
 
 
-def stands(fault: str, first: str, last: str) -> list[str]:
-    """The two lines of a fault that stands at these frames and between them."""
+def lasts(fault: str, first: str, last: str) -> list[str]:
+    """Return the two lines of a fault that lasts from one frame to another."""
     return [refused(fault, first), ended(fault, last)]
 
 
 def wrong(time: str, end: str | None = None, column: int = 16) -> list[str]:
-    """The two lines of row 22 where it is wrong, from a frame to another."""
+    """Return the two lines about a wrong row 22, from one frame to another."""
     return [refused("72 Content", time, f"row 22 column {column}"),
             ended("72 Content", end or time)]
 
@@ -90,14 +91,14 @@ EARLY_WRONG = ["refused 72 Content frame 09:59:59:24 row 22 column 16",
 # Subtitle files
 
 def of_texts(*texts: tuple[int, int, int, bytes]) -> bytes:
-    """Subtitles by TCI and TCO, counted from 10:00:00:00, row and text."""
+    """Return a file of subtitles by TCI and TCO after 10:00:00:00, row and text."""
     return HELLO[:GSI] + b"".join(
         subtitle_blocks(number, FIRST + tci, FIRST + tco, row, 2, text)
         for number, (tci, tco, row, text) in enumerate(texts))
 
 
-# A text of each kind that can't be drawn, then such a one that begins before the one before it has
-# ended, and one that begins before that.
+# A text with each kind of fault, then one that begins before the end of the previous one, and one
+# that begins before that.
 EIGHT = of_texts((0, 10, 22, b"\x0e"), (10, 20, 22, b"\xc2e"), (20, 30, 22, b"A" * 40),
                  (30, 40, 23, b"A\x8aB"), (40, 50, 23, b"\x0dA"), (50, 60, 20, b"\x0dA\x8aB"),
                  (55, 70, 22, b"\x0e"), (54, 56, 22, b"ok"))
@@ -106,11 +107,11 @@ OF_EIGHT = ["refused 51 Control block 1 at 0", "refused 50 Character block 2 at 
             "refused 54 DoubleRow block 5 at 0", "refused 55 Hidden block 6 at 1",
             "refused 57 Overlap block 7", "refused 51 Control block 7 at 0",
             "refused 56 OutOfOrder block 8"]
-OPEN_NINTH = poked(subtitle_blocks(8, FIRST, FIRST + 50, 22, 2, HI), {3: 0})  # the first of more
+OPEN_NINTH = poked(subtitle_blocks(8, FIRST, FIRST + 50, 22, 2, HI), {3: 0})  # the first of several
 
 
 def after_eight(name: str, blocks: bytes, *last: str) -> KnownCall:
-    """The eight subtitles and more blocks, and the line that is told of these."""
+    """Return the eight subtitles and more blocks, with the line about these."""
     return pair(f"eight subtitles and {name}", SENT, *OF_EIGHT, *last, stl=EIGHT + blocks)
 
 
@@ -121,14 +122,17 @@ TEXTS = [after_eight("no more", b""),
 # Transmissions
 
 def sent_at(*frames: tuple[int, list[bytes]]) -> bytes:
-    """The PES packets of these frames, counted from 10:00:00:00."""
+    """Return PES packets with these frames after 10:00:00:00."""
     return b"".join(pes_packet((FIRST + frame) * TICKS, packets) for frame, packets in frames)
 
 
 def of_every_rule() -> bytes:
-    """The first PES packet is late and has no header of the page. The second is of the same frame:
-    its header has a wrong bit, C4 clear and C11 set; in its row a bit of the address and one of a
-    letter are wrong; another row follows, and packet 26."""
+    """Return PES packets that break every rule.
+
+    The first PES packet is late and has no header of the page. The second has the same frame: its
+    header has a wrong bit, C4 clear and C11 set; its row has a wrong bit in the address and one in
+    a letter; another row and packet 26 follow.
+    """
     header = poked(HEADER, {3: 0xD1, 5: 0x15, 9: 0x02})
     row = poked(ROW, {1: 0x9A, 21: 0x48})
     return sent_at((1, [poked(CLOSING, {8: 0x14})]),
@@ -136,8 +140,8 @@ def of_every_rule() -> bytes:
 
 
 def of_ends() -> bytes:
-    """A page that stays open, and gets a wrong row 20 and later a wrong row 19; then a PES packet
-    whose PTS is no frame's."""
+    """Return a page that stays open, and gets a wrong row 20 and later a wrong row 19; then a PES
+    packet with a PTS between frames."""
     changes = {19: 0x0B, 20: 0x0B, 21: 0x0D, 23: 0x8A, 24: 0x8A}
     return sent_at((0, [HEADER, ROW]), (24, [poked(coded("15 8C"), {**changes, 22: 0xC1})]),
                    (30, [poked(coded("D0 C7"), {**changes, 22: 0xC2})])
@@ -153,8 +157,8 @@ LATE_END = refused("74 Late", "01:05")
 
 def again(name: str, first: list[bytes], later: list[bytes], end: int, every: int,
           *lines: str) -> KnownCall:
-    """Packets at 10:00:00:00, others in each later frame before the end, and the page without a row
-    two seconds later where that is the end."""
+    """Return packets at 10:00:00:00, other ones in each later frame, and finally the page without a
+    row if `end` is two seconds later."""
     frames = [(0, first), *((frame, later) for frame in range(1, end))]
     if end == 50:
         frames.append((end, PAGE))
@@ -162,7 +166,7 @@ def again(name: str, first: list[bytes], later: list[bytes], end: int, every: in
 
 
 TWO_OF_THREE = poked(SENT_25, {229: 0x20, 413: 0x20})  # data_identifiers of the last two
-GAP = stands("73 Gap", "01:00", "01:24")
+GAP = lasts("73 Gap", "01:00", "01:24")
 
 KNOWN = [
     *TEXTS,
@@ -178,7 +182,7 @@ KNOWN = [
             f"{DATA_ID} 1", "fault 41 Read pes 3"),
     failing("one that can't be read, from a source that fails later", poked(SENT_25, {413: 0x20}),
             trusted("00:00", "00:24"), f"{DATA_ID} 2", "fault 41 Read pes 3"),
-    # The data field of the second is compared with that of the first from byte 45 on to the end.
+    # The data field of the second is compared with that of the first from byte 45 on.
     *[pair(f"{what} in a data field that is sent again", poked(SENT_25, {184 + at: byte}),
            accepted(51, 3))
       for what, at, byte in (("another flag", 6, 0x85), ("other stuffing", 44, 0xFE),
@@ -193,7 +197,7 @@ KNOWN = [
          *(refused(fault, "00:01", f"packet {at}") for fault, at in (("65 HeaderCode", 0),
            ("66 Mode", 0), ("67 Control", 0), ("64 Address", 1), ("68 Parity", 1),
            ("69 RowChanged", 2), ("70 Enhancement", 3))), ended("72 Content", "00:01"),
-         *stands("77 Incomplete", "00:01", "01:24"), words="--complete"),
+         *lasts("77 Incomplete", "00:01", "01:24"), words="--complete"),
     pair("all that stands ends at the end", of_ends()[:552], *ENDS, *ALL_END, LATE_END,
          words="--every 25 --complete"),
     pair("all that stands ends before a part of a PES packet", of_ends()[:553], *ENDS, *ALL_END,

@@ -1,23 +1,23 @@
-"""National option character sub-sets (EN 300 706, table 36, region 0000): the bits of a page header
-that name one, and the bytes of a subtitle text that give its characters.
+"""National option sub-sets (EN 300 706, table 36, region 0000): the header bits that select one,
+and the bytes of a subtitle text for its characters.
 
-A text is of code table 00 of EBU Tech 3264, ISO 6937: a letter with a diacritical mark is two
-bytes, the mark's first.
+Texts use code table 00 of EBU Tech 3264 (ISO 6937): a letter with a diacritical mark is two bytes,
+the mark first.
 """
 from __future__ import annotations
 
-# Control bits of a page header: which of C12, C13 and C14 are set.
+# Which of the control bits C12, C13 and C14 of a page header are set.
 BITS: dict[str, set[int]] = {
     "english": set(), "german": {14}, "swedish": {13}, "italian": {13, 14}, "french": {12},
     "spanish": {12, 14}, "czech": {12, 13}}
 ALL_BITS = {12, 13, 14}
 
-# The bytes that give the same cell in each sub-set: spacing attributes, figures, letters, signs.
+# Bytes with the same cell in each sub-set: spacing attributes, digits, letters, symbols.
 SAME = (*range(0x01, 0x0E), 0x1C, 0x1D, *range(0x20, 0x23), *range(0x25, 0x40), *range(0x41, 0x5B),
         *range(0x61, 0x7B))
 
-# What gives each cell that a sub-set has of its own, by sub-set: a byte, several of them, or a pair
-# of bytes. Each sub-set has 13 such cells; English and German have bytes for some of them alone.
+# The text bytes for each cell that differs between sub-sets: a byte, several, or a pair. Each
+# sub-set has 13 such cells; English and German have no bytes for some of them.
 OF_CELLS = """
 23  A3     23     23     A3     C2.65  CB.63  23
 24  24,A4  24,A4  A8     24,A4  C8.69  24,A4  CA.75
@@ -36,7 +36,7 @@ OF_CELLS = """
 
 
 def cells_by_option() -> dict[str, dict[bytes, int]]:
-    """The cell that each byte, or pair of bytes, gives, by sub-set."""
+    """Return the cell of each byte or pair of bytes, by sub-set."""
     found = {option: {bytes([code]): code for code in SAME} for option in BITS}
     for line in OF_CELLS.split("\n")[1:-1]:
         cell, *columns = line.split()

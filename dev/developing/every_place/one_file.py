@@ -21,8 +21,10 @@ EBN, CS, TCI, TCO, VP, JC, CF = 3, 4, 5, 9, 13, 14, 15  # where the fields of a 
 
 
 def refused(fault: str) -> list[str]:
-    """The lines of a file in which this alone is wrong, or nothing after it is read. Beside what
-    the first block of a subtitle says of it the other subtitle is judged."""
+    """Return the lines of a file with this fault.
+
+    If it is a fault of a subtitle's first block, the other subtitle is checked too.
+    """
     is_read = int(fault.split()[0]) in OF_FIRST_BLOCK
     return with_count(f"refused {fault}", *["refused 60 Empty"] * is_read)
 
@@ -30,8 +32,10 @@ def refused(fault: str) -> list[str]:
 # Blocks
 
 def a_file() -> bytes:
-    """A comment, a subtitle of two blocks with user data between them, and one of one block. Of the
-    comment and of user data no field is looked at but EBN and CF."""
+    """Return a comment, a subtitle of two blocks with user data between them, and one of one block.
+
+    Of comments and user data only EBN and CF are read.
+    """
     return b"".join([
         gsi_block(b"One file", 99_999, 88_888),
         b"\7\5\1\xff" + b"\x63" * 11 + b"\1" + b"in passing".ljust(TEXT, b"\x8f"),
@@ -44,9 +48,8 @@ def a_file() -> bytes:
 WHOLE = a_file()
 TWO, LAST_OF_TWO = GSI + TTI, GSI + 3 * TTI  # where the blocks of its first subtitle are
 
-# Its bytes at some places, and what is told: of a bound that no test of the crates has, and of two
-# faults of a block the first, in the order in which they are told. Of a further block CS, the
-# times, VP and JC are not looked at.
+# Changed bytes and the reported fault: limits that no test of the crates has, and the first of two
+# faults in a block, in order of the checks. CS, times, VP and JC of a further block are ignored.
 BLOCKS: list[tuple[str, dict[int, int]]] = [
     ("60 Empty", {11: ord("2")}), ("13 Display block 0", {11: ord(" ")}),
     ("11 Format block 0", {3: ord(" ")}), ("11 Format block 0", {10: ord("2")}),
@@ -66,7 +69,7 @@ BLOCKS: list[tuple[str, dict[int, int]]] = [
 # Texts
 
 class Line(NamedTuple):
-    """The cells of a row from a column on; all others of it are spaces."""
+    """The cells of a row from a column on; the others are spaces."""
 
     row: int
     column: int
@@ -74,17 +77,17 @@ class Line(NamedTuple):
 
 
 def boxed(cells: bytes) -> bytes:
-    """The cells of a line that gets a box."""
+    """Return the cells of a line in a box."""
     return b"\x0b\x0b" + cells + b"\x0a\x0a"
 
 
 def name_of(text: bytes, what: str) -> str:
-    """The name of a pair of a text, that of its files too."""
+    """Return the name of a pair and its files."""
     return f"{text[:8].hex()} of {len(text)} bytes {what}"
 
 
 def of_text(text: bytes, row: int, justify: int) -> bytes:
-    """A file of one subtitle of one frame, with this text."""
+    """Return a file with one subtitle of one frame."""
     return gsi_block(b"One text", 1, 1) + subtitle_blocks(1, FIRST, FIRST + 1, row, justify, text)
 
 
@@ -94,30 +97,31 @@ def row_packet(line: Line) -> bytes:
 
 
 def pes_of(lines: Iterable[Line]) -> bytes:
-    """A transmission of these lines and no others at the first frame, and of none at the next."""
+    """Return a transmission of exactly these lines in the first frame, and a blank page in the
+    next."""
     return b"".join(pes_packet((FIRST + frame) * TICKS, [HEADER, *rows, CLOSING])
                     for frame, rows in enumerate((map(row_packet, lines), [])))
 
 
 def draw_page(text: bytes, row: int, justify: int, *lines: Line) -> KnownCall:
-    """A text with a transmission of these lines and no others."""
+    """Return a text with a transmission of exactly these lines."""
     return known_check(name_of(text, f"drawn at row {row}, JC {justify}"),
                        of_text(text, row, justify), pes_of(lines), "",
                        ["accepted 2 frames 2 transmissions"])
 
 
 def not_drawn(text: bytes, row: int, fault: str, at: int) -> KnownCall:
-    """A text that is refused."""
+    """Return a refused text."""
     return known_check(name_of(text, f"refused at row {row}"), of_text(text, row, 0), b"", "",
                        refused(f"{fault} block 1 at {at}"))
 
 
-FULL = b"A" * 36  # with its box it fills a row
+FULL = b"A" * 36  # fills a row with its box
 DRAWN = [
     draw_page(b"\x80A\x81", 5, 1, Line(5, 0, boxed(b"A"))),
     draw_page(FULL, 5, 2, Line(5, 0, boxed(FULL))),
     not_drawn(FULL + b"A", 5, "52 RowTooLong", 0),
-    # Empty lines may go past row 23.
+    # Empty lines may extend past row 23.
     draw_page(b"A\x8a\x8a", 23, 0, Line(23, 0, boxed(b"A"))),
     not_drawn(b"A\x9f", 5, "51 Control", 1),
     not_drawn(b"\x0dA\x8a\x0e", 23, "51 Control", 3),  # a byte before any line

@@ -1,9 +1,9 @@
-"""Pairs that break one rule each, for each part of a rule: exactly its number is told of them.
+"""Pairs that break one rule each: only its number is reported.
 
-A transmission is written as its PES packets, each as a frame and its Teletext packets: `0 h r c` is
-the header, row 22 and the closing header at 10:00:00:00, and `50 h c` the page without a row two
-seconds later. `+` after the frame is half a frame later, the other field, and `-` a quarter of a
-frame early. `*` is the packet that is tried.
+A transmission is a list of PES packets, each a frame and its Teletext packets: `0 h r c` is the
+header, row 22 and the closing header at 10:00:00:00, and `50 h c` the page without a row two
+seconds later. `+` after the frame means half a frame later (the other field), `-` a quarter of a
+frame earlier. `*` is the tested packet.
 """
 from __future__ import annotations
 
@@ -28,33 +28,34 @@ class OneRule(NamedTuple):
 
 
 def coded(head: str, byte: int = 0x20) -> bytes:
-    """A packet with these bytes first and then 20, a space, or another byte."""
+    """Return a packet with these first bytes, filled with 20 (a space) or another byte."""
     first = bytes.fromhex(head)
     return first + bytes([byte]) + b"\x20" * (41 - len(first))
 
 
 def header(c4: str = "D0", c5_c6: str = "D0", c7_c10: str = "02", c11_c14: str = "15") -> bytes:
-    """A header of page 888 with these bytes of control bits; without words that of a subtitle."""
+    """Return a header of page 888 with these bytes of control bits, by default those of a subtitle.
+    """
     return coded(f"15 15 D0 D0 15 {c4} 15 {c5_c6} {c7_c10} {c11_c14}")
 
 
 def row_1(byte: int) -> bytes:
-    """Row 1 of magazine 8: a byte and 39 spaces."""
+    """Return row 1 of magazine 8: a byte and 39 spaces."""
     return coded("D0 15", byte)
 
 
 HEADER = header()
 CLOSING = coded("15 15 EA EA EA 2F EA 5E 15 15")  # page FF, subcode 3F7F
 SERIAL_CLOSING = coded("15 15 EA EA EA 2F EA 5E 15 02")  # with C11
-NO_HEADER = coded("15 15 D3 D0 15 D0 15 D0 02 15")  # its page units decode to nothing
+NO_HEADER = coded("15 15 D3 D0 15 D0 15 D0 02 15")  # its page units can't be decoded
 PACKET_26 = coded("15 B6")
 ROW_22 = bytes.fromhex("15 9B") + b"\x20" * 17 + bytes.fromhex("0B 0B C8 E9 8A 8A") + b"\x20" * 17
-MARK = row_1(0xA1)  # an exclamation mark of odd parity
+MARK = row_1(0xA1)  # an exclamation mark with odd parity
 PAGE = [HEADER, CLOSING]
 
 
 def pes_packets_of(packets: str, meaning: dict[str, bytes]) -> list[bytes]:
-    """The PES packets that some words name, with a comma between two."""
+    """Return the PES packets that a text names, separated by commas."""
     made = []
     for frame, *names in map(str.split, packets.split(",")):
         ticks = (FIRST + int(frame.rstrip("+-"))) * TICKS + TICKS_OFF.get(frame[-1], 0)
@@ -63,8 +64,10 @@ def pes_packets_of(packets: str, meaning: dict[str, bytes]) -> list[bytes]:
 
 
 def programme(text: bytes | None = None, begin: int = 0, end: int = 1) -> bytes:
-    """A file without a subtitle, or one on row 22 with this text: at the first frame alone, or from
-    one frame to another after it."""
+    """Return a file without a subtitle, or with one on row 22:
+
+    in the first frame only, or from one frame to another.
+    """
     if text is None:
         return gsi_block(b"One rule", 0, 0)
     return gsi_block(b"One rule", 1, 1) + subtitle_blocks(1, FIRST + begin, FIRST + end, 22, 2,
@@ -82,7 +85,7 @@ def rule(name: str, number: int, packets: str, tried: bytes = b"", words: str = 
 
 
 def near_the_day(name: str, *ticks: int) -> OneRule:
-    """A page without rows at two times, one of them just outside of the day."""
+    """Return a page without rows at two times, one of them just outside the day."""
     pes = b"".join(pes_packet(one % CLOCK, PAGE) for one in ticks)
     return OneRule(name, 61, NONE, pes, "--every 1")
 
@@ -115,7 +118,7 @@ PLAIN = [
     rule("a row that stands for a frame too long", 72, "0 h r c, 2 h c", words="--every 2", stl=HI),
 ]
 
-# Where a page may be two frames late.
+# The page may be two frames late.
 LATE = [
     near_the_day("a PTS just before the day", -901, 0),
     near_the_day("a PTS just after the day", 0, TICKS * FRAMES_OF_A_DAY - 900),

@@ -1,4 +1,4 @@
-"""Calls about transport streams at random: of `check`, `extract`, `packets` and `listen`."""
+"""Make random calls of `check`, `extract`, `packets` and `listen` on transport streams."""
 from __future__ import annotations
 
 import contextlib
@@ -14,19 +14,19 @@ from .streams import random_stream
 from .words import UsageFault, parse_options
 
 MOST_PACKETS = 40  # PES packets of a stream
-MOST_BYTES = 65_535  # of one whose end may fail, so that it is read at once
-OF_LISTEN = ("--page", "--origin", "--within")  # the words that `listen` has too
+MOST_BYTES = 65_535  # of a stream whose end may fail: it is read in one step
+OF_LISTEN = ("--page", "--origin", "--within")  # options that `listen` has too
 
 
 def spell_pid(chance: Random, pid: int) -> str:
-    """A PID as words: seldom one that is none."""
+    """Return a PID as an argument, rarely an invalid one."""
     if chance.random() < 0.02:
         return chance.choice(["8191", "0x1FFF", "x", "", "0x", "257 ", "0X101"])
     return chance.choice([str(pid), f"{pid:010}", hex(pid), f"0x{pid:08X}"])
 
 
 def range_words(chance: Random, count: int) -> list[str]:
-    """A range of so many pieces, or more; most often none, seldom a wrong one."""
+    """Return a range of PES packets, usually none, rarely an invalid one."""
     way = chance.random()
     if way < 0.6:
         return []
@@ -38,7 +38,7 @@ def range_words(chance: Random, count: int) -> list[str]:
 
 
 def recording_words(chance: Random, pid: int, size: int, count: int) -> list[str]:
-    """The words of a recording: seldom of another PID or another size."""
+    """Return the options of a recording, rarely with another PID or packet size."""
     asked = pid ^ 1 if chance.random() < 0.03 else pid
     words = ["--pid", spell_pid(chance, asked)]
     if size != SIZES[0] or chance.random() < 0.2:
@@ -48,14 +48,14 @@ def recording_words(chance: Random, pid: int, size: int, count: int) -> list[str
 
 
 def flips(chance: Random, count: int) -> str:
-    """Some wrong bits, in no byte two."""
+    """Return some wrong bits, at most one in a byte."""
     places = {(chance.randrange(count + 2), chance.choice([0, 5, 20, chance.randrange(42)]))
               for _ in range(chance.randrange(1, 9))}
     return ",".join(f"{packet}:{byte}:{chance.randrange(1, 9)}" for packet, byte in sorted(places))
 
 
 def listen_words(chance: Random, words: list[str], packets: list[bytes]) -> list[str]:
-    """Words of `listen` alone: a time near that of a PES packet, and what is hit and lost."""
+    """Return options of `listen`: a time near a PES packet, wrong bits, lost packets."""
     frames = [0]
     with contextlib.suppress(UsageFault):
         options = parse_options(words)
@@ -76,18 +76,20 @@ def listen_words(chance: Random, words: list[str], packets: list[bytes]) -> list
     return words + ["--complete"] * (chance.random() < 0.3)
 
 
-def whole_pair(chance: Random, schedule: Schedule) -> Pair:
-    """A subtitle file with its transmission, which is accepted."""
+def accepted_pair(chance: Random, schedule: Schedule) -> Pair:
+    """Return a subtitle file with its accepted transmission."""
     words = random_words(chance)
     stl = stl_file(chance, random_subtitles(chance, words["--option"]))
     return Pair(stl, schedule(stl, listed(words)), listed(words))
 
 
 def random_calls(seed: int, schedule: Schedule, is_keeping: bool = False) -> list[Call]:
-    """Calls about a stream at random that carries a transmission at random, of which headers keep
-    the page where that is asked. `schedule` gives the transmission of a subtitle file, by words."""
+    """Return random calls on a stream with a random transmission; on request headers keep the page.
+
+    `schedule` returns the transmission of a subtitle file.
+    """
     chance = Random(f"recording {seed}")
-    pair = whole_pair(chance, schedule) if chance.random() < 0.6 and not is_keeping else \
+    pair = accepted_pair(chance, schedule) if chance.random() < 0.6 and not is_keeping else \
         random_pair(seed, schedule, False, is_keeping)
     packets = split_packets(pair.pes)[0][:MOST_PACKETS]
     pid, size = chance.choice([0x101, 0x1001, chance.randrange(0x1FFF)]), chance.choice(SIZES)

@@ -1,5 +1,5 @@
-"""Transport streams, and ranges of PES packets, with what the program prints of them, worked out by
-hand: those that stand in no test of the crates."""
+"""Transport streams and ranges of PES packets that no test of the crates has, with the output
+worked out by hand."""
 from __future__ import annotations
 
 from .calls import Answer, Call, KnownCall
@@ -14,29 +14,29 @@ PID = "--pid 257"
 FIRST, SECOND = SENT[:184], SENT[184:]
 X0, X1 = b"\x47\x41\x01\x10" + FIRST, b"\x47\x41\x01\x11" + SECOND
 NULL = b"\x47\x1f\xff\x10" + b"\xff" * 184
-# A packet of the PID without a payload that announces a jump.
+# A packet of the PID without payload that announces a jump.
 JUMP = b"\x47\x01\x01\x20\xb7\x80" + b"\0" * 182
 
 
 def counted(packet: bytes, counter: int) -> bytes:
-    """The packet with this counter."""
+    """Return the packet with this counter."""
     return poked(packet, {3: packet[3] & 0xF0 | counter})
 
 
 def field_of(packet: bytes, payload: bytes, flags: int = 0) -> bytes:
-    """The packet with an adaptation field and this payload behind it."""
+    """Return the packet with an adaptation field, followed by this payload."""
     length = 183 - len(payload)
     field = bytes([length, flags] + [0] * length)[:length + 1]
     return packet[:3] + bytes([packet[3] | 0x20]) + field + payload
 
 
 def second_half(counter: int, flags: int = 0) -> bytes:
-    """A first packet of X1's PES packet."""
+    """Return a first packet of X1's PES packet."""
     return field_of(counted(X1, counter), SECOND[:100], flags)
 
 
 def other_second_half(counter: int) -> bytes:
-    """The packet behind it."""
+    """Return the packet after it."""
     return poked(field_of(counted(X1, counter), SECOND[100:]), {1: 0x01})
 
 

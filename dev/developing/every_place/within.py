@@ -10,7 +10,7 @@ from subtitles.common.times import CLOCK, FRAMES_OF_A_DAY, TICKS
 from subtitles.formats.stl import GSI
 from .calls import KnownCall, known_check
 from .known import (
-    EARLY_WRONG, HELLO, HI, LAST, ROW, SENT, accepted, ended, of_texts, poked, refused, stands,
+    EARLY_WRONG, HELLO, HI, LAST, ROW, SENT, accepted, ended, of_texts, poked, refused, lasts,
     trusted, with_count, wrong)
 from .one_rule import CLOSING, HEADER, PAGE, header, pes_packets_of
 
@@ -78,7 +78,7 @@ KEPT = [
              (KEEPING, accepted(51, 3))),
     *of_pair("a row that was not sent before it is known what is due",
              pes_file("0 h c, 50 k r c, 100 h c"),
-             (KEEPING, BAD, *stands("78 Undecided", "00:00", "01:24"), trusted("04:00", "04:00")),
+             (KEEPING, BAD, *lasts("78 Undecided", "00:00", "01:24"), trusted("04:00", "04:00")),
              stl=AFTER_BAD),
     *of_pair("another row before it is known what is due", pes_file("0 h o c, 50 k r c, 100 h c"),
              (KEEPING, BAD, refused("78 Undecided", "00:00"),

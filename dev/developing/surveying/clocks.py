@@ -1,4 +1,4 @@
-"""The PCR of a PID, jumps of it, and breaks of counters."""
+"""The PCR of a PID, its jumps, and counter breaks."""
 from __future__ import annotations
 
 from typing import Callable, NamedTuple
@@ -7,18 +7,18 @@ from subtitles.common.times import ticks_between, wrapped
 from .packets import Packet
 
 SECOND, TENTH = 90_000, 9_000  # ticks
-MEDIANS, FEWEST = 100, 5  # distances of which medians are; with fewer no PCR comes late
+MEDIANS, FEWEST = 100, 5  # distances in a median; with fewer distances no PCR is late
 MOST_BREAKS = 256
 Say = Callable[[str], None]
 
 
 def number(value: int | None) -> str:
-    """A number as a line has it."""
+    """Format a value as in a line."""
     return "-" if value is None else str(value)
 
 
 class Seconds:
-    """Times of which one a second is printed, and one that is before the last printed one."""
+    """Times of which one each second is printed, and one before the last printed one."""
 
     def __init__(self) -> None:
         self.last: int | None = None
@@ -30,8 +30,10 @@ class Seconds:
 
 
 class Jump(NamedTuple):
-    """A PCR that jumps: ticks and TS packets since the one before, the usual ones; the places of
-    both."""
+    """A jump of the PCR:
+
+    ticks and TS packets since the previous PCR, the usual ones, and both places.
+    """
 
     ticks: int
     packets: int
@@ -42,7 +44,7 @@ class Jump(NamedTuple):
 
 
 class Clock:
-    """A PCR_PID."""
+    """The PCRs of a PID."""
 
     def __init__(self, pid: int, say: Say) -> None:
         self.pid, self.say = pid, say
@@ -53,7 +55,7 @@ class Clock:
         self.distances: list[tuple[int, int]] = []
 
     def take(self, pcr: int, place: int) -> Jump | None:
-        """Take a PCR; answers the jump."""
+        """Take a PCR; return the jump, if any."""
         jump = None
         if self.last is not None and self.is_compared:
             jump = self.jump(ticks_between(self.last, pcr), place)
@@ -74,7 +76,7 @@ class Clock:
 
 
 class Break(NamedTuple):
-    """A break of a counter, between two TS packets of a PID."""
+    """A counter break between two TS packets of a PID."""
 
     pid: int
     first: int
@@ -82,7 +84,7 @@ class Break(NamedTuple):
 
 
 class Counters:
-    """The counters of all PIDs, by the places of their TS packets with a payload."""
+    """The counters of all PIDs, with the places of TS packets with a payload."""
 
     def __init__(self) -> None:
         self.first: dict[int, int] = {}
@@ -105,7 +107,7 @@ class Counters:
         self.announced.discard(pid)
 
     def word(self, jump: Jump, pid: int) -> str:
-        """What the counters of other PIDs say of a jump."""
+        """Return what the counters of other PIDs show about a jump."""
         if any(one.pid != pid and one.first < jump.last and one.last > jump.first
                for one in self.breaks):
             return "broken"

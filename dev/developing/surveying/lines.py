@@ -1,4 +1,4 @@
-"""All lines of a recording, in order."""
+"""All lines about a recording, in order."""
 from __future__ import annotations
 
 from developing.every_place.recordings import UNSEEN, Skipped
@@ -17,7 +17,7 @@ DATA_IDENTIFIERS = range(0x10, 0x20)
 
 
 def survey(data: bytes, page: Page, pid: int | None = None, size: int | None = None) -> list[str]:
-    """The lines of `survey`; without a PID or a packet size these are looked for."""
+    """Return the lines of `survey`; the PID and the packet size are detected if not given."""
     lines = ["survey 1", f"head {data[:HEAD_BYTES].hex()}".rstrip()]
     if data.startswith(START):
         return lines + pes_file_lines(data, page)
@@ -28,7 +28,7 @@ def survey(data: bytes, page: Page, pid: int | None = None, size: int | None = N
 
 
 def pes_file_lines(data: bytes, page: Page) -> list[str]:
-    """The lines of a file of PES packets."""
+    """Yield the lines about a file of PES packets."""
     lines = ["size 0"]
     pes = PesLines(0, page, lines.append)
     place, damage = 0, ""
@@ -63,7 +63,7 @@ class Stream:
         self.clocks: dict[int, Clock] = {}
         self.teletext: dict[int, Teletext] = {}
         self.video: dict[int, Video] = {}
-        self.others: set[int] = set()  # PIDs that are known to be neither
+        self.others: set[int] = set()  # PIDs without Teletext and video
 
     def lines_of(self, data: bytes) -> list[str]:
         if self.asked is not None:
@@ -117,7 +117,7 @@ class Stream:
             self.video[pid].take(packet)
 
     def look_at(self, packet: Packet) -> None:
-        """Find out whether a PID has Teletext or video."""
+        """Detect whether a PID has Teletext or video."""
         data = packet.payload
         if packet.is_wrong or not packet.begins or not packet.has_payload or len(data) < 4 \
                 or not data.startswith(START[:3]):
@@ -156,7 +156,7 @@ class Stream:
                 self.follow(stream.pid)
 
     def kind_of(self, pid: int) -> int | None:
-        """The stream_type of a PID."""
+        """Return the stream_type of a PID."""
         return next((stream.kind for programme in self.programmes.values()
                      for stream in programme.streams if stream.pid == pid), None)
 

@@ -6,13 +6,13 @@ from typing import Iterator
 from developing.every_place.recordings import (PACKET, SIZES, SYNC, TIME_STAMP, Skipped,
                                                TransportPacket)
 
-LOOKED_AT = 1 << 24  # bytes in which the size is looked for
+LOOKED_AT = 1 << 24  # bytes searched for the packet size
 IN_A_ROW = 5
 RANDOM_ACCESS, PCR = 0x40, 0x10  # flags of an adaptation field
 
 
 class Packet(TransportPacket):
-    """A TS packet by its 188 bytes."""
+    """A TS packet."""
 
     def __init__(self, data: bytes) -> None:
         super().__init__(data)
@@ -26,8 +26,11 @@ class Packet(TransportPacket):
 
 
 def size_of(data: bytes) -> int | None:
-    """Return the packet size: that of the first place with five packets in a row, or with as many
-    as there are up to the recording's end."""
+    """Return the packet size:
+
+    that of the first place with five packets in a row, or with all packets up to the end of the
+    recording.
+    """
     place = data.find(SYNC)
     while 0 <= place <= min(LOOKED_AT, len(data) - PACKET):
         for size in SIZES:
@@ -38,7 +41,8 @@ def size_of(data: bytes) -> int | None:
 
 
 def packets_of(data: bytes, size: int) -> Iterator[Packet | Skipped]:
-    """The packets of a recording and the bytes between them, at its end those that are too few."""
+    """Yield the packets of a recording and the bytes between them; at the end also an incomplete
+    packet."""
     place = TIME_STAMP if size == SIZES[1] else 0
     in_step, skipped = True, 0
     while len(data) - place >= PACKET:

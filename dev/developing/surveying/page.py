@@ -1,4 +1,4 @@
-"""The requested page as its packets come (EN 300 706)."""
+"""The requested page, decoded from its packets (EN 300 706)."""
 from __future__ import annotations
 
 from developing.pes import address_of, header_of, page_in
@@ -11,7 +11,7 @@ Rows = dict[int, bytes]
 
 
 def codes_of(data: bytes) -> bytes:
-    """The codes of a row; a space of its own for each byte of even parity."""
+    """Return the codes of a row; bytes with even parity become a special space."""
     return bytes(byte & 0x7F if is_odd(byte) else EVEN_SPACE for byte in data[2:])
 
 
@@ -22,12 +22,12 @@ def store(rows: Rows, number: int, codes: bytes) -> None:
 
 
 def shown(rows: Rows) -> str:
-    """Rows as a line has them."""
+    """Format rows as in a line."""
     return ",".join(f"{row}:{codes.hex()}" for row, codes in sorted(rows.items())) or "-"
 
 
 def triplet(data: bytes) -> int | None:
-    """The 18 bits of a Hamming 24/18 word (8.3), one wrong bit corrected."""
+    """Decode a Hamming 24/18 word (8.3), with one wrong bit corrected."""
     word = int.from_bytes(data, "little") << 1  # bits count from 1
     wrong = 0
     for test in (1, 2, 4, 8, 16):
@@ -42,17 +42,17 @@ def triplet(data: bytes) -> int | None:
 
 
 class DecodedPage:
-    """The page, and what the packets of one PES packet did to it."""
+    """The page, and what the packets of one PES packet changed."""
 
     def __init__(self, page: Page) -> None:
         self.magazine, self.number = page
         self.rows: Rows = {}
         self.is_open = self.is_received = False
-        self.is_last_of_magazine = False  # the last header of its magazine was of the page
+        self.is_last_of_magazine = False  # the magazine's last header was of the page
         self.begin()
 
     def begin(self) -> None:
-        """A PES packet begins."""
+        """Begin a PES packet."""
         self.does = ""
         self.control: list[str] = []
         self.strays: Rows = {}
@@ -91,7 +91,7 @@ class DecodedPage:
             self.does += "c"
 
     def done(self) -> str:
-        """What the PES packet did, DOES/CONTROL."""
+        """Return what the PES packet changed, as DOES/CONTROL."""
         is_blank = all(set(codes) <= {SPACE, EVEN_SPACE} for codes in self.rows.values())
         does = self.does + "o" * self.is_open + "b" * is_blank + "s" * self.has_strays
         return f"{does or '-'}/{'+'.join(self.control)}"

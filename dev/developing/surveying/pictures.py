@@ -1,4 +1,4 @@
-"""The lines of a PID with video: pictures, and the group that begins with random access."""
+"""The lines about a PID with video: pictures, and the group that begins with random access."""
 from __future__ import annotations
 
 from typing import Callable
@@ -9,7 +9,7 @@ from .clocks import Say, number
 from .packets import Packet
 
 MOST_TICKS = 900_000  # of a group, 10 seconds
-VIDEO = 0xE0  # stream_id of video, with any lower four bits
+VIDEO = 0xE0  # stream_id of video; the lower four bits may differ
 MPEG, H264, HEVC = (1, 2), 0x1B, 0x24  # stream_type
 GROUP = 0xB8  # start code of a group of pictures
 CLOSED_GOP = 0x40
@@ -17,18 +17,18 @@ START = b"\0\0\1"
 
 
 def is_video(data: bytes) -> bool:
-    """Whether a PES packet of video begins, as far as its bytes are there."""
+    """Return whether a PES packet of video begins, as far as its bytes are known."""
     return data[:3] == START[:len(data)] and (len(data) < 4 or data[3] & 0xF0 == VIDEO)
 
 
 def time_in(data: bytes) -> int:
-    """The ticks of a PTS or DTS."""
+    """Return the ticks of a PTS or DTS."""
     return ((data[0] >> 1 & 7) << 30 | data[1] << 22 | data[2] >> 1 << 15 | data[3] << 7
             | data[4] >> 1)
 
 
 def form_of(kind: int | None, data: bytes) -> str | None:
-    """The form of a group by the bytes of its first picture; `None` while it is not known."""
+    """Return the form of a group from the bytes of its first picture, `None` if unknown."""
     if kind == H264:
         return "open"
     if kind not in (*MPEG, HEVC):
@@ -50,9 +50,9 @@ class Video:
     def __init__(self, pid: int, say: Say, kind_of: Callable[[int], int | None]) -> None:
         self.pid, self.say, self.kind_of = pid, say, kind_of
         self.stretch = Stretch(None)
-        self.header: bytes | None = None  # of a picture whose times are not known yet
+        self.header: bytes | None = None  # of a picture with unknown times
         self.is_flagged = False  # a random_access_indicator came for the next picture
-        self.is_next_flagged = False  # and for the picture that begins
+        self.is_next_flagged = False  # for the picture that begins
         self.count = self.passed = 0
         self.decoding: int | None = None  # of the last picture with a time
         self.number = 0  # of that picture
@@ -83,7 +83,7 @@ class Video:
             self.take_payload(packet)
 
     def count_lost(self, packet: Packet) -> None:
-        """The rest of a header is lost at a break of the counter, or at an announced jump."""
+        """Count a loss; it also loses the rest of a header."""
         before, is_announced = self.stretch.before, self.stretch.has_jump or packet.announces_jump
         is_break = before is not None and packet.counter != (before.counter + 1) % 16
         if is_break or is_announced or packet.is_wrong:
@@ -110,7 +110,7 @@ class Video:
             self.read_first(packet.payload)
 
     def read_header(self, data: bytes) -> None:
-        """Begin a picture, once its header is there up to its times."""
+        """Begin a picture when its header has arrived up to its times."""
         if not is_video(data):
             self.header = None
             return
@@ -126,13 +126,13 @@ class Video:
             self.read_first(data[9 + data[8]:])
 
     def read_first(self, data: bytes) -> None:
-        """More bytes of the group's first picture."""
+        """Read more bytes of the group's first picture."""
         assert self.first is not None
         self.first += data
         self.form = self.form or form_of(self.kind, self.first)
 
     def begin(self, pts: int | None, decoding: int | None) -> bool:
-        """A picture begins; answers whether it is the first of the group."""
+        """Begin a picture; return whether it is the first of the group."""
         if self.is_in_group and self.is_next_flagged:
             self.end_group()
         is_first = self.is_next_flagged and not self.has_begun
@@ -148,7 +148,7 @@ class Video:
         return is_first
 
     def add(self, pts: int | None) -> None:
-        """A picture of the group."""
+        """Add a picture to the group."""
         self.say(f"picture {self.pid} {number(pts)}")
         if pts is None:
             return

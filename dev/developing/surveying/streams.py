@@ -1,4 +1,4 @@
-"""Recordings at random: what multiplexers send, what is lost of it, and worse."""
+"""Random recordings: transmissions of multiplexers, with losses and worse faults."""
 from __future__ import annotations
 
 import struct
@@ -23,7 +23,7 @@ PAGES: list[Page] = [(0, 0x88), (0, 0x88), (0, 0x88), (0, 0x77), (1, 0x88), (0, 
 # TS packets
 
 class Multiplex:
-    """The TS packets that are sent, with a counter for each PID."""
+    """The transmitted TS packets, with a counter for each PID."""
 
     def __init__(self, chance: Random) -> None:
         self.chance = chance
@@ -32,7 +32,7 @@ class Multiplex:
 
     def send(self, pid: int, payload: bytes, begins: bool = False, flags: int = 0,
              pcr: int | None = None) -> None:
-        """A TS packet: with fewer than 184 bytes of payload after an adaptation field."""
+        """Send a TS packet; one with less than 184 bytes of payload has an adaptation field."""
         counter = self.counters.get(pid, self.chance.randrange(16))
         field = b""
         if len(payload) < FULL:
@@ -49,7 +49,7 @@ class Multiplex:
 
     def send_pes(self, pid: int, data: bytes, flags: int = 0, pcr: int | None = None,
                  sizes: tuple[int, ...] = (FULL,)) -> None:
-        """A PES packet, in payloads of these sizes."""
+        """Send a PES packet in payloads of these sizes."""
         place = 0
         while place < len(data):
             most = FULL - (8 if pcr is not None else 2 if flags else 0)
@@ -58,7 +58,7 @@ class Multiplex:
             place, flags, pcr = place + size, 0, None
 
     def send_sections(self, pid: int, data: bytes) -> None:
-        """A section, in some cases after bytes of one that began before, or in small pieces."""
+        """Send a section, sometimes after the rest of an earlier one, or in small parts."""
         before = b"\xff" * self.chance.choice([0, 0, 0, 0, 5, 170])
         data = bytes([len(before)]) + before + data
         for place in range(0, len(data), FULL):
@@ -100,7 +100,7 @@ def data_unit(chance: Random, line: int, data: bytes) -> bytes:
 
 
 def random_teletext(chance: Random, is_busy: bool) -> list[bytes]:
-    """Some Teletext packets, their bits in the order of EN 300 706."""
+    """Return Teletext packets with bits in the order of EN 300 706."""
     made: list[bytes] = []
     for _ in range(chance.choice([0, 1, 1, 2, 3]) if is_busy else chance.choice([0, 1])):
         page = chance.choice(PAGES) if chance.random() < 0.6 else PAGES[0]
@@ -129,7 +129,7 @@ def random_teletext(chance: Random, is_busy: bool) -> list[bytes]:
 
 
 def hamming_24_18(value: int) -> bytes:
-    """Three bytes of 18 bits (EN 300 706, 8.3)."""
+    """Encode 18 bits in three bytes (EN 300 706, 8.3)."""
     bits = [0] * 25
     places = [at for at in range(1, 24) if at & at - 1]
     for at, place in enumerate(places):
@@ -168,14 +168,15 @@ def teletext_pes(chance: Random, pts: int, packets: list[bytes]) -> bytes:
 # Pictures
 
 def time_bytes(mark: int, ticks: int) -> bytes:
-    """A PTS or DTS after its four bits."""
+    """Encode a PTS or DTS after its four bits."""
     data = pts_bytes(wrapped(ticks))
     return bytes([data[0] & 0x0F | mark << 4]) + data[1:]
 
 
 def picture_pes(chance: Random, kind: int, times: tuple[int, int], is_first: bool,
                 is_odd: bool) -> bytes:
-    """A picture with its PTS and DTS; an odd one has another start or header."""
+    """Return a PES packet with a picture, its PTS and DTS; an odd one has another start or header.
+    """
     pts, dts = times
     head = bytes([0x84, 0xC0, 10]) + time_bytes(3, pts) + time_bytes(1, dts)
     if dts == pts and chance.random() < 0.9:
@@ -193,7 +194,7 @@ def picture_pes(chance: Random, kind: int, times: tuple[int, int], is_first: boo
 
 
 def elementary(chance: Random, kind: int, is_first: bool) -> bytes:
-    """The bytes of a picture, as far as they say what kind of group it begins."""
+    """Return the bytes of a picture that show its kind of group."""
     def some(*counts: int) -> bytes:
         return bytes(chance.choices(range(4, 255), k=chance.choice(counts)))
 
@@ -221,7 +222,7 @@ JUMPS = [90_000, -90_000, 3600, -3600, 400_000, 1 << 31, -900_000, 20_000]
 
 
 class Programme:
-    """A programme at random; its events have the time at which they are sent."""
+    """A random programme: events with transmission times."""
 
     def __init__(self, chance: Random, mux: Multiplex, number: int, length: int, is_small: bool
                  ) -> None:
@@ -247,12 +248,12 @@ class Programme:
             self.clock = 0x1FFF
 
     def each(self, step: int, send: Callable[[int, int], None], first: int = 0) -> None:
-        """What is sent each so many ticks, by its number and its time."""
+        """Add an event each `step` ticks, by its number and time."""
         for number, time in enumerate(range(first, self.length, step)):
             self.events.append((time, partial(send, number, time)))
 
     def ticks(self, time: int, more: list[tuple[int, int]] | None = None) -> int:
-        """The PTS of a time, after the jumps before it."""
+        """Return the PTS of a time, after the jumps before it."""
         return self.origin + time + sum(jump for at, jump in self.jumps + (more or [])
                                         if at <= time)
 
@@ -300,7 +301,7 @@ class Programme:
         self.each(chance.choice([3600, 3600, 1800, 7200, 90_000]), send, chance.choice([0, 700]))
 
     def add_other(self, pid: int) -> None:
-        """A PID with neither, or one that is not announced."""
+        """Add a PID without Teletext and video, or one that is not announced."""
         chance, mux = self.chance, self.mux
         if chance.random() < 0.7:
             self.streams.append((chance.choice([3, 6, 0x81]), pid, False))
@@ -321,7 +322,7 @@ class Programme:
 
 
 def random_units(chance: Random) -> list[bytes]:
-    """The TS packets of some programmes."""
+    """Return the TS packets of some programmes."""
     mux = Multiplex(chance)
     count, length = chance.choice([
         (1, 1_200_000), (1, 400_000), (1, 90_000), (1, 90_000), (2, 200_000), (2, 90_000),
@@ -348,14 +349,14 @@ def random_units(chance: Random) -> list[bytes]:
     return mux.units
 
 
-# What happens to it
+# Faults
 
 CHANGES = ["lost", "lost", "many", "again", "again", "later", "error", "scrambled", "jump",
            "jump lost", "empty", "byte", "counter", "field"]
 
 
 def change(chance: Random, units: list[bytes]) -> None:
-    """Something happens to a TS packet."""
+    """Make a random change at a TS packet."""
     at, way = chance.randrange(len(units)), chance.choice(CHANGES)
     data = bytearray(units[at])
     if way in ("lost", "many"):
@@ -385,13 +386,13 @@ def change(chance: Random, units: list[bytes]) -> None:
 
 
 def alone(data: bytes | bytearray, flags: int) -> bytes:
-    """A TS packet of an adaptation field alone, of the PID of another."""
+    """Return a TS packet with only an adaptation field, of another packet's PID."""
     made = bytes([SYNC, data[1] & 0x1F, data[2], 0x20 | data[3] & 15, FULL - 1, flags])
     return made.ljust(PACKET, b"\xff")
 
 
 def jump(chance: Random, units: list[bytes], at: int, is_lost: bool) -> None:
-    """An announced jump of a counter, instead of a TS packet or before it."""
+    """Announce a counter jump, instead of a TS packet or before it."""
     made, more = alone(units[at], DISCONTINUITY), chance.choice([0, 1, 5])
     units[at:at + is_lost] = [made]
     for place in range(at + 1, len(units)):
@@ -401,7 +402,7 @@ def jump(chance: Random, units: list[bytes], at: int, is_lost: bool) -> None:
 
 
 def change_bytes(chance: Random, data: bytes, size: int) -> bytes:
-    """Bytes come between others, or are lost."""
+    """Insert or delete bytes."""
     at = chance.randrange(len(data) + 1)
     if chance.random() < 0.4:
         count = chance.choice([1, 5, PACKET, size, 15 * size - 1, 15 * size])
@@ -412,7 +413,7 @@ def change_bytes(chance: Random, data: bytes, size: int) -> bytes:
 # Recordings
 
 class Recording(NamedTuple):
-    """A recording, and what `survey` is asked for."""
+    """A recording, and the options of `survey`."""
 
     data: bytes
     page: Page = (0, 0x88)
@@ -421,7 +422,7 @@ class Recording(NamedTuple):
 
     @property
     def words(self) -> list[str]:
-        """Its options."""
+        """Return the options."""
         given = {"--pid": self.pid, "--packet-size": self.size}
         return ["--page", page_name(*self.page)] + [
             word for name, value in given.items() if value is not None
@@ -429,7 +430,7 @@ class Recording(NamedTuple):
 
 
 def random_pes_file(chance: Random) -> bytes:
-    """A file of PES packets, some of them gap markers."""
+    """Return a file of PES packets and gap markers."""
     data, pts = b"", chance.choice([0, CLOCK - 20_000])
     same = random_teletext(chance, True)
     for _ in range(chance.choice([0, 1, 5, 40])):

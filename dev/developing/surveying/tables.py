@@ -12,7 +12,7 @@ ANNOUNCING = 0x56, 0x46  # Teletext descriptor, VBI Teletext descriptor
 
 
 class Stream(NamedTuple):
-    """An elementary stream of a PMT, with what announces Teletext on it, as ends of lines."""
+    """An elementary stream of a PMT, with its announcements as ends of lines."""
 
     pid: int
     kind: int
@@ -26,7 +26,7 @@ class Programme(NamedTuple):
 
 
 class Sections:
-    """The sections that the TS packets of a PID carry."""
+    """The sections in the TS packets of a PID."""
 
     def __init__(self) -> None:
         self.before: Packet | None = None
@@ -34,7 +34,7 @@ class Sections:
         self.told: dict[tuple[int, int], bytes] = {}
 
     def take(self, packet: Packet) -> Iterator[bytes]:
-        """The sections that end in a packet."""
+        """Return the sections that end in a packet."""
         if packet.is_wrong or not packet.has_payload:
             return
         before, self.before = self.before, packet
@@ -74,7 +74,7 @@ class Sections:
 
 
 def pids_in(section: bytes) -> Iterator[int]:
-    """The PIDs of PMTs that a section of the PAT names."""
+    """Return the PIDs of PMTs in a section of the PAT."""
     body = section[8:-4]
     for at in range(0, len(body) - 3, 4):
         if body[at:at + 2] != b"\0\0":
@@ -82,7 +82,7 @@ def pids_in(section: bytes) -> Iterator[int]:
 
 
 def announced_by(descriptors: bytes) -> Iterator[str]:
-    """What the descriptors of a stream announce."""
+    """Return the announcements in the descriptors of a stream."""
     at = 0
     while at + 2 <= len(descriptors):
         tag, length = descriptors[at:at + 2]
@@ -95,7 +95,7 @@ def announced_by(descriptors: bytes) -> Iterator[str]:
 
 
 def programme_of(section: bytes) -> Programme | None:
-    """What a section of a PMT says."""
+    """Return the programme in a section of a PMT."""
     body = section[8:-4]
     if len(body) < 4:
         return None

@@ -1,4 +1,4 @@
-"""The lines of a PID with Teletext: its PES packets, gaps, pages."""
+"""The lines about a PID with Teletext: its PES packets, gaps, pages."""
 from __future__ import annotations
 
 from typing import NamedTuple
@@ -14,19 +14,19 @@ from .clocks import Counters, Jump, Say, Seconds, number
 from .packets import Packet
 from .page import DecodedPage, Rows, shown, triplet
 
-MARK = 45  # the refusal of a gap marker
-MOST_JUMPS = 4  # that wait for their line
-CHARACTER_SETS = 28, 29  # packets with them
+MARK = 45  # the fault of a gap marker
+MOST_JUMPS = 4  # jumps that wait for their line
+CHARACTER_SETS = 28, 29  # packets with character sets
 
 
 def fault_of(data: bytes) -> int:
-    """The refusal of `packets`; 0 if there is none."""
+    """Return the fault that `packets` reports, 0 if none."""
     is_length = len(data) in range(184, 184 * 9 + 1, 184)
     return (head_fault(data) or units_of(data)[1] or 0) if is_length else LENGTH
 
 
 class Run(NamedTuple):
-    """PES packets in a row with one line."""
+    """Consecutive PES packets in one line."""
 
     first: int
     length: int
@@ -39,7 +39,7 @@ class Run(NamedTuple):
         return f"pes {pid} {self.first} {self.length} {number(self.pts)} {self.step} {self.rest}"
 
     def joined(self, pts: int | None, rest: str) -> Run | None:
-        """The run with one more PES packet, if they have one line."""
+        """Return the run with one more PES packet, if both fit in one line."""
         if self.last is None or pts is None or rest != self.rest:
             return None
         step = ticks_between(self.last, pts)
@@ -56,11 +56,11 @@ class PesLines:
         self.count = self.marks = 0
         self.page = DecodedPage(page)
         self.run: Run | None = None
-        self.rows: Rows | None = None  # that were printed
+        self.rows: Rows | None = None  # the rows that we decoded
         self.strays: Rows = {}
         self.subtitles: dict[Page, int] = {}
         self.sets: set[str] = set()
-        self.last_pts: int | None = None  # of a PES packet that is complete
+        self.last_pts: int | None = None  # of a complete PES packet
 
     def flush(self) -> None:
         if self.run:
@@ -100,7 +100,7 @@ class PesLines:
             self.rest("strays", self.strays)
 
     def put(self, pts: int | None, rest: str) -> None:
-        """A PES packet in a line of its own, or in that of the one before it."""
+        """Print a PES packet in a line of its own, or in the previous line."""
         joined = self.run and self.run.joined(pts, rest)
         if not joined:
             self.flush()
@@ -112,7 +112,7 @@ class PesLines:
         self.say(f"{word} {self.pid} {self.count - 1} {shown(rows)}")
 
     def note(self, data: bytes) -> None:
-        """The first subtitle header of each page, and character sets."""
+        """Note the first subtitle header of each page, and character sets."""
         address = address_of(data)
         header = header_of(data) if address and address[1] == 0 else None
         if address and header and has_bit(header, SUBTITLE):
@@ -157,22 +157,22 @@ class Teletext:
         self.lines = PesLines(pid, page, say)
         self.packets = self.scrambled = 0
         self.refusal = 0
-        # What the good packets carry, from one that begins, a break or a seam on.
+        # The content of good packets, from a start, a break or a seam on.
         self.stretch = Stretch(None)
         self.part = b""
         self.begins = self.is_given = self.is_timed = False
         self.has_gap = self.has_seam = self.is_wrong_last = False
         self.lost = self.scrambled_there = 0
-        # Of the PES packet that began last.
+        # Of the last PES packet that began.
         self.last_pts: int | None = None
         self.is_behind_gap = False
-        # Beside other clocks.
+        # Next to other clocks.
         self.aheads, self.leads, self.picture = Seconds(), Seconds(), 0
         self.settled: int | None = None  # the last PTS before the last PCR
         self.waiting: list[Waiting] = []
 
     def take(self, packet: Packet) -> int | None:
-        """Take a TS packet of the PID; answers the PTS that is known now."""
+        """Take a TS packet of the PID; return the PTS that is now known."""
         self.packets += 1
         self.scrambled += packet.is_scrambled
         stretch = self.stretch
