@@ -144,10 +144,10 @@ def a_log(clone: Clone, kept: Iterable[str] = ()) -> str:
 class Clones(Case):
     def test_runs_the_stored_program_in_any_folder(self) -> None:
         clone = Clone(self)
-        clone.runs("at first")
-        clone.runs("again, with the choice kept")
+        clone.check_runs("at first")
+        clone.check_runs("again, with the choice kept")
         os.symlink(clone.path("subttx"), self.path("link"))
-        clone.runs("through a link", clone.run(*PACKET, script=self.path("link")))
+        clone.check_runs("through a link", clone.run(*PACKET, script=self.path("link")))
         self.must("its path", clone.tool("program") == [clone.path("dist", "subttx")])
 
     def test_prints_help_without_arguments(self) -> None:
@@ -183,38 +183,38 @@ class Clones(Case):
 
     def test_detects_a_damaged_program(self) -> None:
         clone = Clone(self)
-        clone.runs("whole")
+        clone.check_runs("whole")
         with open(clone.path("dist", "subttx"), "r+b") as file:
             file.seek(-100, os.SEEK_END)
             byte = file.read(1)[0]
             file.seek(-1, os.SEEK_CUR)
             file.write(bytes([byte ^ 1]))
-        clone.does_not_run("one byte", "dist/subttx is damaged")
+        clone.check_fails("one byte", "dist/subttx is damaged")
         os.remove(clone.path("dist", "subttx"))
-        clone.does_not_run("no file", "dist/subttx is no program")
+        clone.check_fails("no file", "dist/subttx is no program")
 
     def test_detects_changed_sources(self) -> None:
         clone = Clone(self)
         for name in (SOURCE, *(os.path.join("crates", "sub_listing", part, "Lib.antt")
                                for part in ("specs", "proofs")), "crates.txt"):
-            clone.runs("as it is")
+            clone.check_runs("as it is")
             text = read(clone.path(name)) or ""
             clone.write(name, text.replace("subttx:", "subttx: sub_laws", 1)
                         if name == "crates.txt" else text + "// changed\n")
-            clone.does_not_run(name, "dist/subttx was built from other sources")
+            clone.check_fails(name, "dist/subttx was built from other sources")
             clone.write(name, text)
         clone.add_to(SOURCE, "// changed\n")
         clone.put("dist", self.bench.program)
-        clone.runs("with a program of its own")
+        clone.check_runs("with a program of its own")
         os.rename(clone.path(SOURCE), clone.path(SOURCE + "2"))
-        clone.does_not_run("another name", "dist/subttx was built from other sources")
+        clone.check_fails("another name", "dist/subttx was built from other sources")
 
     def test_runs_in_a_read_only_clone(self) -> None:
         clone, user = Clone(self), None if os.geteuid() else ANOTHER_USER
         if user and not Trial.can_run(["test", "-x", clone.path("subttx")], user=user):
             self.skipTest("a read-only clone, since no other user can read it")
         subprocess.run(["chmod", "-R", "a-w", clone.top], check=True)
-        clone.runs("read only", clone.run(*PACKET, user=user))
+        clone.check_runs("read only", clone.run(*PACKET, user=user))
         subprocess.run(["chmod", "-R", "u+w", clone.top], check=True)
         self.must("nothing was written", not os.path.exists(clone.path("out")))
 
@@ -225,7 +225,7 @@ class Clones(Case):
                            ("it ends by a signal", "#!/bin/sh\nkill -ILL $$\n")):
             clone.write("other", text)
             clone.put("dist", clone.path("other"))
-            clone.does_not_run(name, "dist/subttx does not run here")
+            clone.check_fails(name, "dist/subttx does not run here")
 
     def test_follows_the_script_of_a_repository(self) -> None:
         clone = Clone(self)
@@ -240,14 +240,14 @@ class Clones(Case):
     def test_prefers_a_program_that_was_built_here(self) -> None:
         clone = Clone(self)
         stored = clone.path("crates", "subttx", "stdout")
-        clone.runs("there is none yet")
+        clone.check_runs("there is none yet")
         clone.write("other", f"#!/bin/sh\n[ $2 = 00 ] && exec echo built\ncat {stored}\n")
         clone.put("out", clone.path("other"))
         done = clone.run(*PACKET)
         self.must("out/", (done.status, done.out, done.told) == (0, b"built\n", []), done)
         clone.add_to(SOURCE, "// changed\n")
         clone.put("dist", self.bench.program)
-        clone.runs("dist/, where out/ is older")
+        clone.check_runs("dist/, where out/ is older")
 
     def test_release_takes_only_what_was_proved(self) -> None:
         clone = Clone(self)
@@ -273,7 +273,7 @@ class Clones(Case):
         done = clone.release("--compare")
         self.must("the same bytes", done.status == 0 and done.out.endswith(PASSED), done)
         shutil.rmtree(clone.path("out"))
-        clone.runs("it runs")
+        clone.check_runs("it runs")
 
     def test_release_keeps_lines_of_unchanged_sources(self) -> None:
         clone = Clone(self)
@@ -367,7 +367,7 @@ class ProvingClones(Case):
         self.must("with its lines", kept.crates == {
             name: (digest, LINE) for name, digest in clone.crates.items()}, kept)
         self.must("nothing else is left", clone.has_cleared())
-        clone.runs("again, without the toolchain")
+        clone.check_runs("again, without the toolchain")
 
     def test_reports_a_crate_that_is_not_proved(self) -> None:
         clone = Bare(self, fails="ttx_page")

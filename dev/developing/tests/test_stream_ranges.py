@@ -191,19 +191,19 @@ class Adjoining(OfProgramme):
 
     def test_advises_pauses_instead_of_an_end_between_adjoining_subtitles(self) -> None:
         for frame, near in ((250, (151, 351)), (300, (151, 351))):
-            told = self.judge(self.transmission, "--to", time_of(frame))
+            told = self.judge(self.sent, "--to", time_of(frame))
             self.must(f"{frame}", told.word == "not judged" and told.result["parts"] == [] and [
                 word.rpartition(" ")[2] for word in told.verdict.to_type] == [*map(time_of, near)],
                 (told.said, told.verdict.to_type))
             for end in near:
-                told = self.judge(self.transmission, "--to", time_of(end))
+                told = self.judge(self.sent, "--to", time_of(end))
                 self.must(f"{frame}, {end}", told.word == "accepted", told.said)
-        told = self.judge(self.transmission, "--to", time_of(500))
+        told = self.judge(self.sent, "--to", time_of(500))
         self.must("a pause", told.word == "accepted", told.said)
 
         other = [(pts, [HEADER, row(22, b"Other"), CLOSING]) if pts == 250 * TICKS else
-                 (pts, some) for pts, some in self.transmission]
-        one_late = late(1, 200 * TICKS, 200 * TICKS)(self.transmission)
+                 (pts, some) for pts, some in self.sent]
+        one_late = late(1, 200 * TICKS, 200 * TICKS)(self.sent)
         for name, sent in (("another page", other), ("another fault", one_late)):
             told = self.judge(sent, "--to", time_of(250))
             self.must(name, told.word == "refused", told.said)
