@@ -1,5 +1,5 @@
--- Reading a range of PES packets: skipping the packets before the range, part_passed and
--- part_failed, and reading the packets of the range, advances_kept.
+-- Reading a range of PES packets: the packets left in the range, `part_is`, and the number of the
+-- packet, `number_is` and `number_none`.
 use Rattle.std.proofs.Common.{◌≡◌, ℕ, zero, suc, ◌+◌, List, Option, Some, None}
 use Rattle.std.proofs.Common.{refl, ap, ◌∙◌, arith}
 use Rattle.std.specs.Prelude.{option_map}

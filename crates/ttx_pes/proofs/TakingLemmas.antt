@@ -1,5 +1,5 @@
 -- What the bytes consumed of a PES packet determine, NAME_settles; what follows from that,
--- settled_NAME; and the reader's answer, tells_NAME.
+-- settled_NAME; and the reader's answer, reports_NAME.
 use Rattle.std.proofs.Common.{◌≡◌, ◌≢◌, ℕ, ◌<◌, ◌≤◌, List, [], length, take, drop, Option, None}
 use Rattle.std.proofs.Common.{Some, Result, Ok, Err, refl, sym, ap, subst, ◌∙◌, append_assoc, arith}
 use Rattle.std.proofs.Common.{length-append, length-take, length-drop, true}
