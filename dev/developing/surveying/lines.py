@@ -167,7 +167,7 @@ class Stream:
     # Clocks
 
     def take_pcr(self, clock: Clock, packet: Packet) -> None:
-        if packet.announces_jump:
+        if packet.announces_pcr_jump:
             clock.is_compared = False
         if packet.pcr is None:
             return

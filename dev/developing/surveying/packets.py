@@ -8,7 +8,7 @@ from developing.every_place.recordings import (PACKET, SIZES, SYNC, TIME_STAMP, 
 
 LOOKED_AT = 1 << 24  # bytes searched for the packet size
 IN_A_ROW = 5
-RANDOM_ACCESS, PCR = 0x40, 0x10  # flags of an adaptation field
+DISCONTINUITY, RANDOM_ACCESS, PCR = 0x80, 0x40, 0x10  # flags of an adaptation field
 
 
 class Packet(TransportPacket):
@@ -21,8 +21,11 @@ class Packet(TransportPacket):
         length = data[4] if data[3] & 0x20 else 0
         flags = data[5] if length else 0
         self.is_random_access = flags & RANDOM_ACCESS != 0
-        # program_clock_reference_base
-        self.pcr = int.from_bytes(data[6:11], "big") >> 7 if flags & PCR and length >= 7 else None
+        # program_clock_reference_base, and an announced jump of it; also in a TS packet that is
+        # wrong for another reason than transport_error_indicator.
+        has_pcr = flags & PCR and length >= 7 and not self.has_error
+        self.pcr = int.from_bytes(data[6:11], "big") >> 7 if has_pcr else None
+        self.announces_pcr_jump = flags & DISCONTINUITY != 0 and not self.has_error
 
 
 def size_of(data: bytes) -> int | None:

@@ -16,6 +16,7 @@ from subtitles.formats.teletext import START, Page, page_name
 FULL = PACKET - 4
 BEGINS, ERROR, SCRAMBLED = 0x40, 0x80, (0x40, 0x80, 0xC0)
 DISCONTINUITY, RANDOM_ACCESS, PCR_FLAG = 0x80, 0x40, 0x10
+CURRENT = 1  # current_next_indicator
 VIDEO_KINDS = 0x01, 0x02, 0x1B, 0x24  # MPEG-1, MPEG-2, H.264, HEVC
 PAGES: list[Page] = [(0, 0x88), (0, 0x88), (0, 0x88), (0, 0x77), (1, 0x88), (0, 0xFF), (7, 0x99)]
 
@@ -58,7 +59,9 @@ class Multiplex:
             place, flags, pcr = place + size, 0, None
 
     def send_sections(self, pid: int, data: bytes) -> None:
-        """Send a section, sometimes after the rest of an earlier one, or in small parts."""
+        """Send a section, sometimes after stuffing bytes or with current_next_indicator 0."""
+        if self.chance.random() < 0.03:
+            data = with_crc(data[:5] + bytes([data[5] & ~CURRENT]) + data[6:-4])
         before = b"\xff" * self.chance.choice([0, 0, 0, 0, 5, 170])
         data = bytes([len(before)]) + before + data
         for place in range(0, len(data), FULL):
@@ -69,7 +72,11 @@ class Multiplex:
 
 def section(table: int, number: int, version: int, body: bytes, place: int = 0) -> bytes:
     data = bytes([table]) + struct.pack(">HHBBB", 0xB000 | len(body) + 9, number,
-                                        0xC1 | version << 1, place, place) + body
+                                        0xC0 | version << 1 | CURRENT, place, place) + body
+    return with_crc(data)
+
+
+def with_crc(data: bytes) -> bytes:
     return data + crc(data).to_bytes(4, "big")
 
 
@@ -158,6 +165,8 @@ def teletext_pes(chance: Random, pts: int, packets: list[bytes]) -> bytes:
     for at, one in enumerate(packets, 7):
         data += data_unit(chance, at % 32, one)
     data += STUFFING_UNIT * (4 * blocks - 1 - len(packets))
+    if chance.random() < 0.01:
+        return data[:6] + b"\xff" * (len(data) - 6)  # a gap marker, if it is short
     if chance.random() < 0.02:
         changed = bytearray(data)
         changed[chance.choice([0, 3, 4, 5, 6, 7, 8, 9, 11, 13, 45])] ^= 1 << chance.randrange(8)
@@ -381,7 +390,8 @@ def change(chance: Random, units: list[bytes]) -> None:
         else:
             data[3] |= 0x20
             data[4] = chance.choice([0, 1, 7, 20, 182, 183, 184])
-            data[5] = chance.choice([0, DISCONTINUITY, RANDOM_ACCESS, PCR_FLAG])
+            data[5] = chance.choice([0, DISCONTINUITY, RANDOM_ACCESS, PCR_FLAG,
+                                     DISCONTINUITY | PCR_FLAG])
         units[at] = bytes(data)
 
 
@@ -393,8 +403,11 @@ def alone(data: bytes | bytearray, flags: int) -> bytes:
 
 def jump(chance: Random, units: list[bytes], at: int, is_lost: bool) -> None:
     """Announce a counter jump, instead of a TS packet or before it."""
-    made, more = alone(units[at], DISCONTINUITY), chance.choice([0, 1, 5])
-    units[at:at + is_lost] = [made]
+    made, more = bytearray(alone(units[at], DISCONTINUITY)), chance.choice([0, 1, 5])
+    if chance.random() < 0.2:
+        place, flag = chance.choice([(1, ERROR), (3, SCRAMBLED[0]), (3, 0x10)])
+        made[place] |= flag
+    units[at:at + is_lost] = [bytes(made)]
     for place in range(at + 1, len(units)):
         one = units[place]
         if one[1] & 0x1F == made[1] and one[2] == made[2]:

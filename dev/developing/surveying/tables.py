@@ -8,6 +8,7 @@ from subtitles.formats.teletext import page_name
 from .packets import Packet
 
 PAT, PMT = 0, 2  # table_id
+CURRENT = 1  # current_next_indicator
 ANNOUNCING = 0x56, 0x46  # Teletext descriptor, VBI Teletext descriptor
 
 
@@ -63,7 +64,7 @@ class Sections:
             if len(self.part) < 3 or len(self.part) < length:
                 return
             section, self.part = self.part[:length], self.part[length:]
-            if length >= 12 and crc(section) == 0:
+            if length >= 12 and section[5] & CURRENT and crc(section) == 0:
                 yield section
 
     def is_new(self, section: bytes) -> bool:

@@ -165,6 +165,7 @@ class Teletext:
         self.lost = self.scrambled_there = 0
         # Of the last PES packet that began.
         self.last_pts: int | None = None
+        self.is_complete = True
         self.is_behind_gap = False
         # Next to other clocks.
         self.aheads, self.leads, self.picture = Seconds(), Seconds(), 0
@@ -199,6 +200,7 @@ class Teletext:
             self.has_gap |= self.part != b"" and not self.is_given
             self.is_behind_gap = self.has_gap and not self.refusal and self.lines.count > 0
             self.part, self.begins, self.is_given, self.is_timed = b"", packet.begins, False, False
+            self.is_complete &= not packet.begins
         self.part += packet.payload
         if not self.refusal:
             self.give(packet.payload)
@@ -212,7 +214,7 @@ class Teletext:
             self.mark()
             self.refusal = length or 0
         elif length is not None and len(self.part) >= length:
-            self.is_given = True
+            self.is_given = self.is_complete = True
             self.mark()
             if self.has_seam:
                 self.say(f"seam {self.pid} {self.lines.count}")
@@ -252,4 +254,4 @@ class Teletext:
         if not self.refusal:
             self.mark()
         self.lines.end(self.packets, self.scrambled, self.refusal,
-                       self.last_pts != self.lines.last_pts, self.last_pts)
+                       not self.is_complete, self.last_pts)
