@@ -22,7 +22,7 @@ from subtitles.common.program import COMPLETION, TOOLS, TOP, read
 from subtitles.common.shapes import Member, Record, Shape
 from subtitles.request import request
 from subtitles.results.files import COLUMNS, FILES as FILE_COLUMNS
-from subtitles.results.schema import CUE, LISTED_CAUSE, REQUEST, VERDICT, schema
+from subtitles.results.schema import CAUSE, CUE, LISTED_CAUSE, REQUEST, VERDICT, schema
 from .cited import rows_of_numbers
 
 TABLE = os.path.join("docs", "manual", "reference.md")
@@ -227,18 +227,41 @@ PREFIXES = {"verdict": "", "fault": "", "request": "", "subtitle": "subtitle_", 
 
 
 def results_parts() -> dict[str, str]:
-    """Return the tables of the keys of JSON results and of the columns of CSV, an object each."""
+    """Return the lists of the keys of JSON results, an object each, with a mark after the keys that
+    are columns of CSV."""
     lines = list[str]()
     for record in filter(has_table, records_in(VERDICT)):
-        keys = [[f"`{member.name}`", f"`{column}`" if (column := column_of(record, member)) else "",
-                 meaning_of(member).replace("|", "\\|")] for member in record.members]
-        has_columns = any(column for _, column, _ in keys)
-        heads = ["Key", "CSV", "Meaning"] if has_columns else ["Key", "Meaning"]
-        rows = [key if has_columns else [key[0], key[2]] for key in keys]
-        lines += ["", f"## {record.name.replace('_', ' ').capitalize()}", "",
-                  *[record.meaning, ""][:2 * bool(record.meaning)], f"| {' | '.join(heads)} |",
-                  f"|{'---|' * len(heads)}", *(f"| {' | '.join(row)} |" for row in rows)]
+        lines += ["", f"## {to_title(record)}", ""]
+        if record.meaning:
+            lines += [*textwrap.wrap(record.meaning, WIDTH), ""]
+        if record is REQUEST:
+            names = ", ".join(key_of(record, member) for member in record.members)
+            lines += [textwrap.fill(f"{names}.", WIDTH, break_on_hyphens=False)]
+            continue
+        for member in record.members:
+            words = [key_of(record, member), meaning_of(member)]
+            lines += textwrap.wrap(": ".join(filter(None, words)), WIDTH, initial_indent="- ",
+                                   subsequent_indent="  ", break_on_hyphens=False)
     return {"results": "\n".join(lines) + "\n"}
+
+
+def to_title(record: Record) -> str:
+    """Return the heading of an object."""
+    return record.name.replace("_", " ").capitalize()
+
+
+def key_of(record: Record, member: Member) -> str:
+    """Return a key, with a link to its object, and a mark if it is a column of CSV."""
+    inner = record_of(member)
+    key = f"`{member.name}`" + "\\*" * (record is not CUE and bool(column_of(record, member)))
+    return f"[{key}](#{inner.name.replace('_', '-')})" if inner and has_table(inner) else key
+
+
+def record_of(member: Member) -> Record | None:
+    """Return the object that is the value of a member, or an item of its list."""
+    record = next((shape for shape in (member.shape, *member.shape.inner())
+                   if isinstance(shape, Record)), None)
+    return CAUSE if record is LISTED_CAUSE else record
 
 
 def records_in(shape: Shape, found: tuple[Record, ...] = ()) -> tuple[Record, ...]:
@@ -266,13 +289,11 @@ def column_of(record: Record, member: Member) -> str:
 
 
 def meaning_of(member: Member) -> str:
-    """Return what a member is: its meaning and that of its shape."""
+    """Return what a member is: the meaning of its shape, unless that has a list, and its own."""
     shape = next((shape for shape in (member.shape, *member.shape.inner()) if shape.name), None)
-    of_shape = "" if shape is None else shape.meaning
-    if isinstance(shape, Record) and has_table(shape):
-        name = shape.name.replace("_", " ")
-        of_shape = f"See [{name}](#{name.replace(' ', '-')})."
-    return " ".join(text for text in (member.meaning, of_shape) if text)
+    inner = record_of(member)
+    of_shape = "" if shape is None or inner and has_table(inner) else shape.meaning
+    return " ".join(text for text in (of_shape, member.meaning) if text)
 
 
 def completion_parts(usage: str, table: str, helps: list[str]) -> dict[str, str]:

@@ -28,14 +28,8 @@ FIRST_FAULT, LAST_FAULT = 10, 79  # fault numbers
 CODE_TIME = named("code_time", Text(r"[0-9]{2,3}(:[0-9]{2,3}){3}"))
 DATE = named("date", Text(r"[0-9]{4}-[0-9]{2}-[0-9]{2}T[0-9]{2}:[0-9]{2}:[0-9]{2}Z"))
 PART = named("part_number", Integer(1, MOST_NUMBER), "The part, from 1.")
-STATUS = named("status", OneOf(*sorted({*STATUSES.values()})),
-               "The exit status: 0 accepted or waived, or relative with --relative; 1 not "
-               "accepted; 2 not judged; 3 relative.")
-WORD = named("word", OneOf(*STATUSES), "waived: all faults are warnings by --severity or "
-             "--allow-lost. lost: what was received is accepted or waived, but TS packets are "
-             "missing. warned: it is accepted or waived, but there are warnings, and --strict "
-             "counts them. relative: it would be accepted or waived, but no clock was given, so a "
-             "delay of all subtitles was not checked.")
+STATUS = named("status", OneOf(*sorted({*STATUSES.values()})), "The exit status.")
+WORD = named("word", OneOf(*STATUSES))
 
 FILE_AT_START = Record(
     "file_at_start", "",
@@ -44,15 +38,14 @@ FILE_AT_START = Record(
 
 FILE = Record(
     "file", "",
-    Member("name", Maybe(Text()), "Its name as typed; null for judged PES packets that were not "
-           "kept."),
+    Member("name", Maybe(Text()), "As typed; null: PES packets that were not kept."),
     Member("size", COUNT, "In bytes."),
     Member("sha256", SUM))
 
 SUBTITLE = Record(
-    "subtitle", "A subtitle of the file.",
-    Member("position", COUNT, "Its position in the subtitle file, or in that of the part, from 1. "
-           "A comment or user data has the position of the subtitle before it."),
+    "subtitle", "",
+    Member("position", COUNT, "Its position in the subtitle file, or in that of the part, from 1; "
+           "a comment or user data has that of the previous subtitle."),
     Member("number", Integer(0, 65535), "SN."),
     Member("begin", CODE_TIME, "TCI."),
     Member("end", CODE_TIME, "TCO."))
@@ -62,76 +55,74 @@ CAUSE_MEMBERS = (
     Member("subtitle", SUBTITLE),
     Member("name", CAUSE_NAME, "Its name."),
     Member("frames", Maybe(Integer(1, FRAMES_OF_A_DAY)),
-           "By how many frames the subtitle is late or early; null for other causes."),
+           "How many frames late or early, if it is."),
     Member("expected_text", Text(), "The subtitle's text, its rows joined by a slash."),
-    Member("decoded_text", Maybe(Text()), "The text that was received; null if none was."),
+    Member("decoded_text", Maybe(Text()), "The received text."),
     Member("other_number", Maybe(Integer(0, 65535)),
-           "The number (SN) of the subtitle that has the received text."),
+           "The number (SN) of the subtitle with the received text."),
     Member("other_position", Maybe(Integer(1, MOST_NUMBER)),
-           "The position of that subtitle in the file, from 1."),
+           "That subtitle's position in the file, from 1."),
     Member("line", Text(), "The cause as printed."))
 CAUSE = Record("cause", "Why a subtitle's content is not as expected. All its 72 faults share it, "
-               "those after its TCO or of its early appearance too.", *CAUSE_MEMBERS)
-LISTED_CAUSE = Record("listed_cause", "Each is a cause with its `part`.",
+               "also those before its TCI and after its TCO.", *CAUSE_MEMBERS)
+LISTED_CAUSE = Record("listed_cause", "",
                       Member("part", PART), *CAUSE_MEMBERS)
 
 CELL = Record(
     "cell", "",
     Member("code", Text(r"[0-7][0-9A-F]"), "The 7-bit code, in hexadecimal."),
-    Member("character", Maybe(Text()), "null for a spacing attribute."))
+    Member("character", Maybe(Text()), "null: a spacing attribute."))
 
 FAULT = Record(
     "fault", "",
     Member("part", PART),
     Member("line", Text(r"refused [ -~]+", 200), "The line of check --all."),
     Member("number", Maybe(Integer(FIRST_FAULT, LAST_FAULT)),
-           "null for a fault without a number: never sent, pictures left, not shown."),
+           "null: a fault without a number."),
     Member("name", Text(r"[A-Za-z]+( [a-z]+)?", 40), "Its name, as check prints it."),
     Member("severity", OneOf("error", "warning"), "By --severity."),
-    Member("file", OneOf("stl", "pes"), "The faulty file: the subtitle file or the recording."),
-    Member("block", Maybe(COUNT), "The TTI block, from 1; 0 is the GSI block."),
+    Member("file", OneOf("stl", "pes"), "The faulty file: stl, or pes for the recording."),
+    Member("block", Maybe(COUNT), "The TTI block, from 1; 0: the GSI block."),
     Member("subtitle", Maybe(SUBTITLE),
-           "The subtitle of the block, or the one that is expected at the frame."),
-    Member("byte", Maybe(Text(r"[0-9A-F]{2}")), "The faulty byte of 50 and 51, in hexadecimal."),
-    Member("character", Maybe(Text()), "Its character, after an accent with the letter; null for a "
+           "The subtitle of the block, or the expected one at the frame."),
+    Member("byte", Maybe(Text(r"[0-9A-F]{2}")), "For 50 and 51: the byte, in hexadecimal."),
+    Member("character", Maybe(Text()), "Its character; after an accent, with the letter; null: a "
            "control code."),
-    Member("text_offset", Maybe(COUNT), "For 50 and 51 the offset of that byte in the text, for 52 "
-           "to 55 the line, from 0."),
-    Member("pes", Maybe(COUNT), "The PES packet of the recording, from 0; if a feed was judged, of "
-           "its judged part. Of several in a frame the one that has the packet, or the last one. "
-           "null between two."),
+    Member("text_offset", Maybe(COUNT), "For 50 and 51 that byte's offset in the text, for 52 to "
+           "55 the line, from 0."),
+    Member("pes", Maybe(COUNT), "The PES packet of the recording, from 0 (of a feed: of its judged "
+           "part); null: between two. Of several in a frame, the one with the packet, or the last "
+           "one."),
     Member("pes_pts", Maybe(PTS), "Its PTS."),
     Member("pes_time", Maybe(TIME), "The time of its PTS."),
-    Member("packet", Maybe(COUNT), "The Teletext packet in that PES packet, from 0; counted on "
-           "through all PES packets of the frame."),
-    Member("frame", Maybe(Integer(0, FRAMES_OF_A_DAY - 1)), "The frame of the day, 0 to 2159999."),
+    Member("packet", Maybe(COUNT), "The Teletext packet of the frame, from 0."),
+    Member("frame", Maybe(Integer(0, FRAMES_OF_A_DAY - 1)), "The frame of the day, from 0."),
     Member("time", Maybe(TIME), "The time of the frame."),
     Member("row", Maybe(Integer(1, 24)), "The row, 1 to 24."),
     Member("column", Maybe(Integer(0, 39)), "The column, 0 to 39."),
-    Member("expected", Maybe(CELL), "For 72: the expected code of the cell."),
-    Member("decoded", Maybe(CELL), "For 72: the decoded code of the cell; null if none was sent."),
+    Member("expected", Maybe(CELL), "For 72: the expected code."),
+    Member("decoded", Maybe(CELL), "For 72: the decoded code; null: none was sent."),
     Member("last_time", Maybe(TIME),
-           "For 72, 73, 77 and 78: the last frame at whose end the fault was there."),
+           "For 72, 73, 77 and 78: the last frame at whose end the fault lasted."),
     Member("last_pes", Maybe(COUNT),
-           "For 33 to 40, 45 and 61: the last of the skipped PES packets."),
-    Member("meaning", Text(), "The fault in the manual's words; without a number: what is wrong."),
-    Member("remedy", Text(), "What to do, in the manual's words."),
-    Member("cause", Maybe(CAUSE), "For 72: the cause of its subtitle's faults. For 63 and 74 too, "
-           "if the recording goes on there; else null."))
+           "For 33 to 40, 45 and 61: the last skipped PES packet."),
+    Member("meaning", Text(), "What is wrong, as in the manual."),
+    Member("remedy", Text(), "What to do, as in the manual."),
+    Member("cause", Maybe(CAUSE), "For 72; also for 63 and 74, if the recording goes on there."))
 
 REQUEST = Record(
-    "request", "The files and the options of the call.",
+    "request", "",
     Member("stl", Text(), "The subtitle file as typed."),
-    Member("recording", Maybe(Text()), "The recording as typed; null for a subtitle file alone."),
+    Member("recording", Maybe(Text()), "The recording as typed; null: a subtitle file alone."),
     *members())
 
 CLOCK_OF_PART = Record(
     "clock", "",
     Member("origin", PTS, "The PTS of 00:00:00:00."),
-    Member("source", OneOf(*SOURCES), "recording: estimated from its cues; origin: --origin; "
-           "start: --start TIME; tcp: --start tcp."),
-    Member("delay_frames", Maybe(Integer(-FRAMES_OF_A_DAY, FRAMES_OF_A_DAY)), "By how many frames "
-           "the cues are later than this clock; null if unknown, as with an estimated clock."))
+    Member("source", OneOf(*SOURCES), "recording: estimated; origin: --origin; start: --start "
+           "TIME; tcp: --start tcp."),
+    Member("delay_frames", Maybe(Integer(-FRAMES_OF_A_DAY, FRAMES_OF_A_DAY)), "How many frames "
+           "the cues are later than this clock; null: unknown, as for an estimated one."))
 
 
 class PartOf(NamedTuple):
@@ -150,49 +141,43 @@ class PartOf(NamedTuple):
 JUDGED_PART = Record(
     "part", "",
     Member("part", PART, of=lambda of: of.part.number),
-    Member("stl", Text(), "The subtitle file, as in request.", lambda of: of.part.request.stl),
+    Member("stl", Text(), "The subtitle file, as typed.", lambda of: of.part.request.stl),
     Member("origin", Maybe(PTS), "The PTS of 00:00:00:00.", lambda of: of.part.origin),
     Member("from", Maybe(TIME), "The first judged time.", lambda of: of.part.times()[0]),
     Member("to", Maybe(TIME), "The last judged time.", lambda of: of.part.times()[1]),
-    Member("verdict", OneOf("accepted", "refused", "not judged"), "not judged: a signal stopped "
-           "the call, and its reports up to then are here.", lambda of: of.part.answer.verdict),
+    Member("verdict", OneOf("accepted", "refused", "not judged"), "not judged: a signal ended "
+           "the call, and its faults up to then are here.", lambda of: of.part.answer.verdict),
     Member("line", Text(), "The line of check without --all.", lambda of: of.part.answer.line),
-    Member("frames", Maybe(COUNT), "How many frames were judged.",
-           lambda of: of.part.answer.frames),
-    Member("transmissions", Maybe(COUNT), "How often the page was transmitted.",
+    Member("frames", Maybe(COUNT), "Judged frames.", lambda of: of.part.answer.frames),
+    Member("transmissions", Maybe(COUNT), "Page transmissions.",
            lambda of: of.part.answer.transmissions),
-    Member("fault_count", COUNT, "How many faults it has.", lambda of: of.part.answer.count),
-    Member("pid", Maybe(PID), "The judged PID of a transport stream; null for PES packets.",
+    Member("fault_count", COUNT, "Its faults.", lambda of: of.part.answer.count),
+    Member("pid", Maybe(PID), "The judged PID; null for PES packets.",
            lambda of: (of.part.stream or (None, None))[0]),
     Member("packet_size", OneOf(*PACKET_SIZES, None), "Bytes from one TS packet to the next; null "
            "for PES packets.", lambda of: (of.part.stream or (None, None))[1]),
-    Member("pes", Maybe(Text(r"[0-9]+-[0-9]+", 40)), "The first and the last judged PES packet of "
-           "the recording, from 0, as --pes takes them; null without a recording, or if all of a "
-           "feed was judged.", lambda of: of.part.pes_name),
-    Member("pace", Maybe(Integer(1, MOST_EVERY)), "The maximum PES interval in frames, given or "
-           "measured; null if none was checked.", lambda of: of.part.request.pace),
-    Member("judged_file", Maybe(FILE), "The judged PES packets of a feed; null for a file, which "
-           "can be read again."),
-    Member("clock", Maybe(CLOCK_OF_PART), "null without a recording.",
-           lambda of: of.part.clock))
+    Member("pes", Maybe(Text(r"[0-9]+-[0-9]+", 40)), "The first and the last judged PES packet, as "
+           "for --pes; null if all of a feed was judged.", lambda of: of.part.pes_name),
+    Member("pace", Maybe(Integer(1, MOST_EVERY)), "The longest PES interval in frames, given or "
+           "measured; null: not checked.", lambda of: of.part.request.pace),
+    Member("judged_file", Maybe(FILE), "The judged PES packets of a feed."),
+    Member("clock", Maybe(CLOCK_OF_PART), of=lambda of: of.part.clock))
 
 LOSS = Record(
-    "loss", "A place where something of the recording is missing, between two PES packets.",
-    Member("from", Maybe(TIME), "The time of the PES packet before it.", lambda gap: gap.after),
-    Member("to", Maybe(TIME), "The time of the PES packet after it.", lambda gap: gap.before),
-    Member("from_pts", Maybe(PTS), "The PTS of the PES packet before it.",
+    "loss", "",
+    Member("from", Maybe(TIME), "The time of the previous PES packet.", lambda gap: gap.after),
+    Member("to", Maybe(TIME), "The time of the next one.", lambda gap: gap.before),
+    Member("from_pts", Maybe(PTS), "The PTS of the previous PES packet.",
            lambda gap: gap.place.before),
-    Member("to_pts", Maybe(PTS), "The PTS of the PES packet after it.",
-           lambda gap: gap.place.after),
-    Member("gap_marker", Maybe(COUNT), "The number of the gap marker among the PES packets: check "
-           "reports it as 45 if it is judged. null if the PCR alone shows the loss.",
-           lambda gap: gap.place.mark),
+    Member("to_pts", Maybe(PTS), "The PTS of the next one.", lambda gap: gap.place.after),
+    Member("gap_marker", Maybe(COUNT), "The number of the gap marker (45) among the PES packets; "
+           "null: only the PCR shows the loss.", lambda gap: gap.place.mark),
     Member("lost_ts_packets", COUNT, "By their counters, which do not show multiples of 16.",
            lambda gap: gap.place.lost),
-    Member("scrambled_ts_packets", COUNT, "How many TS packets are scrambled.",
+    Member("scrambled_ts_packets", COUNT, "Scrambled TS packets.",
            lambda gap: gap.place.scrambled),
-    Member("missing_ticks", COUNT, "How many 90 kHz ticks the PCR misses; 0 if it does not show "
-           "the loss.", lambda gap: gap.place.missing),
+    Member("missing_ticks", COUNT, "90 kHz ticks that the PCR misses; 0: it does not show the "
+           "loss.", lambda gap: gap.place.missing),
     Member("judged", Flag(), "Whether the verdict covers the frames between.",
            lambda gap: gap.is_judged))
 
@@ -201,55 +186,51 @@ WARNING = Record(
     Member("kind", OneOf(
         "pts_behind", "pts_early", "pts_changed", "page", "type", "language", "option",
         "character_set", "repeat", "clock_jump", "pause", "blocks", "subtitles", "cut", "hidden"),
-           "pts_behind, pts_early, pts_changed: PTS of the Teletext against the PCR. page, type, "
-           "language, option: the PMT announces another page, type, language or national option. "
-           "character_set: a packet X/28 or M/29 names one. repeat: how often the page is "
-           "repeated. clock_jump: the clock jumps. pause: some frames have no PES packet, though "
-           "nearly all have one. blocks, subtitles: the GSI block counts other TTI blocks (TNB) or "
-           "subtitles (TNS). cut: the file ends within a PES packet. hidden: a row of the subtitle "
-           "file that some receivers do not show completely."),
+           "pts_behind, pts_early, pts_changed: PTS against the PCR. page, type, language, option: "
+           "the PMT announces another one. character_set: X/28 or M/29 names one. repeat: the "
+           "repeat interval. clock_jump: the clock jumps. pause: frames without a PES packet, "
+           "though nearly all have one. blocks, subtitles: the counts TNB, TNS of the GSI block. "
+           "cut: the file ends within a PES packet. hidden: some receivers hide part of a row."),
     Member("line", Text(), "The warning as printed."),
-    Member("time", Maybe(TIME), "The first place; null if it has none."))
+    Member("time", Maybe(TIME), "The first place."))
 
 TRUSTED = Record("trusted_frames", "", Member("part", PART),
                  Member("from", TIME, "The first frame."), Member("to", TIME, "The last frame."))
 
 DELAY = Maybe(Integer(-FRAMES_OF_A_DAY, FRAMES_OF_A_DAY))
 CUE = Record(
-    "cue", "A subtitle of the file: its expected and actual times, its texts and its verdict.",
+    "cue", "",
     Member("part", PART),
     Member("position", Integer(1, MOST_NUMBER), "Its position in the file, from 1."),
     Member("number", Integer(0, 65535), "SN."),
-    Member("recording_offset", Maybe(Text(r"[0-9]+:[0-9]{2}:[0-9]{2}")), "How far into the "
-           "recording its TCI is: H:MM:SS."),
+    Member("recording_offset", Maybe(Text(r"[0-9]+:[0-9]{2}:[0-9]{2}")), "Its TCI, "
+           "counted from the recording's beginning: H:MM:SS."),
     Member("expected_in", CODE_TIME, "TCI."),
     Member("expected_out", CODE_TIME, "TCO."),
-    Member("actual_in", Maybe(TIME), "The first frame at whose end a receiver has its page, or the "
-           "page that came in its place; null if none was received."),
-    Member("actual_out", Maybe(TIME), "The first frame at whose end a receiver no longer has that "
-           "page."),
-    Member("delay_in", DELAY, "By how many frames the in-cue is late; negative: early."),
-    Member("delay_out", DELAY, "By how many frames the out-cue is late; negative: early."),
-    Member("expected_text", Maybe(Text()), "Its text, the rows joined by a slash; null if the "
-           "subtitle file has it wrong."),
-    Member("decoded_text", Maybe(Text()), "The text that a receiver has."),
+    Member("actual_in", Maybe(TIME), "The first frame at whose end a receiver has its page, or "
+           "another page in its place; null: none was received."),
+    Member("actual_out", Maybe(TIME), "The first frame at whose end it no longer has that page."),
+    Member("delay_in", DELAY, "How many frames late the in-cue is; negative: early."),
+    Member("delay_out", DELAY, "The same for the out-cue."),
+    Member("expected_text", Maybe(Text()), "Its text, the rows joined by a slash; null: it is "
+           "refused."),
+    Member("decoded_text", Maybe(Text()), "The received text."),
     Member("verdict", OneOf(RIGHT, WRONG, WAIVED, UNSURE), "right: check accepts its part, or "
            "trusts all its frames. waived: its faults are warnings. not known: it was not received "
            "completely, or can't be judged."),
     Member("reason", Maybe(Text()), "Why it is not right."),
     Member("complete_after", Maybe(COUNT), "How many frames after its TCI its page was complete, "
-           "and with --complete closed; null if it never was in its time, or this was not seen, as "
-           "if its TCI is before the page's first transmission."))
+           "and with --complete closed; null: never before its TCO, or unknown."))
 
 CHOICE = Record(
     "choice", "",
-    Member("part", Maybe(PART), "Its part; null if it is for all."),
-    Member("option", OneOf(*CHOICES), "The option that would give it, without its dashes.",
+    Member("part", Maybe(PART), "null: all."),
+    Member("option", OneOf(*CHOICES), "The option for it, without dashes.",
            lambda choice: choice.what),
-    Member("value", Maybe(Text()), "The value as the option takes it; null for none."),
+    Member("value", Maybe(Text()), "Its value; null: none."),
     Member("matches", Maybe(COUNT), "Its evidence: for pid the PES packets with a header of the "
            "page, for origin the matching cues, for pes the PES packets in the time of the "
-           "subtitles, for pace the places where a loss would take longer; else null.",
+           "subtitles, for pace the places where a loss would take longer.",
            lambda choice: choice.agree),
     Member("total", Maybe(COUNT), "Of how many.", lambda choice: choice.among),
     Member("line", Text(), "The evidence as printed."))
@@ -258,7 +239,7 @@ PROGRAM = Record(
     "program", "",
     Member("version", Text(), "Its version."),
     Member("sha256", SUM),
-    Member("proof", Maybe(Text()), "The prover's line, if it is stored beside the program.",
+    Member("proof", Maybe(Text()), "The prover's line, if it is stored with the program.",
            lambda program: program.proved))
 
 SPREAD = Record(
@@ -266,14 +247,14 @@ SPREAD = Record(
     Member("minimum", COUNT, "In frames.", lambda delays: delays.least),
     Member("median", COUNT, "In frames.", lambda delays: delays.middle),
     Member("maximum", COUNT, "In frames.", lambda delays: delays.greatest),
-    Member("never_complete", COUNT, "How many subtitles were never complete.",
+    Member("never_complete", COUNT, "Subtitles that were never complete.",
            lambda delays: delays.never))
 
 COUNTS = Record(
     "counts", "",
-    Member("judged", COUNT, "How many subtitles were judged."),
-    Member("refused", COUNT, "How many of them are refused, or unreliable since the next one is "
-           "out of order or overlaps."))
+    Member("judged", COUNT, "Judged subtitles."),
+    Member("refused", COUNT, "Refused ones, and those that the next one overlaps or "
+           "precedes."))
 
 FORMAT = 7
 MOST_LISTED = 20_000  # items of a list
@@ -323,12 +304,12 @@ def sum_of_parts(known: Writing, name: str) -> int | None:
 
 
 FILES_AT_START = Record(
-    "files_at_start", "The files as they were when judging began; null for what is no file. "
-    "--resume and --watch judge again if they differ.", *(
+    "files_at_start", "The files when judging began. --resume and --watch judge again if they "
+    "differ.", *(
         Member(name, Maybe(FILE_AT_START)) for name in ("stl", "recording", "severity")))
-INPUTS = Record("inputs", "The files as they were read; null for what was not read.",
+INPUTS = Record("inputs", "The files as they were read.",
                 Member("stl", Maybe(FILE)), Member("recording", Maybe(FILE)))
-CAUSE_COUNTS = Record("cause_counts", "How many causes there are of each name.", *(
+CAUSE_COUNTS = Record("cause_counts", "The number of causes of each name.", *(
     Member(name, COUNT) for name in NAMES))
 
 # Verdict, status, last line and reason belong together.
@@ -349,63 +330,59 @@ TIMED = Rules([
 
 # The lists, written item by item; `omitted` counts the rest of each.
 LISTS = (
-    Member("parts", Listed(JUDGED_PART, MOST_LISTED), "What was judged by itself, each with its "
-           "own clock. The verdict does not cover frames between parts.",
+    Member("parts", Listed(JUDGED_PART, MOST_LISTED), "Each is judged by itself, with its "
+           "own clock. Frames between parts are not judged.",
            lambda known: (PartOf(part, known.verdict.is_kept) for part in known.verdict.parts)),
-    Member("losses", Listed(LOSS, MOST_LISTED), "Where something of the recording is missing.",
+    Member("losses", Listed(LOSS, MOST_LISTED), "Where the recording is incomplete.",
            lambda known: known.verdict.gaps),
     Member("notes", Listed(Text(), MOST_LISTED),
-           "What else was found, as qc prints it with the verdict.",
+           "As printed.",
            lambda known: known.verdict.said()),
-    Member("hints", Listed(Text(), MOST_LISTED), "More about the first fault of some numbers, as "
-           "50 (character), 72 (content) or 67 (page header), each line after the number.",
+    Member("hints", Listed(Text(), MOST_LISTED), "More about the first fault of some numbers, "
+           "as printed.",
            lambda known: known.verdict.hints),
-    Member("warnings", Listed(WARNING, MOST_LISTED), "What is unusual in the files; it "
-           "changes the verdict only with --strict.",
+    Member("warnings", Listed(WARNING, MOST_LISTED), "What is unusual in the files.",
            lambda known: known.verdict.warnings),
-    Member("commands", Listed(Text(), MOST_LISTED), "The commands, as an operator types them.",
+    Member("commands", Listed(Text(), MOST_LISTED), "The commands that judged, as typed.",
            lambda known: known.verdict.commands),
-    Member("choices", Listed(CHOICE, MOST_LISTED), "What qc chose, with its evidence, in order.",
+    Member("choices", Listed(CHOICE, MOST_LISTED), "What qc chose, in order.",
            lambda known: known.verdict.chosen),
-    Member("trusted_frames", Listed(TRUSTED, MOST_LISTED), "Frames without a fault, as check "
-           "prints them; with --within N, right within N frames.", trusted_of),
-    Member("faults", Listed(FAULT, MOST_LISTED), "In the order of check --all; before them those "
-           "without a number.",
+    Member("trusted_frames", Listed(TRUSTED, MOST_LISTED), "Frames without a fault; "
+           "with --within N, right within N frames.", trusted_of),
+    Member("faults", Listed(FAULT, MOST_LISTED), "Those without a number, then in the order of "
+           "check --all.",
            lambda known: faults_of(known.verdict)),
-    Member("causes", Listed(LISTED_CAUSE, MOST_LISTED), "One cause for each subtitle whose content "
-           "is refused (72), in the order of the subtitles; also for the first one (63) and the "
-           "last one (74), if the recording goes on there.", cause_rows),
-    Member("subtitles", Listed(CUE, MOST_SUBTITLES), "All subtitles of the file, also wrong ones. "
-           "A fault between two subtitles belongs to neither.",
+    Member("causes", Listed(LISTED_CAUSE, MOST_LISTED), "One for each subtitle with 72, in their "
+           "order; also for the first one (63) and the last one (74), if the recording goes on "
+           "there. Each has its part.", cause_rows),
+    Member("subtitles", Listed(CUE, MOST_SUBTITLES), "All subtitles of the file, also refused "
+           "ones. A fault between two belongs to neither.",
            lambda known: subtitle_rows(known.verdict)))
-OMITTED = Record("omitted", "How many items of each list are omitted, because it is too long.", *(
+OMITTED = Record("omitted", "How many items are omitted of each list that is too long.", *(
     Member(one.name, COUNT) for one in LISTS))
 
 VERDICT = Record(
     "verdict", "",
-    Member("format", OneOf(FORMAT), "A later format has another number.", lambda _: FORMAT),
+    Member("format", OneOf(FORMAT), "The number of this format.", lambda _: FORMAT),
     Member("verdict", WORD, of=lambda known: known.verdict.word),
     Member("status", STATUS, of=lambda known: known.verdict.status),
-    Member("line", Maybe(Text()), "The last line on standard output; null if not judged.",
+    Member("line", Maybe(Text()), "The last line on standard output.",
            lambda known: known.verdict.line),
-    Member("worst_fault", Maybe(Text()), "The same line with the worst fault that is not waived: "
-           "reports and tables of many pairs begin with it. null if not judged.",
+    Member("worst_fault", Maybe(Text()), "The same with the worst fault that is not waived.",
            lambda known: known.verdict.lead),
     Member("sentence", Text(), "The verdict in one sentence.",
            lambda known: known.verdict.sentence),
-    Member("reason", Maybe(Text()), "Why it was not judged; else null.",
+    Member("reason", Maybe(Text()), "Why it was not judged.",
            lambda known: known.verdict.why_not),
-    Member("scope", OneOf("transmission", "subtitle file"), "What was judged: both files, or a "
-           "subtitle file alone.", lambda known: "subtitle file"
-           if known.verdict.request.recording is None else "transmission"),
-    Member("frames", Maybe(COUNT), "How many frames were judged.",
-           lambda known: sum_of_parts(known, "frames")),
-    Member("transmissions", Maybe(COUNT), "How often the page was transmitted.",
+    Member("scope", OneOf("transmission", "subtitle file"), "What was judged.",
+           lambda known: "subtitle file" if known.verdict.request.recording is None
+           else "transmission"),
+    Member("frames", Maybe(COUNT), "Judged frames.", lambda known: sum_of_parts(known, "frames")),
+    Member("transmissions", Maybe(COUNT), "Page transmissions.",
            lambda known: sum_of_parts(known, "transmissions")),
-    Member("fault_count", COUNT, "All faults of all parts, also those that the list omits.",
+    Member("fault_count", COUNT, "All faults, also those that the list omits.",
            lambda known: known.verdict.faults),
-    Member("subtitle_counts", Maybe(COUNTS), "null if no subtitle was judged.",
-           lambda known: known.verdict.counts),
+    Member("subtitle_counts", Maybe(COUNTS), of=lambda known: known.verdict.counts),
     Member("request", REQUEST, of=lambda known: known.verdict.request),
     Member("files_at_start", FILES_AT_START, of=lambda known: known.verdict.files),
     Member("inputs", INPUTS, of=lambda known: known.verdict),
@@ -415,8 +392,8 @@ VERDICT = Record(
            lambda known: known.verdict.seconds),
     Member("cause_counts", CAUSE_COUNTS, of=lambda known: counts_of(
         part.causes for part in known.verdict.parts if part.causes)),
-    Member("complete_after", Maybe(SPREAD), "After how many frames subtitles were complete; null "
-           "if none was, or this was not measured.", lambda known: known.verdict.delays),
+    Member("complete_after", Maybe(SPREAD), "After how many frames subtitles were complete.",
+           lambda known: known.verdict.delays),
     *LISTS,
     Member("omitted", OMITTED),
     rules=[TOGETHER, TIMED])
