@@ -335,6 +335,14 @@ class Tracks(unittest.TestCase):
             self.assertEqual([(stretch.track.start, stretch.first, stretch.end)
                               for stretch in row], [(0, 0, 6), (-40, 6, 12)], some)
 
+    def test_takes_the_least_of_the_starts_that_fit_equally(self) -> None:
+        """The order of a set of starts does not decide: for -301 and -500 it has 0 first."""
+        most = {edge.frame: edge.letters for edge in self.edges[:-1]}
+        for later in (300, 301, 400, 500):
+            twice = {**most, **{frame + later: text for frame, text in most.items()}}
+            self.assertEqual([stretch.track.start for stretch in find_row([self.base(twice)])],
+                             [-later], later)
+
     def test_splits_only_where_another_track_agrees_better(self) -> None:
         due = {edge.frame: edge.letters for edge in self.edges}
         half, rest = ({frame: due[frame] for frame in due if (frame < 400) == is_first}
