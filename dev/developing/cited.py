@@ -23,10 +23,8 @@ DOCUMENTS = {"docs/HEADLINE.md": "", "docs/ASSURANCE.md": "", "docs/CLAUSES.md":
 ROW = re.compile(r"^\| (.*) \| `(\S+)` \| (\d+) \| (\d+) \|$", re.M)
 # The most lines that may have to be read for these promises.
 MOST_LINES = {"run_in_memory.headline": 450, "run_in_memory.acceptance": 800}
-# The numbers of lines to be read in README.
-IN_README = {"run_in_memory.headline": re.compile(r"\[(\d+)\s+lines\s+to\s+read\]"),
-             "run_in_memory.chosen": re.compile(r"(\d+)\s+by\s+its\s+most\s+common\s+options"),
-             "run_in_memory.recording": re.compile(r"(\d+)\s+of\s+a\s+recording\)")}
+# The number of lines to be read in README.
+IN_README = {"run_in_memory.headline": re.compile(r"\[(\d+)\s+lines\]")}
 NUMBERS = re.compile(r"^## The proof in numbers$.*?(?=^## )", re.M | re.S)
 NUMBER = re.compile(r"^\| (.*) \| ([\d,]+) \|$", re.M)  # a row: what is counted, and the number
 PARTS = ("src", "specs", "must-fail", "release-edits")  # folders of a crate whose words count
