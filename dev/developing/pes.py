@@ -19,6 +19,10 @@ NATIONAL = 12, 13, 14  # control bits
 # Each byte with its bits reversed: a data unit sends bit 1 first.
 MIRROR = bytes(int(f"{byte:08b}"[::-1], 2) for byte in range(256))
 
+# The places of the 18 data bits in three Hamming 24/18 bytes, counted from 1: all except powers of
+# 2, which are checks, and the last.
+DATA_BITS = tuple(at for at in range(1, 24) if at & at - 1)
+
 Header = tuple[int, int, bytes]  # a page's magazine and number, and a header's eight numbers
 
 
@@ -45,6 +49,17 @@ def packet(magazine: int, number: int, numbers: Iterable[int], codes: Iterable[i
     address = magazine + 8 * number
     coded = bytes(CODE_WORDS[value] for value in (address & 15, address >> 4, *numbers))
     return coded + bytes(map(odd, codes))
+
+
+def triplet(value: int) -> bytes:
+    """Encode a Hamming 24/18 triplet (EN 300 706, 8.3)."""
+    word = sum((value >> bit & 1) << at - 1 for bit, at in enumerate(DATA_BITS))
+    wrong = 31
+    for at in DATA_BITS:
+        wrong ^= at if word >> at - 1 & 1 else 0
+    word |= sum(1 << (1 << check) - 1 for check in range(5) if wrong >> check & 1)
+    word |= (bin(word).count("1") + 1 & 1) << 23
+    return word.to_bytes(3, "little")
 
 
 def address_of(data: bytes) -> tuple[int, int] | None:

@@ -1,7 +1,7 @@
 """The requested page, decoded from its packets (EN 300 706)."""
 from __future__ import annotations
 
-from developing.pes import address_of, header_of, page_in
+from developing.pes import DATA_BITS, address_of, header_of, page_in, triplet
 from subtitles.formats.teletext import ERASE, Page, has_bit, is_odd
 
 SPACE, EVEN_SPACE = 0x20, 0xA0
@@ -26,19 +26,14 @@ def shown(rows: Rows) -> str:
     return ",".join(f"{row}:{codes.hex()}" for row, codes in sorted(rows.items())) or "-"
 
 
-def triplet(data: bytes) -> int | None:
-    """Decode a Hamming 24/18 word (8.3), with one wrong bit corrected."""
-    word = int.from_bytes(data, "little") << 1  # bits count from 1
-    wrong = 0
-    for test in (1, 2, 4, 8, 16):
-        tested = sum(word >> bit & 1 for bit in range(1, 24) if bit & test)
-        wrong += test * (tested % 2 == 0)
-    is_even = bin(word).count("1") % 2 == 0
-    if wrong and (not is_even or wrong > 23):
-        return None
-    word ^= 1 << wrong if wrong else 0
-    places = [bit for bit in range(1, 24) if bit & bit - 1]
-    return sum((word >> bit & 1) << at for at, bit in enumerate(places))
+def decode_triplet(data: bytes) -> int | None:
+    """Decode a Hamming 24/18 triplet, with one wrong bit corrected."""
+    for wrong in (0, *(1 << bit for bit in range(24))):
+        word = int.from_bytes(data, "little") ^ wrong
+        value = sum((word >> at - 1 & 1) << bit for bit, at in enumerate(DATA_BITS))
+        if triplet(value) == word.to_bytes(3, "little"):
+            return value
+    return None
 
 
 class DecodedPage:

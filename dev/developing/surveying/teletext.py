@@ -12,7 +12,7 @@ from subtitles.formats.teletext import NUMBER, START as PES_START, SUBTITLE, Pag
     page_name
 from .clocks import Counters, Jump, Say, Seconds, number
 from .packets import Packet
-from .page import DecodedPage, Rows, shown, triplet
+from .page import DecodedPage, Rows, decode_triplet, shown
 
 MARK = 45  # the fault of a gap marker
 MOST_JUMPS = 4  # jumps that wait for their line
@@ -121,7 +121,7 @@ class PesLines:
                 self.say(f"sub {self.pid} {page_name(*page)}")
             self.subtitles[page] = self.subtitles.get(page, 0) + 1
         if address and address[1] in CHARACTER_SETS and address[0] == self.page.magazine:
-            self.note_set(address[1], NUMBER[data[2]], triplet(data[3:6]))
+            self.note_set(address[1], NUMBER[data[2]], decode_triplet(data[3:6]))
 
     def note_set(self, packet: int, designation: int | None, value: int | None) -> None:
         is_of_page = self.page.is_last_of_magazine and not (value and value & 15)  # page function

@@ -10,7 +10,8 @@ import unittest
 from typing import Any, Iterator, NamedTuple
 
 from developing.pes import (
-    NATIONAL, address_of, data_field, header_of, packet, pes_packet, pts_in, teletext_packets)
+    NATIONAL, address_of, data_field, header_of, packet, pes_packet, pts_in, teletext_packets,
+    triplet)
 from developing.stl import END_BOX, START_BOX, gsi_block, tti_block
 from subtitles.common.program import TOP
 from subtitles.common.times import TICKS
@@ -302,22 +303,6 @@ ASKED = Request(stl="a.stl", recording="a.ts", page=PAGE, every=250, option="eng
 HEADER, OTHER, CLOSING = (packet(0, 0, numbers, b" " * 32) for numbers in (
     (8, 8, 0, 8, 0, 8, 1, 0), (1, 0, 0, 0, 0, 0, 0, 0), (15, 15, 15, 7, 15, 3, 0, 0)))
 ROW = packet(0, 20, (), b"a row".ljust(40))
-
-
-# The places of the 18 data bits in three Hamming 24/18 bytes, counted from 1: all except powers of
-# 2, which are checks, and the last.
-DATA_BITS = tuple(at for at in range(1, 24) if at & at - 1)
-
-
-def triplet(value: int) -> bytes:
-    """Encode a Hamming 24/18 triplet."""
-    word = sum((value >> bit & 1) << at - 1 for bit, at in enumerate(DATA_BITS))
-    wrong = 31
-    for at in DATA_BITS:
-        wrong ^= at if word >> at - 1 & 1 else 0
-    word |= sum(1 << (1 << check) - 1 for check in range(5) if wrong >> check & 1)
-    word |= (bin(word).count("1") + 1 & 1) << 23
-    return word.to_bytes(3, "little")
 
 
 def character_set_packet(number: int, character_set: int, designation: int = 0, magazine: int = 0,
