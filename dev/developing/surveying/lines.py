@@ -1,17 +1,18 @@
 """All lines about a recording, in order."""
 from __future__ import annotations
 
-from developing.every_place.recordings import UNSEEN, Skipped
+from developing.every_place.recordings import TIME_STAMP, UNSEEN, Skipped, packets_of
 from developing.every_place.reading import HEAD
 from subtitles.common.times import ticks_between
 from subtitles.formats.teletext import START, Page
 from .clocks import Clock, Counters
-from .packets import Packet, packets_of, size_of
+from .packets import Packet, size_of
 from .pictures import Video, is_video
 from .tables import PAT, PMT, Programme, Sections, pids_in, programme_of
 from .teletext import PesLines, Teletext
 
 HEAD_BYTES = 11
+TIMED = 192  # size of packets with a time stamp
 NO_PCR = 0x1FFF
 DATA_IDENTIFIERS = range(0x10, 0x20)
 
@@ -75,9 +76,10 @@ class Stream:
                 for teletext in self.teletext.values():
                     teletext.stretch.is_hurt |= one.length >= UNSEEN * self.size
             else:
-                self.take(one)
+                self.take(Packet(one.data))
         self.end()
-        return [*self.lines, f"over {skipped} {self.place}"]
+        read = TIME_STAMP * (self.size == TIMED) + skipped + self.place * self.size
+        return [*self.lines, f"over {skipped + max(0, len(data) - read)} {self.place}"]
 
     def end(self) -> None:
         for teletext in self.teletext.values():
@@ -167,7 +169,7 @@ class Stream:
     # Clocks
 
     def take_pcr(self, clock: Clock, packet: Packet) -> None:
-        if packet.announces_pcr_jump:
+        if packet.is_discontinuity:
             clock.is_compared = False
         if packet.pcr is None:
             return

@@ -74,7 +74,7 @@ class Video:
         if packet.has_error:
             return
         if not packet.has_payload:
-            self.stretch.has_jump |= packet.announces_jump
+            self.stretch.has_jump |= packet.is_discontinuity
             self.is_flagged |= packet.is_random_access
         elif self.stretch.is_repeat(packet):
             self.stretch.has_repeat = True
@@ -84,7 +84,7 @@ class Video:
 
     def count_lost(self, packet: Packet) -> None:
         """Count a loss; it also loses the rest of a header."""
-        before, is_announced = self.stretch.before, self.stretch.has_jump or packet.announces_jump
+        before, is_announced = self.stretch.before, self.stretch.has_jump or packet.is_discontinuity
         is_break = before is not None and packet.counter != (before.counter + 1) % 16
         if is_break or is_announced or packet.is_wrong:
             self.header = None
