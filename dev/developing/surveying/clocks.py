@@ -94,7 +94,7 @@ class Counters:
 
     def take(self, packet: Packet, place: int) -> None:
         pid = packet.pid
-        if packet.announces_jump:
+        if packet.is_discontinuity:
             self.announced.add(pid)
         if packet.has_error or not packet.has_payload:
             return
