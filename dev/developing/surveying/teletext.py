@@ -25,47 +25,33 @@ def fault_of(data: bytes) -> int:
     return (head_fault(data) or units_of(data)[1] or 0) if is_length else LENGTH
 
 
-class Run(NamedTuple):
-    """Consecutive PES packets in one line."""
-
-    first: int
-    length: int
-    pts: int | None
-    last: int | None  # PTS
-    step: int
-    rest: str
-
-    def line(self, pid: int) -> str:
-        return f"pes {pid} {self.first} {self.length} {number(self.pts)} {self.step} {self.rest}"
-
-    def joined(self, pts: int | None, rest: str) -> Run | None:
-        """Return the run with one more PES packet, if both fit in one line."""
-        if self.last is None or pts is None or rest != self.rest:
-            return None
-        step = ticks_between(self.last, pts)
-        if self.length > 1 and step != self.step:
-            return None
-        return self._replace(length=self.length + 1, last=pts, step=step)
+def step_of(times: list[int | None]) -> int:
+    """Return the ticks from the first PTS to the second, 0 if there are not two."""
+    first, second = times[0], times[-1]
+    return ticks_between(first, second) if first is not None and second is not None else 0
 
 
 class PesLines:
-    """The lines of PES packets and gap markers."""
+    """The lines about PES packets and gap markers."""
 
     def __init__(self, pid: int, page: Page, say: Say) -> None:
         self.pid, self.say = pid, say
         self.count = self.marks = 0
         self.page = DecodedPage(page)
-        self.run: Run | None = None
-        self.rows: Rows | None = None  # the rows that we decoded
-        self.strays: Rows = {}
+        # The line that is not printed yet: the PTS of its PES packets, and what follows STEP.
+        self.times: list[int | None] = []
+        self.rest = ""
+        self.printed: dict[str, Rows | None] = {"rows": None, "strays": {}}
         self.subtitles: dict[Page, int] = {}
         self.sets: set[str] = set()
         self.last_pts: int | None = None  # of a complete PES packet
 
     def flush(self) -> None:
-        if self.run:
-            self.say(self.run.line(self.pid))
-        self.run = None
+        count = len(self.times)
+        if count:
+            self.say(f"pes {self.pid} {self.count - count} {count} {number(self.times[0])} "
+                     f"{step_of(self.times[:2])} {self.rest}")
+        self.times = []
 
     def gap(self, lost: int = 0, scrambled: int = 0) -> None:
         self.flush()
@@ -87,29 +73,24 @@ class PesLines:
         for one in packets:
             page.take(one)
             self.note(one)
-        has_rows = page.is_received and page.rows != self.rows
-        has_strays = page.has_strays and page.strays != self.strays
-        if has_rows or has_strays:
+        changes = {"rows": page.rows} if page.is_received else {}
+        changes |= {"strays": page.strays} if page.has_strays else {}
+        changes = {word: rows for word, rows in changes.items() if rows != self.printed[word]}
+        if changes:
             self.flush()
         self.put(pts, f"{page.done()} {len(packets)} {fault}")
-        if has_rows:
-            self.rows = dict(page.rows)
-            self.rest("rows", self.rows)
-        if has_strays:
-            self.strays = page.strays
-            self.rest("strays", self.strays)
+        for word, rows in changes.items():
+            self.flush()
+            self.say(f"{word} {self.pid} {self.count - 1} {shown(rows)}")
+            self.printed[word] = dict(rows)
 
     def put(self, pts: int | None, rest: str) -> None:
-        """Print a PES packet in a line of its own, or in the previous line."""
-        joined = self.run and self.run.joined(pts, rest)
-        if not joined:
+        """Add a PES packet to the open line, or begin a line."""
+        times = [*self.times, pts]
+        if None in times or rest != self.rest or step_of(times[-2:]) != step_of(times[:2]):
             self.flush()
-        self.run = joined or Run(self.count, 1, pts, pts, 0, rest)
-        self.count += 1
-
-    def rest(self, word: str, rows: Rows) -> None:
-        self.flush()
-        self.say(f"{word} {self.pid} {self.count - 1} {shown(rows)}")
+        self.times.append(pts)
+        self.rest, self.count = rest, self.count + 1
 
     def note(self, data: bytes) -> None:
         """Note the first subtitle header of each page, and character sets."""
