@@ -12,7 +12,7 @@ from subtitles.cli.measure import Unprinted
 from subtitles.cli.single import (
     OutputFiles, PairOptions, claim_pair, judge_pair, new_verdict, report_pair, stamp_inputs)
 from subtitles.common.program import MadeWith
-from subtitles.judging.pair import Pair
+from subtitles.judging.pair import PairJudge
 from subtitles.judging.status import decide
 from subtitles.judging.verdict import Verdict
 from subtitles.request.commands import CommandWords, Listener, Names
@@ -49,7 +49,7 @@ class Judged(NamedTuple):
     @property
     def word(self) -> str:
         """Return the verdict word as if a clock was given."""
-        return decide(self.verdict.seen()._replace(has_clock=True)).word
+        return decide(self.verdict.collect_grounds()._replace(has_clock=True)).word
 
     def is_timed(self) -> bool:
         """Return whether `accepted`, `waived` and status 0 occur only if a clock was given."""
@@ -97,12 +97,12 @@ def judged_by(program: str, *words: str, heard: Heard | None = None) -> Judged:
         names.give(asked.stl)
         files = OutputFiles(PairOptions(program, known.out, known.is_kept, known.json, known.csv,
                                known.junit), verdict, typed, names, stamps)
-        verdict.files = found(asked)
-        pair = Pair(verdict, typed, names, listener, True)
+        verdict.files_at_start = found(asked)
+        pair = PairJudge(verdict, typed, names, listener, True)
         judge_pair(pair, files)
         report_pair(verdict, heard, files)
         result = json.loads("".join(object_of(verdict, MadeWith("1", "0" * 64, None))))
-        listed = [line for part in verdict.parts for line in part.answer.lines()]
+        listed = [line for part in verdict.parts for line in part.check_output.read_lines()]
         # For a pipe, the stored copy is the recording.
         known_files = {asked.stl, asked.recording, os.devnull}
         if pair.recording:
@@ -111,8 +111,8 @@ def judged_by(program: str, *words: str, heard: Heard | None = None) -> Judged:
 
 
 class OfProgramme(Case):
-    """Tests with a subtitle file (`stl`) of the frames `due`, its transmission `transmissions` and its PES
-    packets `pes`. `words` are the arguments of each call."""
+    """Tests with a subtitle file (`stl`) of the frames `due`, its transmission `transmissions` and
+    its PES packets `pes`. `words` are the arguments of each call."""
 
     due: Sequence[tuple[int, int]] = times(10)
     words: Sequence[str] = ("--origin", "0")

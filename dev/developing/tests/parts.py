@@ -8,13 +8,13 @@ from types import SimpleNamespace
 from typing import Any, Sequence
 
 from subtitles.cli.main import main
-from subtitles.clock.start import Clock, Found, GIVEN
+from subtitles.clock.start import Clock, GIVEN, TimedPart
 from subtitles.common.command_line import Words, ended
 from subtitles.common.markup import Value, joined
 from subtitles.common.program import TOP
 from subtitles.formats.listing import FaultLine, Meaning, fault_of_line
 from subtitles.formats.teletext import Page
-from subtitles.judging.check import Answer
+from subtitles.judging.check import CheckOutput
 from subtitles.judging.part import Part
 from subtitles.request.commands import Names
 from subtitles.request.lines import read_options
@@ -37,24 +37,24 @@ def fault_of(line: str) -> FaultLine:
 
 
 def answer(lines: Sequence[str] = ("accepted 10 frames 2 transmissions",),
-           status: int | None = None, path: str = os.devnull) -> Answer:
+           status: int | None = None, path: str = os.devnull) -> CheckOutput:
     """Return what `check --all` answered, from its lines.
 
     If `path` is given, the lines are stored there.
     """
-    made = Answer(path)
+    made = CheckOutput(path)
     for line in lines:
-        made.take(line)
-    made.end(int(made.frames is None) if status is None else status)
+        made.read_line(line)
+    made.finish(int(made.frames is None) if status is None else status)
     return made
 
 
 def part_with(begin: int | None, end: int | None, origin: int | None,
-              said: Answer | None = None, number: int = 1, source: str = GIVEN,
+              said: CheckOutput | None = None, number: int = 1, source: str = GIVEN,
               packets: Packets | None = None, places: Sequence[Place] = (), **more: Any) -> Part:
     """Return a part of some frames, with the PES packets and the losses of its recording."""
     alignment = None if begin is None or end is None or origin is None else \
-        Found(begin, end, Clock(origin, source))
+        TimedPart(begin, end, Clock(origin, source))
     names = Names("a", "", None)
     names.given = "a.stl"
     if packets is not None or places:
@@ -63,11 +63,11 @@ def part_with(begin: int | None, end: int | None, origin: int | None,
                                             places=lambda jumps: [*places])
     known: dict[str, Any] = {
         "request": asked_for("a.stl", "a.pes"), "names": names, "alignment": alignment,
-        "was_read": True, **more}
+        "is_recording_read": True, **more}
     if packets is not None and alignment and "pes" in more:
         held = Timeline(packets, known["request"].page, alignment.origin, 0, more["pes"])
         known["timeline"] = lambda: held
-    return Part(number, answer=said or answer(), **known)
+    return Part(number, check_output=said or answer(), **known)
 
 
 def surveyed(*lines: str) -> Survey:

@@ -10,7 +10,7 @@ import re
 from typing import Any, Iterator, Sequence
 
 from subtitles.common.program import TOP
-from subtitles.judging.causes import NAMES
+from subtitles.judging.causes import CAUSE_NAMES
 from subtitles.judging.status import NOT_JUDGED, STATUSES
 from subtitles.results.files import Row, row_of_object
 from subtitles.results.schema import FORMAT, LISTS
@@ -52,7 +52,8 @@ def result(verdict: str = "refused", **more: Any) -> dict[str, Any]:
         "files_at_start": {"stl": None, "recording": None, "severity": None},
         "inputs": {"stl": None, "recording": None},
         "program": {"version": "1", "sha256": "0" * 64, "proof": None},
-        "date": "2026-01-02T03:04:05Z", "seconds": 0.5, "cause_counts": dict.fromkeys(NAMES, 0),
+        "date": "2026-01-02T03:04:05Z", "seconds": 0.5,
+        "cause_counts": dict.fromkeys(CAUSE_NAMES, 0),
         "complete_after": None, **{one.name: [] for one in LISTS},
         "omitted": {one.name: 0 for one in LISTS}, **more}
 

@@ -275,9 +275,11 @@ class Bugs(CallCase):
         self.assertIn(str(error).strip("'"), known["reason"])
 
     def test_reports_a_bug_in_each_step(self) -> None:
-        for place in ("judging.pair.Pair.judge", "judging.pair.check_alone", "judging.timing.find",
-                      "judging.pair.explained", "judging.part.Part.is_read",
-                      "judging.check.Answer.take", "cli.main.make_parser", "cli.single.request_of",
+        for place in ("judging.pair.PairJudge.judge", "judging.pair.check_file_alone",
+                      "judging.timing.find",
+                      "judging.pair.explain_part", "judging.part.Part.is_read",
+                      "judging.check.CheckOutput.read_line", "cli.main.make_parser",
+                      "cli.single.request_of",
                       "cli.single.CommandWords", "cli.single.found", "results.files.listed",
                       "cli.single.about_program"):
             with self.subTest(place):

@@ -16,10 +16,10 @@ from subtitles.cli import batch, collection, single
 from subtitles.cli.single import (
     FilesInUse, KEPT_SECONDS, Output, OutputFiles, PairOptions, claim_pair, judge_pair, now,
     pair_title, print_verdict, refuse_outputs, remove_results, report_pair)
-from subtitles.clock.start import Clock, FITTED, FITTED_LATER, Found, GIVEN, RECORDING
+from subtitles.clock.start import Clock, FITTED, FITTED_LATER, GIVEN, RECORDING, TimedPart
 from subtitles.common.command_line import Stop, Unanswered
 from subtitles.common.markup import HEAD
-from subtitles.judging.check import Answer
+from subtitles.judging.check import CheckOutput
 from subtitles.judging.part import Part
 from subtitles.judging.status import Severity
 from subtitles.judging.verdict import Gap, Unjudged, Verdict
@@ -47,7 +47,7 @@ def gap(is_judged: bool, mark: int | None = None) -> Gap:
 class LastLines(Case):
     def verdict(self, parts: Sequence[Part], *words: str, **more: Any) -> Verdict:
         made = Verdict(asked_for("one.stl", "one.pes", "--origin", "0", *words), Severity(
-            None, "--allow-lost" in words), "now", count=3)
+            None, "--allow-lost" in words), "now", subtitle_count=3)
         made.parts = list(parts)
         for name, value in more.items():
             setattr(made, name, value)
@@ -83,7 +83,7 @@ class LastLines(Case):
             self.must("without a clock", said[-1] == last and any(
                 one.startswith(FITTED) for one in said) == is_said, said)
         causes: list[Any] = ["first", None, "third"]
-        with mock.patch.object(single, "count_line", lambda some: f"{some}"):
+        with mock.patch.object(single, "format_cause_counts", lambda some: f"{some}"):
             said = self.said(self.verdict([part_with(0, 9, 0, causes=one) for one in causes]))
         self.must("causes of all parts", said[0] == "['first', 'third']", said)
 
@@ -162,17 +162,17 @@ class OutputFilesOfPair(Case):
 
     def part(self, number: int = 1, lines: Sequence[str] = REFUSED) -> Part:
         """Return a refused part with its fault list."""
-        said = Answer(self.path(f"list{number}"))
+        said = CheckOutput(self.path(f"list{number}"))
         for line in lines:
-            said.take(line)
-        said.end(1)
+            said.read_line(line)
+        said.finish(1)
         names = Names("a", self.folder, self.folder)
         names.given = example("story.stl")
         return part_with(0, 9, 0, said, number, names=names)
 
     def verdict(self, lines: Sequence[str] = REFUSED) -> Verdict:
         made = Verdict(asked_for(example("story.stl"), self.path("one.pes")), Severity(None), now())
-        made.files = found(made.request)
+        made.files_at_start = found(made.request)
         made.parts = [self.part(1, lines)]
         return made
 
@@ -275,18 +275,18 @@ class OutputFilesOfPair(Case):
         files = self.files(self.verdict(), json=self.path("one.json"), csv=self.path("one.csv"),
                            junit=self.path("one.xml"), out=self.path("out"))
         files.write()
-        self.must("nothing failed", not files.verdict.failed, files.verdict.failed)
+        self.must("nothing failed", not files.verdict.failed_outputs, files.verdict.failed_outputs)
         for name in ("one.json", "out/one.json"):
             have = json.loads(self.read(name))
             self.must(name, have["verdict"] == "refused" and len(have["faults"]) == 2, have)
         self.must("lines", len(self.read("one.csv").splitlines()) == 2)
         self.must("case", b"refused 68 Parity" in self.read("one.xml"))
-        self.must("page", b"part 1" not in self.read("out/one.html"), files.verdict.failed)
+        self.must("page", b"part 1" not in self.read("out/one.html"), files.verdict.failed_outputs)
         verdict = self.verdict()
         verdict.parts.append(self.part(2))
         several = self.files(verdict, out=self.path("out"))
         several.write()
-        self.must("page of parts", b"part 2" in self.read("out/one.html"), verdict.failed)
+        self.must("page of parts", b"part 2" in self.read("out/one.html"), verdict.failed_outputs)
 
     def test_all_outputs_name_an_output_that_failed(self) -> None:
         for name, nowhere in itertools.product(("csv", "junit", "json"), (
@@ -295,7 +295,8 @@ class OutputFilesOfPair(Case):
             outputs[name] = nowhere
             files = self.files(self.verdict(), **outputs, out=self.path("out"))
             files.write()
-            self.must(name, len(files.verdict.failed) == 1 and nowhere in files.verdict.failed[0])
+            self.must(name, len(files.verdict.failed_outputs) == 1
+                      and nowhere in files.verdict.failed_outputs[0])
             self.must(f"{name}: object", json.loads(self.read("out/one.json"))["verdict"] ==
                       "not judged")
             if name != "csv":
@@ -323,7 +324,7 @@ class OutputFilesOfPair(Case):
             self.must("failed", not files.try_to_put(
                 Output(path, fail, is_json=is_json, is_raw=is_raw)))
             self.must(f"{is_json} {is_raw}", os.path.exists(path) == is_json and
-                      "wrong" in files.verdict.failed[0], files.verdict.failed)
+                      "wrong" in files.verdict.failed_outputs[0], files.verdict.failed_outputs)
         self.must("why", "wrong" in json.loads(self.read("True.json"))["reason"])
 
     def test_writes_the_first_hundred_faults_of_all_parts(self) -> None:
@@ -346,7 +347,7 @@ class OutputFilesOfPair(Case):
                     mock.patch.object(heard, "say", side_effect=[reason, *[None] * 9]):
                 report_pair(verdict, heard, files)
             self.must(f"{reason!r}", json.loads(self.read("one.json"))["status"] == 2 and
-                      verdict.status == 2, verdict.failed)
+                      verdict.status == 2, verdict.failed_outputs)
         pair = mock.Mock(verdict=self.verdict())
         with mock.patch.object(single, "ignore_signals"), mock.patch.object(
                 files, "write", side_effect=[KeyboardInterrupt(), None]) as written:
@@ -366,7 +367,7 @@ class OutputFilesOfPair(Case):
             is_stopped = isinstance(reason, KeyboardInterrupt)
             self.must(f"{reason!r}", (verdict.is_final, verdict.is_stopped, verdict.status) ==
                       (is_final, is_stopped, 1 if reason is None else 2), verdict.unjudged)
-        verdict.unjudged, verdict.failed = None, ["an output"]
+        verdict.unjudged, verdict.failed_outputs = None, ["an output"]
         self.must("an output", not verdict.is_final)
 
     def test_a_bug_in_a_forked_call_leaves_a_result(self) -> None:
@@ -396,7 +397,7 @@ class Pages(Case):
         for delay, words in ((0, "Clock given: --origin 7."),
                              (2, "Clock given: --origin 7. All 2 frames late."),
                              (-1, "Clock given: --origin 7. All 1 frame early.")):
-            part = part_with(0, 9, 7, alignment=Found(0, 9, Clock(7, GIVEN, delay)))
+            part = part_with(0, 9, 7, alignment=TimedPart(0, 9, Clock(7, GIVEN, delay)))
             table = in_page(report_page.parts_table([part]))
             self.must(words, f'<td data-name="Clock">{words}</td>' in table, table)
         table = in_page(report_page.parts_table(verdict.parts))

@@ -29,7 +29,7 @@ from subtitles.results.schema import JUDGED_PART, LOSS, PartOf
 from subtitles.stream.gaps import Place
 from .bench import Case
 from .parts import part_with
-from .results import REQUEST as PLAIN, FAULT, result
+from .results import FAULT, REQUEST as PLAIN, result
 
 NO_CELL = {"code": "00", "character": ""}
 
@@ -186,11 +186,11 @@ class Members(unittest.TestCase):
         self.assertEqual(bare["clock"], {"origin": 7, "source": GIVEN, "delay_frames": None})
         recording: Any = SimpleNamespace(stream=lambda: (0x101, 204))
         part = dataclasses.replace(part, recording=recording, pes=(3, 9), alignment=None,
-                                   judged=SummedFile("a.cut.pes", 5, "sum"))
+                                   judged_file=SummedFile("a.cut.pes", 5, "sum"))
         for count in (0, 1, 1_000_000):
             many: Any = SimpleNamespace(verdict="refused", line="l", frames=3, transmissions=1,
                                         count=count)
-            words = JUDGED_PART.made(PartOf(dataclasses.replace(part, answer=many), False))
+            words = JUDGED_PART.made(PartOf(dataclasses.replace(part, check_output=many), False))
             self.assertEqual((words["fault_count"], words["verdict"], words["line"]),
                              (count, "refused", "l"), count)
         for is_kept, name in ((True, "a.cut.pes"), (False, None)):

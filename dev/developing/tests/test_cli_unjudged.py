@@ -29,7 +29,7 @@ from .bench import Case, SECONDS, example, example_bytes
 from .parts import asked_for, qc
 from .results import result
 from .transmissions import in_pipe
-from .test_cli_failures import ACCEPTED, HELLO, CallCase
+from .test_cli_failures import ACCEPTED, CallCase, HELLO
 
 
 class UnjudgedPairs(Case):
@@ -307,7 +307,7 @@ class OutputsAndSignals(CallCase):
         self.must("profile", done.printed[0].endswith("house: --every 99"), done)
         for is_kept in (False, True):
             asked = asked_for(HELLO[0], in_pipe(self, example_bytes("hello.pes")), "--origin", "0")
-            with mock.patch("subtitles.cli.single.hints_of", return_value=["a", "b", "a"]), \
+            with mock.patch("subtitles.cli.single.list_hints", return_value=["a", "b", "a"]), \
                     mock.patch.object(single, "ignore_signals"), \
                     contextlib.redirect_stdout(io.StringIO()), \
                     contextlib.redirect_stderr(io.StringIO()):

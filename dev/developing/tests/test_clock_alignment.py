@@ -14,11 +14,11 @@ from subtitles.clock.alignment import (
     AGAIN, Agreed, Base, Drift, Early, Edge, FEW_TEXTS, RARE, Shown, UNSEEN_SHARE, back_at,
     bases_of, drift_of, edges_of, settled, usual_delay)
 from subtitles.clock.origin import Origin
-from subtitles.clock.start import Clock, Found, RECORDING
+from subtitles.clock.start import Clock, RECORDING, TimedPart
 from subtitles.clock.stretches import are_alike, is_again
 from subtitles.common.command_line import Lateness, late_word
 from subtitles.common.times import CLOCK, FRAMES_OF_A_DAY, Span, TICKS, time_in
-from subtitles.judging.part import is_in, reach, unseen
+from subtitles.judging.part import belongs_to_part, find_lost_spans, find_recorded_span
 
 from subtitles.stream.gaps import Place
 from subtitles.stream.packets import Change
@@ -27,7 +27,7 @@ from .judged import Judged, judged
 from .parts import part_with
 from .transmissions import joined, late, programme, sendings
 from .test_clock_delays import FIRST, evenly_spaced
-from .test_clock_properties import find_origin, packets_of, random_programme, page_changes
+from .test_clock_properties import find_origin, packets_of, page_changes, random_programme
 
 
 # Cues, and pages that are erased and sent again.
@@ -366,7 +366,7 @@ class LossesInParts(unittest.TestCase):
                    for one in (before, after)]
             place = Place(pts[0], pts[1], lost=1)
             with self.subTest(shift=shift, before=before, after=after):
-                self.assertEqual(is_in(place, part_with(100, 200, shift)), wanted)
+                self.assertEqual(belongs_to_part(place, part_with(100, 200, shift)), wanted)
 
     def test_finds_losses_in_a_part_of_many_hours(self) -> None:
         hour = 90_000
@@ -377,11 +377,12 @@ class LossesInParts(unittest.TestCase):
                                (hours * hour + hour // 2, False)):
                 before, after = (shift_pts(TICKS * (at + more), shift) for more in (-1, 1))
                 for place in (Place(before, after), Place(before, after, missing=90_000)):
-                    self.assertEqual(is_in(place, part), wanted, (hours, at))
+                    self.assertEqual(belongs_to_part(place, part), wanted, (hours, at))
             found, ends = part.alignment, (-hour // 2, hours * hour + hour // 2)
             assert found
-            seen = reach((shift_pts(TICKS * ends[0], shift), shift_pts(TICKS * ends[1], shift)),
-                         found)
+            seen = find_recorded_span((shift_pts(TICKS * ends[0], shift),
+                                       shift_pts(TICKS * ends[1], shift)),
+                                      found)
             self.assertEqual(seen, Span(*ends), hours)
 
     def test_assigns_a_gap_marker_by_its_pes_packet(self) -> None:
@@ -390,7 +391,7 @@ class LossesInParts(unittest.TestCase):
                              (20, False)):
             for place in (Place(None, None, mark=mark), Place(TICKS * 150, TICKS * 151, mark=mark),
                           Place(TICKS * 300, None, mark=mark)):
-                self.assertEqual(is_in(place, part), wanted, mark)
+                self.assertEqual(belongs_to_part(place, part), wanted, mark)
 
     def test_returns_the_frames_that_a_loss_hides(self) -> None:
         day = FRAMES_OF_A_DAY
@@ -402,7 +403,7 @@ class LossesInParts(unittest.TestCase):
                       Place(shift_pts(TICKS * (day - 1), shift), shift_pts(TICKS * day, shift)),
                       Place(shift_pts(TICKS * day, shift), shift_pts(9 * TICKS, shift))]
             with self.subTest(shift=shift):
-                self.assertEqual(list(unseen(places, shift, 0)), [
+                self.assertEqual(list(find_lost_spans(places, shift, 0)), [
                     Span(0, 5), Span(7, 9), Span(20, day), Span(0, 1), Span(0, day),
                     Span(day - 1, day), Span(0, 9)])
 
@@ -411,11 +412,11 @@ class LossesInParts(unittest.TestCase):
                 ((0, 50 * TICKS), Span(0, 50)), ((1, 50 * TICKS - 1), Span(1, 49)),
                 ((-TICKS, 60 * TICKS), Span(-1, 60)), ((-1, 9 * TICKS), Span(0, 9)))):
             first, last = (shift_pts(one, shift) for one in ticks)
-            found = Found(20, 40, Clock(shift, RECORDING))
+            found = TimedPart(20, 40, Clock(shift, RECORDING))
             with self.subTest(shift=shift, ticks=ticks):
-                self.assertEqual(reach((first, last), found), wanted)
-                self.assertIsNone(reach(None, found))
-                self.assertIsNone(reach((first, last), found._replace(packets=(0, 1))))
+                self.assertEqual(find_recorded_span((first, last), found), wanted)
+                self.assertIsNone(find_recorded_span(None, found))
+                self.assertIsNone(find_recorded_span((first, last), found._replace(packets=(0, 1))))
 
 
 class PrintedClocks(unittest.TestCase):

@@ -8,7 +8,7 @@ from developing.stl import boxed
 from subtitles.common.times import CLOCK, TICKS, time_of
 from .bench import Case, example, example_bytes
 from .judged import Judged, OfProgramme, judged
-from .streams import HEVC, H_264, MPEG_2, SLICES, mpeg_2_picture, with_pictures
+from .streams import H_264, HEVC, MPEG_2, SLICES, mpeg_2_picture, with_pictures
 from .transmissions import Sent, in_pipe, in_two_parts, joined, late, moved, programme, sendings
 from .test_cli_pairs import TS, lines_of, qc
 
@@ -92,7 +92,7 @@ class Delays(OfProgramme):
             for words in (["--to", middle], ["--from", middle], ["--to", middle, "--origin", "0"]):
                 found = self.judge(sent, *words)
                 self.must(f"{by} {words}", found.word == "accepted" and
-                          found.verdict.count == 10, found.said)
+                          found.verdict.subtitle_count == 10, found.said)
             wrong = late(1, self.due[15][0] * TICKS)(sent)
             words = [self.judge(wrong, *way, middle).word for way in (["--to"], ["--from"])]
             self.must(f"{by}: late", words == ["accepted", "refused"], words)

@@ -323,9 +323,10 @@ class Examples(Case):
         rules = [line.partition("#")[0].split() for line in text.splitlines()]
         named = {" ".join(words): severity for *words, severity in rules}
         others = named.pop("others")
-        self.check("named", {name: found.of(int(name) if name.isdecimal() else name)
+        self.check("named", {name: found.classify(int(name) if name.isdecimal() else name)
                              for name in named}, named)
-        self.check("others", (others, found.of(72), found.of("never sent")), ("error",) * 3)
+        self.check("others", (others, found.classify(72), found.classify("never sent")),
+                   ("error",) * 3)
         self.check("some are warnings", set(named.values()), {"warning"})
 
 

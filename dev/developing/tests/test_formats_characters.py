@@ -20,7 +20,7 @@ from subtitles.formats.teletext import (
     BY_WORD, CODE_WORDS, CZECH, ENGLISH, FRENCH, GERMAN, ITALIAN, NationalOption, OPTIONS,
     PLACES, RESERVED, SPANISH, SWEDISH, character_of, codes_of, has_bit, has_characters,
     letter_at, letters, named_by, of_track, options_with)
-from subtitles.judging.subtitles import advice_of
+from subtitles.judging.subtitles import advise_on_character
 from subtitles.recording.notices import character_set_notices, option_notices
 from subtitles.request.request import Request
 from .bench import Case, Done, example_bytes
@@ -118,8 +118,8 @@ class Advice(unittest.TestCase):
                 ("24", "$ is in --option english, german, italian, spanish"),
                 ("C24F", "Ó is in no option"), ("F9", "ø is in no option"),
                 ("C2", "byte C2 is no character"), ("FF", "byte FF is no character")):
-            self.assertTrue(advice_of(bytes.fromhex(text), []).startswith(words), text)
-        self.assertEqual(advice_of(b"\xc2e", [FRENCH, SPANISH]),
+            self.assertTrue(advise_on_character(bytes.fromhex(text), []).startswith(words), text)
+        self.assertEqual(advise_on_character(b"\xc2e", [FRENCH, SPANISH]),
                          "the whole file draws in --option french, spanish")
 
     def test_a_diacritical_mark_includes_the_next_letter(self) -> None:

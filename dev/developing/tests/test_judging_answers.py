@@ -16,9 +16,9 @@ from subtitles.common.command_line import Stop, Words
 from subtitles.common.times import CLOCK, FRAMES_OF_A_DAY, NO_FRAME, Span, TICKS
 from subtitles.formats.listing import fault_of_line
 from subtitles.formats.stl import SubtitleFile
-from subtitles.judging.check import Answer, check
-from subtitles.judging.pair import Pair
-from subtitles.judging.subtitles import AT_MIDNIGHT, falls_at_midnight, midnight_words
+from subtitles.judging.check import CheckOutput, run_check
+from subtitles.judging.pair import PairJudge
+from subtitles.judging.subtitles import AT_MIDNIGHT, advise_on_midnight, falls_at_midnight
 from subtitles.report.blocks import readable
 from subtitles.request.lines import request_of_line
 from subtitles.request.request import Unclear, add_options
@@ -77,9 +77,9 @@ LISTS: list[tuple[list[str], int, str | None]] = [
 class Answers(Case):
     def test_reads_each_answer_or_reports_why_not(self) -> None:
         for lines, status, wanted in LISTS:
-            made, heard, reason = Answer(self.path("list")), list[str](), ""
+            made, heard, reason = CheckOutput(self.path("list")), list[str](), ""
             try:
-                check(["sh", "-c", script(lines, status)], made, heard.append)
+                run_check(["sh", "-c", script(lines, status)], made, heard.append)
             except Unclear as why:
                 reason = why.reason
             last = next((one for one in lines if one in STRANGE), "".join(lines[-1:]))
@@ -91,20 +91,21 @@ class Answers(Case):
                     f"{last or 'it printed nothing'}, status {status}"))
                 self.assertEqual(heard, [*itertools.takewhile(GOOD.__ne__, lines),
                                          *[GOOD] * (wanted == "accepted")])
-                self.assertEqual((made.count, made.numbers, [*made.lines()]), (
+                self.assertEqual((made.fault_count, made.fault_numbers, [*made.read_lines()]), (
                     len(faults), {int(one.split()[1]) for one in faults}, lines))
                 self.assertTrue(not wanted or made.line == [*faults, lines[-1]][0])
-                self.assertEqual([one.line for one, _ in made.told()],
+                self.assertEqual([one.line for one, _ in made.read_faults()],
                                  [one for one in lines if one[:8] == "refused " and
                                   fault_of_line(one)])
-                self.assertEqual([begin for begin, _ in made.trusted],
+                self.assertEqual([begin for begin, _ in made.trusted_frames],
                                  [150] * (TRUSTED in lines))
 
     def test_an_error_of_the_listener_kills_the_program(self) -> None:
         for error in (ValueError, BrokenPipeError, KeyboardInterrupt, SystemExit):
             with mock.patch.object(subprocess.Popen, "kill") as kill:
                 with self.assertRaises(error):
-                    check(["echo", FIRST], Answer(self.path("list")), mock.Mock(side_effect=error))
+                    run_check(["echo", FIRST], CheckOutput(self.path("list")),
+                              mock.Mock(side_effect=error))
             kill.assert_called_once_with()
 
     def test_knows_how_far_a_stopped_check_came(self) -> None:
@@ -113,34 +114,35 @@ class Answers(Case):
             ([FIRST, "refused 38 UnitLength pes 7"], None),
             (["trusted frames 00:00:06:00 00:00:07:00"], "00:00:07:00")]
         for lines, wanted in of_times:
-            made = Answer(self.path("list"))
+            made = CheckOutput(self.path("list"))
             for one in lines:
-                made.take(one)
-            made.stop()
-            self.assertEqual((made.told_up_to(), made.verdict, made.said().status),
+                made.read_line(one)
+            made.close_file()
+            self.assertEqual((made.find_last_time(), made.verdict, made.summarize().exit_status),
                              (wanted, "not judged", None), lines)
         verdict, nothing = verdict_of([]), mock.Mock()
-        pair = Pair(verdict, nothing, nothing, nothing, False)
+        pair = PairJudge(verdict, nothing, nothing, nothing, False)
         self.assertEqual(pair.stop("10:00"), "10:00")
         for line, told in ((FIRST, "all up to 00:00:05:00"), (SECOND, "nothing yet")):
-            pair.begun = part_with(0, 9, 0, Answer(self.path("list")))
-            pair.begun.answer.take(line)
+            pair.current_part = part_with(0, 9, 0, CheckOutput(self.path("list")))
+            pair.current_part.check_output.read_line(line)
             # only the first call counts
             for words in (f"10:00, when check had reported {told}", "10:00"):
-                self.assertEqual((pair.stop("10:00"), verdict.parts[-1]), (words, pair.begun),
-                                 (line, told, words))
+                self.assertEqual((pair.stop("10:00"), verdict.parts[-1]),
+                                 (words, pair.current_part), (line, told, words))
         self.assertEqual(len(verdict.parts), 2)
-        made = Answer(self.path("list"))
-        made.take(FIRST)
-        made.take("1 faults")
-        made.end(1)
-        made.move(self.path("other"))
-        self.assertEqual((made.path, list(made.lines())), (self.path("other"),
-                                                           [FIRST, "1 faults"]))
-        made.accept("2 subtitles")
-        self.assertEqual((made.verdict, made.line, made.count, made.numbers, list(made.lines())),
+        made = CheckOutput(self.path("list"))
+        made.read_line(FIRST)
+        made.read_line("1 faults")
+        made.finish(1)
+        made.move_file(self.path("other"))
+        self.assertEqual((made.path, list(made.read_lines())), (self.path("other"),
+                                                                [FIRST, "1 faults"]))
+        made.accept_file("2 subtitles")
+        self.assertEqual((made.verdict, made.line, made.fault_count, made.fault_numbers,
+                          list(made.read_lines())),
                          ("accepted", "2 subtitles", 0, set(), []))
-        self.assertFalse(made.said(False).is_read)
+        self.assertFalse(made.summarize(False).is_read)
 
 
 class Midnight(Case):
@@ -166,11 +168,12 @@ class Midnight(Case):
                 ("refused 57 Other block 4", False), ("refused 21 Times", False)):
             told = fault_of_line(line)
             assert told
-            self.assertEqual(midnight_words(told, subtitles), AT_MIDNIGHT if is_told else "", line)
+            self.assertEqual(advise_on_midnight(told, subtitles), AT_MIDNIGHT if is_told else "",
+                             line)
         told = fault_of_line("refused 56 Order block 2")
         for begin, wanted in ((day - 90_001, ""), (day - 90_000, AT_MIDNIGHT)):
             subtitles = SubtitleFile(programme(self, [(begin, day - 100), (10, 60)]))
-            self.assertEqual(told and midnight_words(told, subtitles), wanted, begin)
+            self.assertEqual(told and advise_on_midnight(told, subtitles), wanted, begin)
 
 
 class LineOptions(Case):

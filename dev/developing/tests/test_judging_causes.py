@@ -13,10 +13,10 @@ from subtitles.common.times import Span, Spans, TICKS, time_of
 from subtitles.formats.listing import fault_of_line
 from subtitles.formats.stl import Subtitle
 from subtitles.judging.causes import (
-    Cause, Causes, EARLY, LATE, NAMES, NEVER, NOT_ERASED, OTHER, TEXT, Wording, count_line,
-    counts_of, names_line)
-from subtitles.judging.transmissions import DuePages
-from subtitles.judging.verdict import frames_until
+    Cause, CAUSE_NAMES, CauseDescriber, Causes, EARLY, LATE, NEVER, NOT_ERASED, OTHER_TEXT,
+    WRONG_TEXT, count_causes, format_cause_counts, list_cause_counts)
+from subtitles.judging.transmissions import ExpectedPages
+from subtitles.judging.verdict import measure_delay
 from subtitles.stream.packets import Packets
 from subtitles.stream.receiver import BLANK_PAGE, Meeting, Rows, Timeline
 from .. import DEV
@@ -110,7 +110,7 @@ class SenderFaults(OfProgramme):
     def test_the_manual_lists_each_cause(self) -> None:
         rows = read(os.path.join(TOP, "docs", "manual", "refusals.md")) or ""
         begins = [line.partition(": ")[0] for line in rows.splitlines() if line.startswith("- `")]
-        for name in NAMES:
+        for name in CAUSE_NAMES:
             self.must(name, any(f"`{name}" in one for one in begins))
 
 
@@ -157,7 +157,7 @@ def fake_answer(spans: list[tuple[int, int]], *edges: tuple[int, int]) -> Any:
     """
     firsts = {number: fault_of_line(f"refused {number} Edge frame {time_of(frame)}")
               for number, frame in edges}
-    return SimpleNamespace(firsts=firsts, marks={72: Spans(spans)})
+    return SimpleNamespace(first_faults=firsts, fault_spans={72: Spans(spans)})
 
 
 class RandomRow:
@@ -171,7 +171,7 @@ class RandomRow:
             times.append((frame, end))
             frame = end + chance.choice((0, 0, 10, 60, 300))
         texts = [chance.choice("abcdefgh") for _ in times]
-        self.programme = DuePages(
+        self.programme = ExpectedPages(
             [Subtitle(at, at + (number % 7 == 0), begin, end, 20, 2, b"")
              for at, (begin, end) in enumerate(times, 1)], [page_of(text) for text in texts])
         due = {0: "-"}
@@ -237,20 +237,22 @@ class RandomRow:
         held.lost = Meeting(lost)
         causes = Causes(self.programme, held, reach)
         wrong = {frame: None for frame in range(min(held.last, END))
-                 if not causes.namer.is_due(frame)}
+                 if not causes.finder.is_expected_page(frame)}
         edges = [(63, begin + 3), (74, self.programme.subtitles[-1].end - 3)] \
             if self.chance.randrange(3) == 0 else []
         begins = [frame for frame in wrong if frame - 1 not in wrong]
         ends = [frame for frame in wrong if frame + 1 not in wrong]
-        causes.name(fake_answer([*zip(begins, ends)], *edges))
+        causes.classify_all(fake_answer([*zip(begins, ends)], *edges))
         pages = {page: text for text in [*(text for _, text in self.sent), "-"]
                  if (page := page_of(text))}
-        said = [f"{one.place} {one.name} {one.frames} {one.other} "
-                f"{'' if one.sent is None else pages.get(one.sent, 'due')} {one.known} {one.words}"
-                for one in causes.all()]
-        known = [one and one.place for one in (causes.of(63, 0), causes.of(74, 0), *(
-            causes.of(72, frame) for frame in begins[:3]))]
-        delays = [[frames_until(one, page, held, is_complete) for one, page in zip(
+        said = [f"{one.subtitle_index} {one.name} {one.frames} {one.other_index} "
+                f"{'' if one.sent_page is None else pages.get(one.sent_page, 'due')} "
+                f"{one.final_frame} {one.details}"
+                for one in causes.list_causes()]
+        known = [one and one.subtitle_index
+                 for one in (causes.find_cause(63, 0), causes.find_cause(74, 0), *(
+            causes.find_cause(72, frame) for frame in begins[:3]))]
+        delays = [[measure_delay(one, page, held, is_complete) for one, page in zip(
             self.programme.subtitles, self.programme.pages)] for is_complete in (False, True)]
         sent = " ".join(f"{frame}:{text}" for frame, text in self.sent)
         about = f"{self.within} {held.first} {held.last} {lost} {reach} {known}"
@@ -354,7 +356,7 @@ class WorkedRows(unittest.TestCase):
         for subtitles, sent, wanted in BY_HAND:
             times = [[int(frame) for frame in one.split()[0].split("-")]
                      for one in subtitles.split(";")]
-            programme = DuePages(
+            programme = ExpectedPages(
                 [Subtitle(at, at, begin, end, 20, 2, b"") for at, (begin, end) in
                  enumerate(times, 1)], [page_of(one[-1]) for one in subtitles.split(";")])
             held, pages = empty(), dict[Rows, str]()
@@ -369,77 +371,83 @@ class WorkedRows(unittest.TestCase):
             held.strays = [(Span(int(one[1:]), int(one[1:])), ((19, programme.pages[0][18]),))
                            for one in sent.split() if one[0] == "@"]
             causes = Causes(programme, held)
-            faulty = [frame for frame in range(500) if not causes.namer.is_due(frame)]
-            causes.name(fake_answer([(begin, next(last for last in range(begin, 501)
+            faulty = [frame for frame in range(500) if not causes.finder.is_expected_page(frame)]
+            causes.classify_all(fake_answer([(begin, next(last for last in range(begin, 501)
                                            if last + 1 not in faulty))
                               for begin in faulty if begin - 1 not in faulty]))
             for begin in faulty:
-                one = causes.of(72, begin)
-                self.assertTrue(one and one.place in [place for place, *_ in wanted], sent)
+                one = causes.find_cause(72, begin)
+                self.assertTrue(one and one.subtitle_index in [place for place, *_ in wanted], sent)
             with self.subTest(subtitles=subtitles, sent=sent):
-                self.assertEqual([(one.place, one.name, one.frames, one.other,
-                                   None if one.sent is None else pages.get(one.sent, "due"))
-                                  for one in causes.all()], wanted)
+                self.assertEqual([(one.subtitle_index, one.name, one.frames, one.other_index,
+                                   None if one.sent_page is None
+                                   else pages.get(one.sent_page, "due"))
+                                  for one in causes.list_causes()], wanted)
 
     def test_extends_the_recording_by_its_pcr(self) -> None:
         for reach, wanted in ((None, (10, 20)), ((5, 30), (5, 30)), ((12, 18), (10, 20)),
                               ((5, 18), (5, 20)), ((12, 30), (10, 30))):
             held = empty()
             held.first, held.last = 10, 20
-            causes = Causes(DuePages([], []), held, reach and Span(*reach))
-            self.assertEqual(causes.reached(), wanted, reach)
+            causes = Causes(ExpectedPages([], []), held, reach and Span(*reach))
+            self.assertEqual(causes.find_covered_span(), wanted, reach)
 
     def test_looks_around_the_first_and_last_frame(self) -> None:
         for held_from, first, last, wanted in (
                 (100, 100, 149, (0, None)), (101, 97, 149, (0, None)), (101, 98, 149, (None, None)),
                 (101, 98, 150, (None, 0)), (101, 98, 151, (None, 0)), (90, 103, 150, (0, 0))):
-            programme, held = DuePages([Subtitle(1, 1, 100, 150, 20, 2, b"")], [page_of("a")]), \
+            programme, held = ExpectedPages([Subtitle(1, 1, 100, 150, 20, 2, b"")],
+                                            [page_of("a")]), \
                 empty()
             for frame, name in ((held_from, "-"), (103, "a"), (155, "-")):
                 held.change(frame, page_of(name))
             held.first, held.last = 103, 140
             causes = Causes(programme, held, Span(first, last))
-            causes.name(fake_answer([], (63, 103), (74, 140)))
-            found = tuple(one and one.place for one in (causes.of(63, 103), causes.of(74, 140)))
+            causes.classify_all(fake_answer([], (63, 103), (74, 140)))
+            found = tuple(one and one.subtitle_index
+                          for one in (causes.find_cause(63, 103), causes.find_cause(74, 140)))
             self.assertEqual(found, wanted, (held_from, first, last))
 
     def test_describes_a_cause_as_values_and_as_text(self) -> None:
         pages = [page_of(name) for name in "abc"]
-        programme = DuePages([Subtitle(at, at + 5, 100 * at, 100 * at + 50, 20, 2, b"")
-                              for at in (1, 2, 3)], pages)
-        wording = Wording(Causes(programme, empty()), "english")
+        programme = ExpectedPages([Subtitle(at, at + 5, 100 * at, 100 * at + 50, 20, 2, b"")
+                                   for at in (1, 2, 3)], pages)
+        wording = CauseDescriber(Causes(programme, empty()), "english")
         due, other, strange = (f"Line {name} / and more {name}" for name in "acz")
         for name, frames, sent, of, words, said in (
                 (LATE, 3, "a", None, "", "late by 3 frames"),
                 (EARLY, 1, None, None, "why", "early by 1 frame: why"),
                 (NOT_ERASED, None, "a", None, "", "not erased at 00:00:06:00"),
-                (TEXT, None, "z", None, "why", f'wrong text: why, sent: "{strange}"'),
+                (WRONG_TEXT, None, "z", None, "why", f'wrong text: why, sent: "{strange}"'),
                 (NEVER, None, None, None, "", "never sent"),
-                (OTHER, None, "c", 2, "", f"another subtitle's text at its time, sent: \"{other}\""
+                (OTHER_TEXT, None, "c", 2, "",
+                 f"another subtitle's text at its time, sent: \"{other}\""
                  " of subtitle 3 (SN 8)")):
             one = Cause(0, name, frames, None if sent is None else page_of(sent), of, words, 0)
-            known = wording.values(one)
+            known = wording.make_json(one)
             self.assertEqual(
                 (known["name"], known["frames"], known["expected_text"], known["decoded_text"],
                  known["other_number"], known["other_position"], known["line"], known["subtitle"]),
                 (name, frames, due, sent and f"Line {sent} / and more {sent}", of and 8, of and 3,
                  said, {"position": 1, "number": 6, "begin": "00:00:04:00", "end": "00:00:06:00"}),
                              (name, frames, sent))
-            self.assertEqual(wording.line(one), "cause: subtitle 1 (SN 6) at 00:00:04:00, "
+            self.assertEqual(wording.format_line(one), "cause: subtitle 1 (SN 6) at 00:00:04:00, "
                              f'"{due}": {said}', (name, frames, sent))
 
     def test_counts_causes_of_all_parts_by_name(self) -> None:
         chance = random.Random(3)
         for count in (1, 1, 2, 2, 3, 3, 4):
-            names = [chance.choices(NAMES[:4], k=chance.choice((0, 1, 2, 5))) for _ in range(count)]
-            several: Any = [SimpleNamespace(named={at: SimpleNamespace(name=name) for at, name in
+            names = [chance.choices(CAUSE_NAMES[:4], k=chance.choice((0, 1, 2, 5)))
+                     for _ in range(count)]
+            several: Any = [SimpleNamespace(by_index={at: SimpleNamespace(name=name) for at, name in
                                                    enumerate(some)}) for some in names]
             together = [name for some in names for name in some]
-            wanted = ", ".join(f"{together.count(name)} {name}" for name in NAMES
+            wanted = ", ".join(f"{together.count(name)} {name}" for name in CAUSE_NAMES
                                if name in together)
-            self.assertEqual((names_line(several), count_line(several), counts_of(several)), (
+            self.assertEqual((list_cause_counts(several), format_cause_counts(several),
+                              count_causes(several)), (
                 wanted, f"causes of {counted(len(together), 'subtitle')}: {wanted}",
-                {name: together.count(name) for name in NAMES}), count)
+                {name: together.count(name) for name in CAUSE_NAMES}), count)
 
 
 if __name__ == "__main__":

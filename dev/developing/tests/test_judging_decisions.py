@@ -13,12 +13,12 @@ from developing.pes import pes_packet
 from developing.stl import gsi_block, tti_block
 from subtitles.cli.batch import FolderWatch, Sighting
 from subtitles.clock.origin import Origin
-from subtitles.clock.start import Clock, Found, RECORDING, START
+from subtitles.clock.start import Clock, RECORDING, START, TimedPart
 from subtitles.common.times import Between, Span, TICKS
 from subtitles.formats.stl import Subtitle, SubtitleFile
-from subtitles.judging.part import parted, refuse_others
-from subtitles.judging.timing import unclear_origin, with_delay
-from subtitles.judging.verdict import frames_until
+from subtitles.judging.part import choose_parts, refuse_missing_subtitles
+from subtitles.judging.timing import add_delay, make_unclear_origin
+from subtitles.judging.verdict import measure_delay
 from subtitles.recording.notices import character_set_notices, count_notices, page_notices
 from subtitles.request.lines import of_folder, request_of_line
 from subtitles.request.request import Unclear
@@ -205,11 +205,11 @@ class EstimatedOrigins(Case):
                 (TICKS // 2 - 1, 0, 0, "1799 ticks late"),
                 (5 - 2 * TICKS, 0, -2, "1 frame and 3595 ticks early"), (TICKS, 1, None, None),
                 (None, 0, None, None)):
-            found, lines = with_delay(clock, Origin(status, away=away, printed=["--origin 5"]))
+            found, lines = add_delay(clock, Origin(status, away=away, printed=["--origin 5"]))
             self.must(f"{away} {status}", found == clock._replace(delay_frames=wanted) and lines ==
                       ([f"all subtitles are {said}"] if said else []), (found, lines))
         for away, is_whole in ((0, True), (2 * TICKS, True), (2 * TICKS + 1, False)):
-            found, _ = with_delay(clock, Origin(0, away=away, is_each=True, printed=["--origin 5"]))
+            found, _ = add_delay(clock, Origin(0, away=away, is_each=True, printed=["--origin 5"]))
             self.check(f"{away}: whole frames", found.is_delay_of_all, is_whole)
 
     def test_reports_which_subtitles_are_delayed(self) -> None:
@@ -220,18 +220,19 @@ class EstimatedOrigins(Case):
                 (True, 50, 2, "up to 00:00:02:00"), (True, 0, 1, "up to 00:00:00:00")):
             origin = Origin(0, away=TICKS, are_all=are_all, shifted_from=shifted,
                             printed=["--origin 5"] * printed)
-            self.must(words, with_delay(Clock(5, START), origin)[1] ==
+            self.must(words, add_delay(Clock(5, START), origin)[1] ==
                       [f"{words} subtitles are 1 frame late"])
 
     def test_asks_about_a_delay_as_long_as_to_another_picture(self) -> None:
         for away, is_asked in ((TICKS, True), (TICKS + 5, False), (2 * TICKS, False)):
-            said = with_delay(Clock(5, START, away=1), Origin(0, away=away, printed=["one"]))[1]
+            said = add_delay(Clock(5, START, away=1), Origin(0, away=away, printed=["one"]))[1]
             self.must(f"{away}", bool(said[1:]) == is_asked, said)
 
     def test_prints_no_advice_for_several_runs_or_breaks(self) -> None:
         for runs, breaks, is_alone in ((0, None, False), (2, None, True), (0, 0, True),
                                        (0, 2, True), (3, 2, True)):
-            why = unclear_origin(Origin(runs=[(0, 9)] * runs, breaks=breaks, lines=["one"]), [])
+            why = make_unclear_origin(Origin(runs=[(0, 9)] * runs, breaks=breaks, lines=["one"]),
+                                      [])
             self.must(f"{runs} {breaks}", (why.reason == "one") == is_alone)
 
 
@@ -247,7 +248,7 @@ class DecodedPages(Case):
             more = [pes_packet(TICKS * closed, [CLOSING])] * (closed > 100)
             held = self.decode(pes_packet(0, [CLOSING]) + data + b"".join(more))
             for is_complete, frames in ((True, wanted), (False, 0)):
-                found = frames_until(one, held.page_at(100), held, is_complete)
+                found = measure_delay(one, held.page_at(100), held, is_complete)
                 self.must(f"{closed} {is_complete}", found == frames, found)
 
     def test_finds_the_first_frame_with_a_closed_page(self) -> None:
@@ -348,7 +349,7 @@ class DecodedPages(Case):
 
 
 class PartedSubtitles(Case):
-    FOUND = Found(0, 9, Clock(7, START), (3, 5))
+    FOUND = TimedPart(0, 9, Clock(7, START), (3, 5))
 
     def test_each_subtitle_is_in_one_part(self) -> None:
         nine = [subtitle(3 * part + at, 9 * part + at) for part in range(3) for at in range(3)]
@@ -368,16 +369,16 @@ class PartedSubtitles(Case):
                 ("one in two, one missing", nine, [(0, 10), (9, 12), (18, 20)], other),
                 ("another order", nine, three[::-1], other)):
             found = [self.FOUND._replace(begin=begin, end=end) for begin, end in parts]
-            made = parted(found, self.FOUND)
+            made = choose_parts(found, self.FOUND)
             self.must(f"{name}: frames", [(one[:4], one.between) for one in made] == [
                 (one[:4], Between(*one[:2])) for one in found])
             reason = ""
             try:
-                refuse_others(made, subtitles, "one.stl")
+                refuse_missing_subtitles(made, subtitles, "one.stl")
             except Unclear as unclear:
                 reason = unclear.reason
             self.must(name, reason.startswith(wanted) and bool(reason) == bool(wanted), reason)
-        whole = Found(2, 90, Clock(5, RECORDING))
+        whole = TimedPart(2, 90, Clock(5, RECORDING))
         for one in (self.FOUND, self.FOUND._replace(begin=5, end=7)):
-            self.must("a single one", parted([one], whole) == [
+            self.must("a single one", choose_parts([one], whole) == [
                 whole._replace(clock=one.clock, packets=(3, 5))])

@@ -14,11 +14,11 @@ from subtitles.formats.stl import Subtitle
 from subtitles.judging import faults as judging_faults
 from subtitles.judging.causes import Causes, NEVER
 from subtitles.judging.faults import (
-    FaultPlace, code_at, faults_of, hints_of, lead_words, letter_words)
+    FaultPlace, describe_first_hint, describe_parity_fault, find_code, list_hints, make_faults)
 from subtitles.judging.part import Part
 from subtitles.judging.status import Severity
 from subtitles.judging.subtitles import AT_MIDNIGHT
-from subtitles.judging.transmissions import DuePages
+from subtitles.judging.transmissions import ExpectedPages
 from subtitles.stream.receiver import BLANK_PAGE, HIT, OLD
 from .bench import Case
 from .parts import answer, asked_for, fault_of, packets_told, part_with, timeline_of
@@ -39,11 +39,11 @@ class FaultDetails(Case):
         lines = [line.replace("{}", str(number)) for line in self.LINES[kind]]
         times = [f"00:00:0{at}:00" for at in (number, number + 1)]
         frames = range(25, 151, 25)
-        programme = DuePages([Subtitle(at, at, frame, frame + 20, 22, 2, b"") for at, frame in
-                              enumerate(frames, 1)], [(b"[".ljust(40), *BLANK_PAGE[1:])] * 6)
+        programme = ExpectedPages([Subtitle(at, at, frame, frame + 20, 22, 2, b"") for at, frame in
+                                   enumerate(frames, 1)], [(b"[".ljust(40), *BLANK_PAGE[1:])] * 6)
         causes = Causes(programme, timeline_of(self, b""))
-        causes.named = {at: cause(at, NEVER) for at in range(len(frames))}
-        causes.of_edge = {63: number, 74: number + 1}
+        causes.by_index = {at: cause(at, NEVER) for at in range(len(frames))}
+        causes.by_end_fault = {63: number, 74: number + 1}
         made = part_with(25 * number, 25 * number + 24, 0, answer(lines, path=self.path(
             f"list{number}")), number, request=asked_for("one.stl", "one.pes", "--from", times[0],
                                                          "--to", times[1]),
@@ -60,8 +60,9 @@ class FaultDetails(Case):
                                   for number, kind in enumerate(kinds, 1)], severity)
             verdict.request = asked_for("one.stl", "one.pes", "--option", "german")
             last = len(kinds)
-            verdict.named = [NamedFault("never sent", "a", f"00:00:0{last}:07", "00:00:09:00",
-                                        part=last), NamedFault("not shown", "b", block=2)]
+            verdict.named_faults = [NamedFault("never sent", "a", f"00:00:0{last}:07",
+                                               "00:00:09:00",
+                                               part=last), NamedFault("not shown", "b", block=2)]
             wanted: list[tuple[Any, ...]] = [
                 (last, None, "warning", last, "00:00:09:00", None, None),
                 (1, None, "error", 2, None, None, None)]
@@ -77,11 +78,11 @@ class FaultDetails(Case):
             found = [(one["part"], one["number"], one["severity"],
                       one["subtitle"] and one["subtitle"]["position"], one["last_time"],
                       one["last_pes"], one["cause"] and one["cause"]["subtitle"]["position"])
-                     for one in faults_of(verdict)]
+                     for one in make_faults(verdict)]
             self.assertEqual(found, wanted, kinds)
-            self.assertLessEqual({one["cause"]["expected_text"] for one in faults_of(verdict)
+            self.assertLessEqual({one["cause"]["expected_text"] for one in make_faults(verdict)
                                   if one["cause"]}, {"\u00c4"}, kinds)
-        self.assertEqual([one["line"] for one in faults_of(verdict)][:2], [
+        self.assertEqual([one["line"] for one in make_faults(verdict)][:2], [
             "refused never sent frame 00:00:03:07", "refused not shown block 2"])
 
     def test_describes_the_case_instead_of_the_number(self) -> None:
@@ -104,17 +105,17 @@ class FaultDetails(Case):
         part = part_with(0, 99, 0, answer([*(f"refused {line}" for line, _, _ in rows),
                                            f"{len(rows)} faults"], path=self.path("list")),
                          packets=packets_told(self, pes_packet(25 * TICKS, [NO_C4, CLOSING])),
-                         pes=(0, 0), otherwise="drawn otherwise")
+                         pes=(0, 0), drawing_differences="drawn otherwise")
         part.names.given = stl
         verdict = verdict_of([part])
         firsts = {line[:2]: means or do for line, means, do in reversed(rows)}
-        self.assertEqual(list(hints_of(verdict)), [
+        self.assertEqual(list(list_hints(verdict)), [
             f"{number}: {words or 'a byte of the page comes with even parity'}"
             for number in dict.fromkeys(line[:2] for line, _, _ in rows)
             for words in [firsts[number]]])
-        self.assertEqual([(one["byte"], one["character"]) for one in faults_of(verdict)][:3], [
+        self.assertEqual([(one["byte"], one["character"]) for one in make_faults(verdict)][:3], [
             (None, None), ("C8", "\u00e4"), (None, None)])
-        found = [(one["meaning"], one["remedy"]) for one in faults_of(verdict)]
+        found = [(one["meaning"], one["remedy"]) for one in make_faults(verdict)]
         self.assertEqual(found, [
             (means or plain(known[int(line[:2])].means), do or plain(known[int(line[:2])].do))
             for line, means, do in rows])
@@ -131,7 +132,7 @@ class FaultDetails(Case):
                                                                  for one in pts)))
             part.names.given = programme(self, [(0, 50)])
             found = [(one["pes"], one["pes_pts"], one["pes_time"], bool(one["subtitle"]))
-                     for one in faults_of(verdict_of([part]))]
+                     for one in make_faults(verdict_of([part]))]
             self.assertEqual(found, [*((at, pts[at], time_of(frame), place == 3) for place, (
                 at, frame) in enumerate(wanted)), (None, None, None, True)], origin)
 
@@ -142,27 +143,29 @@ class FaultDetails(Case):
         for within, (option, letter) in itertools.product((0, 3), (
                 ("english", "\u2190"), ("german", "\u00c4"))):
             part = part_with(0, 99, 0, answer([*lines, "3 faults"], path=self.path("cells")),
-                             packets=packets_told(self, data), pes=(0, 0), due=lambda: DuePages(
+                             packets=packets_told(self, data), pes=(0, 0),
+                             expected_pages=lambda: ExpectedPages(
                                  [Subtitle(1, 1, 25, 50, 20, 2, b"")], [due]))
             part.names.given = programme(self, [(25, 50)])
             verdict = verdict_of([part])
             verdict.request = asked_for("one.stl", "one.pes", "--within", str(within), "--option",
                                         option)
             self.assertEqual([[(one[name]["code"], one[name]["character"]) for name in (
-                "expected", "decoded")] for one in faults_of(verdict)], [
+                "expected", "decoded")] for one in make_faults(verdict)], [
                     [("5B", letter), ("01", None)], [("62", "b"), ("78", "x")],
                     [("20", " "), ("79", "y")]], (within, option, letter))
             part = dataclasses.replace(part, pes=None)  # unknown if the part was not read
-            self.assertEqual(lead_words(fault_of("refused 67 X frame 00:00:01:00"), part, verdict),
+            self.assertEqual(describe_first_hint(fault_of("refused 67 X frame 00:00:01:00"), part,
+                                                 verdict),
                              "", (within, option, letter))
         cells = (bytes([0x41, HIT, OLD, 0x01]).ljust(40), *BLANK_PAGE[1:])
-        self.assertEqual([code_at(cells, 1, at) for at in range(4)], [0x41, 0x20, None, 0x01])
-        self.assertIsNone(code_at(None, 1, 0))
+        self.assertEqual([find_code(cells, 1, at) for at in range(4)], [0x41, 0x20, None, 0x01])
+        self.assertIsNone(find_code(None, 1, 0))
 
     def test_names_the_character_with_even_parity(self) -> None:
         due = b"\x0b\x0bAb \x01c"
         pages = [((due if row == 21 else b"").ljust(40)) for row in range(24)]
-        part = part_with(0, 99, 0, due=lambda: DuePages(
+        part = part_with(0, 99, 0, expected_pages=lambda: ExpectedPages(
             [Subtitle(1, 1, 25, 50, 22, 2, b"")], [tuple(pages)]))
         rows: list[tuple[tuple[int, ...], str]] = [
             ((), "a byte"), ((0,), "a byte, start box,"), ((4, 5), "a byte, a space,"),
@@ -177,5 +180,5 @@ class FaultDetails(Case):
             said = words if frame == 25 or not hit else "a byte, a space,"
             for place, wanted in ((held, f"{said} of {whose} comes with even parity"),
                                   (held._replace(rows=None), "")):
-                with mock.patch.object(judging_faults, "fault_place", return_value=place):
-                    self.assertEqual(letter_words(fault, part), wanted, (hit, frame))
+                with mock.patch.object(judging_faults, "find_fault_place", return_value=place):
+                    self.assertEqual(describe_parity_fault(fault, part), wanted, (hit, frame))

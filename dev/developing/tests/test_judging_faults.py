@@ -13,11 +13,13 @@ from subtitles.common.program import proved_line
 from subtitles.common.times import CLOCK, Span, TICKS
 from subtitles.formats.listing import fault_of_line
 from subtitles.judging.causes import (
-    ATTRIBUTE, Cause, EARLY, IN_PAUSE, LATE, NEVER, NOT_ERASED, OTHER, PLACE, TEXT, UNKNOWN)
-from subtitles.judging.faults import end_words, fault_place, gap_words, hints_of
-from subtitles.judging.part import tell_causes
-from subtitles.judging.sentence import Count, Facts, describe_causes, describe_faults
-from subtitles.judging.transmissions import program_answer
+    Cause, EARLY, LATE, NEVER, NOT_ERASED, OTHER_TEXT, TEXT_IN_PAUSE, UNKNOWN_CAUSE,
+    WRONG_ATTRIBUTE, WRONG_PLACE, WRONG_TEXT)
+from subtitles.judging.faults import (
+    describe_longest_gap, describe_pid_end, find_fault_place, list_hints)
+from subtitles.judging.part import report_causes
+from subtitles.judging.sentence import Facts, FaultCount, describe_causes, describe_faults
+from subtitles.judging.transmissions import run_program
 from subtitles.request.commands import CLEAR, Listener, Progress, Speech
 from subtitles.request.request import Unclear
 from subtitles.stream.packets import Packets, Run
@@ -41,9 +43,9 @@ def causes_of(*several: Cause, count: int = 9, text: bytes = b"text") -> Any:
     subtitles = [SimpleNamespace(begin=25 * at, end=25 * at + 20, name=f"subtitle {at + 1}")
                  for at in range(count)]
     page = (b" " * 40,) * 19 + (text.ljust(40),) + (b" " * 40,) * 4
-    return SimpleNamespace(programme=SimpleNamespace(subtitles=subtitles, pages=[page] * count),
-                           all=lambda: list(several), named=dict(enumerate(several)), of_edge={},
-                           first_frames={})
+    return SimpleNamespace(expected=SimpleNamespace(subtitles=subtitles, pages=[page] * count),
+                           list_causes=lambda: list(several), by_index=dict(enumerate(several)),
+                           by_end_fault={}, first_wrong_frames={})
 
 
 class Descriptions(Case):
@@ -53,18 +55,21 @@ class Descriptions(Case):
                 ([cause(2, EARLY, 1)], 'at 00:00:02:00 subtitle 3, "text", is 1 frame early'),
                 ([cause(0, NEVER, None, "why")],
                  'at 00:00:00:00 subtitle 1, "text", was never sent (why)'),
-                ([cause(0, TEXT), cause(1, NEVER)], 'at 00:00:01:00 subtitle 2, "text", was never '
-                 "sent; 1 other: 1 wrong text"),
-                ([cause(0, TEXT), cause(1, NEVER), cause(3, NEVER)],
+                ([cause(0, WRONG_TEXT), cause(1, NEVER)],
+                 'at 00:00:01:00 subtitle 2, "text", was never ' "sent; 1 other: 1 wrong text"),
+                ([cause(0, WRONG_TEXT), cause(1, NEVER), cause(3, NEVER)],
                  "2 of 9 subtitles were never sent (first at 00:00:01:00, last at 00:00:03:00); 1 "
                  "other: 1 wrong text"),
-                ([cause(0, LATE, 2), cause(1, LATE, 1), cause(3, TEXT), cause(5, PLACE),
-                  cause(6, TEXT), cause(8, ATTRIBUTE)], "2 of 9 subtitles have wrong texts "
+                ([cause(0, LATE, 2), cause(1, LATE, 1), cause(3, WRONG_TEXT), cause(5, WRONG_PLACE),
+                  cause(6, WRONG_TEXT), cause(8, WRONG_ATTRIBUTE)],
+                 "2 of 9 subtitles have wrong texts "
                  "(first at 00:00:03:00, last at 00:00:06:00); 4 others: 1 wrong place, 2 late, 1 "
                  "wrong colour or attribute"),
-                ([cause(0, OTHER), cause(1, OTHER), cause(2, NEVER)], 'at 00:00:02:00 subtitle 3, '
+                ([cause(0, OTHER_TEXT), cause(1, OTHER_TEXT), cause(2, NEVER)],
+                 'at 00:00:02:00 subtitle 3, '
                  '"text", was never sent; 2 others: 2 another subtitle\'s text'),
-                ([cause(0, TEXT)._replace(sent=(b" " * 40,) * 23 + (b"texts".ljust(40),))],
+                ([cause(0,
+                        WRONG_TEXT)._replace(sent_page=(b" " * 40,) * 23 + (b"texts".ljust(40),))],
                  'at 00:00:00:00 subtitle 1, "text", has a wrong text, sent: "texts"'),
                 ([cause(4, LATE, 7), cause(6, LATE, 3), cause(8, LATE, 5)],
                  "3 of 9 subtitles are 3 to 7 frames late (first at 00:00:04:00, last at "
@@ -73,19 +78,19 @@ class Descriptions(Case):
                  "2 of 9 subtitles are 7 frames late (first at 00:00:04:00, last at 00:00:08:00)"),
                 ([cause(0, NOT_ERASED, None, "a"), cause(1, NOT_ERASED, None, "a")],
                  "2 of 9 subtitles are not erased (a) (first at 00:00:00:00, last at 00:00:01:00)"),
-                ([cause(0, UNKNOWN, None, "a"), cause(1, UNKNOWN, None, "b")],
+                ([cause(0, UNKNOWN_CAUSE, None, "a"), cause(1, UNKNOWN_CAUSE, None, "b")],
                  "2 of 9 subtitles are not held as they are due (first at 00:00:00:00, last at "
                  "00:00:01:00)"),
-                ([cause(0, OTHER), cause(7, OTHER)], "2 of 9 subtitles have other "
+                ([cause(0, OTHER_TEXT), cause(7, OTHER_TEXT)], "2 of 9 subtitles have other "
                  "subtitles' texts (first at 00:00:00:00, last at 00:00:07:00)"),
-                ([cause(2, IN_PAUSE, None, "at 10:00")],
+                ([cause(2, TEXT_IN_PAUSE, None, "at 10:00")],
                  "another text was sent in a pause, at 10:00"),
-                ([cause(at, IN_PAUSE, None, f"at 10:0{at}") for at in (2, 4)],
+                ([cause(at, TEXT_IN_PAUSE, None, f"at 10:0{at}") for at in (2, 4)],
                  "another text was sent in 2 pauses, the first at 10:02"),
-                ([cause(8, ATTRIBUTE)],
+                ([cause(8, WRONG_ATTRIBUTE)],
                  'at 00:00:08:00 subtitle 9, "text", has a wrong colour or attribute')):
             self.assertEqual(describe_causes(causes_of(*several), "english"), wanted, several)
-        wrong = cause(0, TEXT)._replace(sent=(b"]".ljust(40),) + BLANK_PAGE[1:])
+        wrong = cause(0, WRONG_TEXT)._replace(sent_page=(b"]".ljust(40),) + BLANK_PAGE[1:])
         part = part_with(0, 9, 0, answer(["refused 72 X frame 00:00:00:00", "1 faults"]),
                          causes=causes_of(wrong, text=b"["))
         verdict = verdict_of([part])
@@ -105,14 +110,14 @@ class Descriptions(Case):
                 ({79: 1, 73: 1, 69: 1, 68: 1, 67: 1, 66: 1},
                  "; also 67 Name, 68 Name, 79 Name, 66 Name and 2 more numbers")):
             words = describe_faults(Facts(
-                "refused", 9, content, True, 9, [Count(number, "Name", count)
+                "refused", 9, content, True, 9, [FaultCount(number, "Name", count)
                                                  for number, count in numbers.items()],
                 causes=several))
             self.must(f"{numbers}", words == describe_causes(several, "english") + wanted, words)
 
     def test_counts_faults_without_a_cause(self) -> None:
-        for counts, wanted in (([Count(68, "Parity", 3)], "; in all 3 faults"),
-                               ([Count(73, "Gap", 1), Count(68, "Parity", 2)],
+        for counts, wanted in (([FaultCount(68, "Parity", 3)], "; in all 3 faults"),
+                               ([FaultCount(73, "Gap", 1), FaultCount(68, "Parity", 2)],
                                 "; in all 3 faults: 68 Parity (2) and 73 Gap")):
             words = describe_faults(Facts("refused", 9, fault_of_line(
                 "refused 68 Parity frame 00:00:01:00 packet 1"), False, 3, counts, "a letter"))
@@ -142,7 +147,7 @@ class Descriptions(Case):
                 ("refused 38 UnitLength pes 3", 0, 3)):
             packets, fault = packets_told(self, data), fault_of_line(line)
             assert fault
-            found = fault_place(fault, packets, timeline_of(self, data, 0, within))
+            found = find_fault_place(fault, packets, timeline_of(self, data, 0, within))
             self.must(f"{line} {within}", found.pes == pes, found)
         data = b"".join(pes_packet(10 * TICKS, [HEADER, row(20, text)]) for text in (b"a", b"b"))
         fault, held = fault_of_line("refused 72 X frame 00:00:00:10 row 20 column 2"), timeline_of(
@@ -150,10 +155,11 @@ class Descriptions(Case):
         assert fault
         for number in (0, 1):  # the last one that changes the cell
             due = held.state_after(1 - number).rows
-            self.must(f"{number}", fault_place(fault, held.packets, held, due).pes == number)
+            self.must(f"{number}", find_fault_place(fault, held.packets, held, due).pes == number)
         held = timeline_of(self, pes_packet(0, [HEADER]) + pes_packet(9, [CLOSING]), 0, 1)
         fault = fault_of_line("refused 67 Control frame 00:00:00:00 packet 0")
-        self.must("headers", fault and len(fault_place(fault, held.packets, held).headers) == 1)
+        self.must("headers",
+                  fault and len(find_fault_place(fault, held.packets, held).headers) == 1)
 
     def test_reports_why_the_teletext_ends(self) -> None:
         packets = Packets(0x101, [Run(0, 5, 0, TICKS, "h", "")], refusal=31)
@@ -161,7 +167,7 @@ class Descriptions(Case):
             "refused 31 Start pes 5"
         for last, words in ((4, why), (3, "")):
             part = part_with(0, 9, 0, packets=packets, pes=(0, last))
-            self.assertEqual(end_words(part), words, last)
+            self.assertEqual(describe_pid_end(part), words, last)
 
     def test_names_the_longest_gap_if_all_is_known(self) -> None:
         each = tuple(range(0, 1001, 100))
@@ -182,7 +188,7 @@ class Descriptions(Case):
                                  for some in (frames, (last,)))
                 asked = asked_for("one.stl", "one.pes", "--every", str(every), "--within",
                                   str(abs(off)))
-                found = gap_words((headers, ends), origin, asked, numbers, times)
+                found = describe_longest_gap((headers, ends), origin, asked, numbers, times)
                 self.must(f"{frames} {numbers} {origin} {off}", found ==
                           (wanted and f"the longest gap is {wanted}"), found)
 
@@ -203,10 +209,10 @@ class Descriptions(Case):
                  for at, some in enumerate((lines, good, [lines[2], "1 faults"]), 1)]
         verdict = verdict_of(parts)
         verdict.request.every = 100
-        self.must("of each", list(hints_of(verdict)) == [
-            *wanted, wanted[1]], list(hints_of(verdict)))
+        self.must("of each", list(list_hints(verdict)) == [
+            *wanted, wanted[1]], list(list_hints(verdict)))
         verdict.parts = parts[1:2]
-        self.must("none", not list(hints_of(verdict)))
+        self.must("none", not list(list_hints(verdict)))
 
     def test_prints_the_first_forty_lines_of_a_list(self) -> None:
         for count in (0, 1, 40, 41, 42, 50):
@@ -229,12 +235,12 @@ class Descriptions(Case):
             speech.end("Good.", "b")
         self.must("the verdict last", (out.getvalue(), speech.last) == ("a\nb\nGood.\nb\n", "b"),
                   out.getvalue())
-        with mock.patch("subtitles.judging.part.Wording") as wording:
-            wording.return_value.line = lambda one: f"cause {one}"
+        with mock.patch("subtitles.judging.part.CauseDescriber") as wording:
+            wording.return_value.format_line = lambda one: f"cause {one}"
             for count in (0, 40, 41, 45):
                 heard = Heard()
-                causes: Any = SimpleNamespace(all=lambda: list(range(count)))
-                tell_causes(Listener(heard), causes, "german")
+                causes: Any = SimpleNamespace(list_causes=lambda: list(range(count)))
+                report_causes(Listener(heard), causes, "german")
                 self.must(f"{count} causes", wording.call_args.args[1] == "german" and
                           heard.lines == [
                     *(f"cause {at}" for at in range(min(count, 40))),
@@ -250,7 +256,7 @@ class ProgramCalls(Case):
         for lines, status, is_right in rows:
             path = self.write_program("program", f"#!/bin/sh\n{script(lines, status)}")
             try:
-                found: list[str] | None = program_answer(path, "schedule", "x")
+                found: list[str] | None = run_program(path, "schedule", "x")
             except Unclear as reason:
                 found = None
                 self.must("why", reason.reason == "schedule was not answered: "

@@ -17,7 +17,7 @@ from subtitles.common.times import TICKS
 from subtitles.formats.layout import Layout, PLAIN, Refused, drawn, fault_in, layout_of, page_rows
 from subtitles.formats.stl import Subtitle
 from subtitles.formats.teletext import ENGLISH
-from subtitles.judging.pages import cells_words
+from subtitles.judging.pages import describe_row_difference
 from subtitles.stream.layout import sent_in
 from .bench import BENCH, Case
 from .judged import Judged, judged
@@ -117,14 +117,16 @@ class LayoutMessages(Case):
                  "where 0B 0B is due")):
             due, sent = (page_rows(lines) for layout in (PLAIN, layout_of(text)) if layout and
                          not isinstance(lines := drawn(b"Hi", 18, 2, layout, ENGLISH), Refused))
-            self.must(text, cells_words(due, sent) == wanted, cells_words(due, sent))
+            self.must(text, describe_row_difference(due, sent) == wanted,
+                      describe_row_difference(due, sent))
         for first, second, wanted in (
                 (b"Hi Ho", b"Hi\x8aHo", "in 2 rows, where 1 are due"),
                 (b"H i", b"H\x02i", "row 18, other codes between its letters"),
                 (b"Hi\x8aH o", b"Hi\x8aH\x02o", "row 19, other codes between its letters")):
             due, sent = (page_rows(lines) for text in (first, second) if not isinstance(
                 lines := drawn(text, 18, 2, PLAIN, ENGLISH), Refused))
-            self.must(f"{second!r}", cells_words(due, sent) == wanted, cells_words(due, sent))
+            self.must(f"{second!r}", describe_row_difference(due, sent) == wanted,
+                      describe_row_difference(due, sent))
 
 
 class OpenSubtitles(Case):

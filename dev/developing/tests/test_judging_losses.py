@@ -11,7 +11,7 @@ from unittest import mock
 
 from developing.pes import STUFFING_UNIT, pes_packet
 from subtitles.common.times import TICKS
-from subtitles.judging.timing import UNCHECKED, unseen_words
+from subtitles.judging.timing import UNCHECKED, describe_unchecked_losses
 from subtitles.stream.pace import IRREGULAR, Pace
 from .judged import OfProgramme
 from .streams import Packet, Shape, multiplexed, of_teletext, with_loss
@@ -170,5 +170,5 @@ class Taken(unittest.TestCase):
                                          survey=mock.Mock())
         for frames, words in ((None, "some"), (0, "some"), (2, "some"), (3, "0.1 s or more"),
                               (25, "1.0 s or more")):
-            self.assertIn(f"{UNCHECKED} {words} of this PID", unseen_words(
+            self.assertIn(f"{UNCHECKED} {words} of this PID", describe_unchecked_losses(
                 Pace(IRREGULAR), frames, recording), frames)

@@ -8,11 +8,11 @@ from typing import Any, Sequence
 from unittest import mock
 
 from developing.pes import DATA, MARK, UNIT, mirrored, pes_packet, pts_bytes, pts_in
-from subtitles.clock.start import Clock, Found, GIVEN
+from subtitles.clock.start import Clock, GIVEN, TimedPart
 from subtitles.common.times import ALL_DAY, Between, CLOCK, TICKS, time_of
-from subtitles.formats.listing import NEVER_SENT, NOT_SHOWN, NamedFault
+from subtitles.formats.listing import NamedFault, NEVER_SENT, NOT_SHOWN
 from subtitles.judging import pair
-from subtitles.judging.pair import Pair
+from subtitles.judging.pair import PairJudge
 from subtitles.recording.notices import NeverSent
 from subtitles.request.commands import CommandWords, Names
 from .bench import Case, example, example_bytes
@@ -114,21 +114,21 @@ class UnreadablePackets(OfProgramme):
 
 
 class Steps(Case):
-    def pair(self, *words: str, count: int = 0) -> Pair:
+    def pair(self, *words: str, count: int = 0) -> PairJudge:
         """Return a pair with judged parts."""
         verdict, nothing = verdict_of([part_with(0, 9, 0, number=number)
                                        for number in range(1, count + 1)]), mock.Mock()
         verdict.request = asked_for("one.stl", "one.pes", *words)
-        return Pair(verdict, CommandWords("tools/qc", self.bench.program), Names(
+        return PairJudge(verdict, CommandWords("tools/qc", self.bench.program), Names(
             "one", "", None), nothing, False)
 
     def test_gives_each_part_its_subtitles_and_files(self) -> None:
-        found = [Found(at, at + 9, Clock(0, GIVEN), None, Between(at, at + 10))
+        found = [TimedPart(at, at + 9, Clock(0, GIVEN), None, Between(at, at + 10))
                  for at in (10, 20, 30)]
         for count in (1, 2, 3):
             one, recording, programme = self.pair("--every", "30"), mock.Mock(), mock.Mock()
-            with mock.patch.object(pair, "parted", return_value=found[:count]), \
-                    mock.patch.object(pair, "refuse_others") as refuse:
+            with mock.patch.object(pair, "choose_parts", return_value=found[:count]), \
+                    mock.patch.object(pair, "refuse_missing_subtitles") as refuse:
                 made = one.parts_in(recording, found, programme, [])
             self.must(f"{count}: refused", refuse.call_args_list == [
                 mock.call(found[:count], [], "one.stl")] * (count > 1))
@@ -144,8 +144,8 @@ class Steps(Case):
     def test_requests_expected_pages_with_the_options_of_the_part(self) -> None:
         of_part = asked_for("one.stl", "one.pes", *"--page 150 --option german --from 00:00:01:00 "
                             "--to 00:00:02:00 --layout double".split())
-        with mock.patch.object(pair, "due_pages_of") as due:
-            self.pair().due_of(of_part, [])
+        with mock.patch.object(pair, "schedule_pages") as due:
+            self.pair().make_expected_pages(of_part, [])
         due.assert_called_once_with(self.bench.program, "", [], (1, 0x50), "german",
                                     Between(25, 50), of_part.words_of_pages())
 
@@ -153,11 +153,11 @@ class Steps(Case):
         hidden, never = NamedFault(NOT_SHOWN, "hidden"), NamedFault(NEVER_SENT, "never")
         one, recording = self.pair(), mock.Mock()
         recording.survey.lines.return_value = ["one", "two"]
-        one.verdict.named, one.recording = [hidden], recording
-        with one.naming_faults():
+        one.verdict.named_faults, one.recording = [hidden], recording
+        with one.catch_missing_page():
             raise NeverSent("never")
-        self.must("both", one.verdict.named == [hidden, never] and
-                  one.verdict.recording is recording.file, one.verdict.named)
+        self.must("both", one.verdict.named_faults == [hidden, never] and
+                  one.verdict.recording is recording.file, one.verdict.named_faults)
         listener: Any = one.listener
         listener.said.assert_has_calls([mock.call("one"), mock.call("two")])
 

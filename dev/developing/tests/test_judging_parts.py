@@ -9,11 +9,11 @@ from developing.pes import MARK, pes_packet
 from subtitles.clock.start import FITTED_LATER, GIVEN, RECORDING
 from subtitles.common.command_line import counted
 from subtitles.common.times import CLOCK, EARLY, TICKS, pts_of, time_of
-from subtitles.formats.listing import NOT_SHOWN, NamedFault, PICTURES_LEFT
+from subtitles.formats.listing import NamedFault, NOT_SHOWN, PICTURES_LEFT
 from subtitles.judging import pair
 from subtitles.judging.pages import HIDDEN, HiddenRows
 from subtitles.clock.origin import Sought, find
-from subtitles.judging.timing import PicturesFound
+from subtitles.judging.timing import DesyncFindings
 from subtitles.recording import notices
 from subtitles.recording.notices import Notice
 from .bench import example
@@ -106,7 +106,7 @@ class SeveralParts(OfProgramme):
             first = min(changes)
             line = f"refused 72 Content frame {time_of(EACH * first)} row 22 column "
             self.must(f"{changes}: line", found.said[-1].startswith(line) and
-                      found.verdict.faults == len(changes), found.said)
+                      found.verdict.fault_count == len(changes), found.said)
             self.must(f"{changes}: causes", found.lines("cause: ") == [
                 cause_of(number, EACH * number, by)
                 for number, by in changes.items()], found.said)
@@ -155,8 +155,8 @@ class SeveralParts(OfProgramme):
             self.must(f"{at}: allowed", allowed.word == ("waived" if own else "accepted"))
 
     def test_collects_notes_and_warnings_of_each_part(self) -> None:
-        def left(_: object, pid: int, found: object, within: int, number: int) -> PicturesFound:
-            return PicturesFound([NamedFault(PICTURES_LEFT, f"left {number}", part=number)] * (
+        def left(_: object, pid: int, found: object, within: int, number: int) -> DesyncFindings:
+            return DesyncFindings([NamedFault(PICTURES_LEFT, f"left {number}", part=number)] * (
                 number in own), [f"note {number}"])
 
         hidden, told = NamedFault(NOT_SHOWN, "hidden"), Notice(HIDDEN, "strange", None)
@@ -164,21 +164,21 @@ class SeveralParts(OfProgramme):
             counts = iter(range(1, 4))
             pauses = mock.Mock(side_effect=lambda *_: [Notice("pause", f"{next(counts)}", None)])
             made: dict[str, Any] = {
-                "left_by_pictures": left, "may_hide": lambda *_: True,
-                "hidden_rows": lambda *_: HiddenRows([hidden], [told])}
+                "find_desync": left, "may_hide_rows": lambda *_: True,
+                "find_hidden_rows": lambda *_: HiddenRows([hidden], [told])}
             with mock.patch.multiple(pair, **made), \
                     mock.patch.object(pair, "refuse_other_pid") as elsewhere, \
                     mock.patch.object(notices, "pause_notices", pauses):
                 found = self.judge_parts((1000, 3000), {3: 2})
             self.must(f"{own}: elsewhere", elsewhere.call_args.args[2:] == (
                 pts_of(100, ORIGIN), pts_of(2460, ORIGIN + 3000 * TICKS)), elsewhere.call_args)
-            named, warnings = found.verdict.named, found.verdict.warnings
+            named, warnings = found.verdict.named_faults, found.verdict.warnings
             self.must(f"{own}", named == [hidden, *(left(0, 0, 0, 0, number).faults[0]
                                                     for number in own)], named)
             self.must(f"{own}: lists", [one.names.list_path.split("/")[-1] for one in
                                         found.verdict.parts] == ["one.1.txt", "one.2.txt",
                                                                  "one.3.txt"])
-            self.must(f"{own}: counted", found.verdict.faults == 2 + len(own))
+            self.must(f"{own}: counted", found.verdict.fault_count == 2 + len(own))
             self.must(f"{own}: warnings", told in warnings and [
                 one.line for one in warnings if one.kind == "pause"] == ["1", "2", "3"], warnings)
             self.must(f"{own}: notes", [one for one in found.verdict.notes if one[:4] == "note"] ==

@@ -10,7 +10,7 @@ import collections
 import sys
 
 from subtitles.common.times import TICKS
-from subtitles.judging.sentence import WORDS
+from subtitles.judging.sentence import FAULT_CLAUSES
 from .bench import BENCH, Case
 from .judged import OfProgramme, judged
 from .streams import mpeg_2_picture, with_pictures
@@ -109,7 +109,7 @@ class Blocks(Case):
 
 class Advice(OfProgramme):
     def test_never_advises_an_option_that_accepts_the_fault(self) -> None:
-        for number, words in WORDS.items():
+        for number, words in FAULT_CLAUSES.items():
             self.check(f"{number}", [one for one in ADVICE if one in words and number != 79], [])
 
 

@@ -9,15 +9,17 @@ from subtitles.common.times import Span, TICKS, time_of
 from subtitles.formats.listing import CONTENT
 from subtitles.formats.stl import Subtitle
 from subtitles.formats.teletext import CODE_WORDS, OPTIONS
-from subtitles.judging.causes import EVEN, Faulty, IN_PARTS, Namer, REPEATED, UNSEEN
-from subtitles.judging.check import Answer
+from subtitles.judging.causes import (
+    CauseFinder, COMPLETED_LATER, EVEN_PARITY, FaultyFrames, NOT_READABLE, OMITTED_BY_REPEAT)
+from subtitles.judging.check import CheckOutput
 from subtitles.judging.transmissions import (
-    DuePages, Headed, REPEATS, control_words, effect_of, headed, header_words, kept_in, left_at,
-    left_rows_words, unerased_words)
+    ExpectedPages, PageHeader, REPEAT_WITHOUT_ERASE, count_keeping_headers, describe_control_bits,
+    describe_effect, describe_header_faults, describe_missing_erase, describe_omitted_rows,
+    find_omitted_rows, find_page_headers)
 from subtitles.recording.recording import pes_header_problem, read_pes_header
 from subtitles.stream.gaps import Place, places_of, what_of
 from subtitles.stream.packets import Clocked, Mark, Packets, Run, subcode_of, turns_of
-from subtitles.stream.receiver import BLANK_PAGE, Meeting, Rows, TUNED, Timeline
+from subtitles.stream.receiver import BLANK_PAGE, Meeting, Rows, Timeline, TUNED
 from .bench import Case
 from .judged import Judged, OfProgramme, judged
 from .streams import OLD, Shape, TELETEXT_PID, beside_video, in_turn, multiplexed, stream, without
@@ -53,23 +55,23 @@ class Reasons(OfProgramme):
                   'Refused: at 00:00:04:00 subtitle 1, "Number 1", may stand over old text on some '
                   f"sets: {words}; in all 49 faults." and
                   found.result["hints"] == [f"67: {words}"] and
-                  not any(IN_PARTS in line for line in found.said), found.said)
+                  not any(COMPLETED_LATER in line for line in found.said), found.said)
 
     def test_reports_why_a_decoded_page_is_refused(self) -> None:
         text = row(20, b"Text")
         even = text[:10] + bytes([text[10] ^ 0x80]) + text[11:]
         for name, sent, words in (
                 ("two of a frame", [(0, [HEADER, text, CLOSING]), (0, [HEADER, CLOSING])],
-                 IN_PARTS),
-                ("even parity", [(0, [HEADER, even, CLOSING])], EVEN),
+                 COMPLETED_LATER),
+                ("even parity", [(0, [HEADER, even, CLOSING])], EVEN_PARITY),
                 ("whole", [(0, [HEADER, text, CLOSING])], "")):
             held = timeline_of(self, joined(sent), within=1)
-            found = Namer(DuePages([], []), held).hidden_words(0)
+            found = CauseFinder(ExpectedPages([], []), held).describe_hidden_fault(0)
             self.must(name, found == words, found)
         back = [(7200, [HEADER, text, CLOSING]), (3600, [HEADER, text, CLOSING])]
         held = timeline_of(self, joined(back))
-        found = Namer(DuePages([], []), held).hidden_words(5)
-        self.must("behind one that goes back", found == UNSEEN, found)
+        found = CauseFinder(ExpectedPages([], []), held).describe_hidden_fault(5)
+        self.must("behind one that goes back", found == NOT_READABLE, found)
 
     def test_reports_a_scrambled_pid(self) -> None:
         data = bytearray(beside_video(b"".join(self.pes)))
@@ -221,7 +223,7 @@ class Headers(Case):
                 ("hchc", f"{other}+{one}", heard,
                  [(second, NUMBERS, True), (first, second, False)])):
             run = Run(0, 1, 0, 0, does, control)
-            found = [tuple(header) for header in headed(run, state)]
+            found = [tuple(header) for header in find_page_headers(run, state)]
             self.must(f"{does} {control}", found == wanted, found)
 
     def test_explains_why_a_header_must_erase(self) -> None:
@@ -229,24 +231,26 @@ class Headers(Case):
         subcode = f"{CLEAR}, and the sub-code is another one than before: 0000 after 0001"
         is_open = f"{CLEAR}, and the page was still open: no header had ended it"
         for header, words, wanted in (
-                (Headed(NUMBERS, other, True), "", ""), (Headed(KEEPS), "", REPEATS),
-                (Headed(KEEPS, KEEPS), "", REPEATS), (Headed(KEEPS), "--keeping", ""),
-                (Headed(NUMBERS, other, True), "--keeping", ""),
-                (Headed(KEEPS, NUMBERS), "--keeping", ""),
-                (Headed(KEEPS, other), "--keeping", subcode),
-                (Headed(KEEPS, other, True), "--keeping", subcode),
-                (Headed(KEEPS, KEEPS, True), "--keeping", is_open),
-                (Headed(KEEPS, KEEPS, True), "--keeping --no-complete", ""),
-                (Headed(KEEPS, None, True), "--keeping", is_open)):
-            found = unerased_words(header, asked_for("one.stl", "one.pes", *words.split()))
+                (PageHeader(NUMBERS, other, True), "", ""),
+                (PageHeader(KEEPS), "", REPEAT_WITHOUT_ERASE),
+                (PageHeader(KEEPS, KEEPS), "", REPEAT_WITHOUT_ERASE),
+                (PageHeader(KEEPS), "--keeping", ""),
+                (PageHeader(NUMBERS, other, True), "--keeping", ""),
+                (PageHeader(KEEPS, NUMBERS), "--keeping", ""),
+                (PageHeader(KEEPS, other), "--keeping", subcode),
+                (PageHeader(KEEPS, other, True), "--keeping", subcode),
+                (PageHeader(KEEPS, KEEPS, True), "--keeping", is_open),
+                (PageHeader(KEEPS, KEEPS, True), "--keeping --no-complete", ""),
+                (PageHeader(KEEPS, None, True), "--keeping", is_open)):
+            found = describe_missing_erase(header, asked_for("one.stl", "one.pes", *words.split()))
             self.must(f"{header} {words}", found == wanted, found)
 
     def test_describes_the_first_wrong_header_of_several(self) -> None:
-        good, keeps, german, plain = map(Headed, (
+        good, keeps, german, plain = map(PageHeader, (
             NUMBERS, KEEPS, bytes([*NUMBERS[:7], 8]), bytes([*NUMBERS[:5], 0, 1, 0])))
         other, clear = "the header is German, and english is asked for", "C6 (subtitle) is clear"
         for headers, words, effect, said in (
-                ([good, keeps, plain], "", "may stand over old text", REPEATS),
+                ([good, keeps, plain], "", "may stand over old text", REPEAT_WITHOUT_ERASE),
                 ([good, keeps, plain], "--keeping", "hides the picture", clear),
                 ([german, keeps], "", "has other letters", other),
                 ([german, plain], "--option german", "hides the picture",
@@ -254,15 +258,16 @@ class Headers(Case):
                 ([german, keeps, good], "--option german --keeping", "has other letters",
                  "the header is English, and german is asked for"), ([good], "", None, "")):
             asked = asked_for("one.stl", "one.pes", *words.split())
-            self.must(f"{headers} {words}", header_words(headers, asked) == said and
-                      effect in (None, effect_of(headers, asked)), effect_of(headers, asked))
+            self.must(f"{headers} {words}", describe_header_faults(headers, asked) == said and
+                      effect in (None, describe_effect(headers, asked)),
+                      describe_effect(headers, asked))
 
     def test_reports_c4_first(self) -> None:
-        self.must("may be", control_words(KEEPS, "english") == [])
-        found = control_words(numbers(p5=0), "english", REPEATS)
-        self.must("both", found == [REPEATS, "C6 (subtitle) is clear"], found)
+        self.must("may be", describe_control_bits(KEEPS, "english") == [])
+        found = describe_control_bits(numbers(p5=0), "english", REPEAT_WITHOUT_ERASE)
+        self.must("both", found == [REPEAT_WITHOUT_ERASE, "C6 (subtitle) is clear"], found)
         for option in OPTIONS:
-            found = control_words(KEEPS[:7] + bytes([option.bits << 1]), option.word)
+            found = describe_control_bits(KEEPS[:7] + bytes([option.bits << 1]), option.word)
             self.must(option.word, found == [], found)
 
 
@@ -276,7 +281,7 @@ class HeaderCounts(Case):
                 ({KEEPS: 3, numbers(p5=0): 1}, "english", None),
                 ({KEEPS: 3, numbers(p3=8, p6=0): 1}, "english", None)]
         for headers, option, wanted in rows:
-            found = kept_in(headers, option)
+            found = count_keeping_headers(headers, option)
             self.must(f"{headers} {option}", (found and found[:2]) == wanted, found)
 
     def test_names_missing_rows(self) -> None:
@@ -287,7 +292,7 @@ class HeaderCounts(Case):
                 ([20, 22], 20, 5, "row 20"), ([18, 20, 22], 20, 1, "row 20 and 1 more"),
                 ([18, 20, 22], 20, -1, "rows 18, 20 and 22")]
         for rows, told, came, wanted in cases:
-            found = left_rows_words(rows, told, came)
+            found = describe_omitted_rows(rows, told, came)
             self.must(f"{rows} {told} {came}", found == wanted, found)
 
 
@@ -311,7 +316,7 @@ class MissingRows(Case):
         found = timeline_of(self, packets_at(frames), within=within)
         return found, found.page_at(frames[0][0])
 
-    def answer_at(self, frame: int, *before: str) -> Answer:
+    def answer_at(self, frame: int, *before: str) -> CheckOutput:
         """Return the answer of `check --all` if row 22 is refused at a frame."""
         lines = [*before, f"refused 72 Content {frame_text(frame)} row 22 column 0"]
         return answer([*lines, f"{len(lines)} faults"], path=self.path("told"))
@@ -321,57 +326,62 @@ class MissingRows(Case):
         for frame, wanted in (
                 (0, ""), (24, ""), (50, "row 22"), (60, "row 22"), (75, "rows 20 and 22"),
                 (99, "rows 20 and 22"), (100, "")):
-            found = left_at(held, due, frame, self.answer_at(frame))
+            found = find_omitted_rows(held, due, frame, self.answer_at(frame))
             self.must(f"{frame}", found == wanted, found)
-        self.must("the row", [self.answer_at(frame).row_at(9) for frame in (0, 9, 10)] ==
+        self.must("the row", [self.answer_at(frame).find_fault_row(9) for frame in (0, 9, 10)] ==
                   [22, 22, None])
-        self.must("nothing told", left_at(held, due, 50, None) == "a row")
-        self.must("another page is due", left_at(held, BLANK_PAGE, 50, None) == "")
+        self.must("nothing told", find_omitted_rows(held, due, 50, None) == "a row")
+        self.must("another page is due", find_omitted_rows(held, BLANK_PAGE, 50, None) == "")
         nothing = timeline_of(self, packets_at([(5, [CLOSING])]))
-        self.must("no header", left_at(nothing, BLANK_PAGE, 5, None) == "")
+        self.must("no header", find_omitted_rows(nothing, BLANK_PAGE, 5, None) == "")
 
     def test_a_changed_row_is_not_missing(self) -> None:
         held, due = self.decode((0, WHOLE), (20, WHOLE), (25, ONE_LESS), (50, ONE_LESS))
         for frame, wanted in ((0, "row 22"), (19, "row 22"), (20, ""), (25, ""), (26, "row 22")):
             told = self.answer_at(25, f"refused 69 RowChanged {frame_text(frame)} packet 1")
-            found = left_at(held, due, 25, told)
+            found = find_omitted_rows(held, due, 25, told)
             self.must(f"{frame}", found == wanted, found)
         held, due = self.decode((0, AGAIN), (25, ONE_LESS))
         told = self.answer_at(25, f"refused 69 RowChanged {frame_text(0)} packet 1")
-        self.must("none erases", left_at(held, due, 25, told) == "")
+        self.must("none erases", find_omitted_rows(held, due, 25, told) == "")
 
     def test_counts_rows_up_to_the_tolerance(self) -> None:
         frames = (0, WHOLE), (25, [KEEPING_HEADER]), (26, [FIRST]), (50, WHOLE)
         held, due = self.decode(*frames, within=2)
-        self.must("both frames", left_at(held, due, 27, self.answer_at(27)) == "row 22")
+        self.must("both frames", find_omitted_rows(held, due, 27, self.answer_at(27)) == "row 22")
         held, due = self.decode(*frames)
-        self.must("one frame", left_at(held, due, 25, self.answer_at(25)) == "rows 20 and 22")
+        self.must("one frame",
+                  find_omitted_rows(held, due, 25, self.answer_at(25)) == "rows 20 and 22")
 
     def test_finds_rows_missing_after_a_keeping_header(self) -> None:
         held, due = self.decode((0, WHOLE), (25, BARE), (50, ONE_LESS))
         one = Subtitle(1, 1, 0, 100, 20, 2, b"1")
-        namer = Namer(DuePages([one], [due]), held, self.answer_at(50))
+        namer = CauseFinder(ExpectedPages([one], [due]), held, self.answer_at(50))
         for frame, wanted in ((0, ""), (25, "rows 20 and 22"), (50, "row 22")):
-            self.must(f"{frame}", namer.rows_left(frame) == wanted, namer.rows_left(frame))
-        namer.held.lost = Meeting([Span(50, 50)])
-        self.must("not received", namer.rows_left(50) == "" and namer.rows_left(25) != "")
+            self.must(f"{frame}", namer.list_omitted_rows(frame) == wanted,
+                      namer.list_omitted_rows(frame))
+        namer.timeline.lost = Meeting([Span(50, 50)])
+        self.must("not received",
+                  namer.list_omitted_rows(50) == "" and namer.list_omitted_rows(25) != "")
         several = (25, [KEEPING_HEADER]), (25, [FIRST, CLOSING])
         for within, wanted in ((0, ""), (1, "row 22")):
             held, due = self.decode((0, WHOLE), *several, within=within)
-            namer = Namer(DuePages([one], [due]), held, self.answer_at(25))
-            self.must(f"in two, {within}", namer.rows_left(25) == wanted, namer.rows_left(25))
+            namer = CauseFinder(ExpectedPages([one], [due]), held, self.answer_at(25))
+            self.must(f"in two, {within}", namer.list_omitted_rows(25) == wanted,
+                      namer.list_omitted_rows(25))
 
 
     def test_an_early_header_without_rows_erases_nothing(self) -> None:
-        one, faulty = Subtitle(1, 1, 25, 100, 20, 2, b"1"), Faulty()
+        one, faulty = Subtitle(1, 1, 25, 100, 20, 2, b"1"), FaultyFrames()
         for frame, name, words in ((0, "unknown", f"it has not come at {time_of(25)}"),
                                    (30, "erased", "by a header without rows, at 00:00:01:05")):
             bare, whole = (frame, [HEADER, CLOSING]), (26 if not frame else 25, WHOLE)
             held, _ = self.decode(*sorted([bare, whole, (50, WHOLE)]), within=1)
             due = held.page_at(50)
-            faulty.within = Span(25 if not frame else 30, 35)
-            cause = Namer(DuePages([one], [due]), held, self.answer_at(25)).cause(0, faulty)
-            self.must(name, (cause.name, cause.words) == (name, words), cause)
+            faulty.during = Span(25 if not frame else 30, 35)
+            cause = CauseFinder(ExpectedPages([one], [due]), held,
+                                self.answer_at(25)).find_cause(0, faulty)
+            self.must(name, (cause.name, cause.details) == (name, words), cause)
 
 
 def with_keeping_repeats(sent: Sent, way: str = "", frames: int = 0) -> Sent:
@@ -416,13 +426,14 @@ class KeepingRepeats(OfProgramme):
         self.must("refused", found.word == "refused" and found.result["hints"] == [f"67: {words}"]
                   and words in found.verdict.sentence and
                   found.result["request"]["keeping"] is False
-                  and all(one["meaning"] == REPEATS for one in found.result["faults"]), found.said)
+                  and all(one["meaning"] == REPEAT_WITHOUT_ERASE for one in found.result["faults"]),
+                  found.said)
 
     def test_names_missing_rows_as_the_cause(self) -> None:
         found = self.judged("left out", "--keeping")
         self.must("a cause", found.word == "refused" and {one["number"] for one in found.result[
             "faults"]} == {CONTENT} and [one["line"] for one in found.result["causes"]] ==
-            [f"not repeated whole: row 22 {REPEATED}"] and
+            [f"not repeated whole: row 22 {OMITTED_BY_REPEAT}"] and
             "(row 22 left out behind a header" in found.verdict.sentence, found.said)
 
     def test_refuses_another_subcode_with_keeping(self) -> None:

@@ -43,8 +43,8 @@ class Recordings(Case):
                 found = judged(self, STORY, recording, "--every", often, "--origin", "0")
                 lists.add(tuple(found.listed))
                 self.must(f"{name} {recording}", found.said[-1] == last and
-                          found.verdict.faults == count and len(found.lines("cause: ")) == causes,
-                          found.said)
+                          found.verdict.fault_count == count
+                          and len(found.lines("cause: ")) == causes, found.said)
                 self.must(f"{name} {recording}: part", found.parts("origin", "from", "to") ==
                           [(0, "20:15:00:00", "20:15:09:00")], found.result["parts"])
                 if "feed" in recording:

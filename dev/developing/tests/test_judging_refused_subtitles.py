@@ -23,9 +23,10 @@ from subtitles.formats.listing import fault_of_line
 from subtitles.formats.stl import NamedSubtitle, Subtitle, SubtitleFile
 from subtitles.formats.teletext import BY_WORD, OPTIONS, has_characters
 from subtitles.judging import subtitles
-from subtitles.judging.pair import Pair
+from subtitles.judging.pair import PairJudge
 from subtitles.judging.subtitles import (
-    Counts, JudgedBeside, RefusedSubtitle, beside_of, due_beside, is_judged_beside)
+    RefusedSubtitle, SubtitleCounts, ValidSubtitles, draw_valid_pages, find_valid_subtitles,
+    has_valid_subtitles)
 from subtitles.request.commands import Names
 from subtitles.results.files import row_of_object
 from subtitles.stream.receiver import national_option
@@ -148,7 +149,7 @@ class RefusedSubtitles(Case):
         found = self.judge(self.write_stl(3), unread, "--severity",
                            self.write("severity", b"others warning\n"))
         self.must("nothing was read", found.word == "not judged" and
-                  found.verdict.why_not == UNREAD, found.said)
+                  found.verdict.unjudged_reason == UNREAD, found.said)
 
     def test_ignores_refused_subtitles_outside_the_range(self) -> None:
         for words, word, counts in (
@@ -157,8 +158,8 @@ class RefusedSubtitles(Case):
                 (("--to", "00:00:24:00"), "refused", (4, 1)),
                 (("--from", "00:00:20:00", "--to", "00:00:10:00"), "not judged", None)):
             found = self.judge(self.write_stl(3), self.pes, *words)
-            self.must(f"{words}", found.word == word and found.verdict.counts == (
-                counts and Counts(*counts)), found.said)
+            self.must(f"{words}", found.word == word and found.verdict.subtitle_counts == (
+                counts and SubtitleCounts(*counts)), found.said)
         self.must("none is left", "no subtitle of " in found.told[0] and " is left: " in
                   found.told[0], found.told)
 
@@ -174,7 +175,8 @@ class RefusedSubtitles(Case):
                            "1", "--every", "100")
             self.must(f"{bad} {said}", found.word == "refused" and said in found.verdict.sentence
                       and len(found.result["parts"]) == 2 and
-                      found.verdict.counts == Counts(10 - len(bad), len(bad)), found.said)
+                      found.verdict.subtitle_counts == SubtitleCounts(10 - len(bad), len(bad)),
+                      found.said)
 
     def test_lists_refused_and_late_subtitles_in_the_report(self) -> None:
         slow = self.write("slow.pes", joined(late(5, 3600 * 600, 3600 * 650)(self.sent)))
@@ -233,11 +235,12 @@ class RefusedSubtitles(Case):
         for stl, more, word in rows:
             found = judged(self, stl, *more, *WORDS, "--severity", mild)
             self.must(f"named warnings {stl} {more}", found.word == word and
-                      found.verdict.why_not == (None if word == "waived" else UNREAD), found.said)
+                      found.verdict.unjudged_reason == (None if word == "waived" else UNREAD),
+                      found.said)
         for stl, when in ((self.write_stl(3), "check*--pes*--all*"), (self.stl, "show*")):
             found = judged(self, stl, self.pes, *WORDS, by=self.program_but(when, "exit 9"))
             self.must(f"{when}: not answered", found.word == "not judged", found.said)
-        with mock.patch("subtitles.judging.pair.parts_of", side_effect=ValueError):
+        with mock.patch("subtitles.judging.pair.find_parts", side_effect=ValueError):
             found = judged(self, self.write_stl(3), self.pes, *WORDS)
         self.must("a mistake", found.word == "not judged", found.said)
 
@@ -248,18 +251,21 @@ class RefusedSubtitles(Case):
             for at in range(1, 801)])))
         faults = [fault_of(f"refused 50 Character block {at} at 0") for at in bad]
         with mock.patch.object(subtitles, "has_characters", side_effect=has_characters) as asked:
-            found = beside_of(file, faults, "english")
+            found = find_valid_subtitles(file, faults, "english")
         self.must("once", len(found.judged) == 758 and asked.call_count <= 759 * len(OPTIONS),
                   asked.call_count)
         names, verdict, nothing = Names("many", self.folder, None), verdict_of([]), mock.Mock()
         names.give(self.path("many.stl"))
-        told = Pair(verdict, nothing, names, nothing, False).take_beside(answer(
+        told = PairJudge(verdict, nothing, names, nothing, False).find_valid_subtitles(answer(
             [*(one.line for one in faults), "refused 60 Empty", "43 faults"],
             path=self.path("all.txt")))
-        self.must("all are left out", verdict.beside and len(verdict.beside.judged) == 758 and
-                  verdict.beside.left_out == found.left_out, verdict.beside)
-        self.must("of the file", (told.count, told.numbers, told.last) == (42, {50}, "42 faults"))
-        self.must("lines", [*found.lines()][40:] == ["undecided: 2 more subtitles"])
+        self.must("all are left out",
+                  verdict.valid_subtitles and len(verdict.valid_subtitles.judged) == 758 and
+                  verdict.valid_subtitles.skipped_positions == found.skipped_positions,
+                  verdict.valid_subtitles)
+        self.must("of the file",
+                  (told.fault_count, told.fault_numbers, told.last_line) == (42, {50}, "42 faults"))
+        self.must("lines", [*found.format_lines()][40:] == ["undecided: 2 more subtitles"])
 
 
 class ExpectedPages(unittest.TestCase):
@@ -268,14 +274,14 @@ class ExpectedPages(unittest.TestCase):
             ({60}, False), ({50}, False), ({50, 60}, True), (set(), False), ({10, 60}, True),
             ({72, 60}, False), ({57, 78, 60}, True)]
         for numbers, wanted in rows:
-            self.assertEqual(is_judged_beside(numbers), wanted, numbers)
+            self.assertEqual(has_valid_subtitles(numbers), wanted, numbers)
 
 
     def test_expects_a_blank_page_between_subtitles(self) -> None:
         for gap, option in itertools.product(range(4), ("english", "german")):
             some = [Subtitle(at, at, begin, begin + 50, 20, 2, b"Number %d" % at)
                     for at, begin in ((1, 100), (2, 150 + gap))]
-            due = due_beside(some, PAGE, option)
+            due = draw_valid_pages(some, PAGE, option)
             frames, held = range(99, 203 + gap), due.timeline
             assert held
             self.assertEqual(list(map(held.page_at, frames)), list(map(due.page_at, frames)), gap)
@@ -287,12 +293,13 @@ class ExpectedPages(unittest.TestCase):
             refused = [RefusedSubtitle(NamedSubtitle(at, at, "00:00:01:00", "00:00:02:00"),
                                        fault_of(f"refused 19 Row block {at}"), f"letter {at}", "")
                        for at in range(1, count + 1)]
-            found = JudgedBeside([], refused, frozenset(range(count + 2)))
+            found = ValidSubtitles([], refused, frozenset(range(count + 2)))
             more = [f"undecided: {counted(count - 40, 'more subtitle')}"] * (count > 40)
-            self.assertEqual([*found.lines()], [one.line() for one in refused[:40]] + more, count)
+            self.assertEqual([*found.format_lines()],
+                             [one.format_line() for one in refused[:40]] + more, count)
             if count < 2:
                 continue
-            said = found.words()
+            said = found.describe()
             self.assertTrue(said.startswith(f"{count} of {count + 2} subtitles are refused, "),
                             count)
             self.assertEqual([at for at in range(1, count + 1) if f", letter {at}" in said],
@@ -330,7 +337,8 @@ class RandomFiles(Case):
                 continue
             beside += 1
             file = SubtitleFile(self.write("one.stl", data), between)
-            found = beside_of(file, filter(None, map(fault_of_line, wanted.lines)), "english")
+            found = find_valid_subtitles(file, filter(None, map(fault_of_line, wanted.lines)),
+                                         "english")
             self.must(f"{wanted.lines}", [(one.begin, one.end) for one in found.judged] == [
                 (one.tci, one.tco) for one in wanted.records], found)
             first, places = dict[int, str](), {one.index for one in found.judged}
@@ -342,11 +350,12 @@ class RandomFiles(Case):
             self.must(f"{wanted.lines}: refused", [
                 (each.subtitle.position, each.fault.line) for each in found.refused] ==
                 sorted(first.items()), found.refused)
-            self.must("left out", not places & found.left_out and (between != ALL_DAY or (
-                places | found.left_out) == {*range(1, len(file.starts) + 1)}), found)
-            self.must("words", len(first) < 2 or found.words().startswith(
-                f"{len(first)} of {len(places | found.left_out)} subtitles "), found.words())
-            due = due_beside(found.judged, PAGE, "english")
+            self.must("left out", not places & found.skipped_positions and (between != ALL_DAY or (
+                places | found.skipped_positions) == {*range(1, len(file.starts) + 1)}), found)
+            self.must("words", len(first) < 2 or found.describe().startswith(
+                f"{len(first)} of {len(places | found.skipped_positions)} subtitles "),
+                found.describe())
+            due = draw_valid_pages(found.judged, PAGE, "english")
             pages = defined.Due(wanted.records, wanted.others, options)
             held = due.timeline
             for one, rows in zip(found.judged, due.pages):

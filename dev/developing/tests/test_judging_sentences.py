@@ -14,16 +14,18 @@ from developing.pes import packet
 from subtitles.common.times import CLOCK, TICKS, time_of
 from subtitles.formats.layout import PLAIN, Refused, cell_lines, prepared
 from subtitles.clock.start import clock_advice
-from subtitles.formats.listing import NOT_SHOWN, NamedFault, fault_of_line, meanings
+from subtitles.formats.listing import NamedFault, NOT_SHOWN, fault_of_line, meanings
 from subtitles.formats.stl import Subtitle
 from subtitles.formats.teletext import ENGLISH, OPTIONS
-from subtitles.judging.causes import IN_PAUSE, NAMES
+from subtitles.judging.causes import CAUSE_NAMES, TEXT_IN_PAUSE
 from subtitles.judging.pages import (
-    HIDDEN as HIDDEN_KIND, Sight, hidden_rows, hidden_words, letters_in, may_hide, sight_of)
-from subtitles.judging.sentence import Count, Facts, SAID, WORDS, describe_causes, sentence_of
+    HIDDEN as HIDDEN_KIND, Visibility, decode_cells, describe_hidden_characters, find_hidden_rows,
+    find_visibility, may_hide_rows)
+from subtitles.judging.sentence import (
+    CAUSE_PREDICATES, Facts, FAULT_CLAUSES, FaultCount, describe_causes, write_sentence)
 from subtitles.judging.status import (
-    ACCEPTED, LOST, NOT_JUDGED, REFUSALS, REFUSED, RELATIVE, WAIVED, WARNED)
-from subtitles.judging.transmissions import control_words
+    ACCEPTED, FAULT_NUMBERS, LOST, NOT_JUDGED, REFUSED, RELATIVE, WAIVED, WARNED)
+from subtitles.judging.transmissions import describe_control_bits
 from subtitles.recording.notices import Notice
 from subtitles.stream.receiver import BLANK_PAGE
 from .bench import Case
@@ -46,8 +48,8 @@ class HeaderOptions(unittest.TestCase):
         for sent, asked in itertools.product(OPTIONS, repeat=2):
             words = f"the header is {sent.name}, and {asked.word} is asked for"
             with self.subTest(sent=sent.word, asked=asked.word):
-                self.assertEqual(control_words(bytes([8, 8, 0, 8, 0, 8, 1, sent.bits << 1]),
-                                               asked.word), [words] * (sent != asked))
+                self.assertEqual(describe_control_bits(bytes([8, 8, 0, 8, 0, 8, 1, sent.bits << 1]),
+                                                       asked.word), [words] * (sent != asked))
 
 
 class Sentences(unittest.TestCase):
@@ -75,7 +77,8 @@ class Sentences(unittest.TestCase):
                 (Facts(WARNED, 2, warnings=["page", "page", "pause"]), "Not accepted: there are "
                  "warnings, which count (page, pause); what was received is right."),
                 (Facts(REFUSED, 1234, first=fault_of_line("refused 72 Content frame 10:00:00:00"),
-                       faults=2, delay=50, counts=[Count(72, "Content", 1), Count(73, "Gap", 1)]),
+                       faults=2, delay=50,
+                       counts=[FaultCount(72, "Content", 1), FaultCount(73, "Gap", 1)]),
                  "Refused: all 1,234 subtitles are 50 frames late; also 73 Gap."),
                 (Facts(REFUSED, 1, first=fault_of_line("refused 63 Early frame 10:00:00:00"),
                        faults=1, delay=-1), "Refused: the subtitle is 1 frame early."),
@@ -98,40 +101,41 @@ class Sentences(unittest.TestCase):
                  "faults are named warnings: from 10:00:00:00 on no header. No clock was given, so "
                  f"a delay that all subtitles share {ADD}."),
                 (Facts(REFUSED, 2, first=fault_of_line("refused 45 Lost pes 7"), faults=3, lost=[
-                    "a", "b"], counts=[Count(45, "Lost", 2), Count(73, "Gap", 1)]), "Refused: a, "
-                 "and in 1 more place; that part was not recorded; also 73 Gap."),
+                    "a", "b"], counts=[FaultCount(45, "Lost", 2), FaultCount(73, "Gap", 1)]),
+                 "Refused: a, " "and in 1 more place; that part was not recorded; also 73 Gap."),
                 (Facts(REFUSED, 2, first=fault, faults=1, hint="no header"),
                  "Refused: from 10:00:00:00 on no header."),
                 (Facts(REFUSED, 2, first=fault, faults=3, hint="no header"),
                  "Refused: from 10:00:00:00 on no header; in all 3 faults.")):
-            found = sentence_of(seen)
+            found = write_sentence(seen)
             self.assertEqual(found, wanted, seen)
         for told, begin in ((packet, "Refused: in PES packet 0 "), (block, "Refused: in block 12 "),
                             (fault, "Refused: at 10:00:00:00 ")):
-            found = sentence_of(Facts(WAIVED if told is None else REFUSED, 1, first=told, faults=1))
+            found = write_sentence(Facts(WAIVED if told is None else REFUSED, 1, first=told,
+                                         faults=1))
             self.assertTrue(found.startswith(begin) and found.endswith(".") and
                             found.count(".") == 1 and "`" not in found, found)
 
     def test_has_a_sentence_for_each_number(self) -> None:
-        self.assertEqual(set(WORDS), REFUSALS - OF_PACKETS)
-        known = {number for number, one in meanings().items() if number in REFUSALS}
-        self.assertLessEqual(known - OF_PACKETS, set(WORDS))
-        for number, words in WORDS.items():
+        self.assertEqual(set(FAULT_CLAUSES), FAULT_NUMBERS - OF_PACKETS)
+        known = {number for number, one in meanings().items() if number in FAULT_NUMBERS}
+        self.assertLessEqual(known - OF_PACKETS, set(FAULT_CLAUSES))
+        for number, words in FAULT_CLAUSES.items():
             for place, begin in (("frame 10:00:00:00", "at 10:00:00:00"),
                                  ("pes 7", "in PES packet 7"), ("block 0", "in block 0"),
                                  ("", "")):
                 told = fault_of_line(f"refused {number} Name {place}".rstrip())
-                found = sentence_of(Facts(REFUSED, 1, first=told, faults=1))
+                found = write_sentence(Facts(REFUSED, 1, first=told, faults=1))
                 with self.subTest(number=number, place=place):
                     self.assertEqual(found, " ".join(["Refused:", *begin.split(), words]) + ".")
                     self.assertRegex(words, VERB)
                     self.assertNotRegex(words, r"TIME|\bN frames|\bK\b|`|[;.] |--complete")
 
     def test_has_a_sentence_for_each_cause(self) -> None:
-        for name in [one for one in NAMES if one != IN_PAUSE]:
+        for name in [one for one in CAUSE_NAMES if one != TEXT_IN_PAUSE]:
             for several in ([cause(2, name, 3)], [cause(2, name, 3), cause(4, name, 5)]):
                 words = describe_causes(causes_of(*several), "english")
-                said = SAID[name][len(several) > 1] if name in SAID else \
+                said = CAUSE_PREDICATES[name][len(several) > 1] if name in CAUSE_PREDICATES else \
                     f"{'are' if len(several) > 1 else 'is'} 3 "
                 with self.subTest(name, count=len(several)):
                     self.assertIn(f" {said}", words)
@@ -298,25 +302,27 @@ NO_BOX = 'no set shows "Hi", outside of a box'
 ALIKE = 'no set shows "Hi", in the colour of its background'
 ONE = 'libzvbi does not show "Hi", behind one start box (0B), and ffmpeg does'
 # Cells of a row, its visibility, and the message.
-ROWS: tuple[tuple[bytes, Sight, str], ...] = (
-    (b"", Sight.ALL, ""), (b"\x0b\x0b\x0a\x0a", Sight.ALL, ""),  # no characters
-    (b"\x0b\x0bHi\x0a\x0a", Sight.ALL, ""), (b"\x0b\x0bHi", Sight.ALL, ""),
-    (b"\x0b\x0b\x0aHi", Sight.ALL, ""),  # one end box closes nothing
-    (b"\x0b\x0b\x03\x1d\x04Hi", Sight.ALL, ""),  # blue on yellow
-    (b"\x0b\x0b\x1d\x1cHi", Sight.ALL, ""),  # black again
-    (b"\x0b\x0b\x1d\x01Hi", Sight.ALL, ""),  # red on white
-    (b"\x0b\x0b\x1d\x11HI\x07", Sight.ALL, ""),  # mosaic red, in which these are letters
-    (b"Hi\x0b", Sight.NONE, NO_BOX), (b"Hi\x0b\x0b", Sight.NONE, NO_BOX),
-    (b"\x0b\x0b\x0a\x0aHi", Sight.NONE, NO_BOX), (b"Hi", Sight.NONE, NO_BOX),
-    (b"\x0b\x0b\x1dHi", Sight.NONE, ALIKE), (b"\x0b\x0b\x03\x1dHi", Sight.NONE, ALIKE),
-    (b"\x0b\x0b\x03\x1d\x04\x1dHi", Sight.NONE, ALIKE), (b"\x0b\x1dHi", Sight.NONE, ALIKE),
-    (b"\x0b\x0b\x1d\x01\x07Hi", Sight.NONE, ALIKE), (b"\x1dHi", Sight.NONE, ALIKE),
-    (b"\x0bHi", Sight.SOME, ONE), (b"\x0b\x07\x0bHi", Sight.SOME, ONE),
-    (b"\x0bHi\x0a\x0a", Sight.SOME, ONE),
-    (b"\x0b\x0bH\x0a\x0ai", Sight.SOME, 'no set shows "i", outside of a box'),
-    (b"H\x0b\x0bi", Sight.SOME, 'no set shows "H", outside of a box'),
-    (b"\x0b\x0bH\x1di", Sight.SOME, 'no set shows "i", in the colour of its background'),
-    (b"H\x0bi", Sight.SOME, 'no set shows "H", outside of a box; libzvbi does not show "i", behind '
+ROWS: tuple[tuple[bytes, Visibility, str], ...] = (
+    (b"", Visibility.ALL, ""), (b"\x0b\x0b\x0a\x0a", Visibility.ALL, ""),  # no characters
+    (b"\x0b\x0bHi\x0a\x0a", Visibility.ALL, ""), (b"\x0b\x0bHi", Visibility.ALL, ""),
+    (b"\x0b\x0b\x0aHi", Visibility.ALL, ""),  # one end box closes nothing
+    (b"\x0b\x0b\x03\x1d\x04Hi", Visibility.ALL, ""),  # blue on yellow
+    (b"\x0b\x0b\x1d\x1cHi", Visibility.ALL, ""),  # black again
+    (b"\x0b\x0b\x1d\x01Hi", Visibility.ALL, ""),  # red on white
+    (b"\x0b\x0b\x1d\x11HI\x07", Visibility.ALL, ""),  # mosaic red, in which these are letters
+    (b"Hi\x0b", Visibility.NONE, NO_BOX), (b"Hi\x0b\x0b", Visibility.NONE, NO_BOX),
+    (b"\x0b\x0b\x0a\x0aHi", Visibility.NONE, NO_BOX), (b"Hi", Visibility.NONE, NO_BOX),
+    (b"\x0b\x0b\x1dHi", Visibility.NONE, ALIKE), (b"\x0b\x0b\x03\x1dHi", Visibility.NONE, ALIKE),
+    (b"\x0b\x0b\x03\x1d\x04\x1dHi", Visibility.NONE, ALIKE),
+    (b"\x0b\x1dHi", Visibility.NONE, ALIKE),
+    (b"\x0b\x0b\x1d\x01\x07Hi", Visibility.NONE, ALIKE), (b"\x1dHi", Visibility.NONE, ALIKE),
+    (b"\x0bHi", Visibility.SOME, ONE), (b"\x0b\x07\x0bHi", Visibility.SOME, ONE),
+    (b"\x0bHi\x0a\x0a", Visibility.SOME, ONE),
+    (b"\x0b\x0bH\x0a\x0ai", Visibility.SOME, 'no set shows "i", outside of a box'),
+    (b"H\x0b\x0bi", Visibility.SOME, 'no set shows "H", outside of a box'),
+    (b"\x0b\x0bH\x1di", Visibility.SOME, 'no set shows "i", in the colour of its background'),
+    (b"H\x0bi", Visibility.SOME,
+     'no set shows "H", outside of a box; libzvbi does not show "i", behind '
      "one start box (0B), and ffmpeg does"))
 HIDDEN, OPACITY_AT, INK_AT, PAPER_AT = 0, 2, 3, 4  # of a character of libzvbi
 
@@ -340,12 +346,15 @@ class DrawingReceiver(Receiver):
 class VisibleRows(Case):
     def test_knows_which_characters_decoders_show(self) -> None:
         for cells, sight, words in ROWS:
-            self.must(cells.hex(), (sight_of(cells), hidden_words(cells, "english")) ==
-                      (sight, words), (sight_of(cells), hidden_words(cells, "english")))
+            self.must(cells.hex(),
+                      (find_visibility(cells), describe_hidden_characters(cells, "english")) ==
+                      (sight, words),
+                      (find_visibility(cells), describe_hidden_characters(cells, "english")))
         for paper, ink, of_paper, of_ink in itertools.product(range(8), range(8), (0, 16), (0, 16)):
             for behind, wanted in ((b"", ink == paper), (b"\x1c", ink == 0)):  # black background
                 cells = b"\x0b\x0b%c\x1d%c%sHi" % (paper + of_paper, ink + of_ink, behind)
-                self.assertEqual(sight_of(cells), Sight.NONE if wanted else Sight.ALL, cells)
+                self.assertEqual(find_visibility(cells),
+                                 Visibility.NONE if wanted else Visibility.ALL, cells)
 
     def test_agrees_with_libzvbi(self) -> None:
         try:
@@ -353,25 +362,27 @@ class VisibleRows(Case):
         except OSError:
             self.skipTest("what libzvbi draws, which is not installed")
         for cells, _, _ in ROWS:
-            wanted = "".join(chr(one.code) for one in letters_in(cells) if one.is_seen)
+            wanted = "".join(chr(one.code) for one in decode_cells(cells) if one.is_shown)
             self.must(cells.hex(), receiver.letters(cells) == wanted, receiver.letters(cells))
 
     def test_reports_each_hidden_row_with_its_block(self) -> None:
         blank = BLANK_PAGE[0]
         rows = [blank, *(next(cells for cells, sight, _ in ROWS if sight == one).ljust(40)
-                         for one in Sight)]
+                         for one in Visibility)]
         file: Any = SimpleNamespace(starts=[2, 5, 6])
         for cells in itertools.product(rows, repeat=4):
             subtitles = [Subtitle(index, index, 25 * index, 25 * index + 9, 1, 2, b"")
                          for index in (1, 3)]
             pages = [(*cells[at:at + 2], *BLANK_PAGE[2:]) for at in (0, 2)]
             wanted = [(subtitle, row, one) for subtitle, page in zip(subtitles, pages)
-                      for row, one in enumerate(page[:2], 1) if sight_of(one) != Sight.ALL]
-            said = [(sight_of(one) == Sight.NONE, f"{subtitle.name} at {time_of(subtitle.begin)}, "
-                     f"row {row}: {hidden_words(one, 'english')}",
+                      for row,
+                      one in enumerate(page[:2], 1) if find_visibility(one) != Visibility.ALL]
+            said = [(find_visibility(one) == Visibility.NONE,
+                     f"{subtitle.name} at {time_of(subtitle.begin)}, "
+                     f"row {row}: {describe_hidden_characters(one, 'english')}",
                      file.starts[subtitle.index - 1], time_of(subtitle.begin))
                     for subtitle, row, one in wanted]
-            found = hidden_rows(subtitles, pages, file, "english")
+            found = find_hidden_rows(subtitles, pages, file, "english")
             self.assertEqual(found.faults, [NamedFault(NOT_SHOWN, words, block=block)
                                             for is_none, words, block, _ in said if is_none], cells)
             self.assertEqual(found.warnings, [Notice(HIDDEN_KIND, words, when)
@@ -385,9 +396,10 @@ class VisibleRows(Case):
             subtitles = [Subtitle(1, 1, 25, 50, 20, 2, text) for text in texts]
             lines = cell_lines(texts[at], ENGLISH)
             drawn = [] if isinstance(lines, Refused) else [prepared(one, PLAIN) for one in lines]
-            found = may_hide(subtitles, has_layout)
+            found = may_hide_rows(subtitles, has_layout)
             self.assertEqual(found, has_layout or code in (0x0A, 0x0B, 0x1D), (code, at))
-            self.assertTrue(found or all(sight_of(one) == Sight.ALL for one in drawn), code)
+            self.assertTrue(found or all(find_visibility(one) == Visibility.ALL for one in drawn),
+                            code)
 
     def test_refuses_an_invisible_row_and_warns_of_a_partly_visible_one(self) -> None:
         times = [(900_000 + 50 * at, 900_040 + 50 * at) for at in range(3)]

@@ -9,16 +9,18 @@ from typing import Any, Sequence
 
 from subtitles.common.command_line import Stop
 from subtitles.formats.listing import (
-    Accepted, FAULT_NAMES, FaultLine, NEVER_SENT, NamedFault, STL_FAULTS, Trusted, accepted_of,
+    Accepted, FAULT_NAMES, FaultLine, NamedFault, NEVER_SENT, STL_FAULTS, Trusted, accepted_of,
     count_of, fault_of_line, meanings, number_of, trusted_of)
 from subtitles.formats.stl import Subtitle, subtitles_shown
-from subtitles.judging.causes import Cause, NAMES
-from subtitles.judging.check import Answer
+from subtitles.judging.causes import Cause, CAUSE_NAMES
+from subtitles.judging.check import CheckOutput
 from subtitles.judging.sentence import (
-    OF_CAUSE, OF_NAME, OF_NUMBER, Rank, lead_of, rank_of, worst_cause, worst_name)
+    CAUSE_RANKS, NAME_RANKS, NUMBER_RANKS, Rank, find_worst_cause, find_worst_fault,
+    find_worst_named_fault, rank_number)
 from subtitles.judging.status import (
-    ACCEPTED, Decision, Grounds, LOST, NOT_JUDGED, REFUSALS, REFUSED, RELATIVE, STATUSES, Said,
-    Severity, UNREAD, UNSAID, WAIVED, WARNED, decide, is_of_call, of_all, word_of)
+    ACCEPTED, CheckSummary, Decision, FAULT_NUMBERS, Grounds, LOST, NOT_ANSWERED, NOT_JUDGED,
+    NOTHING_READ, REFUSED, RELATIVE, Severity, STATUSES, WAIVED, WARNED, combine_statuses, decide,
+    decide_part, matches_exit_status)
 from .bench import Case
 from .parts import answer, part_with
 
@@ -28,31 +30,39 @@ from .parts import answer, part_with
 ERROR, WARNING, NUMBER = 72, 67, 38  # of faults; the file below makes the second a warning
 ENDS_READING, LOST_PACKETS, SILENT = (30, 31, 32, 44), 45, 79
 RIGHT = {
-    "accepted": Said(0, is_accepted=True),
-    "refused": Said(1, faults=3, counted=3, numbers=(WARNING, ERROR)),
-    "refused first": Said(1, faults=3, counted=3, numbers=(ERROR, WARNING)),
-    "refused between": Said(1, faults=3, counted=3, numbers=(WARNING, ERROR, WARNING)),
-    "waived": Said(1, faults=2, counted=2, numbers={WARNING}),
-    "accepted, not read": Said(0, is_accepted=True, is_read=False),
-    "waived, not read": Said(1, faults=1, counted=1, numbers={WARNING}, is_read=False),
-    "refused, not read": Said(1, faults=1, counted=1, numbers={ERROR}, is_read=False)}
+    "accepted": CheckSummary(0, is_accepted=True),
+    "refused": CheckSummary(1, fault_count=3, printed_total=3, fault_numbers=(WARNING, ERROR)),
+    "refused first": CheckSummary(1, fault_count=3, printed_total=3,
+                                  fault_numbers=(ERROR, WARNING)),
+    "refused between": CheckSummary(1, fault_count=3, printed_total=3,
+                                    fault_numbers=(WARNING, ERROR, WARNING)),
+    "waived": CheckSummary(1, fault_count=2, printed_total=2, fault_numbers={WARNING}),
+    "accepted, not read": CheckSummary(0, is_accepted=True, is_read=False),
+    "waived, not read": CheckSummary(1, fault_count=1, printed_total=1, fault_numbers={WARNING},
+                                     is_read=False),
+    "refused, not read": CheckSummary(1, fault_count=1, printed_total=1, fault_numbers={ERROR},
+                                      is_read=False)}
 WRONG = {
-    "silent": Said(0),
-    "silent, status 1": Said(1),
-    "not ended": Said(None, is_accepted=True),
-    "not ended, refused": Said(None, faults=1, counted=1, numbers={ERROR}),
-    "killed": Said(-9, is_accepted=True),
-    "killed in its list": Said(-15, faults=2, counted=2, numbers={WARNING}),
-    "accepted, status 1": Said(1, is_accepted=True),
-    "accepted, status 2": Said(2, is_accepted=True),
-    "accepted with faults": Said(0, is_accepted=True, faults=1, counted=1, numbers={WARNING}),
-    "accepted with a number alone": Said(0, is_accepted=True, numbers={WARNING}),
-    "accepted with a count alone": Said(0, is_accepted=True, faults=1),
-    "refused, status 0": Said(0, faults=1, counted=1, numbers={ERROR}),
-    "refused, status 2": Said(2, faults=1, counted=1, numbers={ERROR}),
-    "a list without an end": Said(1, faults=2, counted=None, numbers={ERROR}),
-    "a list that lacks a line": Said(1, faults=1, counted=2, numbers={WARNING}),
-    "no fault, counted": Said(1, faults=0, counted=0)}
+    "silent": CheckSummary(0),
+    "silent, status 1": CheckSummary(1),
+    "not ended": CheckSummary(None, is_accepted=True),
+    "not ended, refused": CheckSummary(None, fault_count=1, printed_total=1, fault_numbers={ERROR}),
+    "killed": CheckSummary(-9, is_accepted=True),
+    "killed in its list": CheckSummary(-15, fault_count=2, printed_total=2,
+                                       fault_numbers={WARNING}),
+    "accepted, status 1": CheckSummary(1, is_accepted=True),
+    "accepted, status 2": CheckSummary(2, is_accepted=True),
+    "accepted with faults": CheckSummary(0, is_accepted=True, fault_count=1, printed_total=1,
+                                         fault_numbers={WARNING}),
+    "accepted with a number alone": CheckSummary(0, is_accepted=True, fault_numbers={WARNING}),
+    "accepted with a count alone": CheckSummary(0, is_accepted=True, fault_count=1),
+    "refused, status 0": CheckSummary(0, fault_count=1, printed_total=1, fault_numbers={ERROR}),
+    "refused, status 2": CheckSummary(2, fault_count=1, printed_total=1, fault_numbers={ERROR}),
+    "a list without an end": CheckSummary(1, fault_count=2, printed_total=None,
+                                          fault_numbers={ERROR}),
+    "a list that lacks a line": CheckSummary(1, fault_count=1, printed_total=2,
+                                             fault_numbers={WARNING}),
+    "no fault, counted": CheckSummary(1, fault_count=0, printed_total=0)}
 LOSSES: Sequence[Sequence[bool]] = (
     (), (False,), (True,), (True, False, False), (False, True), (False, False, True), (True, True))
 OUTPUTS: Sequence[Sequence[str]] = ((), ("one.json: full",), ("one.csv: full", "one.xml: full"))
@@ -87,10 +97,10 @@ class PartVerdicts(unittest.TestCase):
     def test_takes_only_valid_answers_for_a_verdict(self) -> None:
         for name, said in RIGHT.items():
             with self.subTest(name):
-                self.assertEqual(word_of(said), ACCEPTED if "accepted" in name else REFUSED)
+                self.assertEqual(decide_part(said), ACCEPTED if "accepted" in name else REFUSED)
         for name, said in WRONG.items():
             with self.subTest(name):
-                self.assertEqual(word_of(said), NOT_JUDGED)
+                self.assertEqual(decide_part(said), NOT_JUDGED)
 
 
 class Decisions(unittest.TestCase):
@@ -136,22 +146,22 @@ class Decisions(unittest.TestCase):
                 elif word == ACCEPTED:
                     word = WAIVED
                 for clock in CLOCKS:
-                    found = decide(Grounds([kinds[part] for part in parts], severity, names=[name],
-                                           **clock))
+                    found = decide(Grounds([kinds[part] for part in parts], severity,
+                                           named_faults=[name], **clock))
                     self.assertEqual((found.word, found.status), by_clock(word, clock),
                                      (name, is_error, parts, clock))
         for reasons, failed in ((["why"], ()), ((), ["full"])):
-            self.assertEqual(decide(Grounds([], NAMED, reasons=reasons, failed=failed,
-                                            names=[NEVER_SENT])).word, NOT_JUDGED,
+            self.assertEqual(decide(Grounds([], NAMED, reasons=reasons, failed_outputs=failed,
+                                            named_faults=[NEVER_SENT])).word, NOT_JUDGED,
                              (reasons, failed))
-        self.assertEqual(decide(Grounds([], warned, names=[NEVER_SENT])),
-                         Decision(NOT_JUDGED, UNREAD))
+        self.assertEqual(decide(Grounds([], warned, named_faults=[NEVER_SENT])),
+                         Decision(NOT_JUDGED, NOTHING_READ))
 
     def check_decision(self, name: str, seen: Grounds, is_allowed: bool,
                        clock: dict[str, Any]) -> None:
         """Check a decision; --allow-lost and a severity file that makes 45 a warning are
         equivalent."""
-        found, losses, warnings = decide(seen), seen.losses, seen.warnings
+        found, losses, warnings = decide(seen), seen.judged_losses, seen.warnings
         if name in ("refused", "silent"):
             wanted = REFUSED if name == "refused" else NOT_JUDGED
         elif True in losses and not is_allowed:
@@ -167,7 +177,7 @@ class Decisions(unittest.TestCase):
     def test_is_not_judged_after_a_failure(self) -> None:
         for name, said in (RIGHT | WRONG).items():
             for failed, reasons in itertools.product(OUTPUTS, ((), ("stopped",))):
-                found = decide(Grounds([said, said], NAMED, reasons=reasons, failed=failed,
+                found = decide(Grounds([said, said], NAMED, reasons=reasons, failed_outputs=failed,
                                        has_clock=True))
                 is_clean = not failed and not reasons
                 with self.subTest(name, failed=failed, reasons=reasons):
@@ -177,9 +187,9 @@ class Decisions(unittest.TestCase):
 
     def test_gives_a_reason_if_not_judged(self) -> None:
         accepted, unread = RIGHT["accepted"], RIGHT["waived, not read"]
-        rows: list[tuple[list[Said], str]] = [
-            ([], UNSAID), ([accepted, WRONG["silent"]], UNSAID), ([unread], UNREAD),
-            ([accepted, accepted, unread], UNREAD)]
+        rows: list[tuple[list[CheckSummary], str]] = [
+            ([], NOT_ANSWERED), ([accepted, WRONG["silent"]], NOT_ANSWERED),
+            ([unread], NOTHING_READ), ([accepted, accepted, unread], NOTHING_READ)]
         for parts, wanted in rows:
             self.assertEqual(decide(Grounds(parts, NAMED)), Decision(NOT_JUDGED, wanted), parts)
         self.assertEqual(decide(Grounds([accepted], NAMED, has_clock=True)), Decision(ACCEPTED))
@@ -196,19 +206,20 @@ class BatchStatus(unittest.TestCase):
             ([0], True, 2), ([3], True, 2), ([], True, 2)]
         for statuses, is_stopped, status in rows:
             with self.subTest(statuses=statuses, stopped=is_stopped):
-                self.assertEqual(of_all(statuses, is_stopped), status)
+                self.assertEqual(combine_statuses(statuses, is_stopped), status)
 
     def test_takes_a_result_only_with_its_own_status(self) -> None:
         for word, status, ended in itertools.product([*STATUSES, "fine"], range(5),
                                                      (0, 1, 2, 3, -9, -15)):
             is_possible = status == STATUSES.get(word) or (word, status) == (RELATIVE, 0)
             with self.subTest(word, status=status, ended=ended):
-                self.assertEqual(is_of_call(word, status, ended), is_possible and status == ended)
+                self.assertEqual(matches_exit_status(word, status, ended),
+                                 is_possible and status == ended)
 
 
 class Severities(unittest.TestCase):
     def test_reads_severities_line_by_line(self) -> None:
-        each: dict[int | str, str] = {number: "warning" for number in REFUSALS}
+        each: dict[int | str, str] = {number: "warning" for number in FAULT_NUMBERS}
         ends: dict[int | str, str] = {number: "error" for number in ENDS_READING}
         names: dict[int | str, str] = {name: "error" for name in FAULT_NAMES}
         mild: dict[int | str, str] = {name: "warning" for name in FAULT_NAMES}
@@ -227,14 +238,14 @@ class Severities(unittest.TestCase):
             ("45 error", True, {45: "warning"}),
             ("never sent warning", False, {**names, "never sent": "warning", 45: "error"}),
             ("others warning\nnot shown error", False, {**mild, "not shown": "error"}),
-            ("\n".join(f"{number} warning" for number in REFUSALS), False, each)]
+            ("\n".join(f"{number} warning" for number in FAULT_NUMBERS), False, each)]
         for lines, is_allowed, wanted in rows:
             severity = severity_of(lines, is_loss_allowed=is_allowed)
             for one, word in {**wanted, **ends}.items():
                 with self.subTest(lines=lines, allowed=is_allowed, of=one):
-                    self.assertEqual((severity.of(one), severity.is_error(one)),
+                    self.assertEqual((severity.classify(one), severity.is_error(one)),
                                      (word, word == "error"))
-        self.assertEqual((Severity(None).of(72), Severity(None, True).of(45)),
+        self.assertEqual((Severity(None).classify(72), Severity(None, True).classify(45)),
                          ("error", "warning"))
 
     def test_refuses_wrong_lines(self) -> None:
@@ -262,18 +273,18 @@ OF_PACKETS = {3, 4, 76, 82}  # refusals that `check` does not have
 SECOND = 25
 
 
-def answer_with(*lines: str, path: str) -> Answer:
+def answer_with(*lines: str, path: str) -> CheckOutput:
     """Return an answer with these fault lines."""
     return answer([*lines, f"{len(lines)} faults"], path=path)
 
 
 class LeadingFaults(Case):
     def test_ranks_each_cause_and_number(self) -> None:
-        self.must("causes", set(OF_CAUSE) == set(NAMES))
-        self.must("numbers", set(OF_NUMBER) == REFUSALS - OF_PACKETS,
-                  set(OF_NUMBER) ^ (REFUSALS - OF_PACKETS))
+        self.must("causes", set(CAUSE_RANKS) == set(CAUSE_NAMES))
+        self.must("numbers", set(NUMBER_RANKS) == FAULT_NUMBERS - OF_PACKETS,
+                  set(NUMBER_RANKS) ^ (FAULT_NUMBERS - OF_PACKETS))
         for number, one in meanings().items():
-            rank = rank_of(number)
+            rank = rank_number(number)
             if number in STL_FAULTS:
                 self.must(f"{number}", rank == Rank.FILE)
             elif number in (63, 74):  # without a cause the recording is too short
@@ -282,7 +293,7 @@ class LeadingFaults(Case):
                 self.must(f"{number}", rank <= Rank.SOME, rank)
             elif one.name.partition("</a>")[2].startswith("next") and number != 61:
                 self.must(f"{number}", rank == Rank.LATER, rank)
-        names = sorted(NAMES, key=lambda name: OF_CAUSE[name])
+        names = sorted(CAUSE_NAMES, key=lambda name: CAUSE_RANKS[name])
         self.must("order of causes", names[0] == "never sent" and names[-4:] == [
             "late", "early", "wrong colour or attribute", "not received"], names)
 
@@ -300,13 +311,15 @@ class LeadingFaults(Case):
                 ([GAP, UNDECIDED], UNDECIDED), ([LETTER, UNDECIDED, CONTENT], LETTER),
                 ([CONTENT, LETTER], LETTER)):
             part = part_with(0, 9, 0, answer_with(*lines, path=self.path("list")))
-            self.must(f"{lines}", part.lead == wanted and part.answer.line == lines[0]
-                      and part.leading and part.leading.line == wanted, part.lead)
+            self.must(f"{lines}", part.first_text == wanted and part.check_output.line == lines[0]
+                      and part.worst_fault_line and part.worst_fault_line.line == wanted,
+                      part.first_text)
         part = part_with(0, 9, 0, answer(["accepted 10 frames 2 transmissions"]))
-        self.must("none", part.leading is None and part.lead == part.answer.line)
+        self.must("none",
+                  part.worst_fault_line is None and part.first_text == part.check_output.line)
 
     def test_ranks_named_faults(self) -> None:
-        self.must("each", set(OF_NAME) == set(FAULT_NAMES))
+        self.must("each", set(NAME_RANKS) == set(FAULT_NAMES))
         never, left, hidden = (NamedFault(name, "") for name in FAULT_NAMES)
         rows: tuple[tuple[list[NamedFault], Rank | None, NamedFault | None], ...] = (
             ([], None, None), ([], Rank.LATER, None), ([left], None, left),
@@ -314,14 +327,15 @@ class LeadingFaults(Case):
             ([left], Rank.WRONG, None), ([left], Rank.MOVED, left), ([hidden], Rank.FILE, None),
             ([never], Rank.NEVER, never))
         for faults, rank, wanted in rows:
-            self.must(f"{[one.name for one in faults]} {rank}", worst_name(faults, rank) is wanted)
+            self.must(f"{[one.name for one in faults]} {rank}",
+                      find_worst_named_fault(faults, rank) is wanted)
 
     def test_ignores_faults_of_refused_subtitles(self) -> None:
         rows: tuple[tuple[list[str], str | None], ...] = (
             ([LETTER, UNDECIDED, GAP, CONTROL], CONTROL), ([LETTER, UNDECIDED], None))
         for lines, wanted in rows:
             part = part_with(0, 9, 0, answer_with(*lines, path=self.path("list")))
-            sent = part.worst_sent
+            sent = part.worst_transmission_fault
             self.must(f"{lines}", (sent and sent.fault.line) == wanted, sent)
 
     def test_takes_the_subtitle_with_the_worst_cause(self) -> None:
@@ -339,22 +353,22 @@ class LeadingFaults(Case):
             (["late"] * 4, [*lines, OPEN], OPEN), (["wrong text"] * 4, [*lines, OPEN], at(1)))
         for names, some, wanted in rows:
             causes: Any = SimpleNamespace(
-                of_edge={}, first_frames={place: 900_000 + SECOND * (place + 1)
+                by_end_fault={}, first_wrong_frames={place: 900_000 + SECOND * (place + 1)
                                           for place in range(4)},
-                named={place: Cause(place, name, 1, None, None, "", 0)
+                by_index={place: Cause(place, name, 1, None, None, "", 0)
                        for place, name in enumerate(names)})
-            causes.all = lambda causes=causes: [*causes.named.values()]
-            lead = lead_of(answer_with(*some, path=self.path("list")), causes)
+            causes.list_causes = lambda causes=causes: [*causes.by_index.values()]
+            lead = find_worst_fault(answer_with(*some, path=self.path("list")), causes)
             self.must(f"{names}", lead and lead.fault.line == wanted, lead)
         for edges, wanted in (({63: 0}, BEGIN), ({74: 0, 63: 0}, BEGIN), ({63: 1}, at(1)),
                               ({74: 0, 63: 1}, END)):
-            causes.of_edge = edges
-            lead = lead_of(answer_with(BEGIN, *lines, END, path=self.path("list")), causes)
+            causes.by_end_fault = edges
+            lead = find_worst_fault(answer_with(BEGIN, *lines, END, path=self.path("list")), causes)
             self.must(f"{edges}", lead and lead.fault.line == wanted, lead)
-        causes.of_edge, causes.first_frames = {}, {0: 900_000 + SECOND + 9}
-        lead = lead_of(answer_with(*lines, path=self.path("list")), causes)
+        causes.by_end_fault, causes.first_wrong_frames = {}, {0: 900_000 + SECOND + 9}
+        lead = find_worst_fault(answer_with(*lines, path=self.path("list")), causes)
         self.must("the fault that stands then", lead and lead.fault.line == at(1), lead)
-        self.must("no cause", worst_cause([]) is None)
+        self.must("no cause", find_worst_cause([]) is None)
 
 
 # Lines of `check --all` and of `show`.

@@ -14,18 +14,18 @@ from developing.pes import pes_packet
 from developing.stl import gsi_block, subtitle_blocks, tti_block
 from subtitles.clock.origin import OfPart, Origin, Sought
 from subtitles.clock.start import (
-    Clock, Found, GIVEN, RECORDING, START, TCP, most_off, start_frame)
+    Clock, GIVEN, RECORDING, START, TCP, TimedPart, most_off, start_frame)
 from subtitles.common.command_line import HIDDEN
 from subtitles.common.times import CLOCK, TICKS
 from subtitles.formats.stl import SubtitleFile
 from subtitles.judging import timing
 from subtitles.judging.pages import (
-    ATTRIBUTES, attribute_words, beside_words, code_words, is_moved, is_part, moved_words,
-    page_text, words_on)
+    ATTRIBUTES, describe_attribute_difference, describe_code, describe_extra_rows, describe_move,
+    format_page_text, is_partial_page, is_text_moved, join_page_text)
 from subtitles.judging.subtitles import OptionAdvice
 from subtitles.judging.timing import (
-    PartSearch, cut_within, fitted_origin, found_in, left_by_pictures)
-from subtitles.judging.transmissions import control_words
+    PartSearch, cut_packets, find_desync, list_timed_parts, report_estimated_origin)
+from subtitles.judging.transmissions import describe_control_bits
 from subtitles.recording.notices import (
     Notice, character_set_notices, count_notices, count_text, duration_text, jump_notices,
     pause_notices, pmt_notices, repeat_notices)
@@ -55,19 +55,20 @@ def said(warned: Iterable[Notice]) -> list[tuple[str, str, str | None]]:
 
 class PartClocks(unittest.TestCase):
     def test_takes_parts_only_if_the_origin_is_clear(self) -> None:
-        whole = Found(3, 9, Clock(7, GIVEN))
-        self.assertEqual(found_in(Origin(1, [OfPart(5)]), whole), [])
+        whole = TimedPart(3, 9, Clock(7, GIVEN))
+        self.assertEqual(list_timed_parts(Origin(1, [OfPart(5)]), whole), [])
         told = Selection("origin", "5", "origin: 3 of 4", 3, 4)
-        self.assertEqual(found_in(Origin(0, [OfPart(5, (1, 2), None, 3, 4, "3 of 4")]), whole),
-                         [Found(3, 9, Clock(5, RECORDING, evidence=told), (1, 2))])
+        self.assertEqual(list_timed_parts(Origin(0, [OfPart(5, (1, 2), None, 3, 4, "3 of 4")]),
+                                          whole),
+                         [TimedPart(3, 9, Clock(5, RECORDING, evidence=told), (1, 2))])
 
     def test_searches_with_all_requested_options(self) -> None:
         asked = asked_for("a.stl", "a.pes", *"--page 150 --option german --within 3 --breaks 2 "
                           "--every 30 --from 00:00:01:00 --late 0:9,3:1/0:12".split())
-        programme = PartSearch(asked, Found(3, 9, Clock(7, GIVEN)), (2, 8), frozenset({4}))
+        programme = PartSearch(asked, TimedPart(3, 9, Clock(7, GIVEN)), (2, 8), frozenset({4}))
         recording: Any = SimpleNamespace(packets="packets", shown="name", has_picture=lambda: True)
         with mock.patch.object(timing, "find", return_value=Origin(0)) as sought:
-            fitted_origin(programme, recording, Clock(5, GIVEN), mock.Mock())
+            report_estimated_origin(programme, recording, Clock(5, GIVEN), mock.Mock())
         self.assertEqual(sought.call_args.args, (Sought(
             asked.stl_path, "name", (1, 0x50), "german", 5, 3, 2, (2, 8), asked.between,
             frozenset({4}), asked.late, True), "packets"))
@@ -75,8 +76,8 @@ class PartClocks(unittest.TestCase):
             for packets, inside, begin, is_continued in (
                     (None, (2, 8), 3, False), ((4, 5), (4, 5), 3, False), (None, (2, 8), 3, True),
                     (None, (2, 8), 5, True)):  # the first subtitle is not that of the file
-                part = programme.whole._replace(packets=packets, begin=begin)
-                cut_within(programme._replace(is_continued=is_continued), recording, part, 6)
+                part = programme.full_range._replace(packets=packets, begin=begin)
+                cut_packets(programme._replace(is_continued=is_continued), recording, part, 6)
                 self.assertEqual(cut.call_args.args, (
                     "packets", begin, 9, 7, 30, 6, inside, is_continued and begin == 3))
 
@@ -91,7 +92,7 @@ class PartClocks(unittest.TestCase):
             SimpleNamespace(kinds={pid: 6, 1: 2, 2: 2}), SimpleNamespace(kinds={pid: 6, 3: 27})])
         with mock.patch.object(timing, "departures_of", lambda several: several):
             for source, count in ((GIVEN, 2), (RECORDING, 2), (START, 3), (TCP, 3)):
-                found = left_by_pictures(survey, 9, Found(10, 100, Clock(0, source)), 0, 7)
+                found = find_desync(survey, 9, TimedPart(10, 100, Clock(0, source)), 0, 7)
                 self.assertEqual([one.part for one in found.faults], [7] * count, source)
                 self.assertEqual([" at 1 place where " in note for note in found.notes], [True],
                                  (source, count))
@@ -352,7 +353,7 @@ class PageDifferences(Case):
                  "row 20 from column 3 instead of 2"),
                 (page_with((20, self.ONE), (22, b" two")), "row 22 from column 1 instead of 2"),
                 (page_with((20, self.ONE)), "1 rows instead of 2")):
-            self.assertEqual(moved_words(own, other), place, (other, place))
+            self.assertEqual(describe_move(own, other), place, (other, place))
         for other, words in (
                 (own, ""), (page_with((20, b"\x0b\x0bHallo"), (22, b"  two")),
                             "row 20 column 3: 61 instead of 65"),
@@ -363,29 +364,29 @@ class PageDifferences(Case):
                 (page_with((20, self.ONE), (22, b"\x02 tw")),
                  "row 22 column 0: alpha green instead of a space, begins 2 columns early, ends a "
                  "column early")):
-            self.assertEqual(attribute_words(own, other), words, other)
+            self.assertEqual(describe_attribute_difference(own, other), words, other)
         for other, words in (
                 (own, ""), (page_with((20, self.ONE), (22, b"  two"), (2, b"x")),
                             "another row beside it: row 2"),
                 (page_with((20, self.ONE), (22, b"  two"), (2, b"x"), (24, b"y")),
                  "other rows beside it: rows 2 and 24"),
                 (page_with((20, self.TWO), (22, b"  two"), (2, b"x")), "")):
-            self.assertEqual(beside_words(own, other), words, other)
+            self.assertEqual(describe_extra_rows(own, other), words, other)
         for sent, due, moved in (
                 (own, own, False), (page_with((20, b" " + self.ONE), (22, b"  two")), own, True),
                 (page_with((21, self.ONE), (22, b"  two")), own, True),
                 (page_with((20, self.TWO), (22, b"  two")), own, False),
                 (page_with((20, self.ONE), (22, b" two")), own, True)):
-            self.assertEqual(is_moved(due, sent), moved, (sent, due, moved))
+            self.assertEqual(is_text_moved(due, sent), moved, (sent, due, moved))
         for sent, part in ((own, True), (page_with((20, self.ONE)), True), (BLANK_PAGE, True),
                            (page_with((20, self.TWO)), False), (page_with((22, b"  two")), True),
                            (page_with((21, b"x")), False)):
-            self.assertEqual(is_part(sent, own), part, (sent, part))
-        self.assertEqual((words_on(own), page_text(own, 0),
-                          page_text(page_with((1, b"\x5b[#")), 4)),
+            self.assertEqual(is_partial_page(sent, own), part, (sent, part))
+        self.assertEqual((join_page_text(own), format_page_text(own, 0),
+                          format_page_text(page_with((1, b"\x5b[#")), 4)),
                          ("Hello two", "Hello / two", "ÄÄ#"))
-        self.assertEqual(words_on(page_with((3, b"a \x03 b"))), "a b")
-        self.assertEqual([code_words(code) for code in (0, 7, 0x1F, 0x20, 0x21, 0x7F)],
+        self.assertEqual(join_page_text(page_with((3, b"a \x03 b"))), "a b")
+        self.assertEqual([describe_code(code) for code in (0, 7, 0x1F, 0x20, 0x21, 0x7F)],
                          ["alpha black", "alpha white", "release mosaics", "a space", "21", "7F"])
         self.assertEqual((len(ATTRIBUTES), ATTRIBUTES[0x0D]), (32, "double height"))
 
@@ -397,11 +398,11 @@ class PageDifferences(Case):
             (7, 1, []), (7, 14, ["C12, C13 and C14"])]
         for place, value, words in of_bits:
             header = bytes(value if at == place else one for at, one in enumerate(good))
-            found = control_words(header, "english")
+            found = describe_control_bits(header, "english")
             self.assertEqual(len(found), len(words), (place, value, found))
             self.assertTrue(all(one.startswith(word) for one, word in zip(found, words)), found)
-        self.assertEqual(control_words(bytes([*good[:7], 8]), "german"), [])
-        self.assertEqual(control_words(bytes(good), "german"),
+        self.assertEqual(describe_control_bits(bytes([*good[:7], 8]), "german"), [])
+        self.assertEqual(describe_control_bits(bytes(good), "german"),
                          ["the header is English, and german is asked for"])
 
     def test_finds_characters_of_a_subtitle_with_several_blocks(self) -> None:
@@ -427,11 +428,11 @@ class PageDifferences(Case):
             None, found[2], found[2], None, found[6], found[6], None])
         self.assertEqual([*file.all()], [found[2], found[6]])
         advice = OptionAdvice(file, "english")
-        self.assertTrue(advice.of(5, 4).startswith("ø is in no option"))
-        self.assertEqual((advice.of(5, 6), advice.drawing), ("", []))
+        self.assertTrue(advice.advise(5, 4).startswith("ø is in no option"))
+        self.assertEqual((advice.advise(5, 6), advice.complete_options), ("", []))
         german = SubtitleFile(self.write("two.stl", gsi_block(b"", 1, 1) + tti_block(
             1, 25, 50, 20, 2, b"\xc8a")))
-        self.assertEqual(OptionAdvice(german, "english").of(1, 0),
+        self.assertEqual(OptionAdvice(german, "english").advise(1, 0),
                          "the whole file draws in --option german, swedish")
 
 

@@ -8,17 +8,18 @@ from typing import Any, Sequence
 from unittest import mock
 
 from developing.pes import pes_packet
-from subtitles.clock.start import Clock, Found, GIVEN, RECORDING
+from subtitles.clock.start import Clock, GIVEN, RECORDING, TimedPart
 from subtitles.common.files import SummedFile
 from subtitles.common.program import MadeWith
 from subtitles.common.times import CLOCK, Span, TICKS, time_of
-from subtitles.formats.listing import NEVER_SENT, NamedFault, PICTURES_LEFT
-from subtitles.judging.check import Answer, NO_END
-from subtitles.judging.part import Part, is_in, part_causes
+from subtitles.formats.listing import NamedFault, NEVER_SENT, PICTURES_LEFT
+from subtitles.judging.check import CheckOutput, NO_END
+from subtitles.judging.part import Part, belongs_to_part, find_part_causes
 from subtitles.judging.status import Severity
-from subtitles.judging.subtitles import Counts, JudgedBeside
+from subtitles.judging.subtitles import SubtitleCounts, ValidSubtitles
 from subtitles.judging.verdict import (
-    Gap, MOVED, Spread, Unjudged, Verdict, counts_of_numbers, gaps_in, gaps_of, spread_of)
+    DELAYING_FAULTS, DelaySpread, Gap, Unjudged, Verdict, count_fault_numbers, find_gaps, make_gaps,
+    summarize_delays)
 from subtitles.recording.notices import Notice
 from subtitles.request.commands import Names
 from subtitles.request.request import Request
@@ -78,12 +79,13 @@ class Verdicts(Case):
             ("a", {}, "accepted", good, good),
             ("aa", {}, "accepted", "accepted 20 frames 4 transmissions in 2 parts", None),
             ("aor", {}, "refused", first, content), ("ro", {}, "refused", content, content),
-            ("r", {"named": [left]}, "refused", content, content),
-            ("o", {"named": [left, never]}, "refused", first, never.line),
-            ("a", {"named": [left, never]}, "refused", left.line, never.line),
-            ("", {"named": [never]}, "refused", never.line, never.line),
-            ("a", {"named": [never, left], "is_mild": True}, "refused", left.line, None),
-            ("a", {"named": [never], "is_mild": True}, "waived", f"waived: {never.line}", None),
+            ("r", {"named_faults": [left]}, "refused", content, content),
+            ("o", {"named_faults": [left, never]}, "refused", first, never.line),
+            ("a", {"named_faults": [left, never]}, "refused", left.line, never.line),
+            ("", {"named_faults": [never]}, "refused", never.line, never.line),
+            ("a", {"named_faults": [never, left], "is_mild": True}, "refused", left.line, None),
+            ("a", {"named_faults": [never], "is_mild": True}, "waived", f"waived: {never.line}",
+             None),
             ("r", {"is_mild": True, **of_house}, "waived", f"waived: {content}{has}", None),
             ("ror", {"is_mild": True}, "refused", first, None),
             ("a", {"gaps": lost, **of_house}, "lost", f"{of_loss}: {good}{has}", None),
@@ -112,21 +114,23 @@ class Verdicts(Case):
                            RECORDING if name == "f" else GIVEN)
                  for number, name in enumerate(names, 1)], Severity(mild if is_mild else None)),
                 **{name: value for name, value in known.items() if name != "is_mild"})
-            self.must(f"{names} {known}", (verdict.word, verdict.line, verdict.lead) ==
-                      (word, line, lead or line), (verdict.word, verdict.line, verdict.lead))
+            self.must(f"{names} {known}", (verdict.word, verdict.line, verdict.worst_line) ==
+                      (word, line, lead or line), (verdict.word, verdict.line, verdict.worst_line))
 
     def test_is_not_judged_with_a_reason_or_a_failed_output(self) -> None:
         rows: list[tuple[Unjudged | None, list[str], str, bool]] = [
             (Unjudged("why"), [], "why", True), (None, ["full", "broken"], "full\nbroken", False),
             (Unjudged("why"), ["full"], "why\nfull", False),
-            (Unjudged("why", is_passing=True), [], "why", False),
+            (Unjudged("why", is_temporary=True), [], "why", False),
             (Unjudged("why", is_stopped=True), [], "why", False)]
         for refused, (unjudged, failed, why, is_final) in itertools.product(((), (0,), (2,)), rows):
             verdict = dataclasses.replace(verdict_of(self.three(*refused)), unjudged=unjudged,
-                                          failed=failed)
+                                          failed_outputs=failed)
             self.must(f"{refused} {unjudged} {failed}", (
-                verdict.word, verdict.status, verdict.line, verdict.counts, verdict.why_not,
-                verdict.is_final) == ("not judged", 2, None, None, why, is_final), verdict.why_not)
+                verdict.word, verdict.status, verdict.line, verdict.subtitle_counts,
+                verdict.unjudged_reason,
+                verdict.is_final) == ("not judged", 2, None, None, why, is_final),
+                      verdict.unjudged_reason)
         self.must("judged", verdict_of(self.three()).is_final)
 
     def test_keeps_each_warning_once(self) -> None:
@@ -141,33 +145,37 @@ class Verdicts(Case):
                         for at, one in enumerate((False, True, False, True, True))]
         self.must("judged", verdict.sentence.startswith(
             "Not accepted: between 1 and 9: 1 lost, and in 2 more places;"), verdict.sentence)
-        refused = dataclasses.replace(verdict_of(self.three(0)), named=[
+        refused = dataclasses.replace(verdict_of(self.three(0)), named_faults=[
             NamedFault(NEVER_SENT, "nothing was sent")])
         self.must("a name", refused.sentence == "Refused: nothing was sent; in all 2 faults.",
                   refused.sentence)
-        alone = verdict.of_part(verdict.parts[1], verdict.gaps[3:4])
+        alone = verdict.narrow_to_part(verdict.parts[1], verdict.gaps[3:4])
         self.must("of a part", (alone.parts, alone.gaps) == (verdict.parts[1:2], verdict.gaps[3:4])
                   and "and in" not in alone.sentence, alone.sentence)
 
     def test_finds_the_losses_of_a_part(self) -> None:
         part = part_with(100, 199, 0, pes=(5, 9))
-        marks = [mark for mark in range(12) if is_in(Place(None, None, 1, mark=mark), part)]
+        marks = [mark for mark in range(12)
+                 if belongs_to_part(Place(None, None, 1, mark=mark), part)]
         self.must("marks", marks == [*range(5, 10)], marks)
         ends = (None, 0, 99, 100, 101, 198, 199, 200)
         for before, after in itertools.product(ends, repeat=2):
             is_of = (after is None or after > 100) and (before is None or before < 199)
-            self.must(f"{before} {after}", is_in(loss_between(before, after), part) == is_of)
-        self.must("no clock", not is_in(loss_between(1, 2), part_with(None, None, None)))
+            self.must(f"{before} {after}",
+                      belongs_to_part(loss_between(before, after), part) == is_of)
+        self.must("no clock", not belongs_to_part(loss_between(1, 2), part_with(None, None, None)))
 
     def test_counts_losses_of_any_part(self) -> None:
         for shift in (0, CLOCK - 150 * TICKS):
             verdict = verdict_of([part_with(100 * at, 100 * at + 99, shift, number=at + 1)
                                   for at in range(3)])
             for frames in ([10, 110, 210], [99, 299, -5], [99, 150], [150, 99], [10, 299, -9]):
-                verdict.gaps = gaps_of([loss_between(frame, frame + 1, shift) for frame in frames],
-                                       verdict.parts)
-                found, judged = verdict.seen().losses, [frame % 100 < 99 and 0 < frame < 300
-                                                        for frame in frames]
+                verdict.gaps = make_gaps([loss_between(frame, frame + 1, shift)
+                                          for frame in frames],
+                                         verdict.parts)
+                found, judged = \
+                    verdict.collect_grounds().judged_losses, [frame % 100 < 99 and 0 < frame < 300
+                                                                          for frame in frames]
                 self.must(f"{shift} {frames}", found == judged and
                           verdict.is_lost == any(judged), found)
 
@@ -178,9 +186,10 @@ class Verdicts(Case):
             parts = [part_with(100 * at, 100 * at + 99, 0, recording=recording, jumps=[
                 (TICKS * (100 * at + 50), TICKS * (100 * at + 60))] * (at in own))
                 for at in range(3)]
-            found = [(gap.after, gap.is_judged) for gap in gaps_in(recording, parts)]
+            found = [(gap.after, gap.is_judged) for gap in find_gaps(recording, parts)]
             self.must(f"{own}", found == [(time_of(100 * at + 50), True) for at in own] and [
-                len(part.places()) for part in parts] == [at in own for at in range(3)], found)
+                len(part.find_loss_places()) for part in parts] == [at in own for at in range(3)],
+                      found)
 
     def test_a_loss_has_the_times_of_its_part(self) -> None:
         for frame, times in ((50, ("00:00:02:00", "00:00:02:01")),
@@ -188,7 +197,7 @@ class Verdicts(Case):
                              (2350, ("00:00:14:00", "00:00:14:01")),
                              (2500, ("00:01:40:00", "00:01:40:01"))):
             parts = [part_with(100, 199, 0), part_with(300, 399, TICKS * 2000, number=2)]
-            gap, = gaps_of([Place(TICKS * frame, TICKS * (frame + 1), 1)], parts)
+            gap, = make_gaps([Place(TICKS * frame, TICKS * (frame + 1), 1)], parts)
             self.must(f"{frame}", (gap.after, gap.before) == times, gap)
 
     def test_formats_the_times_of_losses(self) -> None:
@@ -203,8 +212,9 @@ class Verdicts(Case):
                                  for pts in (before, after))
                 place, part = Place(first, second, 3, mark=0), part_with(0, 1, origin)
                 part = dataclasses.replace(part, pes=(0, 0))
-                found, = gaps_of([place], [part])
-                self.must(f"{words} {origin}", found.line() == f"{words}: 3 TS packets lost" and
+                found, = make_gaps([place], [part])
+                self.must(f"{words} {origin}",
+                          found.format_line() == f"{words}: 3 TS packets lost" and
                           found.is_judged and found.place is place, found)
 
     def test_trusts_no_frame_of_a_loss(self) -> None:
@@ -226,26 +236,30 @@ class Verdicts(Case):
 
     def test_counts_faults_of_each_number_in_all_parts(self) -> None:
         verdict = verdict_of([part_with(0, 9, 0, answer(one)) for one in (REFUSED, OTHER, OTHER)])
-        counts = [tuple(one) for one in counts_of_numbers(verdict.parts, {70})]
-        verdict.named.append(NamedFault(NEVER_SENT, ""))
+        counts = [tuple(one) for one in count_fault_numbers(verdict.parts, {70})]
+        verdict.named_faults.append(NamedFault(NEVER_SENT, ""))
         self.must("each", counts == [(72, "Content", 1), (38, "UnitLength", 2)], counts)
-        self.must("in all", verdict.faults == 6, verdict.faults)
-        self.must("subtitles", verdict.counts == Counts(0, 0), verdict.counts)
-        verdict.beside, verdict.count = JudgedBeside([], [], frozenset({4, 5})), 2
-        self.must("beside", verdict.counts == Counts(0, 2), verdict.counts)
+        self.must("in all", verdict.fault_count == 6, verdict.fault_count)
+        self.must("subtitles", verdict.subtitle_counts == SubtitleCounts(0, 0),
+                  verdict.subtitle_counts)
+        verdict.valid_subtitles, verdict.subtitle_count = \
+            ValidSubtitles([], [], frozenset({4, 5})), 2
+        self.must("beside", verdict.subtitle_counts == SubtitleCounts(0, 2),
+                  verdict.subtitle_counts)
         letter = answer(["refused 50 Character block 1 at 4", "1 faults"])
-        self.must("a file", verdict_of([*self.three(), part_with(0, 9, 0, letter)]).counts is None)
+        self.must("a file",
+                  verdict_of([*self.three(), part_with(0, 9, 0, letter)]).subtitle_counts is None)
 
     def test_spreads_the_delays_of_subtitles(self) -> None:
-        of_spreads: list[tuple[list[int | None], Spread | None]] = [
-            ([], None), ([None], None), ([3], Spread(3, 3, 3, 0)), ([5, 1, 3], Spread(1, 3, 5, 0)),
-            ([None, 2, None, 4], Spread(2, 4, 4, 2))]
+        of_spreads: list[tuple[list[int | None], DelaySpread | None]] = [
+            ([], None), ([None], None), ([3], DelaySpread(3, 3, 3, 0)),
+            ([5, 1, 3], DelaySpread(1, 3, 5, 0)), ([None, 2, None, 4], DelaySpread(2, 4, 4, 2))]
         for several, wanted in of_spreads:
-            self.must(f"{several}", spread_of(several) == wanted, spread_of(several))
+            self.must(f"{several}", summarize_delays(several) == wanted, summarize_delays(several))
         delays: list[list[int | None]] = [[1, None], [], [7]]
         parts = [dataclasses.replace(part, delays=known)
                  for part, known in zip(self.three(), delays)]
-        self.must("of all parts", verdict_of(parts).delays == Spread(1, 7, 7, 1))
+        self.must("of all parts", verdict_of(parts).delays == DelaySpread(1, 7, 7, 1))
 
 
 class Read(Case):
@@ -288,25 +302,26 @@ class Read(Case):
                 Run(8, 1, 80, 0, "h", "8808081E", fault=38), Run(9, 1, 90, 0, "h", "8808081A")]
         part = part_with(0, 9, 0, packets=Packets(0, runs), pes=(3, 8))
         english, german = (bytes([8, 8, 0, 8, 0, 8, 1, last]) for last in (0, 8))
-        self.must("heard", part.headers_sent() == {english: 4, german: 1}, part.headers_sent())
-        self.must("options", part.options_sent() == {"english", "german", "swedish"},
-                  part.options_sent())
+        self.must("heard", part.count_headers() == {english: 4, german: 1}, part.count_headers())
+        self.must("options", part.find_options() == {"english", "german", "swedish"},
+                  part.find_options())
 
     def test_what_is_held(self) -> None:
         packets = packets_told(self, b"".join(pes_packet(TICKS * at - 5, [
             HEADER, row(20, b"%d" % at), CLOSING]) for at in range(10, 60, 10)))
         recording: Any = SimpleNamespace(packets=packets)
         asked = asked_for("a.stl", "a.pes", "--within", "1")
-        part = Part(3, asked, Names("a", "", None), answer(), Found(10, 50, Clock(0, GIVEN)),
+        part = Part(3, asked, Names("a", "", None), answer(), TimedPart(10, 50, Clock(0, GIVEN)),
                     recording, {4})
         summed = SummedFile("a", 9, "")
         for pes, frames in (((1, 2), [20, 30]), ((0, 3), [10, 20, 30, 40])):
-            made = part.with_range(pes, summed)
-            self.check(f"{pes}", (made.pes, made.judged), (pes, summed))
-            self.check(f"{pes}: held", made.held and [*made.held.frames], frames)
-            self.must(f"{pes}: made once", made.held is dataclasses.replace(made, hint="x").held)
+            made = part.add_packets(pes, summed)
+            self.check(f"{pes}", (made.pes, made.judged_file), (pes, summed))
+            self.check(f"{pes}: held", made.decoded_pages and [*made.decoded_pages.frames], frames)
+            self.must(f"{pes}: made once",
+                      made.decoded_pages is dataclasses.replace(made, hint="x").decoded_pages)
         with mock.patch("subtitles.judging.part.SubtitleFile") as file:
-            part.subtitle_file()
+            part.open_subtitle_file()
         file.assert_called_once_with("", asked.between, {4})
 
     def test_what_tells_causes(self) -> None:
@@ -319,14 +334,14 @@ class Read(Case):
                 "a.stl", "a.ts", "--within", "2", "--every", "300"))
             with mock.patch("subtitles.judging.part.timeline_near") as near, \
                     mock.patch("subtitles.judging.part.Causes") as causes:
-                found = part_causes(part)
+                found = find_part_causes(part)
             self.must(f"{refusal}", causes.call_args.args[2] == (
                 Span(0, 250) if refusal is None else None), causes.call_args)
             *asked, lost = near.call_args.args
             self.must(f"{is_stream}: near", asked == [
                 recording.packets, part.request.page, 0, 2, (100, 199), 300, None])
             self.must(f"{is_stream}: lost", [*lost] == [(120, 129), (150, 159)] * is_stream)
-            causes.return_value.name.assert_called_once_with(part.answer)
+            causes.return_value.classify_all.assert_called_once_with(part.check_output)
             self.must("named", found is causes.return_value)
 
     def test_passed_over(self) -> None:
@@ -341,17 +356,18 @@ class Read(Case):
             (("refused 72 X frame 00:00:00:01", "refused 33 X pes 1", "refused 40 X pes 2"),
              [(1, 2)])]
         for lines, wanted in of_lines:
-            answer = Answer(self.path("list"))
+            answer = CheckOutput(self.path("list"))
             for line in lines:
-                answer.take(line)
-            answer.stop()
-            found = list(answer.passed)
+                answer.read_line(line)
+            answer.close_file()
+            found = list(answer.skipped_packets)
             self.must(f"{lines}", found == wanted, found)
 
 
 class Numbers(Case):
     def test_sets_of_numbers(self) -> None:
-        self.must("pages are moved", MOVED == {30, 31, 32, 44, 45, 60, 62, 63, 71, 72, 74, 77})
+        self.must("pages are moved",
+                  DELAYING_FAULTS == {30, 31, 32, 44, 45, 60, 62, 63, 71, 72, 74, 77})
 
     def test_ends_of_faults(self) -> None:
         lines = ["refused 72 Content frame 00:00:01:00 row 1 column 1",
@@ -360,13 +376,15 @@ class Numbers(Case):
                  "refused 38 UnitLength pes 11", "refused 72 Content frame 00:00:04:00 row 2 "
                  "column 1", "ended 72 Content frame 00:00:05:00",
                  "trusted frames 00:00:06:00 00:00:07:00", "trusted frames 00:00:09:00 00:00:09:00"]
-        answer = Answer(self.path("list"))
+        answer = CheckOutput(self.path("list"))
         for line in lines:
-            answer.take(line)
-        answer.stop()
-        ends = answer.ends
+            answer.read_line(line)
+        answer.close_file()
+        ends = answer.fault_ends
         found = [tuple(ends.get(index, NO_END)) for index in range(5)]
         self.must("ends", found == [("00:00:02:00", None), (None, 9), (None, None), (None, None),
                                     ("00:00:05:00", None)], found)
-        self.must("trusted", [*answer.trusted] == [(150, 175), (225, 225)], answer.trusted)
-        self.must("marks", [*answer.marks[72]] == [(25, 50), (75, 75), (100, 125)], answer.marks)
+        self.must("trusted", [*answer.trusted_frames] == [(150, 175), (225, 225)],
+                  answer.trusted_frames)
+        self.must("marks", [*answer.fault_spans[72]] == [(25, 50), (75, 75), (100, 125)],
+                  answer.fault_spans)

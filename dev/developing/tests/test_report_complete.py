@@ -12,14 +12,14 @@ from subtitles.common.times import TICKS
 from subtitles.formats.listing import NamedFault
 from subtitles.formats.stl import Subtitle
 from subtitles.judging.status import REFUSED
-from subtitles.judging.transmissions import DuePages
+from subtitles.judging.transmissions import ExpectedPages
 from subtitles.judging.verdict import Gap, Unjudged, Verdict
 from subtitles.recording.notices import Notice
 from subtitles.report import page as report_page
 from subtitles.report.page import BETWEEN, DELAY
 from subtitles.request.commands import CommandWords
 from subtitles.stream.gaps import Place
-from subtitles.stream.packets import PES, Packets
+from subtitles.stream.packets import Packets, PES
 from subtitles.stream.receiver import BLANK_PAGE, Timeline
 from .bench import Case, example
 from .parts import answer, asked_for, in_page, packets_told, part_with
@@ -44,12 +44,12 @@ class CompletePage(Case):
         parts = []
         for number, kind in enumerate(kinds, 1):
             given: dict[str, Any] = {
-                "packets": self.packets, "pes": (0, 3), "due": lambda: DuePages([Subtitle(
-                    1, 1, 75, 100, 20, 2, b"")], [BLANK_PAGE], Timeline(
-                        Packets(PES), (0, 0x88), 0))} if is_read else {}
+                "packets": self.packets, "pes": (0, 3), "expected_pages": lambda: ExpectedPages(
+                    [Subtitle(1, 1, 75, 100, 20, 2, b"")], [BLANK_PAGE],
+                    Timeline(Packets(PES), (0, 0x88), 0))} if is_read else {}
             part = part_with(75, 99, 0, answer(self.KINDS[kind], path=self.path(f"{number}.txt")),
                              number, RECORDING if is_fitted and number == len(kinds) else GIVEN,
-                             delays=[0], otherwise=f"drawn {number}", **given)
+                             delays=[0], drawing_differences=f"drawn {number}", **given)
             part.names.given = example("story.stl")
             parts.append(part)
         verdict = verdict_of(parts)
@@ -70,8 +70,8 @@ class CompletePage(Case):
             if not kinds and (is_fitted or not named and not why):
                 continue
             verdict = self.verdict(kinds, is_fitted, "b" not in kinds)
-            verdict.named = [NamedFault("not shown", f"row {at}", block=at)
-                             for at in range(1, named + 1)]
+            verdict.named_faults = [NamedFault("not shown", f"row {at}", block=at)
+                                    for at in range(1, named + 1)]
             verdict.unjudged = Unjudged(why, ("type <this>",)) if why else None
             page = in_page(report_page.report_page(verdict, typed))
             box, text = (re.sub("<[^>]*>", "", one) for one in (
@@ -79,8 +79,9 @@ class CompletePage(Case):
             told = [verdict.sentence, *verdict.notes]
             told += [warning.warning_text() for warning in verdict.warnings]
             told += ["not judged", "why", "type <this>"] if why else [
-                verdict.lead or "", *(f"{one.line}: {one.words}" for one in verdict.named),
-                *[gap.line() for gap in verdict.gaps] * bool(kinds)]
+                verdict.worst_line or "",
+                *(f"{one.line}: {one.words}" for one in verdict.named_faults),
+                *[gap.format_line() for gap in verdict.gaps] * bool(kinds)]
             told += [FITTED[1:]] * (is_fitted and len(kinds) == 1 and not why)
             each = [] if why else [DELAY] * is_fitted
             each += [BETWEEN] * (len(kinds) > 1 and not why)

@@ -7,15 +7,15 @@ from typing import Any
 from developing.stl import gsi_block
 from subtitles.common.times import Spans
 from subtitles.formats.stl import NamedSubtitle, Subtitle, SubtitleFile
-from subtitles.judging.causes import Cause, LATE, NEVER, NOT_RECEIVED, TEXT, UNKNOWN
-from subtitles.judging.cues import Cue, CueJudge, decoded_cue
+from subtitles.judging.causes import Cause, LATE, NEVER, NOT_RECEIVED, UNKNOWN_CAUSE, WRONG_TEXT
+from subtitles.judging.cues import Cue, CueJudge, find_decoded_times
 from subtitles.judging.status import (
     ACCEPTED, LOST, NOT_JUDGED, REFUSED, RELATIVE, WAIVED, WARNED)
-from subtitles.judging.transmissions import DuePages
+from subtitles.judging.transmissions import ExpectedPages
 from subtitles.report.blocks import field_markup, marked_text, marked_times, readable
 from subtitles.report.cue_list import mark_difference, signed
 from subtitles.report.page import SHAPES, with_options
-from subtitles.stream.packets import PES, Packets
+from subtitles.stream.packets import Packets, PES
 from subtitles.stream.receiver import BLANK_PAGE, Rows, Timeline
 from .bench import Case
 from .parts import fault_of, in_page
@@ -43,7 +43,7 @@ class ActualCues(Case):
         one, blank, two = self.ONE, BLANK_PAGE, self.TWO
         wrong = page(b"onf")
         late, text, never = (Cause(0, name, frames, sent, None, "", 0) for name, frames, sent in (
-            (LATE, 7, one), (TEXT, None, wrong), (NEVER, None, None)))
+            (LATE, 7, one), (WRONG_TEXT, None, wrong), (NEVER, None, None)))
         for name, cause, changes, wanted in (
                 ("right", None, [(100, one), (200, two)], (100, 200)),
                 ("late", late, [(107, one), (207, two)], (107, 207)),
@@ -55,17 +55,17 @@ class ActualCues(Case):
                 ("up to the end", None, [(100, one)], (100, None))):
             subtitles = [Subtitle(1, 1, 100, 200, 20, 2, b""), Subtitle(2, 2, 200, 300, 20, 2, b"")]
             held = timeline_of_pages(*changes)
-            made = decoded_cue(Cue(subtitles[0], one, cause), 0, DuePages(subtitles, [one, two]),
-                               held, 0)
+            made = find_decoded_times(Cue(subtitles[0], one, cause), 0,
+                                      ExpectedPages(subtitles, [one, two]), held, 0)
             self.must(name, (made.begin, made.end) == wanted, (made.begin, made.end))
-            self.must(f"{name}: late", made.late_in == (
-                None if wanted[0] is None else wanted[0] - 100), made.late_in)
+            self.must(f"{name}: late", made.delay_in == (
+                None if wanted[0] is None else wanted[0] - 100), made.delay_in)
 
     def test_finds_the_cue_between_equal_pages(self) -> None:
         subtitles = [Subtitle(1, 1, 100, 200, 20, 2, b""), Subtitle(2, 2, 200, 300, 20, 2, b"")]
         held = timeline_of_pages((100, self.ONE), (300, BLANK_PAGE))
-        due = DuePages(subtitles, [self.ONE, self.ONE])
-        made = [decoded_cue(Cue(one, self.ONE, None), place, due, held, 0)
+        due = ExpectedPages(subtitles, [self.ONE, self.ONE])
+        made = [find_decoded_times(Cue(one, self.ONE, None), place, due, held, 0)
                 for place, one in enumerate(subtitles)]
         self.must("times", [(one.begin, one.end) for one in made] == [(100, 200), (200, 300)], made)
 
@@ -73,7 +73,7 @@ class ActualCues(Case):
 class CueVerdicts(Case):
     def test_decides_by_the_cause_and_by_other_faults_at_its_time(self) -> None:
         subtitle = Subtitle(1, 1, 100, 200, 20, 2, b"")
-        programme = DuePages([subtitle], [page(b"one")])
+        programme = ExpectedPages([subtitle], [page(b"one")])
         waived = severity_of("67 warning"), severity_of("72 warning"), severity_of("others warning")
         rows: list[tuple[str | None, list[int], int, list[str]]] = [
             # cause, other numbers at its time, first trusted frame; severities: 67 a warning, 72 a
@@ -83,20 +83,20 @@ class CueVerdicts(Case):
             (None, [67], 100, ["waived", "wrong", "waived"]),
             (LATE, [], 100, ["wrong", "waived", "waived"]),
             (LATE, [67], 100, ["wrong", "wrong", "waived"]),
-            (TEXT, [68], 100, ["wrong", "wrong", "waived"]),
-            (UNKNOWN, [], 100, ["not known", "waived", "waived"]),
+            (WRONG_TEXT, [68], 100, ["wrong", "wrong", "waived"]),
+            (UNKNOWN_CAUSE, [], 100, ["not known", "waived", "waived"]),
             (NOT_RECEIVED, [], 100, ["not known", "waived", "waived"]),
-            (UNKNOWN, [67], 100, ["wrong", "wrong", "waived"])]
+            (UNKNOWN_CAUSE, [67], 100, ["wrong", "wrong", "waived"])]
         for name, numbers, first, wanted in rows:
             cause = name and Cause(0, name, 3, None, None, "", 0)
             marks = {number: Spans([(150, 150)]) for number in numbers}
             part: Any = SimpleNamespace(
-                causes=SimpleNamespace(programme=programme) if cause else None, losses=[],
-                request=SimpleNamespace(option="english"), trusted=Spans([(first, 199)]),
-                answer=SimpleNamespace(marks=marks, verdict=REFUSED,
-                                       numbers={*numbers, *[72] * bool(cause)}))
+                causes=SimpleNamespace(expected=programme) if cause else None, unmarked_losses=[],
+                request=SimpleNamespace(option="english"), trusted_frames=Spans([(first, 199)]),
+                check_output=SimpleNamespace(fault_spans=marks, verdict=REFUSED,
+                                       fault_numbers={*numbers, *[72] * bool(cause)}))
             cue = Cue(subtitle, page(b"one"), cause or None)
-            found = [CueJudge(part, severity).verdict(cue).word for severity in waived]
+            found = [CueJudge(part, severity).judge(cue).word for severity in waived]
             self.check(f"{name}, {numbers}, trusted from {first} on", found, wanted)
 
 

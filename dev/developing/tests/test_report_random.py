@@ -10,7 +10,7 @@ import unittest
 import xml.etree.ElementTree as tree
 from typing import Callable, NamedTuple
 
-from developing.pes import DATA, UNIT, mirrored, packet, pts_bytes, pts_in, complete_packets
+from developing.pes import DATA, UNIT, complete_packets, mirrored, packet, pts_bytes, pts_in
 from developing.stl import boxed, gsi_block, subtitle_blocks, tti_block
 from subtitles.common.times import CLOCK, FRAMES_OF_A_DAY, TICKS, frame_of, time_of
 from subtitles.formats.listing import (
@@ -223,7 +223,7 @@ class Reports(unittest.TestCase):
         """Check that each judged subtitle has a row, and that rows are right only without faults at
         their time."""
         part = found.verdict.parts[0]
-        judged = [one.index for one in part.due().subtitles]
+        judged = [one.index for one in part.expected_pages().subtitles]
         self.assertLessEqual(set(judged), {row.position for row in rows})
         self.assertEqual(sorted(row.position for row in rows), [row.position for row in rows])
         frames = [fault.frame for fault in told
@@ -240,7 +240,7 @@ class Reports(unittest.TestCase):
         table = {row.get("id"): text_of(row[1]) for row in page.iter(HTML + "tr")
                  if re.fullmatch(r"n\d+", row.get("id", ""))}
         self.assertEqual(table, {f"n{number}": f"{count:,}" for number, count in
-                                 found.verdict.parts[0].answer.counts.items()})
+                                 found.verdict.parts[0].check_output.counts_by_number.items()})
 
     def check_times(self, found: Judged, rows: list[CueRow]) -> None:
         """Check that the expected page is displayed from the actual in-cue up to the out-cue, and
@@ -282,7 +282,8 @@ class Reports(unittest.TestCase):
                         if fault and fault.is_fault]
             self.check_rows(found, told, rows)
             self.check_counts(found, root)
-            passed = found.verdict.parts[0].answer.numbers & {*PASSED_OVER, *ENDS_READING, 62}
+            numbers = found.verdict.parts[0].check_output.fault_numbers
+            passed = numbers & {*PASSED_OVER, *ENDS_READING, 62}
             if found.verdict.request.recording and not passed:
                 self.check_times(found, rows)
 

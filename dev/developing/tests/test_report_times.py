@@ -95,7 +95,7 @@ class ActualTimes(Case):
                        self.write("empty.pes", b""), "--csv", self.path("one.csv"))
         with open(self.path("one.csv"), encoding="utf-8", newline="") as file:
             rows = [(row["verdict"], row["reason"]) for row in csv.DictReader(file)]
-        self.must("row", rows == [("not judged", found.verdict.why_not)], rows)
+        self.must("row", rows == [("not judged", found.verdict.unjudged_reason)], rows)
 
 
 def programmes_from(first: int) -> Callable[[ActualTimes], None]:

@@ -7,10 +7,10 @@ from types import SimpleNamespace
 from typing import Any, Mapping, Sequence
 
 from developing.pes import pts_in
-from subtitles.clock.start import Clock, Found, GIVEN, RECORDING, START
+from subtitles.clock.start import Clock, GIVEN, RECORDING, START, TimedPart
 from subtitles.common.times import CLOCK, TICKS, pts_of, time_of
 from subtitles.formats.listing import PICTURES_LEFT
-from subtitles.judging.timing import NOT_CHECKED, departures_in, late_jumps, left_by_pictures
+from subtitles.judging.timing import NOT_CHECKED, find_departures, find_desync, find_late_jumps
 from subtitles.stream.pace import Pace, REGULAR
 from subtitles.stream.packets import Packets, Run, announced_jumps
 from subtitles.stream.pictures import Departure, VideoLead, departures_of
@@ -142,7 +142,7 @@ class DepartureFaults(Case):
                          source: str = GIVEN,
               origin: int = 0) -> tuple[list[tuple[str | None, str | None, str]], list[str]]:
         """Return times and direction of each fault, and the notes."""
-        faults, notes = left_by_pictures(survey_with(lines_of(steps, origin)), PID, Found(
+        faults, notes = find_desync(survey_with(lines_of(steps, origin)), PID, TimedPart(
             1000, 2000, Clock(origin, source)), within, 1)
         self.check("kinds", {(one.name, one.part) for one in faults} - {(PICTURES_LEFT, 1)}, set())
         return [(one.time, one.until, one.words.partition(" on subtitles come ")[2].partition(
@@ -187,7 +187,7 @@ class DepartureFaults(Case):
         places = [(899, 900), (999, 1000), (1000, 1001), (1998, 1999), (1999, 2000), (2000, 2001)]
         several = [Departure(TICKS * pts, TICKS * since, 9) for since, pts in places]
         for source, wanted in ((GIVEN, [None, 9, 9, None]), (START, [9, 9, 9, 9, None])):
-            found = departures_in(several, Found(1000, 2000, Clock(0, source)))
+            found = find_departures(several, TimedPart(1000, 2000, Clock(0, source)))
             self.check(source, [one.ticks for one in found], wanted)
 
     def test_notes_that_no_step_is_usual(self) -> None:
@@ -198,7 +198,7 @@ class DepartureFaults(Case):
                 ("at random", survey_with(lines),
                  [f"{NOT_CHECKED}: their decoding times have no usual step"]),
                 ("no line", Survey(), [])):
-            found = left_by_pictures(survey, PID, Found(1000, 2000, Clock(0, GIVEN)), 0, 1)
+            found = find_desync(survey, PID, TimedPart(1000, 2000, Clock(0, GIVEN)), 0, 1)
             self.check(name, found, ([], wanted))
 
 
@@ -248,6 +248,6 @@ class AnnouncedJumps(Case):
                                     for at, frame in enumerate(frames)], seams=[2, 3, 4, 5, 6])
             recording: Any = SimpleNamespace(is_stream=True, packets=packets)
             part: Any = SimpleNamespace(recorded=(recording, None), pes=(0, 7))
-            told = late_jumps(part, Pace(REGULAR, apart))
+            told = find_late_jumps(part, Pace(REGULAR, apart))
             self.must(f"{origin} {apart}", told == ([
                 (pts_of(one, origin), pts_of(other, origin)) for one, other in late], others), told)

@@ -6,9 +6,9 @@ import os
 from developing.stl import gsi_block, subtitle_blocks, tti_block
 from subtitles.common.times import Between, FRAMES_OF_A_DAY, TICKS, time_of
 from subtitles.formats.stl import Subtitle, SubtitleFile, subtitles_read
-from subtitles.judging.pair import adjoining_at, pauses_near
-from subtitles.judging.subtitles import HOUR, title_words
-from subtitles.judging.transmissions import subtitles_in
+from subtitles.judging.pair import find_adjoining_end, find_nearest_pauses
+from subtitles.judging.subtitles import HOUR, advise_on_title
+from subtitles.judging.transmissions import read_subtitles
 from subtitles.stream.packets import Packets
 from .bench import Case
 from .judged import OfProgramme, judged, shown_files
@@ -46,7 +46,8 @@ class DayFiles(Case):
                 ((*LATER, "--to", "00:01:06:00"), "accepted", 2),
                 ((*LATER, "--to", "00:01:06:01"), "accepted", 3)):
             found = judged(self, day, second, "--origin", "0", *words)
-            self.must(f"{words}", (found.word, found.verdict.count) == (word, count), found.said)
+            self.must(f"{words}", (found.word, found.verdict.subtitle_count) == (word, count),
+                      found.said)
             self.must(f"{words}: subtitles", word == "not judged" or len(
                 found.result["subtitles"]) == count, found.result["subtitles"])
         found = judged(self, day, second, *LATER, "-o", self.path("out"))
@@ -65,7 +66,8 @@ class DayFiles(Case):
         first_bad, last_bad = self.day(*texts[:2], BAD, *texts[3:], name="first.stl"), \
             self.day(*texts[:5], BAD, name="last.stl")
         found = judged(self, first_bad, second, *LATER, "-o", self.path("out"))
-        self.must("outside", found.word == "accepted" and found.verdict.count == 3, found.said)
+        self.must("outside", found.word == "accepted" and found.verdict.subtitle_count == 3,
+                  found.said)
         found = judged(self, first_bad, second)
         self.must("the whole", found.verdict.line == "refused 50 Character block 3 at 11",
                   found.said)
@@ -102,7 +104,8 @@ class DayFiles(Case):
                 for pts, some in sendings(self, programme(self, times))]
         found = judged(self, day, self.write("day.pes", joined(sent)), "--breaks", "1", "--to",
                        "00:04:00:00")
-        self.must("accepted", found.word == "accepted" and found.verdict.count == 14, found.said)
+        self.must("accepted", found.word == "accepted" and found.verdict.subtitle_count == 14,
+                  found.said)
         commands = found.lines("+ ")
         self.must("commands", len(commands) == 2 and
                   "--from 00:00:04:00 --to 00:00:30:10" in commands[0] and
@@ -141,12 +144,13 @@ class SkippedSubtitles(Case):
     def test_reads_a_file_as_the_program_shows_it(self) -> None:
         path = programme(self, [(9, 20), (20, 30), (40, 50)], 2)
         with open(path, "rb") as file:
-            self.must("read", subtitles_read(file.read()) == subtitles_in(self.bench.program, path))
+            self.must("read",
+                      subtitles_read(file.read()) == read_subtitles(self.bench.program, path))
         data = b"".join(subtitle_blocks(at, 50 * at, 50 * at + 9, 20 + at, at % 4, text)
                         for at, text in enumerate((b"one", b"", b"x" * 38 + b"\x8a" + b"y" * 80,
                                                    b"\x8f".join([b"z"] * 60))))
         path = self.write("long.stl", gsi_block(b"", 6, 4) + data)
-        shown = subtitles_in(self.bench.program, path)
+        shown = read_subtitles(self.bench.program, path)
         self.must("long texts", len(shown) == 4 and subtitles_read(self.read(path)) == shown, shown)
 
     def test_passes_from_and_to_to_check(self) -> None:
@@ -164,7 +168,8 @@ class SkippedSubtitles(Case):
             ([HOUR, 0], None), ([0, 10 * HOUR, 9 * HOUR], "09:00:00:00"), ([0, 0], None)]
         for begins, time in rows:
             data = b"".join(tti_block(1, begin, begin, 20, 2, b"text") for begin in begins)
-            words = title_words(SubtitleFile(self.write("one.stl", gsi_block(b"", 1, 1) + data)))
+            path = self.write("one.stl", gsi_block(b"", 1, 1) + data)
+            words = advise_on_title(SubtitleFile(path))
             self.must(f"{begins}", words.endswith(f"say --from {time}") if time else words == "",
                       words)
 
@@ -193,8 +198,9 @@ class Adjoining(OfProgramme):
         for frame, near in ((250, (151, 351)), (300, (151, 351))):
             told = self.judge(self.sent, "--to", time_of(frame))
             self.must(f"{frame}", told.word == "not judged" and told.result["parts"] == [] and [
-                word.rpartition(" ")[2] for word in told.verdict.to_type] == [*map(time_of, near)],
-                (told.said, told.verdict.to_type))
+                word.rpartition(" ")[2] for word in told.verdict.suggestions] ==
+                      [*map(time_of, near)],
+                (told.said, told.verdict.suggestions))
             for end in near:
                 told = self.judge(self.sent, "--to", time_of(end))
                 self.must(f"{frame}, {end}", told.word == "accepted", told.said)
@@ -218,7 +224,7 @@ class Adjoining(OfProgramme):
             file.write(b"0")  # DSC: open subtitles
         pes = self.schedule(stl, "one.pes", "--every", "25", *words)
         told = judged(self, stl, pes, "--origin", "0", *words, "--to", time_of(250))
-        self.must("not judged", told.word == "not judged" and len(told.verdict.to_type) == 2,
+        self.must("not judged", told.word == "not judged" and len(told.verdict.suggestions) == 2,
                   told.said)
 
     def test_finds_the_last_tco_at_which_a_subtitle_adjoins(self) -> None:
@@ -232,11 +238,11 @@ class Adjoining(OfProgramme):
                                                                           "transmissions"])
             part = part_with(100, 200, 0, said, packets=Packets(0), request=asked_for(
                 "a.stl", "a.pes", "--within", str(within)))
-            self.assertEqual(adjoining_at(part), wanted, (number, within, frames))
+            self.assertEqual(find_adjoining_end(part), wanted, (number, within, frames))
 
     def test_finds_the_pauses_near_a_frame(self) -> None:
         subtitles = [Subtitle(at, at, begin, end, 22, 2, b"")
                      for at, (begin, end) in enumerate(self.due)]
         for count, frame, wanted in ((6, 300, [150, 350]), (6, 100, [150]), (6, 500, [450, 550]),
                                      (4, 300, [150, 350]), (0, 300, [])):
-            self.assertEqual(pauses_near(subtitles[:count], frame), wanted, (count, frame))
+            self.assertEqual(find_nearest_pauses(subtitles[:count], frame), wanted, (count, frame))

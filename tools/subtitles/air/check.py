@@ -91,15 +91,15 @@ class BeginCheck(NamedTuple):
 
 def begin_number(part: Part) -> int:
     """Return the number of the PES packet with which the first subtitle is due."""
-    _, alignment = part.recorded
+    _, alignment = part.judged_recording
     begin, (first, _) = pts_of(alignment.begin, alignment.origin), part.pes or (0, 0)
-    earlier = itertools.takewhile(lambda pts: ticks_between(begin, pts) < 0, part.pts())
+    earlier = itertools.takewhile(lambda pts: ticks_between(begin, pts) < 0, part.list_pts())
     return first + sum(1 for _ in earlier)
 
 
 def seconds_before_first(part: Part) -> float:
     """Return how long the first subtitle was due before the page's first PES packet, or below 0."""
-    recording, alignment = part.recorded
+    recording, alignment = part.judged_recording
     begin = pts_of(alignment.begin, alignment.origin)
     first = next(recording.packets.pts(alignment.packets), begin)
     return ticks_between(begin, first) / PTS_SECOND

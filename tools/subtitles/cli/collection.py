@@ -14,7 +14,7 @@ from ..common.command_line import Stop, counted, error_line, say, shown, silence
 from ..common.files import Inputs, NOTHING, OWN_OUTPUT, refuse_name, result_file
 from ..common.markup import BREAK, HEAD, Markup, NO_MARKUP, Value, joined, markup
 from ..judging.status import (
-    ACCEPTED, LOST, NOT_JUDGED, REFUSED, RELATIVE, WAIVED, WARNED, of_all)
+    ACCEPTED, LOST, NOT_JUDGED, REFUSED, RELATIVE, WAIVED, WARNED, combine_statuses)
 from ..request.commands import index_in
 from ..results.files import (
     ENDING, NO_CLOCK, Row, TestCase, in_order, junit_file, object_at, objects_in, put_file,
@@ -172,7 +172,7 @@ def write_collection(args: argparse.Namespace, rows: Sequence[Row], places: Sequ
     date, failed = now(), list[str]()
 
     def status() -> int:
-        return of_all((row.status for row in rows), is_stopped or bool(failed))
+        return combine_statuses((row.status for row in rows), is_stopped or bool(failed))
 
     written: list[Callable[[], None]] = [
         lambda: write_index(folder, rows), lambda: put_file(

@@ -17,19 +17,19 @@ from ..formats.layout import (
     PLAIN, Refused, drawn, layout_of, layout_text, letters_of_text, letters_on, page_rows)
 from ..formats.stl import Subtitle
 from ..formats.teletext import BY_WORD, NationalOption, page_name
-from ..judging.pages import cells_text, first_letters
-from ..judging.pair import Pair
+from ..judging.pages import find_text_columns, format_cells
+from ..judging.pair import PairJudge
 from ..judging.part import Part
 from ..judging.status import Severity
-from ..judging.timing import PartSearch, cut_within, measured_pace
-from ..judging.transmissions import control_words, keeps
+from ..judging.timing import PartSearch, cut_packets, measure_pace
+from ..judging.transmissions import describe_control_bits, keeps_page
 from ..judging.verdict import Verdict
 from ..recording.notices import NeverSent
 from ..recording.recording import refuse_files
 from ..request.commands import CommandWords, Listener, Names, Progress, Speech
 from ..request.lines import pairs_at, profile_at
 from ..request.request import PID_CHOICE, Request, Unclear, request_with
-from ..stream.pace import BY_EVERY, IRREGULAR, PAUSED, Pace, TOO_FEW
+from ..stream.pace import BY_EVERY, IRREGULAR, Pace, PAUSED, TOO_FEW
 from ..stream.repeats import Repeats, UNUSUAL, repeats_in
 from ..stream.layout import (
     Choice, FEWEST, FLASH, MOST_MOVED, Sent, TENTHS, choices_of, draws, sent_in, taken_from)
@@ -303,7 +303,7 @@ def against_lines(choice: Choice, sendings: Sequence[Sending], option: NationalO
     """The subtitles that a layout draws otherwise than they were sent."""
     others = [one for one in sendings if not draws(choice.layout, one.sent, option)]
     for sending in others[:NAMED]:
-        yield f"against it: {sending.name}: sent {cells_text(sending.sent.rows)}; drawn " \
+        yield f"against it: {sending.name}: sent {format_cells(sending.sent.rows)}; drawn " \
             f"{page_text(choice, sending.sent, option)}"
     if len(others) > NAMED:
         yield f"against it: {len(others) - NAMED} more"
@@ -313,7 +313,7 @@ def page_text(choice: Choice, sent: Sent, option: NationalOption) -> str:
     """What a layout draws of a subtitle."""
     lines = drawn(sent.text, sent.row, sent.justify, choice.layout, option)
     return f"nothing: refused {lines.number}" if isinstance(lines, Refused) else \
-        cells_text(page_rows(lines))
+        format_cells(page_rows(lines))
 
 
 def no_layout(nearest: Choice, sendings: Sequence[Sending], option: NationalOption) \
@@ -341,7 +341,7 @@ def is_block(sample: Sent, nearest: Choice, option: NationalOption) -> bool:
     lines = drawn(sample.text, sample.row, sample.justify, nearest.layout, option)
     if isinstance(lines, Refused):
         return False
-    due, sent = first_letters(page_rows(lines)), first_letters(sample.rows)
+    due, sent = find_text_columns(page_rows(lines)), find_text_columns(sample.rows)
     return len(sent) > 1 and len({*sent}) == 1 < len({*due})
 
 
@@ -475,11 +475,12 @@ def measured(request: Request, typed: CommandWords, folder: str) -> Measured:
         raise Stop(f"{request.stl} {request.recording} can't be measured: {why}") from None
 
 
-def pair_of(request: Request, typed: CommandWords, folder: str) -> Pair:
+def pair_of(request: Request, typed: CommandWords, folder: str) -> PairJudge:
     """Return a pair of which nothing is printed."""
     names = Names("measured", folder, None)
     names.give(request.stl)
-    return Pair(Verdict(request, Severity(None), now()), typed, names, Listener(Unprinted()), False)
+    return PairJudge(Verdict(request, Severity(None), now()), typed, names, Listener(Unprinted()),
+                     False)
 
 
 def judged_lines(requests: Sequence[Request], typed: CommandWords, folder: str) -> Iterator[str]:
@@ -501,43 +502,44 @@ def judged_lines(requests: Sequence[Request], typed: CommandWords, folder: str) 
         yield "# By this profile none of these recordings is refused."
 
 
-def of_pair(pair: Pair) -> Measured:
+def of_pair(pair: PairJudge) -> Measured:
     """The same of a pair that is read."""
     request, option = pair.request, BY_WORD[pair.request.option]
-    recording, clocks, subtitles = pair.located
-    parts = [cut_of_part(clocks.programme, part) for part in pair.parts_in(
-        recording, clocks.alignments, clocks.programme, subtitles)]
+    recording, clocks, subtitles = pair.located_recording
+    parts = [cut_of_part(clocks.search, part) for part in pair.parts_in(
+        recording, clocks.alignments, clocks.search, subtitles)]
     times = [(one.begin, one.end) for one in subtitles]
     sent = [(subtitles_of(part, subtitles), held_near(part)) for part in parts]
-    headers = [part.headers_sent() for part in parts]
-    sent_options = {word for part in parts for word in part.options_sent()}
+    headers = [part.count_headers() for part in parts]
+    sent_options = {word for part in parts for word in part.find_options()}
     word = min(sent_options) if len(sent_options) == 1 else request.option
     return Measured(
         *pid_of(pair),
         [repeats for part in parts if (repeats := repeats_in(
-            part.pts(HEADER), part.pts()[-1], part.origin or 0, times))],
-        [measured_pace(part, times)[0] for part in parts],
+            part.list_pts(HEADER), part.list_pts()[-1], part.origin or 0, times))],
+        [measure_pace(part, times)[0] for part in parts],
         [delays_of(request.stl, *both, option) for both in sent],
         (sum(sum(counts.values()) for counts in headers),
-         sum(count for counts in headers for header, count in counts.items() if keeps(header))),
-        not any(control_words(header, word) for counts in headers for header in counts),
+         sum(count for counts in headers for header,
+             count in counts.items() if keeps_page(header))),
+        not any(describe_control_bits(header, word) for counts in headers for header in counts),
         sent_options,
         [sending for both in sent for sending in sendings_of(request.stl, *both, option)],
         (sum(ticks_after(part.origin or 0, pts) % TICKS > 0 for part in parts
-             for pts in part.pts()), sum(len(part.pts()) for part in parts)))
+             for pts in part.list_pts()), sum(len(part.list_pts()) for part in parts)))
 
 
 def cut_of_part(programme: PartSearch, part: Part) -> Part:
     """A part with the PES packets of its time."""
-    pes = cut_within(programme, *part.recorded, programme.request.within).range
+    pes = cut_packets(programme, *part.judged_recording, programme.request.within).range
     if pes is None:
         raise Unclear("nothing of the page is in the recording at the time of the subtitles")
-    return part.with_range(pes)
+    return part.add_packets(pes)
 
 
 def held_near(part: Part) -> Timeline:
     """What is held around the frames of a part."""
-    recording, frames = part.recorded
+    recording, frames = part.judged_recording
     return timeline_near(recording.packets, part.request.page, frames.origin, 1,
                          Span(frames.begin, frames.end), part.request.every, frames.packets)
 
@@ -547,10 +549,10 @@ def subtitles_of(part: Part, subtitles: Iterable[Subtitle]) -> list[Subtitle]:
     return [one for one in subtitles if part.request.between.has(one.begin)]
 
 
-def pid_of(pair: Pair) -> tuple[str | None, list[str]]:
+def pid_of(pair: PairJudge) -> tuple[str | None, list[str]]:
     """The PID with the page, and in lines what it rests on and what the PMT says; none of PES
     packets, and of several PIDs."""
-    recording, name = pair.located.recording, pair.request.page_name
+    recording, name = pair.located_recording.recording, pair.request.page_name
     lines = [one.line for one in pair.listener.selections if one.what == PID_CHOICE]
     if not recording.is_stream:
         return None, lines

@@ -19,14 +19,14 @@ from ..common.files import (
 from ..common.markup import HEAD
 from ..common.program import about_program
 from ..formats.listing import count_of, is_line
-from ..judging.causes import count_line
-from ..judging.faults import hints_of
-from ..judging.pair import Pair
+from ..judging.causes import format_cause_counts
+from ..judging.faults import list_hints
+from ..judging.pair import PairJudge
 from ..judging.status import ACCEPTED, NOT_JUDGED, RELATIVE, Severity
 from ..judging.verdict import Unjudged, Verdict
 from ..recording.recording import Recording
 from ..request.commands import (
-    CommandWords, LOCK, Listener, Names, PartFiles, Progress, Speech, files_in, index_in, lock_of,
+    CommandWords, Listener, LOCK, Names, PartFiles, Progress, Speech, files_in, index_in, lock_of,
     pair_name, profile_line)
 from ..request.request import Request, Unclear, Unsaid, keep_stl, request_of
 from ..results import files as results
@@ -224,8 +224,8 @@ def judge_and_report(request: Request, call: PairOptions, program_name: str) -> 
         keep_stl(request, folder)
         names.give(request.stl_path)
         files = OutputFiles(call, verdict, typed, names, stamps)
-        verdict.files = found(request)
-        pair = Pair(verdict, typed, names, listener, files.needs_sums())
+        verdict.files_at_start = found(request)
+        pair = PairJudge(verdict, typed, names, listener, files.needs_sums())
         judge_pair(pair, files)
         report_pair(verdict, speech, files)
     return verdict
@@ -240,7 +240,7 @@ def stamp_inputs(request: Request) -> dict[str, Stamp | None]:
 def new_verdict(request: Request, listener: Listener) -> Verdict:
     """A verdict of which nothing is known yet; it has what the listener hears."""
     return Verdict(request, Severity(request.severity, request.is_loss_allowed), now(),
-                   notes=listener.notes, commands=listener.commands, chosen=listener.selections)
+                   notes=listener.notes, commands=listener.commands, selections=listener.selections)
 
 
 def refuse_outputs(call: PairOptions, request: Request, out: str | None, name: str) -> None:
@@ -255,17 +255,17 @@ def refuse_outputs(call: PairOptions, request: Request, out: str | None, name: s
         refuse_pair_files(out, name, inputs)
 
 
-def judge_pair(pair: Pair, files: OutputFiles) -> None:
+def judge_pair(pair: PairJudge, files: OutputFiles) -> None:
     """Judges a pair and writes the files; what is not clear stands in the verdict."""
     verdict, began = pair.verdict, time.monotonic()
     try:
         pair.judge()
         files.call.examine(verdict)
-        verdict.hints = [*dict.fromkeys(hints_of(verdict))]  # parts may have the same
+        verdict.hints = [*dict.fromkeys(list_hints(verdict))]  # parts may have the same
     except Unclear as unclear:
         verdict.unjudged = Unjudged(unclear.reason, unclear.to_type, isinstance(unclear, Unsaid))
     except Exception as reason:  # whatever it is, nothing is judged
-        verdict.unjudged = Unjudged(error_line(reason), is_passing=isinstance(
+        verdict.unjudged = Unjudged(error_line(reason), is_temporary=isinstance(
             reason, (Unanswered, OSError, MemoryError)))
     except KeyboardInterrupt:
         ignore_signals()  # what is known is written now
@@ -275,7 +275,7 @@ def judge_pair(pair: Pair, files: OutputFiles) -> None:
         files.write(pair.recording)
     except KeyboardInterrupt as reason:
         ignore_signals()
-        verdict.failed.append(error_line(reason))
+        verdict.failed_outputs.append(error_line(reason))
         files.write(pair.recording)
 
 
@@ -285,13 +285,13 @@ def report_pair(verdict: Verdict, speech: Speech, files: OutputFiles) -> None:
         print_verdict(verdict, speech, files.page)
     except KeyboardInterrupt as reason:
         ignore_signals()
-        verdict.failed.append(error_line(reason))
+        verdict.failed_outputs.append(error_line(reason))
         files.write_again()
         print_verdict(verdict, speech, files.page)
     except Exception as reason:
-        verdict.failed.append(error_line(reason))
+        verdict.failed_outputs.append(error_line(reason))
         files.write_again()
-        tell(verdict.failed[-1])
+        tell(verdict.failed_outputs[-1])
         silence(speech.out)
 
 
@@ -312,10 +312,11 @@ def print_verdict(verdict: Verdict, speech: Speech, page: str | None = None) -> 
     """Says the verdict, after what was lost and what is not clear; `page` is that of its report."""
     causes = [part.causes for part in verdict.parts if part.causes]
     if causes:
-        speech.say(count_line(causes))
-    for line in verdict.lines():
+        speech.say(format_cause_counts(causes))
+    for line in verdict.format_part_lines():
         speech.say(line)
-    for line in first_lines([gap.line() + ("" if gap.is_judged else ", outside of what is judged")
+    for line in first_lines([gap.format_line() +
+                             ("" if gap.is_judged else ", outside of what is judged")
                              for gap in verdict.gaps]):
         speech.tell(line)
     if verdict.is_lost and not verdict.request.is_loss_allowed:
@@ -326,33 +327,33 @@ def print_verdict(verdict: Verdict, speech: Speech, page: str | None = None) -> 
         speech.tell(warning.warning_text())
     if verdict.line is not None:
         if verdict.request.within and verdict.delays:
-            speech.say(verdict.delays.words())
-        if verdict.fitted and verdict.word != RELATIVE:
-            speech.say(verdict.fitted)
+            speech.say(verdict.delays.describe())
+        if verdict.estimated_clock_note and verdict.word != RELATIVE:
+            speech.say(verdict.estimated_clock_note)
         for line in verdict.hints:
             speech.say(line)
         speech.end(verdict.sentence + reference_text(verdict, page), verdict.line)
     elif is_line(speech.last):  # what the program says is no verdict then
         speech.say(NOT_JUDGED)
     if verdict.is_stopped:
-        speech.say(counted(verdict.faults, "fault") + " so far" if verdict.parts else
+        speech.say(counted(verdict.fault_count, "fault") + " so far" if verdict.parts else
                    "nothing was judged so far")
-    for line in (verdict.why_not or "").splitlines():
+    for line in (verdict.unjudged_reason or "").splitlines():
         speech.tell(f"{NOT_JUDGED}: {line}" if verdict.is_stopped else line)
-    for at, line in enumerate(verdict.to_type):
+    for at, line in enumerate(verdict.suggestions):
         speech.tell(f"{'type' if at == 0 else 'or'} {line}")
 
 
 def reference_text(verdict: Verdict, page: str | None) -> str:
     """Return where to look if something is refused: the report, or else what the manual says of the
     number that is said first."""
-    if verdict.word == ACCEPTED or verdict.word == RELATIVE and not verdict.faults:
+    if verdict.word == ACCEPTED or verdict.word == RELATIVE and not verdict.fault_count:
         return ""
     if page:
         return f" See {page}."
-    if verdict.first_named:
-        return f" See refusals.md#{verdict.first_named.name.replace(' ', '-')}."
-    told = verdict.leading.leading if verdict.leading else None
+    if verdict.worst_named_fault:
+        return f" See refusals.md#{verdict.worst_named_fault.name.replace(' ', '-')}."
+    told = verdict.worst_part.worst_fault_line if verdict.worst_part else None
     return f" See refusals.md#n{told.number}." if told else ""
 
 
@@ -409,8 +410,9 @@ class OutputFiles:
         changed = [name for name, stamp in self.stamps.items() if stamp_of(name) != stamp]
         if changed:
             self.stamps = {}  # it is reported once
-            self.verdict.failed += [f"{name} was replaced or written to while it was judged: judge "
-                                    "it again when it is complete" for name in changed]
+            self.verdict.failed_outputs += [
+                f"{name} was replaced or written to while it was judged: judge it again when it is "
+                "complete" for name in changed]
             self.write_again()
 
     def write_again(self) -> None:
@@ -424,9 +426,9 @@ class OutputFiles:
         try:
             self.put(output)
         except Exception as reason:
-            self.verdict.failed.append(error_line(reason))
+            self.verdict.failed_outputs.append(error_line(reason))
             if output.is_json and not isinstance(reason, (Stop, OSError)):
-                known = unjudged(self.names.name, self.verdict.why_not or "")
+                known = unjudged(self.names.name, self.verdict.unjudged_reason or "")
                 self.put(output._replace(pieces=lambda: iter([object_text(known)])))
             return False
         return True
@@ -455,7 +457,7 @@ class OutputFiles:
 
     def raw_outputs(self, recording: Recording | None) -> list[Output]:
         """The list of each part as `check` told it, and what was recorded, where that is kept."""
-        lists = [Output(part.names.placed("txt"), part.answer.raw, True, is_raw=True)
+        lists = [Output(part.names.placed("txt"), part.check_output.read_bytes, True, is_raw=True)
                  for part in self.verdict.parts]
         ending = recording and recording.packets.count and recording.kept_ending
         if self.call.is_kept and recording and ending:
@@ -466,14 +468,16 @@ class OutputFiles:
         """The file for a CI."""
         verdict = self.verdict
         case = results.TestCase(pair_title(verdict.request), verdict.word, verdict.status,
-                               verdict.lead or verdict.why_not or "", self.lines(), verdict.seconds,
-                               verdict.counts.words() if verdict.counts else "", verdict.sentence)
+                               verdict.worst_line or verdict.unjudged_reason or "", self.lines(),
+                                verdict.seconds,
+                               verdict.subtitle_counts.describe() if verdict.subtitle_counts
+                                else "", verdict.sentence)
         yield results.junit_file([case], verdict.date)
 
     def lines(self) -> list[str]:
         """The first lines of the lists of all parts."""
-        lines = (line for part in self.verdict.parts for line in part.answer.lines()
-                 if part.answer.count)
+        lines = (line for part in self.verdict.parts for line in part.check_output.read_lines()
+                 if part.check_output.fault_count)
         return list(itertools.islice(lines, SUMMARY_LINES))
 
     @staticmethod

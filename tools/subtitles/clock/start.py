@@ -67,7 +67,7 @@ class Clock(NamedTuple):
             "shown before it"
 
 
-class Found(NamedTuple):
+class TimedPart(NamedTuple):
     """What is judged by one clock: its frames, its PES packets if PTS go back, and the frames in
     which its subtitles begin."""
 

@@ -14,18 +14,20 @@ from ..formats.stl import COMMENT, LAST, NamedSubtitle, Subtitle, SubtitleFile, 
     subtitles_read
 from ..formats.teletext import BY_WORD, letters_of
 from ..stream.receiver import BLANK_PAGE, Rows, Timeline
-from .causes import ATTRIBUTE, Cause, EARLY, LATE, NOT_RECEIVED, OTHER, PLACE, TEXT, UNKNOWN, \
-    Wording
-from .pages import SPACE, page_text
+from .causes import (
+    Cause, CauseDescriber, EARLY, LATE, NOT_RECEIVED, OTHER_TEXT, UNKNOWN_CAUSE, WRONG_ATTRIBUTE,
+    WRONG_PLACE, WRONG_TEXT)
+from .pages import SPACE, format_page_text
 from .part import Part
 from .status import ACCEPTED, Severity
-from .subtitles import JudgedBeside
-from .transmissions import DuePages
+from .subtitles import ValidSubtitles
+from .transmissions import ExpectedPages
 
 
 # Cues of the decoded pages
 
-REPLACED = {TEXT, PLACE, ATTRIBUTE, OTHER}  # causes with another page in place of the expected one
+# Causes with another page in place of the expected one.
+REPLACING_CAUSES = {WRONG_TEXT, WRONG_PLACE, WRONG_ATTRIBUTE, OTHER_TEXT}
 
 
 class Cue(NamedTuple):
@@ -40,30 +42,30 @@ class Cue(NamedTuple):
     end: int | None = None
 
     @property
-    def late_in(self) -> int | None:
+    def delay_in(self) -> int | None:
         """Return by how many frames the in-cue is late; negative if it is early."""
         return None if self.begin is None else self.begin - self.subtitle.begin
 
     @property
-    def late_out(self) -> int | None:
+    def delay_out(self) -> int | None:
         """Return by how many frames the out-cue is late; negative if it is early."""
         return None if self.end is None else self.end - self.subtitle.end
 
 
-def cues_of(part: Part) -> Iterator[Cue]:
+def find_cues(part: Part) -> Iterator[Cue]:
     """Yield the cues of a part in the order of its subtitles."""
-    expected, causes = part.due(), part.causes
-    timeline = causes.held if causes else part.held
+    expected, causes = part.expected_pages(), part.causes
+    timeline = causes.timeline if causes else part.decoded_pages
     for place, (subtitle, page) in enumerate(zip(expected.subtitles, expected.pages)):
-        cue = Cue(subtitle, page, causes.named.get(place) if causes else None)
+        cue = Cue(subtitle, page, causes.by_index.get(place) if causes else None)
         delay = part.delays[place] if part.delays else 0
-        yield decoded_cue(cue, place, expected, timeline, delay) if timeline else cue
+        yield find_decoded_times(cue, place, expected, timeline, delay) if timeline else cue
 
 
-def decoded_cue(cue: Cue, place: int, expected: DuePages, timeline: Timeline,
-                delay: int | None) -> Cue:
+def find_decoded_times(cue: Cue, place: int, expected: ExpectedPages, timeline: Timeline,
+                       delay: int | None) -> Cue:
     """Return a cue with the frames between which a receiver had the page."""
-    number = page_number(cue, expected, timeline, delay)
+    number = find_page_number(cue, expected, timeline, delay)
     if number is None:
         return cue
     subtitle, page, (first, last) = cue.subtitle, timeline.pages[number], timeline.stretch(number)
@@ -87,7 +89,8 @@ def decoded_cue(cue: Cue, place: int, expected: DuePages, timeline: Timeline,
     return cue._replace(decoded=page, begin=begin, end=end)
 
 
-def page_number(cue: Cue, expected: DuePages, timeline: Timeline, delay: int | None) -> int | None:
+def find_page_number(cue: Cue, expected: ExpectedPages, timeline: Timeline,
+                     delay: int | None) -> int | None:
     """Return the number of the decoded page that belongs to a cue, if any was decoded."""
     cause, (begin, end) = cue.cause, (cue.subtitle.begin, cue.subtitle.end)
     if cause and cause.name in (LATE, EARLY):
@@ -97,7 +100,7 @@ def page_number(cue: Cue, expected: DuePages, timeline: Timeline, delay: int | N
     number = timeline.number_at(max(begin + (delay or 0), min(timeline.first, end - 1)))
     if number >= 0 and timeline.pages[number] == cue.expected:
         return number
-    sent = cause.sent if cause and cause.name in REPLACED else None
+    sent = cause.sent_page if cause and cause.name in REPLACING_CAUSES else None
     if sent is not None and sent != BLANK_PAGE:
         frames = [frame for frame in timeline.when.get(sent, ()) if frame < end
                   and timeline.stretch(timeline.number_at(frame)).last >= begin]
@@ -108,7 +111,7 @@ def page_number(cue: Cue, expected: DuePages, timeline: Timeline, delay: int | N
         if cause else None
 
 
-def is_variant(page: Rows, decoded: Rows, expected: DuePages) -> bool:
+def is_variant(page: Rows, decoded: Rows, expected: ExpectedPages) -> bool:
     """Return whether a page is a damaged or corrected repeat of another page: most characters are
     the same, and no other subtitle has the page."""
     if page == decoded or page in expected.by_page:
@@ -119,7 +122,7 @@ def is_variant(page: Rows, decoded: Rows, expected: DuePages) -> bool:
 
 # The verdict on each subtitle, for reports and results
 
-RIGHT, WRONG, WAIVED, UNSURE = "right", "wrong", "waived", "not known"
+RIGHT, WRONG, WAIVED, NOT_KNOWN = "right", "wrong", "waived", "not known"
 NOT_ALL_RECEIVED = "not received completely"
 
 
@@ -129,8 +132,8 @@ class CueVerdict(NamedTuple):
 
     word: str
     cause: str = ""
-    numbers: Sequence[int] = ()
-    unsure: str = ""
+    fault_numbers: Sequence[int] = ()
+    doubt: str = ""
 
 
 class CueJudge:
@@ -138,60 +141,63 @@ class CueJudge:
 
     def __init__(self, part: Part, severity: Severity) -> None:
         self.part, self.severity = part, severity
-        self.wording = Wording(part.causes, part.request.option) if part.causes else None
+        self.wording = CauseDescriber(part.causes, part.request.option) if part.causes else None
         with_cause = WITH_CAUSE if part.causes else set[int]()
-        self.spans = {number: joined_spans([spans]) for number, spans in part.answer.marks.items()
+        self.spans = {number: joined_spans([spans]) for number,
+                      spans in part.check_output.fault_spans.items()
                       if number not in with_cause | {BEGIN}}
 
     @functools.cached_property
     def is_cause_waived(self) -> bool:
         """Return whether all faults that have causes are warnings."""
-        numbers = WITH_CAUSE & self.part.answer.numbers
+        numbers = WITH_CAUSE & self.part.check_output.fault_numbers
         return bool(numbers) and not any(map(self.severity.is_error, numbers))
 
-    def verdict(self, cue: Cue) -> CueVerdict:
+    def judge(self, cue: Cue) -> CueVerdict:
         """Return the verdict on a cue."""
         begin, end = cue.subtitle.begin, cue.subtitle.end
         numbers = [number for number, spans in self.spans.items()
                    if any(True for _ in spans.between(begin, end))]
-        words = self.wording.said(cue.cause, has_text=False) if cue.cause and self.wording else ""
+        words = self.wording.describe(cue.cause,
+                                      has_text=False) if cue.cause and self.wording else ""
         if not words and not numbers:
-            unsure = self.missing_words(cue)
-            return CueVerdict(UNSURE if unsure else RIGHT, unsure=unsure)
+            unsure = self.describe_doubt(cue)
+            return CueVerdict(NOT_KNOWN if unsure else RIGHT, doubt=unsure)
         is_waived = not any(map(self.severity.is_error, numbers)) and \
             (self.is_cause_waived or not words)
-        is_unsure = cue.cause and cue.cause.name in (NOT_RECEIVED, UNKNOWN) and not numbers
-        word = WAIVED if is_waived else UNSURE if is_unsure else WRONG
+        is_unsure = cue.cause and cue.cause.name in (NOT_RECEIVED, UNKNOWN_CAUSE) and not numbers
+        word = WAIVED if is_waived else NOT_KNOWN if is_unsure else WRONG
         return CueVerdict(word, words, numbers)
 
-    def missing_words(self, cue: Cue) -> str:
+    def describe_doubt(self, cue: Cue) -> str:
         """Describe why it is not known whether a cue without a fault is right; return an empty text
         if a receiver had the page: the part is accepted, or `check` trusts all frames of the cue.
         """
         begin, end = cue.subtitle.begin, cue.subtitle.end
-        if self.part.answer.verdict == ACCEPTED:
-            is_lost = any(span.first < end and begin <= span.last for span in self.part.losses)
+        if self.part.check_output.verdict == ACCEPTED:
+            is_lost = any(span.first < end and begin <= span.last
+                          for span in self.part.unmarked_losses)
             return NOT_ALL_RECEIVED if is_lost else ""
         trusted = sum(min(span.last + 1, end) - max(span.first, begin)
-                      for span in self.part.trusted.between(begin, end))
+                      for span in self.part.trusted_frames.between(begin, end))
         if trusted == end - begin:
             return ""
         if cue.begin is None and cue.end is None:
             return "not received"
         words = f"{counted(end - begin - trusted, 'frame')} not trusted"
-        return f"{words}: the out-cue is moved" if cue.late_out else words
+        return f"{words}: the out-cue is moved" if cue.delay_out else words
 
-    def reason(self, verdict: CueVerdict) -> str:
+    def describe_reason(self, verdict: CueVerdict) -> str:
         """Return the text of the reason for a verdict; an empty text if the cue is right."""
-        firsts = self.part.answer.firsts
-        faults = [f"{number} {firsts[number].name}" for number in verdict.numbers]
-        return "; ".join(filter(None, [verdict.cause, *faults, verdict.unsure]))
+        firsts = self.part.check_output.first_faults
+        faults = [f"{number} {firsts[number].name}" for number in verdict.fault_numbers]
+        return "; ".join(filter(None, [verdict.cause, *faults, verdict.doubt]))
 
 
 # Refused subtitles, which are not judged
 
-MOST_REFUSED = 20_000  # faults of a subtitle file to read at most
-AFTER_IT = "not judged: the next subtitle is refused"
+MOST_FAULTS_READ = 20_000  # faults of a subtitle file to read at most
+NEXT_IS_REFUSED = "not judged: the next subtitle is refused"
 
 
 class SubtitleFaults(NamedTuple):
@@ -205,14 +211,15 @@ class SubtitleFaults(NamedTuple):
         return not any(severity.is_error(fault.number) for fault in self.faults)
 
 
-def refused_subtitles(part: Part, file: SubtitleFile, beside: JudgedBeside | None) \
+def find_refused_subtitles(part: Part, file: SubtitleFile, beside: ValidSubtitles | None) \
         -> Iterator[SubtitleFaults]:
     """Yield the refused subtitles of a file, each with its faults; then the subtitles without a
     fault that cannot be judged, since the next subtitle is refused."""
-    left_out = set(beside.left_out) if beside else set[int]()
-    faults = [fault for fault, _ in itertools.islice(part.answer.told(), MOST_REFUSED)
+    left_out = set(beside.skipped_positions) if beside else set[int]()
+    faults = [fault for fault,
+              _ in itertools.islice(part.check_output.read_faults(), MOST_FAULTS_READ)
               if fault.number in STL_FAULTS]
-    for _, several in itertools.groupby(faults, lambda fault: first_block(file, fault)):
+    for _, several in itertools.groupby(faults, lambda fault: find_first_block(file, fault)):
         group = list(several)
         block = group[0].block
         subtitle = None if block is None else file.at_block(block)
@@ -222,13 +229,13 @@ def refused_subtitles(part: Part, file: SubtitleFile, beside: JudgedBeside | Non
         yield SubtitleFaults(file.at_block(file.starts[position - 1]), [])
 
 
-def first_block(file: SubtitleFile, fault: FaultLine) -> int:
+def find_first_block(file: SubtitleFile, fault: FaultLine) -> int:
     """Return the first block of the subtitle of a fault."""
     block = fault.block or 0
     return file.firsts[block] if block < len(file.firsts) else block
 
 
-def block_text(file: SubtitleFile, block: int) -> bytes:
+def read_block_text(file: SubtitleFile, block: int) -> bytes:
     """Return the text of a block's subtitle, as far as the file has blocks of that subtitle."""
     first, last = file.firsts[block], block
     for number in range(block, len(file.firsts)):
@@ -242,10 +249,10 @@ def block_text(file: SubtitleFile, block: int) -> bytes:
 
 # Position of a frame in the recording
 
-LONGEST = 3600 * 90_000  # ticks: a longer step, or one back, is a jump of the clock
+LONGEST_STEP = 3600 * 90_000  # ticks: a longer step, or one back, is a jump of the clock
 
 
-def recording_start(part: Part) -> int | None:
+def find_recording_start(part: Part) -> int | None:
     """Return the PTS that the beginning of a recording would have by the clock of a part: the first
     PCR, or without a PCR the first PTS. A jump of the PTS before the part counts as no time."""
     if part.recording is None or part.pes is None:
@@ -255,12 +262,12 @@ def recording_start(part: Part) -> int | None:
     for run in part.packets.inside(0, part.pes[0]):
         if run.pts is not None and run.last is not None:
             step = 0 if last is None else ticks_between(last, run.pts)
-            elapsed += (step if 0 <= step < LONGEST else 0) + ticks_between(run.pts, run.last)
+            elapsed += (step if 0 <= step < LONGEST_STEP else 0) + ticks_between(run.pts, run.last)
             last = run.last
     return None if last is None else wrapped(last - elapsed)
 
 
-def into_recording(part: Part, start: int | None, frame: int) -> str:
+def format_recording_offset(part: Part, start: int | None, frame: int) -> str:
     """Return how far into the recording a frame is, as H:MM:SS; an empty text if that is not known.
     """
     if start is None or part.origin is None:
@@ -269,7 +276,7 @@ def into_recording(part: Part, start: int | None, frame: int) -> str:
     return "" if seconds < 0 else f"{seconds // 3600}:{seconds // 60 % 60:02}:{seconds % 60:02}"
 
 
-def text_spans(timeline: Timeline) -> Iterator[Span]:
+def find_text_spans(timeline: Timeline) -> Iterator[Span]:
     """Yield the frames during which a receiver had a page with text."""
     for number, page in enumerate(timeline.pages):
         if page != BLANK_PAGE:
@@ -279,53 +286,53 @@ def text_spans(timeline: Timeline) -> Iterator[Span]:
 # The subtitles of a part for results
 
 
-def subtitle_values(part: Part, severity: Severity, beside: JudgedBeside | None) \
+def make_subtitle_rows(part: Part, severity: Severity, beside: ValidSubtitles | None) \
         -> Iterator[Members]:
     """Yield the JSON rows of the subtitles of a part in the order of the file, with times and
     verdicts."""
-    rows = [*judged_values(part, severity), *refused_values(part, severity, beside)]
+    rows = [*make_judged_rows(part, severity), *make_refused_rows(part, severity, beside)]
     yield from sorted(rows, key=lambda row: int(row["position"]))
 
 
-def judged_values(part: Part, severity: Severity) -> Iterator[Members]:
+def make_judged_rows(part: Part, severity: Severity) -> Iterator[Members]:
     """Yield the JSON rows of the subtitles that were judged."""
     judge, option = CueJudge(part, severity), BY_WORD[part.request.option].bits
-    start = recording_start(part)
-    for place, cue in enumerate(cues_of(part)):
-        subtitle, verdict = cue.subtitle, judge.verdict(cue)
+    start = find_recording_start(part)
+    for place, cue in enumerate(find_cues(part)):
+        subtitle, verdict = cue.subtitle, judge.judge(cue)
         yield {
             "part": part.number, "position": subtitle.index, "number": subtitle.number,
-            "recording_offset": into_recording(part, start, subtitle.begin) or None,
+            "recording_offset": format_recording_offset(part, start, subtitle.begin) or None,
             "expected_in": time_of(subtitle.begin), "expected_out": time_of(subtitle.end),
             "actual_in": None if cue.begin is None else time_of(cue.begin),
             "actual_out": None if cue.end is None else time_of(cue.end),
-            "delay_in": cue.late_in, "delay_out": cue.late_out,
-            "expected_text": page_text(cue.expected, option),
-            "decoded_text": None if cue.decoded is None else page_text(cue.decoded, option),
-            "verdict": verdict.word, "reason": judge.reason(verdict) or None,
+            "delay_in": cue.delay_in, "delay_out": cue.delay_out,
+            "expected_text": format_page_text(cue.expected, option),
+            "decoded_text": None if cue.decoded is None else format_page_text(cue.decoded, option),
+            "verdict": verdict.word, "reason": judge.describe_reason(verdict) or None,
             "complete_after": part.delays[place] if part.delays else None}
-    if part.recording is None and not part.answer.numbers:
-        for subtitle in subtitles_read(part.subtitle_file().data):
+    if part.recording is None and not part.check_output.fault_numbers:
+        for subtitle in subtitles_read(part.open_subtitle_file().data):
             text = " / ".join(map(letters_of, subtitle.text.split(b"\x8a")))
-            yield file_values(part, NamedSubtitle(
+            yield make_file_row(part, NamedSubtitle(
                 subtitle.index, subtitle.number, time_of(subtitle.begin), time_of(subtitle.end)),
                 RIGHT, None, text)
 
 
-def refused_values(part: Part, severity: Severity, beside: JudgedBeside | None) \
+def make_refused_rows(part: Part, severity: Severity, beside: ValidSubtitles | None) \
         -> Iterator[Members]:
     """Yield the JSON rows of the subtitles with faults in the subtitle file."""
     file = SubtitleFile(part.names.given, part.request.between)
-    for refused in refused_subtitles(part, file, beside):
+    for refused in find_refused_subtitles(part, file, beside):
         if refused.subtitle and (refused.faults or beside):
-            word = UNSURE if not refused.faults else \
+            word = NOT_KNOWN if not refused.faults else \
                 WAIVED if refused.is_waived(severity) else WRONG
-            reason = "; ".join(fault.line for fault in refused.faults) or AFTER_IT
-            yield file_values(part, refused.subtitle, word, reason, None)
+            reason = "; ".join(fault.line for fault in refused.faults) or NEXT_IS_REFUSED
+            yield make_file_row(part, refused.subtitle, word, reason, None)
 
 
-def file_values(part: Part, subtitle: NamedSubtitle, verdict: str, reason: str | None,
-                text: str | None) -> Members:
+def make_file_row(part: Part, subtitle: NamedSubtitle, verdict: str, reason: str | None,
+                  text: str | None) -> Members:
     """Return the JSON row of a subtitle that is known only from the subtitle file."""
     unknown = dict.fromkeys(("recording_offset", "actual_in", "actual_out", "delay_in",
                              "delay_out", "decoded_text", "complete_after"))

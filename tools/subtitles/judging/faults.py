@@ -12,7 +12,7 @@ from ..formats.listing import (
     BEGIN, CHARACTER, CONTENT, CONTROL, DISPLAY, EMPTY_TIME, END, FaultLine, GAP, LETTERS,
     NamedFault, OFF_FRAME, OUT_OF_ORDER, PARITY, PASSED_OVER, SILENT, STL_FAULTS, WITH_CAUSE,
     meanings, named_meanings, plain)
-from ..formats.stl import NEW_LINE, NamedSubtitle, SubtitleFile, subtitle_name
+from ..formats.stl import NamedSubtitle, NEW_LINE, SubtitleFile, subtitle_name
 from ..formats.teletext import BY_WORD, character_of, letter_at, letters
 from ..request.request import Request
 from ..stream.gaps import why_refused
@@ -20,12 +20,12 @@ from ..stream.pace import frame_rows
 from ..stream.repeats import edges_of, longest_gap, repeat_distance
 from ..stream.packets import HEADER, Packets, Run
 from ..stream.receiver import HIT, OLD, Rows, Timeline
-from .causes import Wording
-from .check import End
-from .pages import SPACE, code_words, page_text
+from .causes import CauseDescriber
+from .check import FaultEnd
+from .pages import SPACE, describe_code, format_page_text
 from .part import Part
-from .subtitles import OptionAdvice, midnight_words
-from .transmissions import Headed, effect_of, headed, header_words
+from .subtitles import OptionAdvice, advise_on_midnight
+from .transmissions import PageHeader, describe_effect, describe_header_faults, find_page_headers
 from .verdict import Verdict
 
 
@@ -39,46 +39,49 @@ class FaultPlace(NamedTuple):
     pes: int | None
     pts: int | None
     rows: Rows | None
-    headers: Sequence[Headed] = ()
+    headers: Sequence[PageHeader] = ()
 
 
-NOWHERE = FaultPlace(None, None, None)
+NO_PLACE = FaultPlace(None, None, None)
 
 
-def fault_place(fault: FaultLine, packets: Packets, held: Timeline | None,
-                due: Rows | None = None) -> FaultPlace:
-    """Return the place of a fault of a transmission; `due` is the expected page."""
+def find_fault_place(fault: FaultLine, packets: Packets, timeline: Timeline | None,
+                     expected: Rows | None = None) -> FaultPlace:
+    """Return the place of a fault of a transmission; `expected` is the expected page."""
     if fault.pes is not None:
         return FaultPlace(fault.pes, packets.pts_at(fault.pes), None)
-    if fault.frame is None or held is None:
-        return NOWHERE
-    members = held.members(fault.frame)
+    if fault.frame is None or timeline is None:
+        return NO_PLACE
+    members = timeline.members(fault.frame)
     if not members:
-        return FaultPlace(None, None, held.state_at(fault.frame).rows)
-    if not held.within and fault.number == GAP:  # reported before others of the frame, which are 62
+        return FaultPlace(None, None, timeline.state_at(fault.frame).rows)
+    # Reported before others of the frame, which are 62.
+    if not timeline.within and fault.number == GAP:
         members = members[:1]
-    if due:
-        members = [next((one for one in reversed(members) if code_of(fault, due) != code_of(
-            fault, held.state_after(one.first).rows)), members[-1])]
-    run = members[-1] if fault.packet is None else member_of(members, fault.packet)
-    return FaultPlace(run.first, run.pts, held.state_after(members[-1].first).rows,
-                 headed(run, held.state_after(run.first - 1)) if fault.number == CONTROL else ())
+    if expected:
+        members = [next((one for one in reversed(members)
+                         if find_fault_code(fault, expected) != find_fault_code(
+            fault, timeline.state_after(one.first).rows)), members[-1])]
+    run = members[-1] if fault.packet is None else find_pes_packet(members, fault.packet)
+    return FaultPlace(run.first, run.pts, timeline.state_after(members[-1].first).rows,
+                 find_page_headers(run, timeline.state_after(run.first - 1))
+                      if fault.number == CONTROL else ())
 
 
-def member_of(members: Sequence[Run], packet: int) -> Run:
+def find_pes_packet(members: Sequence[Run], packet: int) -> Run:
     """Return the PES packet of a frame that has a Teletext packet; the packet numbers run on
     through all PES packets of the frame."""
     ends = itertools.accumulate(run.units for run in members)
     return next((run for run, end in zip(members, ends) if packet < end), members[-1])
 
 
-def code_of(fault: FaultLine, rows: Rows) -> int | None:
+def find_fault_code(fault: FaultLine, page: Rows) -> int | None:
     """Return the code of the cell that a fault names, or `None` if the fault names no cell."""
     return None if fault.row is None or fault.column is None else \
-        code_at(rows, fault.row, fault.column)
+        find_code(page, fault.row, fault.column)
 
 
-def code_at(rows: Rows | None, row: int, column: int) -> int | None:
+def find_code(rows: Rows | None, row: int, column: int) -> int | None:
     """Return the code of a cell, or `None` if no code was received for the cell."""
     if rows is None or rows[row - 1][column] == OLD:
         return None
@@ -87,83 +90,86 @@ def code_at(rows: Rows | None, row: int, column: int) -> int | None:
 
 # Hints on the first fault of some numbers
 
-HINTED = {EMPTY_TIME, CHARACTER, OUT_OF_ORDER, OFF_FRAME, CONTROL, GAP, PARITY, SILENT}
-NAMED = {DISPLAY, CONTENT}  # faults whose hint names the option, or the difference
-OF_HEADERS = {32, 35}  # lengths of PES packets and of their headers
-OF_ENDS = {BEGIN, END}  # the recording begins late or ends early
-HINTS = HINTED | NAMED | OF_HEADERS | OF_ENDS
+HINTS_BY_NUMBER = {EMPTY_TIME, CHARACTER, OUT_OF_ORDER, OFF_FRAME, CONTROL, GAP, PARITY, SILENT}
+HINTS_ON_PAGES = {DISPLAY, CONTENT}  # faults whose hint names the option, or the difference
+LENGTH_FAULTS = {32, 35}  # lengths of PES packets and of their headers
+RANGE_FAULTS = {BEGIN, END}  # the recording begins late or ends early
+FAULTS_WITH_HINT = HINTS_BY_NUMBER | HINTS_ON_PAGES | LENGTH_FAULTS | RANGE_FAULTS
 DSC = slice(11, 12)  # the field in the GSI block
 
 
-def hints_of(verdict: Verdict) -> Iterator[str]:
+def list_hints(verdict: Verdict) -> Iterator[str]:
     """Yield a line on the first fault of each number with a hint, in the order of the faults."""
     for part in verdict.parts:
-        for number, fault in part.answer.firsts.items():
-            if number in HINTS and (words := hint_words(fault, part, verdict)):
+        for number, fault in part.check_output.first_faults.items():
+            if number in FAULTS_WITH_HINT and (words := describe_hint(fault, part, verdict)):
                 yield f"{number}: {words}"
 
 
-def hint_words(fault: FaultLine, part: Part, verdict: Verdict) -> str:
+def describe_hint(fault: FaultLine, part: Part, verdict: Verdict) -> str:
     """Return the hint on a fault, or an empty text."""
     request = verdict.request
     if fault.number == CHARACTER:
         if not fault.block or fault.at is None:
             return ""
-        return OptionAdvice(part.subtitle_file(), request.option).of(fault.block, fault.at)
+        return OptionAdvice(part.open_subtitle_file(), request.option).advise(fault.block, fault.at)
     if fault.number == DISPLAY:
-        return open_words(part.subtitle_file())
-    if fault.number in OF_HEADERS:
-        return part.of_header
-    if fault.number in OF_ENDS:
-        return (end_words(part) if fault.number == END else "") or unrecorded_words(fault, part)
+        return describe_open_option(part.open_subtitle_file())
+    if fault.number in LENGTH_FAULTS:
+        return part.header_problem
+    if fault.number in RANGE_FAULTS:
+        return (describe_pid_end(part) if fault.number == END else "") or \
+            describe_unrecorded(fault, part)
     if fault.number == CONTENT:
-        return part.otherwise
+        return part.drawing_differences
     if fault.number in (EMPTY_TIME, OUT_OF_ORDER):
-        return midnight_words(fault, part.subtitle_file())
+        return advise_on_midnight(fault, part.open_subtitle_file())
     if part.pes is None or part.origin is None:
         return ""
     if fault.number == OFF_FRAME:
-        return off_words(most_off(part.pts(), part.origin))
+        return off_words(most_off(part.list_pts(), part.origin))
     if fault.number == SILENT:
-        return silent_words(fault, part)
+        return describe_silence(fault, part)
     if fault.number == GAP:
-        times = [(subtitle.begin, subtitle.end) for subtitle in part.due().subtitles]
-        return gap_words((part.pts(HEADER), part.pts()[-1:]), part.origin, request,
-                         part.answer.numbers, times)
+        times = [(subtitle.begin, subtitle.end) for subtitle in part.expected_pages().subtitles]
+        return describe_longest_gap((part.list_pts(HEADER), part.list_pts()[-1:]), part.origin,
+                                    request, part.check_output.fault_numbers, times)
     if fault.number == PARITY:
-        return letter_words(fault, part)
-    if part.kept:
-        return part.kept.words()
-    return header_words(fault_place(fault, part.packets, part.held).headers, request)
+        return describe_parity_fault(fault, part)
+    if part.keeping_headers:
+        return part.keeping_headers.describe()
+    return describe_header_faults(find_fault_place(fault, part.packets, part.decoded_pages).headers,
+                                  request)
 
 
-def lead_words(fault: FaultLine, part: Part, verdict: Verdict) -> str:
+def describe_first_hint(fault: FaultLine, part: Part, verdict: Verdict) -> str:
     """Return the hint on the fault to report first. The hint on a header begins with the subtitle
     and the effect on receivers."""
-    words = hint_words(fault, part, verdict)
+    words = describe_hint(fault, part, verdict)
     if fault.number != CONTROL or not words or fault.frame is None:
         return words
-    effect = effect_of(fault_place(fault, part.packets, part.held).headers, verdict.request)
-    return f"{whose_words(fault.frame, part)} {effect} on some sets: {words}"
+    effect = describe_effect(find_fault_place(fault, part.packets, part.decoded_pages).headers,
+                             verdict.request)
+    return f"{describe_subtitle_at(fault.frame, part)} {effect} on some sets: {words}"
 
 
-def whose_words(frame: int, part: Part) -> str:
+def describe_subtitle_at(frame: int, part: Part) -> str:
     """Describe the subtitle expected at a frame with its text; in a pause, the page and the
     subtitle before."""
-    due = part.due()
+    due = part.expected_pages()
     count, is_due = due.due(frame)
     if not is_due:
         return f"the page behind {due.subtitles[count - 1].name}" if count else "the page"
-    text = page_text(due.pages[count - 1], BY_WORD[part.request.option].bits)
+    text = format_page_text(due.pages[count - 1], BY_WORD[part.request.option].bits)
     return f'{due.subtitles[count - 1].name}, "{text}",'
 
 
-def letter_words(fault: FaultLine, part: Part) -> str:
+def describe_parity_fault(fault: FaultLine, part: Part) -> str:
     """Describe which character of a subtitle has even parity; an empty text if none is known."""
-    rows = fault_place(fault, part.packets, part.held).rows
+    rows = find_fault_place(fault, part.packets, part.decoded_pages).rows
     if fault.frame is None or rows is None:
         return ""
-    due = part.due().page_at(fault.frame)
+    due = part.expected_pages().page_at(fault.frame)
     codes = [code for cells, wanted in zip(rows, due) for cell, code in zip(cells, wanted)
              if cell == HIT]
     code = next((code for code in codes if code > SPACE), codes[0] if codes else None)
@@ -172,29 +178,29 @@ def letter_words(fault: FaultLine, part: Part) -> str:
     elif code > SPACE:
         what = f'the letter "{letters(BY_WORD[part.request.option].bits)[code]}"'
     else:
-        what = f"a byte, {code_words(code)},"
-    return f"{what} of {whose_words(fault.frame, part)} comes with even parity"
+        what = f"a byte, {describe_code(code)},"
+    return f"{what} of {describe_subtitle_at(fault.frame, part)} comes with even parity"
 
 
-def end_words(part: Part) -> str:
+def describe_pid_end(part: Part) -> str:
     """Describe why the PID has no Teletext after the last judged PES packet; an empty text if it
     does."""
     is_last = part.pes is not None and part.pes[1] == part.packets.count - 1
     return (why_refused(part.packets) or "") if is_last and part.packets.refusal else ""
 
 
-def unrecorded_words(fault: FaultLine, part: Part) -> str:
+def describe_unrecorded(fault: FaultLine, part: Part) -> str:
     """Describe how many subtitles were not recorded, and the option that judges the other
     subtitles."""
-    frame, subtitles = fault.frame, part.due().subtitles
-    if frame is None or not subtitles or part.causes and fault.number in part.causes.of_edge:
+    frame, subtitles = fault.frame, part.expected_pages().subtitles
+    if frame is None or not subtitles or part.causes and fault.number in part.causes.by_end_fault:
         return ""
     if fault.number == BEGIN:
         left = [one for one in subtitles if one.begin < frame]
         option = [f"--from {time_of(one.begin)}" for one in subtitles if one.begin >= frame][:1]
     else:
         left = [one for place, one in enumerate(subtitles)
-                if one.end > frame and not (part.causes and part.causes.is_over_early(place))]
+                if one.end > frame and not (part.causes and part.causes.ended_early(place))]
         option = [f"--to {time_of(one.end + 1)}" for one, other in zip(subtitles, subtitles[1:])
                   if one.end <= frame and one.end < other.begin][-1:]
     if not left:
@@ -204,17 +210,17 @@ def unrecorded_words(fault: FaultLine, part: Part) -> str:
     return f"{words}; {option[0]} judges the others" if option else words
 
 
-def block_words(fault: FaultLine, subtitles: SubtitleFile) -> str:
+def describe_block_subtitle(fault: FaultLine, subtitles: SubtitleFile) -> str:
     """Describe the subtitle of the block of a fault, with its time and text; an empty text without
     a block."""
     subtitle = subtitles.at_block(fault.block) if fault.block else None
     if subtitle is None or not fault.block:
         return ""
     name = subtitle_name(subtitle.position, subtitle.number)
-    return f'{name} at {subtitle.begin}, "{stored_text(subtitles.text(fault.block))}"'
+    return f'{name} at {subtitle.begin}, "{format_stored_text(subtitles.text(fault.block))}"'
 
 
-def stored_text(text: bytes) -> str:
+def format_stored_text(text: bytes) -> str:
     """Return the stored text of a subtitle as readable characters, its lines separated by slashes.
     """
     lines = list[str]()
@@ -229,13 +235,13 @@ def stored_text(text: bytes) -> str:
     return " / ".join(lines)
 
 
-def open_words(subtitles: SubtitleFile) -> str:
+def describe_open_option(subtitles: SubtitleFile) -> str:
     """Describe how to accept a display standard code of open subtitles, or of none."""
     kind = {b"0": "0, open subtitles", b" ": "a space, none"}.get(subtitles.data[DSC])
     return f"its DSC is {kind}: --open takes it" if kind else ""
 
 
-def silent_words(fault: FaultLine, part: Part) -> str:
+def describe_silence(fault: FaultLine, part: Part) -> str:
     """Describe from which time on, and for how many frames, no PES packet came."""
     request, pes, origin = part.request, part.pes, part.origin
     if request is None or request.pace is None or pes is None or origin is None \
@@ -248,8 +254,8 @@ def silent_words(fault: FaultLine, part: Part) -> str:
         f"none for {counted(after - before - 1, 'frame')} from {time_of(before + 1)} on"
 
 
-def gap_words(sent: tuple[Sequence[int], Sequence[int]], origin: int, request: Request,
-              numbers: set[int], times: Sequence[tuple[int, int]]) -> str:
+def describe_longest_gap(sent: tuple[Sequence[int], Sequence[int]], origin: int, request: Request,
+                         numbers: set[int], times: Sequence[tuple[int, int]]) -> str:
     """Describe the longest gap between headers of the page, or after the last header; an empty text
     if some PES packets can't be read. `sent` has the PTS of headers and of the last PES packet."""
     headers, last = ([frame for pts in some if (frame := frame_at(pts, origin, request.within))
@@ -274,106 +280,107 @@ class PartFaults:
         self.letters: list[str] = letters(BY_WORD[self.request.option].bits)
         self.meanings = {number: (plain(meaning.means), plain(meaning.do))
                          for number, meaning in meanings().items()}
-        self.wording = Wording(part.causes, self.request.option) if part.causes else None
-        self.subtitles = part.subtitle_file()
-        self.of_letters = OptionAdvice(self.subtitles, self.request.option)
+        self.wording = CauseDescriber(part.causes, self.request.option) if part.causes else None
+        self.subtitles = part.open_subtitle_file()
+        self.character_advice = OptionAdvice(self.subtitles, self.request.option)
 
     def __iter__(self) -> Iterator[Members]:
-        return itertools.starmap(self.fault, self.part.answer.told())
+        return itertools.starmap(self.make_fault, self.part.check_output.read_faults())
 
-    def fault(self, fault: FaultLine, end: End) -> Members:
+    def make_fault(self, fault: FaultLine, end: FaultEnd) -> Members:
         """Return a fault with its details for the JSON result."""
         is_stl = fault.number in STL_FAULTS
-        due = self.part.due().page_at(fault.frame) if fault.number == CONTENT and \
+        due = self.part.expected_pages().page_at(fault.frame) if fault.number == CONTENT and \
             fault.frame is not None else None
-        place = NOWHERE if is_stl else fault_place(fault, self.part.packets, self.part.held, due)
+        place = NO_PLACE if is_stl else find_fault_place(
+            fault, self.part.packets, self.part.decoded_pages, due)
         byte, character = self.subtitles.letter(fault.block, fault.at) \
             if fault.number in LETTERS and fault.block and fault.at is not None else (None, None)
-        subtitle = self.subtitle_of(fault)
+        subtitle = self.find_subtitle(fault)
         means, do = self.meanings.get(fault.number, ("", ""))
         if fault.number == CHARACTER and fault.block and fault.at is not None:
-            do = self.of_letters.of(fault.block, fault.at) or do
+            do = self.character_advice.advise(fault.block, fault.at) or do
         if fault.number == DISPLAY:
-            do = open_words(self.subtitles) or do
+            do = describe_open_option(self.subtitles) or do
         if fault.number == CONTENT:
-            do = self.part.otherwise or do
-        do = midnight_words(fault, self.subtitles) or do
-        means = header_words(place.headers, self.request) or means
+            do = self.part.drawing_differences or do
+        do = advise_on_midnight(fault, self.subtitles) or do
+        means = describe_header_faults(place.headers, self.request) or means
         return {
             "part": self.part.number, "line": fault.line, "number": fault.number,
-            "name": fault.name, "severity": self.verdict.severity.of(fault.number),
+            "name": fault.name, "severity": self.verdict.severity.classify(fault.number),
             "file": "stl" if is_stl else "pes", "block": fault.block,
-            "subtitle": subtitle and words_of_subtitle(subtitle),
+            "subtitle": subtitle and make_subtitle(subtitle),
             "byte": byte, "character": character, "text_offset": fault.at,
             "pes": place.pes if fault.pes is None else fault.pes,
-            "pes_pts": place.pts, "pes_time": self.time_at(place.pts), "packet": fault.packet,
+            "pes_pts": place.pts, "pes_time": self.format_time(place.pts), "packet": fault.packet,
             "frame": fault.frame, "time": fault.time, "row": fault.row, "column": fault.column,
-            "expected": self.cell(due, fault),
-            "decoded": self.cell(place.rows, fault) if fault.number == CONTENT else None,
+            "expected": self.make_cell(due, fault),
+            "decoded": self.make_cell(place.rows, fault) if fault.number == CONTENT else None,
             "last_time": end.time, "last_pes": end.pes, "meaning": means, "remedy": do,
-            "cause": self.cause_of(fault),
+            "cause": self.make_cause(fault),
         }
 
-    def cause_of(self, fault: FaultLine) -> Members | None:
+    def make_cause(self, fault: FaultLine) -> Members | None:
         """Return the cause of the subtitle of a fault 63, 72 or 74."""
         if self.wording is None or fault.number not in WITH_CAUSE or fault.frame is None:
             return None
-        cause = self.wording.causes.of(fault.number, fault.frame)
-        return self.wording.values(cause) if cause else None
+        cause = self.wording.causes.find_cause(fault.number, fault.frame)
+        return self.wording.make_json(cause) if cause else None
 
-    def subtitle_of(self, fault: FaultLine) -> NamedSubtitle | None:
+    def find_subtitle(self, fault: FaultLine) -> NamedSubtitle | None:
         """Return the subtitle of the block of a fault, or the subtitle expected at its frame."""
         if fault.block is not None:
             return self.subtitles.at_block(fault.block)
         return self.subtitles.at_frame(fault.frame) if fault.frame is not None else None
 
-    def time_at(self, pts: int | None) -> str | None:
+    def format_time(self, pts: int | None) -> str | None:
         """Return the time code of a PTS, or `None` if the PTS is not that of a frame."""
         if pts is None or self.part.origin is None:
             return None
         frame = frame_at(pts, self.part.origin, self.request.within)
         return None if frame is None else time_of(frame)
 
-    def cell(self, rows: Rows | None, fault: FaultLine) -> Members | None:
+    def make_cell(self, rows: Rows | None, fault: FaultLine) -> Members | None:
         """Return the cell that a fault names, for the JSON result."""
         if fault.row is None or fault.column is None:
             return None
-        code = code_at(rows, fault.row, fault.column)
+        code = find_code(rows, fault.row, fault.column)
         if code is None:
             return None
         return {"code": f"{code:02X}", "character": self.letters[code] if code >= 0x20 else None}
 
 
 # Details that a fault without a number lacks.
-NO_NUMBER = ("number", "byte", "character", "text_offset", "pes", "pes_pts", "pes_time", "packet",
-             "row", "column", "expected", "decoded", "last_pes", "cause")
+KEYS_WITHOUT_NUMBER = ("number", "byte", "character", "text_offset", "pes", "pes_pts", "pes_time",
+                       "packet", "row", "column", "expected", "decoded", "last_pes", "cause")
 
 
-def words_of_subtitle(subtitle: NamedSubtitle) -> Members:
+def make_subtitle(subtitle: NamedSubtitle) -> Members:
     """Return a subtitle for the JSON result."""
     return {"position": subtitle.position, "number": subtitle.number, "begin": subtitle.begin,
             "end": subtitle.end}
 
 
-def named_fault(verdict: Verdict, fault: NamedFault) -> Members:
+def make_named_fault(verdict: Verdict, fault: NamedFault) -> Members:
     """Return a fault without a number, with its details for the JSON result."""
     part = next((part for part in verdict.parts if part.number == fault.part), None)
-    file = part.subtitle_file() if part else None
+    file = part.open_subtitle_file() if part else None
     frame = frame_of(fault.time) if fault.time else None
     subtitle = None if file is None else file.at_block(fault.block) \
         if fault.block is not None else file.at_frame(frame) if frame is not None else None
     meaning = named_meanings().get(fault.name)
-    return {**dict.fromkeys(NO_NUMBER), "part": fault.part, "line": fault.line,
-            "name": fault.name, "severity": verdict.severity.of(fault.name),
+    return {**dict.fromkeys(KEYS_WITHOUT_NUMBER), "part": fault.part, "line": fault.line,
+            "name": fault.name, "severity": verdict.severity.classify(fault.name),
             "file": "pes" if fault.block is None else "stl", "block": fault.block,
-            "subtitle": subtitle and words_of_subtitle(subtitle), "frame": frame,
+            "subtitle": subtitle and make_subtitle(subtitle), "frame": frame,
             "time": fault.time, "last_time": fault.until, "meaning": fault.words,
             "remedy": plain(meaning.do) if meaning else ""}
 
 
-def faults_of(verdict: Verdict) -> Iterator[Members]:
+def make_faults(verdict: Verdict) -> Iterator[Members]:
     """Yield the faults without a number, then the numbered faults of all parts."""
-    yield from (named_fault(verdict, fault) for fault in verdict.named)
+    yield from (make_named_fault(verdict, fault) for fault in verdict.named_faults)
     for part in verdict.parts:
-        if part.answer.count:
+        if part.check_output.fault_count:
             yield from PartFaults(verdict, part)

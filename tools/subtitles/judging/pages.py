@@ -7,7 +7,7 @@ from typing import Iterator, NamedTuple, Sequence
 
 from ..common.command_line import counted
 from ..common.times import time_of
-from ..formats.listing import NOT_SHOWN, NamedFault
+from ..formats.listing import NamedFault, NOT_SHOWN
 from ..formats.stl import Subtitle, SubtitleFile
 from ..formats.teletext import BY_WORD, NationalOption, letters
 from ..recording.notices import Notice
@@ -28,18 +28,18 @@ SPACE = 0x20
 SPACES = bytes(max(code, SPACE) for code in range(256))  # spacing attributes are spaces
 
 
-class LetteredRow(NamedTuple):
+class TextRow(NamedTuple):
     """A row with characters: the row number, the column of the first character, the text and the
     attributes."""
 
     row: int
     column: int
-    words: bytes
+    text: bytes
     attributes: bytes
 
 
 @functools.lru_cache(maxsize=1 << 12)
-def lettered_rows(rows: Rows) -> tuple[LetteredRow, ...]:
+def find_text_rows(rows: Rows) -> tuple[TextRow, ...]:
     """Return the rows of a page that have characters."""
     lettered = []
     for number, row in enumerate(rows, 1):
@@ -47,23 +47,23 @@ def lettered_rows(rows: Rows) -> tuple[LetteredRow, ...]:
         if words.strip():
             column = len(words) - len(words.lstrip())
             attributes = bytes(code for code in row if code < SPACE)
-            lettered.append(LetteredRow(number, column, words.strip(), attributes))
+            lettered.append(TextRow(number, column, words.strip(), attributes))
     return tuple(lettered)
 
 
-def words_on(rows: Rows) -> str:
+def join_page_text(rows: Rows) -> str:
     """Return the text of a page in one line, wherever the text is on the page."""
-    return " ".join(b" ".join(line.words for line in lettered_rows(rows)).decode("latin-1").split())
+    return " ".join(b" ".join(line.text for line in find_text_rows(rows)).decode("latin-1").split())
 
 
-def page_text(rows: Rows, option: int) -> str:
+def format_page_text(rows: Rows, option: int) -> str:
     """Return the text of a page row by row, with the characters of a national option."""
     table = letters(option)
-    return " / ".join("".join(table[code & 0x7F] for code in line.words)
-                      for line in lettered_rows(rows))
+    return " / ".join("".join(table[code & 0x7F] for code in line.text)
+                      for line in find_text_rows(rows))
 
 
-def cells_text(rows: Rows) -> str:
+def format_cells(rows: Rows) -> str:
     """Return the rows of a page that have cells: attributes in hexadecimal, characters as they are.
     """
     lines = []
@@ -77,76 +77,76 @@ def cells_text(rows: Rows) -> str:
     return ", ".join(lines)
 
 
-def first_letters(rows: Rows) -> list[int]:
+def find_text_columns(rows: Rows) -> list[int]:
     """Return the column of the first character of each row that has one."""
     return [next(at for at, cell in enumerate(row) if cell > SPACE) for row in rows
             if any(cell > SPACE for cell in row)]
 
 
-def code_words(code: int) -> str:
+def describe_code(code: int) -> str:
     """Return the name of an attribute, or the code of a cell."""
     if code == SPACE:
         return "a space"
     return ATTRIBUTES[code] if code < SPACE else f"{code:02X}"
 
 
-def moved_words(due: Rows, sent: Rows) -> str:
+def describe_move(due: Rows, sent: Rows) -> str:
     """Describe the first difference between the places of the same text on two pages."""
-    for row, other in zip(lettered_rows(due), lettered_rows(sent)):
+    for row, other in zip(find_text_rows(due), find_text_rows(sent)):
         if row.row != other.row:
             return f"row {other.row} instead of {row.row}"
         if row.column != other.column:
             return f"row {row.row} from column {other.column} instead of {row.column}"
-    return f"{len(lettered_rows(sent))} rows instead of {len(lettered_rows(due))}"
+    return f"{len(find_text_rows(sent))} rows instead of {len(find_text_rows(due))}"
 
 
-def attribute_words(due: Rows, sent: Rows) -> str:
+def describe_attribute_difference(due: Rows, sent: Rows) -> str:
     """Describe the first differing cell of two pages, and how far its row begins or ends elsewhere.
     """
     for number, (row, other) in enumerate(zip(due, sent), 1):
         for column, (code, held) in enumerate(zip(row, other)):
             if code != held:
-                return (f"row {number} column {column}: {code_words(held)} instead of "
-                        f"{code_words(code)}{ends_words(row, other)}")
+                return (f"row {number} column {column}: {describe_code(held)} instead of "
+                        f"{describe_code(code)}{describe_row_ends(row, other)}")
     return ""
 
 
-def ends_words(due: bytes, sent: bytes) -> str:
+def describe_row_ends(due: bytes, sent: bytes) -> str:
     """Describe by how many columns a row begins or ends early or late, attributes included."""
-    (first, end), (begins, ends) = extent(due), extent(sent)
-    words = [] if begins == first else [columns_words("begins", begins - first)]
-    words += [] if ends == end else [columns_words("ends", ends - end)]
+    (first, end), (begins, ends) = find_extent(due), find_extent(sent)
+    words = [] if begins == first else [describe_columns("begins", begins - first)]
+    words += [] if ends == end else [describe_columns("ends", ends - end)]
     return "".join(f", {one}" for one in words)
 
 
-def extent(row: bytes) -> tuple[int, int]:
+def find_extent(row: bytes) -> tuple[int, int]:
     """Return the first column of a row that is not a space, and the column after the last such one.
     """
     return len(row) - len(row.lstrip(b" ")), len(row.rstrip(b" "))
 
 
-def columns_words(what: str, columns: int) -> str:
+def describe_columns(what: str, columns: int) -> str:
     """Return text such as `begins a column early`; positive columns are late."""
     count = "a column" if abs(columns) == 1 else counted(abs(columns), "column")
     return f"{what} {count} {'late' if columns > 0 else 'early'}"
 
 
-def is_moved(due: Rows, sent: Rows) -> bool:
+def is_text_moved(due: Rows, sent: Rows) -> bool:
     """Return whether the same text is at other places on two pages, and not only because an
     attribute differs, which takes a cell too."""
-    rows, other = lettered_rows(due), lettered_rows(sent)
+    rows, other = find_text_rows(due), find_text_rows(sent)
     if [line.row for line in rows] != [line.row for line in other]:
         return True
     same = [line.attributes for line in rows] == [line.attributes for line in other]
     return same and [line.column for line in rows] != [line.column for line in other]
 
 
-def beside_words(due: Rows, sent: Rows) -> str:
+def describe_extra_rows(due: Rows, sent: Rows) -> str:
     """Describe the rows that a page has in addition to the expected rows, if these are all right.
     """
     if any(row != other for row, other in zip(due, sent) if row.strip()):
         return ""
-    *others, last = ["", *(str(line.row) for line in lettered_rows(sent)
+    *others, last = ["", *(str(line.row) for line in find_text_rows(sent)
                            if not due[line.row - 1].strip())]
     if not last:
         return ""
@@ -154,7 +154,7 @@ def beside_words(due: Rows, sent: Rows) -> str:
         f"another row beside it: row {last}"
 
 
-def is_part(sent: Rows, due: Rows) -> bool:
+def is_partial_page(sent: Rows, due: Rows) -> bool:
     """Return whether a page has only some rows of another page."""
     return all(row == wanted or not row.strip() for row, wanted in zip(sent, due))
 
@@ -162,29 +162,29 @@ def is_part(sent: Rows, due: Rows) -> bool:
 # Subtitles with the right characters that are drawn otherwise
 
 
-class LetterRow(NamedTuple):
+class CodedRow(NamedTuple):
     """A row with characters: the row number, the column of the first cell, the codes before the
     first character, the cells from the first character to the last, and the codes after that."""
 
     row: int
     column: int
-    before: bytes
-    letters: bytes
-    behind: bytes
+    codes_before: bytes
+    characters: bytes
+    codes_after: bytes
 
 
-def lines_of(rows: Rows) -> Iterator[LetterRow]:
+def find_coded_rows(rows: Rows) -> Iterator[CodedRow]:
     """Yield the rows of a page that have characters."""
     for number, row in enumerate(rows, 1):
         cells = row.strip(b" ")
         at = [place for place, cell in enumerate(cells) if cell > SPACE]
         if at:
-            yield LetterRow(number, len(row) - len(row.lstrip(b" ")), cells[:at[0]],
+            yield CodedRow(number, len(row) - len(row.lstrip(b" ")), cells[:at[0]],
                        cells[at[0]:at[-1] + 1], cells[at[-1] + 1:])
 
 
-def otherwise(subtitles: Sequence[Subtitle], pages: Sequence[Rows], held: Timeline,
-              option: NationalOption) -> str:
+def describe_drawing_differences(subtitles: Sequence[Subtitle], pages: Sequence[Rows],
+                                 held: Timeline, option: NationalOption) -> str:
     """Describe how many subtitles were sent with the right characters but drawn differently, and
     the difference of the first."""
     differing = [(subtitle, page, sent.rows) for subtitle, page in zip(subtitles, pages)
@@ -195,13 +195,13 @@ def otherwise(subtitles: Sequence[Subtitle], pages: Sequence[Rows], held: Timeli
     others = f", and so are those of {counted(len(differing) - 1, 'more subtitle')}" \
         if len(differing) > 1 else ""
     return f"the letters of {subtitle.name} are right and drawn otherwise: " \
-        f"{cells_words(page, rows)}{others}"
+        f"{describe_row_difference(page, rows)}{others}"
 
 
-def cells_words(due: Rows, sent: Rows) -> str:
+def describe_row_difference(due: Rows, sent: Rows) -> str:
     """Describe the first differing row of a page with the right characters: its row, column and
     codes."""
-    lines, others = [*lines_of(due)], [*lines_of(sent)]
+    lines, others = [*find_coded_rows(due)], [*find_coded_rows(sent)]
     if len(lines) != len(others):
         return f"in {counted(len(others), 'row')}, where {len(lines)} are due"
     row, other = next((pair for pair in zip(lines, others) if pair[0] != pair[1]),
@@ -209,14 +209,14 @@ def cells_words(due: Rows, sent: Rows) -> str:
     words = [
         f"row {other.row} where {row.row} is due" if other.row != row.row else f"row {row.row}",
         *([f"column {other.column} where {row.column} is due"] * (other.column != row.column)),
-        *(f"{codes_words(its)} {where} its letters where {codes_words(own)} is due"
-          for where, own, its in (("before", row.before, other.before),
-                                  ("behind", row.behind, other.behind)) if own != its),
-        *(["other codes between its letters"] * (other.letters != row.letters))]
+        *(f"{format_codes(its)} {where} its letters where {format_codes(own)} is due"
+          for where, own, its in (("before", row.codes_before, other.codes_before),
+                                  ("behind", row.codes_after, other.codes_after)) if own != its),
+        *(["other codes between its letters"] * (other.characters != row.characters))]
     return ", ".join(words)
 
 
-def codes_words(codes: bytes) -> str:
+def format_codes(codes: bytes) -> str:
     """Return codes in hexadecimal, spaces included."""
     return " ".join(f"{code:02X}" for code in codes) or "nothing"
 
@@ -240,21 +240,21 @@ class Cell(NamedTuple):
     column: int
     code: int
     is_boxed: bool
-    is_begun: bool
-    is_alike: bool
+    is_after_start_box: bool
+    is_invisible: bool
 
     @property
-    def is_seen(self) -> bool:
+    def is_shown(self) -> bool:
         """Return whether libzvbi shows the character."""
-        return self.is_boxed and not self.is_alike
+        return self.is_boxed and not self.is_invisible
 
     @property
-    def is_seen_somewhere(self) -> bool:
+    def is_shown_anywhere(self) -> bool:
         """Return whether any of the tested decoders shows the character."""
-        return self.is_begun and not self.is_alike
+        return self.is_after_start_box and not self.is_invisible
 
 
-class Sight(enum.Enum):
+class Visibility(enum.Enum):
     """How much of a row receivers show."""
 
     ALL = "all of it, or it has no letters"
@@ -262,7 +262,7 @@ class Sight(enum.Enum):
     NONE = "none of its letters"
 
 
-def letters_in(cells: bytes) -> Iterator[Cell]:
+def decode_cells(cells: bytes) -> Iterator[Cell]:
     """Yield the characters of a row."""
     ink, paper, is_boxed, is_begun, last = WHITE, BLACK, False, False, SPACE
     for column, byte in enumerate(cells):
@@ -283,25 +283,26 @@ def letters_in(cells: bytes) -> Iterator[Cell]:
 
 
 @functools.lru_cache(maxsize=1000)
-def sight_of(cells: bytes) -> Sight:
+def find_visibility(cells: bytes) -> Visibility:
     """Return how much of a row receivers show. Results are cached, since most rows are blank."""
-    drawn_cells = [*letters_in(cells)]
-    if all(cell.is_seen for cell in drawn_cells):
-        return Sight.ALL
-    return Sight.SOME if any(cell.is_seen_somewhere for cell in drawn_cells) else Sight.NONE
+    drawn_cells = [*decode_cells(cells)]
+    if all(cell.is_shown for cell in drawn_cells):
+        return Visibility.ALL
+    return Visibility.SOME if any(cell.is_shown_anywhere
+                                  for cell in drawn_cells) else Visibility.NONE
 
 
-def hidden_words(cells: bytes, option: str) -> str:
+def describe_hidden_characters(cells: bytes, option: str) -> str:
     """Describe which characters of a row are hidden, by which decoders, and why."""
     table = letters(BY_WORD[option].bits)
 
     def text(several: Sequence[Cell]) -> str:
         return '"' + "".join(table[cell.code] for cell in several) + '"'
 
-    unseen = [cell for cell in letters_in(cells) if not cell.is_seen]
-    alike = [cell for cell in unseen if cell.is_alike]
-    outside = [cell for cell in unseen if not cell.is_alike and not cell.is_begun]
-    behind = [cell for cell in unseen if cell.is_seen_somewhere]
+    unseen = [cell for cell in decode_cells(cells) if not cell.is_shown]
+    alike = [cell for cell in unseen if cell.is_invisible]
+    outside = [cell for cell in unseen if not cell.is_invisible and not cell.is_after_start_box]
+    behind = [cell for cell in unseen if cell.is_shown_anywhere]
     words = [f"no set shows {text(alike)}, in the colour of its background"] if alike else []
     words += [f"no set shows {text(outside)}, outside of a box"] if outside else []
     words += [f"libzvbi does not show {text(behind)}, behind one start box (0B), and ffmpeg does"] \
@@ -316,24 +317,24 @@ class HiddenRows(NamedTuple):
     warnings: list[Notice]
 
 
-def may_hide(subtitles: Sequence[Subtitle], has_layout: bool) -> bool:
+def may_hide_rows(subtitles: Sequence[Subtitle], has_layout: bool) -> bool:
     """Return whether a row may be hidden: only codes of a text or a layout can do that."""
     return has_layout or any(bytes([code]) in subtitle.text
                              for subtitle in subtitles for code in HIDING)
 
 
-def hidden_rows(subtitles: Sequence[Subtitle], pages: Sequence[Rows], file: SubtitleFile,
-                option: str) -> HiddenRows:
+def find_hidden_rows(subtitles: Sequence[Subtitle], pages: Sequence[Rows], file: SubtitleFile,
+                     option: str) -> HiddenRows:
     """Return the faults and warnings on hidden rows of all subtitles."""
     hidden = HiddenRows([], [])
     for subtitle, page in zip(subtitles, pages):
         for row, cells in enumerate(page, 1):
-            sight = sight_of(cells)
-            if sight == Sight.ALL:
+            sight = find_visibility(cells)
+            if sight == Visibility.ALL:
                 continue
             words = f"{subtitle.name} at {time_of(subtitle.begin)}, row {row}: " \
-                f"{hidden_words(cells, option)}"
-            if sight == Sight.NONE:
+                f"{describe_hidden_characters(cells, option)}"
+            if sight == Visibility.NONE:
                 hidden.faults.append(NamedFault(
                     NOT_SHOWN, words, block=file.starts[subtitle.index - 1]))
             else:

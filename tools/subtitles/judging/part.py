@@ -7,7 +7,7 @@ import dataclasses
 import functools
 from typing import Callable, Collection, Iterator, Sequence
 
-from ..clock.start import Clock, Found
+from ..clock.start import Clock, TimedPart
 from ..common.command_line import counted
 from ..common.files import SummedFile
 from ..common.times import (
@@ -19,18 +19,18 @@ from ..recording.recording import Recording
 from ..request.commands import Listener, MOST_LINES, Names
 from ..request.request import Request, Unclear
 from ..stream.gaps import Place
-from ..stream.packets import NO_RANGE, PES, PTSPair, Packets, Range, headers_in
+from ..stream.packets import NO_RANGE, Packets, PES, PTSPair, Range, headers_in
 from ..stream.receiver import Timeline, national_option, timeline_near
-from .causes import Causes, Wording
-from .check import Answer
-from .sentence import Lead, lead_of
-from .status import REFUSED, Said, Severity
-from .transmissions import DuePages, Kept
+from .causes import CauseDescriber, Causes
+from .check import CheckOutput
+from .sentence import WorstFault, find_worst_fault
+from .status import CheckSummary, REFUSED, Severity
+from .transmissions import ExpectedPages, KeepingHeaders
 
 
-def nothing_due() -> DuePages:
+def no_expected_pages() -> ExpectedPages:
     """Return no pages: a subtitle file that is refused has no expected pages."""
-    return DuePages([], [])
+    return ExpectedPages([], [])
 
 
 @dataclasses.dataclass(frozen=True)
@@ -39,34 +39,35 @@ class Part:
     returns a part with more fields.
 
     `alignment`, the frames and their clock, comes first; a subtitle file alone has none. Then come
-    `pes`, the PES packets, with the file `judged` if the packets came through a pipe; then an
+    `pes`, the PES packets, with the file `judged_file` if the packets came through a pipe; then an
     option of the request for the pace, and `jumps`, the PTS around announced jumps of the counter
-    during which more time passes than usual. Then `check` fills `answer`, and the other fields
-    explain the result of `check`.
+    during which more time passes than usual. Then `check` fills `check_output`, and the other
+    fields explain the result of `check`.
     """
 
     number: int
     request: Request
     names: Names
-    answer: Answer
-    alignment: Found | None = None
+    check_output: CheckOutput
+    alignment: TimedPart | None = None
     recording: Recording | None = None
-    left_out: Collection[int] = ()
+    skipped_positions: Collection[int] = ()
     pes: Range | None = None
-    judged: SummedFile | None = None
+    judged_file: SummedFile | None = None
     jumps: Sequence[PTSPair] = ()
-    due: Callable[[], DuePages] = nothing_due
+    expected_pages: Callable[[], ExpectedPages] = no_expected_pages
     timeline: Callable[[], Timeline | None] = lambda: None
     severity: Severity | None = None
     causes: Causes | None = None  # of refused content
     delays: Sequence[int | None] = ()  # frames until each subtitle was complete
-    was_read: bool = False  # also if there is no recording
+    is_recording_read: bool = False  # also if there is no recording
     hint: str = ""  # on the fault to report first
-    of_block: str = ""  # the subtitle of the refused block
-    sent_hint: str = ""  # on the first fault of the transmission
-    of_header: str = ""  # the fault of the PES headers
-    otherwise: str = ""  # how receivers draw pages with the right characters differently
-    kept: Kept | None = None  # headers that don't erase the page, if they have no other fault
+    block_subtitle: str = ""  # the subtitle of the refused block
+    transmission_hint: str = ""  # on the first fault of the transmission
+    header_problem: str = ""  # the fault of the PES headers
+    drawing_differences: str = ""  # how receivers draw pages with the right characters differently
+    # Headers that don't erase the page, if they have no other fault.
+    keeping_headers: KeepingHeaders | None = None
 
     @property
     def packets(self) -> Packets:
@@ -88,110 +89,112 @@ class Part:
         return self.recording.stream() if self.recording else None
 
     @property
-    def recorded(self) -> tuple[Recording, Found]:
+    def judged_recording(self) -> tuple[Recording, TimedPart]:
         """Return the recording and the frames of a part that has both."""
         assert self.recording and self.alignment
         return self.recording, self.alignment
 
     @property
-    def waived(self) -> set[int]:
+    def waived_numbers(self) -> set[int]:
         """Return the fault numbers that the severity file makes warnings; none if all fault numbers
         of the part are warnings, since these then decide the verdict."""
-        numbers = {number for number in self.answer.numbers
+        numbers = {number for number in self.check_output.fault_numbers
                    if self.severity and not self.severity.is_error(number)}
-        return numbers if numbers != self.answer.numbers else set()
+        return numbers if numbers != self.check_output.fault_numbers else set()
 
     @functools.cached_property
-    def worst(self) -> Lead | None:
+    def worst_fault(self) -> WorstFault | None:
         """Return the fault to report first, if any; never a waived fault."""
-        return lead_of(self.answer, self.causes, self.waived)
+        return find_worst_fault(self.check_output, self.causes, self.waived_numbers)
 
     @functools.cached_property
-    def worst_sent(self) -> Lead | None:
+    def worst_transmission_fault(self) -> WorstFault | None:
         """Return the first fault of the transmission, in a file with refused subtitles."""
-        return lead_of(self.answer, self.causes, STL_FAULTS | {UNDECIDED} | self.waived)
+        return find_worst_fault(self.check_output, self.causes,
+                                STL_FAULTS | {UNDECIDED} | self.waived_numbers)
 
     @property
-    def leading(self) -> FaultLine | None:
+    def worst_fault_line(self) -> FaultLine | None:
         """Return the fault line to report first."""
-        return self.worst.fault if self.worst else None
+        return self.worst_fault.fault if self.worst_fault else None
 
     @property
-    def lead(self) -> str:
+    def first_text(self) -> str:
         """Return the text to report first."""
-        return self.worst.fault.line if self.worst else self.answer.last
+        return self.worst_fault.fault.line if self.worst_fault else self.check_output.last_line
 
     @property
-    def held(self) -> Timeline | None:
+    def decoded_pages(self) -> Timeline | None:
         """Return the pages that a receiver decodes from the judged PES packets."""
         return self.timeline()
 
-    def with_range(self, pes: Range, judged: SummedFile | None = None) -> Part:
+    def add_packets(self, pes: Range, judged: SummedFile | None = None) -> Part:
         """Return the part with the PES packets to judge, and the pages decoded from them."""
-        recording, alignment = self.recorded
+        recording, alignment = self.judged_recording
         request = self.request
 
         def timeline() -> Timeline:
             return Timeline(recording.packets, request.page, alignment.origin, request.within, pes)
 
-        return dataclasses.replace(self, pes=pes, judged=judged,
+        return dataclasses.replace(self, pes=pes, judged_file=judged,
                                    timeline=functools.lru_cache(maxsize=None)(timeline))
 
-    def subtitle_file(self) -> SubtitleFile:
+    def open_subtitle_file(self) -> SubtitleFile:
         """Open the subtitle file of a part, to look up subtitles by block or frame."""
-        return SubtitleFile(self.names.given, self.request.between, self.left_out)
+        return SubtitleFile(self.names.given, self.request.between, self.skipped_positions)
 
-    def said(self) -> Said:
+    def summarize_check(self) -> CheckSummary:
         """Return what decides the verdict on a part."""
-        return self.answer.said(self.was_read)
+        return self.check_output.summarize(self.is_recording_read)
 
     @property
     def is_refused(self) -> bool:
         """Return whether a part has faults, of any severity."""
-        return self.answer.verdict == REFUSED
+        return self.check_output.verdict == REFUSED
 
     def is_read(self) -> bool:
         """Return whether at least one PES packet of a part could be read."""
         if self.pes is None:
             return False
-        numbers = self.answer.numbers - STL_FAULTS
+        numbers = self.check_output.fault_numbers - STL_FAULTS
         if not numbers:  # with refused subtitles, faults of the transmission show that it was read
-            return not self.answer.numbers or len(self.trusted) > 0
+            return not self.check_output.fault_numbers or len(self.trusted_frames) > 0
         if numbers - PASSED_OVER - {EMPTY}:
             return True
         count = min(self.pes[1] + 1, self.packets.count) - self.pes[0]
-        return count > self.answer.passed.total()
+        return count > self.check_output.skipped_packets.total()
 
-    def places(self) -> list[Place]:
+    def find_loss_places(self) -> list[Place]:
         """Return the places of the part's recording where packets are missing."""
         return self.recording.places(self.jumps) if self.recording else []
 
     @functools.cached_property
-    def losses(self) -> list[Span]:
+    def unmarked_losses(self) -> list[Span]:
         """Return the frames that miss packets without a gap marker, which `check` would report:
         only the PCR shows these losses."""
         if self.alignment is None:
             return []
-        places = [place for place in self.places() if place.mark is None and is_in(place, self)]
-        return [*unseen(places, self.alignment.origin, self.request.within, False)]
+        places = [place for place in self.find_loss_places() if place.mark is None
+                  and belongs_to_part(place, self)]
+        return [*find_lost_spans(places, self.alignment.origin, self.request.within, False)]
 
     @functools.cached_property
-    def trusted(self) -> Spans:
+    def trusted_frames(self) -> Spans:
         """Return the clean frames, except frames with lost packets."""
-        return self.answer.trusted.without(self.losses)
+        return self.check_output.trusted_frames.without(self.unmarked_losses)
 
-    def pts(self, does: str = "") -> array.array[int]:
+    def list_pts(self, does: str = "") -> array.array[int]:
         """Return the PTS of the part's PES packets, or only of packets with some of the flags
         `does`."""
         return array.array("q", self.packets.pts(self.pes, does) if self.pes else ())
 
-    def options_sent(self) -> set[str]:
+    def find_options(self) -> set[str]:
         """Return the national options in the headers of the page."""
         bits = {national_option(header) for run in self.packets.inside(*self.pes or NO_RANGE)
                 for header in headers_in(run.control)}
         return {BY_BITS[one].word for one in bits if one != RESERVED}
 
-    def headers_sent(self) -> collections.Counter[bytes]:
+    def count_headers(self) -> collections.Counter[bytes]:
         """Count each header of the page that `check` reads."""
         counts: collections.Counter[bytes] = collections.Counter()
         for run in self.packets.inside(*self.pes or NO_RANGE):
@@ -201,17 +204,17 @@ class Part:
         return counts
 
     @property
-    def pes_name(self) -> str | None:
+    def pes_argument(self) -> str | None:
         """Return the range of the part's PES packets as an argument of --pes."""
         return self.pes and f"{self.pes[0]}-{self.pes[1]}"
 
-    def times(self) -> tuple[str, str] | tuple[None, None]:
+    def time_codes(self) -> tuple[str, str] | tuple[None, None]:
         """Return the first and the last frame of a part as time codes."""
         alignment = self.alignment
         return (time_of(alignment.begin), time_of(alignment.end)) if alignment else (None, None)
 
 
-def is_in(place: Place, part: Part) -> bool:
+def belongs_to_part(place: Place, part: Part) -> bool:
     """Return whether packets missing at a place belong to a part: the gap marker is among the
     part's PES packets, or if there is no gap marker, frames of the part may lack packets."""
     if part.alignment is None:
@@ -228,7 +231,7 @@ def is_in(place: Place, part: Part) -> bool:
 # The subtitles of each part
 
 
-def parted(alignments: Sequence[Found], whole: Found) -> list[Found]:
+def choose_parts(alignments: Sequence[TimedPart], whole: TimedPart) -> list[TimedPart]:
     """Return the parts to judge: the file as one part, or several parts, each with the subtitles
     that begin in its frames."""
     if len(alignments) == 1:
@@ -237,7 +240,8 @@ def parted(alignments: Sequence[Found], whole: Found) -> list[Found]:
             for alignment in alignments]
 
 
-def refuse_others(parts: Sequence[Found], subtitles: Sequence[Subtitle], stl: str) -> None:
+def refuse_missing_subtitles(parts: Sequence[TimedPart], subtitles: Sequence[Subtitle],
+                             stl: str) -> None:
     """Raise `Unclear` unless the parts together have the subtitles of `stl`, in the order of the
     file."""
     own = [subtitle for part in parts for subtitle in subtitles if part.between.has(subtitle.begin)]
@@ -252,20 +256,21 @@ def refuse_others(parts: Sequence[Found], subtitles: Sequence[Subtitle], stl: st
 # The causes of a part, by the pages decoded around it
 
 
-def part_causes(part: Part) -> Causes | None:
+def find_part_causes(part: Part) -> Causes | None:
     """Return the causes of faults in a part that was judged, or `None` if there are no causes."""
-    request, (recording, alignment) = part.request, part.recorded
-    lost = part.places() if recording.is_stream else []
+    request, (recording, alignment) = part.request, part.judged_recording
+    lost = part.find_loss_places() if recording.is_stream else []
     held = timeline_near(part.packets, request.page, alignment.origin, request.within,
                          Span(alignment.begin, alignment.end), request.every, alignment.packets,
-                         unseen(lost, alignment.origin, request.within))
-    causes = Causes(part.due(), held,
-                    reach(None if recording.packets.refusal else recording.reach(), alignment))
-    causes.name(part.answer)
-    return causes if causes.named else None
+                         find_lost_spans(lost, alignment.origin, request.within))
+    causes = Causes(part.expected_pages(), held,
+                    find_recorded_span(None if recording.packets.refusal else recording.reach(),
+                                       alignment))
+    causes.classify_all(part.check_output)
+    return causes if causes.by_index else None
 
 
-def reach(pts: tuple[int, int] | None, alignment: Found) -> Span | None:
+def find_recorded_span(pts: tuple[int, int] | None, alignment: TimedPart) -> Span | None:
     """Return the frames between two PTS, which were all recorded, or `None` if PTS go back."""
     if pts is None or alignment.packets:
         return None
@@ -274,7 +279,7 @@ def reach(pts: tuple[int, int] | None, alignment: Found) -> Span | None:
     return Span(alignment.begin - -first // TICKS, alignment.begin + last // TICKS)
 
 
-def unseen(places: Sequence[Place], origin: int, within: int, is_with_next: bool = True) \
+def find_lost_spans(places: Sequence[Place], origin: int, within: int, is_with_next: bool = True) \
         -> Iterator[Span]:
     """Return the frames that may lack packets at some places, with or without the frame of the next
     PES packet."""
@@ -285,10 +290,10 @@ def unseen(places: Sequence[Place], origin: int, within: int, is_with_next: bool
                    FRAMES_OF_A_DAY if last is None else last - (not is_with_next))
 
 
-def tell_causes(listener: Listener, causes: Causes, option: str) -> None:
+def report_causes(listener: Listener, causes: Causes, option: str) -> None:
     """Print the first causes, and how many more there are."""
-    wording, every = Wording(causes, option), causes.all()
+    wording, every = CauseDescriber(causes, option), causes.list_causes()
     for cause in every[:MOST_LINES]:
-        listener.said(wording.line(cause))
+        listener.said(wording.format_line(cause))
     if len(every) > MOST_LINES:
         listener.said(f".. {len(every) - MOST_LINES} more causes")

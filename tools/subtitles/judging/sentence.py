@@ -10,15 +10,16 @@ from ..common.command_line import counted, range_words
 from ..common.times import time_of
 from ..formats.listing import (
     BEGIN, CONTENT, CONTROL, END, ENDS_READING, FaultLine, GAP, INCOMPLETE, LOSSES, LOST_PACKETS,
-    NEVER_SENT, NOT_SHOWN, NamedFault, OFF_FRAME, PARITY, PICTURES_LEFT, STL_FAULTS, UNDECIDED,
+    NamedFault, NEVER_SENT, NOT_SHOWN, OFF_FRAME, PARITY, PICTURES_LEFT, STL_FAULTS, UNDECIDED,
     WITH_CAUSE)
 from ..formats.stl import Subtitle
 from ..formats.teletext import BY_WORD
 from .causes import (
-    ATTRIBUTE, Cause, Causes, EARLY, ERASED, IN_PART, IN_PAUSE, LATE, NAMES, NEVER, NOT_ERASED,
-    NOT_RECEIVED, OTHER, PLACE, TEXT, UNKNOWN)
-from .check import Answer
-from .pages import page_text
+    Cause, CAUSE_NAMES, Causes, EARLY, ERASED, INCOMPLETE_REPEAT, LATE, NEVER, NOT_ERASED,
+    NOT_RECEIVED, OTHER_TEXT, TEXT_IN_PAUSE, UNKNOWN_CAUSE, WRONG_ATTRIBUTE, WRONG_PLACE,
+    WRONG_TEXT)
+from .check import CheckOutput
+from .pages import format_page_text
 from .status import ACCEPTED, LOST, NOT_JUDGED, REFUSED, RELATIVE, WAIVED, WARNED
 
 
@@ -38,49 +39,50 @@ class Rank(enum.IntEnum):
     LATER = 7  # viewers may see it with other receivers, in weak reception, or when they switch on
 
 
-OF_CAUSE = {
+CAUSE_RANKS = {
     NEVER: Rank.NEVER,
-    OTHER: Rank.WRONG, TEXT: Rank.WRONG, PLACE: Rank.WRONG, NOT_ERASED: Rank.WRONG,
-    IN_PART: Rank.WRONG, ERASED: Rank.WRONG, IN_PAUSE: Rank.WRONG, UNKNOWN: Rank.WRONG,
-    LATE: Rank.MOVED, EARLY: Rank.MOVED,
-    ATTRIBUTE: Rank.COLOUR,
+    OTHER_TEXT: Rank.WRONG, WRONG_TEXT: Rank.WRONG, WRONG_PLACE: Rank.WRONG, NOT_ERASED: Rank.WRONG,
+    INCOMPLETE_REPEAT: Rank.WRONG, ERASED: Rank.WRONG, TEXT_IN_PAUSE: Rank.WRONG,
+    UNKNOWN_CAUSE: Rank.WRONG, LATE: Rank.MOVED, EARLY: Rank.MOVED,
+    WRONG_ATTRIBUTE: Rank.COLOUR,
     NOT_RECEIVED: Rank.UNSEEN}
 # Receivers drop PES packets with 31 to 40; 60 to 62 are faults of times, 67 and 68 of headers and
 # characters. Without a cause 63 and 74 mean that the recording begins too late or ends too early.
-OF_NUMBER = {
+NUMBER_RANKS = {
     **dict.fromkeys(STL_FAULTS, Rank.FILE),
     CONTENT: Rank.WRONG, INCOMPLETE: Rank.WRONG,
     **dict.fromkeys((*range(31, 41), 60, 61, 62, 67, 68), Rank.SOME),
     **dict.fromkeys((*ENDS_READING - {31, 32}, *LOSSES, BEGIN, END, UNDECIDED), Rank.UNSEEN),
     **dict.fromkeys((64, 65, 66, 69, 70, 71, 73), Rank.LATER)}
 
-OF_NAME = {NEVER_SENT: Rank.NEVER, NOT_SHOWN: Rank.WRONG, PICTURES_LEFT: Rank.MOVED}
+NAME_RANKS = {NEVER_SENT: Rank.NEVER, NOT_SHOWN: Rank.WRONG, PICTURES_LEFT: Rank.MOVED}
 
 
-def worst_name(faults: Sequence[NamedFault], than: Rank | None) -> NamedFault | None:
+def find_worst_named_fault(faults: Sequence[NamedFault], than: Rank | None) -> NamedFault | None:
     """Return the first of the worst named faults, or `None` if the rank `than` is worse."""
-    worst = min(faults, key=lambda fault: OF_NAME[fault.name]) if faults else None
-    return worst if worst and (than is None or OF_NAME[worst.name] <= than) else None
+    worst = min(faults, key=lambda fault: NAME_RANKS[fault.name]) if faults else None
+    return worst if worst and (than is None or NAME_RANKS[worst.name] <= than) else None
 
 
-def rank_of(number: int) -> Rank:
+def rank_number(number: int) -> Rank:
     """Return how severe a fault number is for viewers."""
-    return OF_NUMBER.get(number, Rank.LATER)
+    return NUMBER_RANKS.get(number, Rank.LATER)
 
 
-def rank_of_cause(cause: Cause) -> Rank:
+def rank_cause(cause: Cause) -> Rank:
     """Return how severe a cause is for viewers. Causes that may be no fault come after certain
     ones."""
-    return Rank.UNSEEN if cause.is_unseen else OF_CAUSE[cause.name]
+    return Rank.UNSEEN if cause.may_be_correct else CAUSE_RANKS[cause.name]
 
 
-def worst_cause(causes: Iterable[Cause]) -> Cause | None:
+def find_worst_cause(causes: Iterable[Cause]) -> Cause | None:
     """Return the first of the most severe causes, or `None` if there are no causes."""
     several = [*causes]
-    return min(several, key=lambda cause: (rank_of_cause(cause), cause.place)) if several else None
+    return min(several,
+               key=lambda cause: (rank_cause(cause), cause.subtitle_index)) if several else None
 
 
-class Lead(NamedTuple):
+class WorstFault(NamedTuple):
     """The fault to report first: its rank, its position among the faults of that rank, and its
     line."""
 
@@ -90,30 +92,32 @@ class Lead(NamedTuple):
     is_caused: bool = False  # by the cause of a subtitle
 
 
-def lead_of(answer: Answer, causes: Causes | None, left_out: Collection[int] = ()) -> Lead | None:
+def find_worst_fault(answer: CheckOutput, causes: Causes | None,
+                     left_out: Collection[int] = ()) -> WorstFault | None:
     """Return the first of the most severe faults of a part, except faults with a number in
     `left_out`."""
-    is_caused = bool(causes and causes.named)
-    leads = [Lead(rank_of(number), at, told)
-             for at, (number, told) in enumerate(answer.firsts.items())
+    is_caused = bool(causes and causes.by_index)
+    leads = [WorstFault(rank_number(number), at, told)
+             for at, (number, told) in enumerate(answer.first_faults.items())
              if number not in left_out and not (number == CONTENT and is_caused)]
-    cause = worst_cause(causes.all()) if causes else None
-    fault = line_of(answer, causes, cause) if causes and cause else None
+    cause = find_worst_cause(causes.list_causes()) if causes else None
+    fault = find_fault_line(answer, causes, cause) if causes and cause else None
     if cause and fault and fault.number not in left_out:
-        leads.append(Lead(rank_of_cause(cause), -1, fault, True))
+        leads.append(WorstFault(rank_cause(cause), -1, fault, True))
     return min(leads, default=None)
 
 
-def line_of(answer: Answer, causes: Causes, cause: Cause) -> FaultLine | None:
+def find_fault_line(answer: CheckOutput, causes: Causes, cause: Cause) -> FaultLine | None:
     """Return the fault line of a cause: the last line up to the first frame with a wrong page, or
     else the first line."""
-    edge = next((number for number in (BEGIN, END) if causes.of_edge.get(number) == cause.place
-                 and number in answer.firsts), None)
-    first = causes.first_frames.get(cause.place)
+    edge = next((number for number in (BEGIN, END)
+                 if causes.by_end_fault.get(number) == cause.subtitle_index
+                 and number in answer.first_faults), None)
+    first = causes.first_wrong_frames.get(cause.subtitle_index)
     if edge is not None or first is None:
-        return answer.firsts.get(edge or CONTENT)
-    last = answer.firsts.get(CONTENT)
-    for fault, _ in answer.told():
+        return answer.first_faults.get(edge or CONTENT)
+    last = answer.first_faults.get(CONTENT)
+    for fault, _ in answer.read_faults():
         if fault.number == CONTENT and fault.frame is not None:
             if fault.frame > first:
                 break
@@ -123,7 +127,7 @@ def line_of(answer: Answer, causes: Causes, cause: Cause) -> FaultLine | None:
 
 # A clause for each fault number, after `Refused: at TIME`; the manual's tables have all its cases.
 
-WORDS = {
+FAULT_CLAUSES = {
     10: "the file ends within the GSI block (1024 bytes) or within a TTI block (128 bytes)",
     11: "DFC is neither STL25.01 nor STL30.01",
     12: "DFC is STL30.01",
@@ -188,28 +192,28 @@ WORDS = {
 # The sentence of a verdict: the fault, its first time, and the number of subtitles
 
 # The predicate of a cause, for one subtitle and for several.
-SAID = {
+CAUSE_PREDICATES = {
     NEVER: ("was never sent", "were never sent"),
-    OTHER: ("has another subtitle's text", "have other subtitles' texts"),
-    TEXT: ("has a wrong text", "have wrong texts"),
-    PLACE: ("stands in a wrong place", "stand in wrong places"),
-    ATTRIBUTE: ("has a wrong colour or attribute", "have wrong colours or attributes"),
+    OTHER_TEXT: ("has another subtitle's text", "have other subtitles' texts"),
+    WRONG_TEXT: ("has a wrong text", "have wrong texts"),
+    WRONG_PLACE: ("stands in a wrong place", "stand in wrong places"),
+    WRONG_ATTRIBUTE: ("has a wrong colour or attribute", "have wrong colours or attributes"),
     NOT_ERASED: ("is not erased", "are not erased"),
-    IN_PART: ("is not repeated whole", "are not repeated whole"),
+    INCOMPLETE_REPEAT: ("is not repeated whole", "are not repeated whole"),
     ERASED: ("is erased while it is due", "are erased while they are due"),
     NOT_RECEIVED: ("was not received", "were not received"),
-    UNKNOWN: ("is not held as it is due", "are not held as they are due")}
-OF_ALL = {GAP, OFF_FRAME}  # faults whose hint is about everything that was judged
-BY_HINT = {CONTROL, PARITY}  # faults whose hint replaces the clause
+    UNKNOWN_CAUSE: ("is not held as it is due", "are not held as they are due")}
+HINTS_ON_ALL = {GAP, OFF_FRAME}  # faults whose hint is about everything that was judged
+HINTS_FOR_CLAUSE = {CONTROL, PARITY}  # faults whose hint replaces the clause
 MOST_NUMBERS = 4  # listed in a sentence
 
 
-class Count(NamedTuple):
+class FaultCount(NamedTuple):
     """The number of faults that have one fault number."""
 
     number: int
     name: str
-    faults: int
+    fault_count: int
 
 
 class Facts(NamedTuple):
@@ -225,7 +229,7 @@ class Facts(NamedTuple):
     first: FaultLine | None = None
     is_caused: bool = False
     faults: int = 0
-    counts: Sequence[Count] = ()
+    counts: Sequence[FaultCount] = ()
     hint: str = ""
     of_block: str = ""
     causes: Causes | None = None
@@ -237,13 +241,13 @@ class Facts(NamedTuple):
     refused: str = ""  # which subtitles are refused, if the others are judged
     within: int = 0
     named: str = ""
-    waived: Sequence[Count] = ()  # if something else is refused
+    waived: Sequence[FaultCount] = ()  # if something else is refused
     parts: int = 1  # each with its own clock
     delay: int = 0  # frames by which all subtitles are late by the given clock
     has_picture: bool = False  # the recording has a first picture for `--start`
 
 
-def sentence_of(seen: Facts) -> str:
+def write_sentence(seen: Facts) -> str:
     """Return the sentence of a verdict."""
     if seen.word == NOT_JUDGED:
         return f"Not judged: {(seen.reason or 'check was not answered').splitlines()[0]}."
@@ -321,7 +325,7 @@ def describe_faults(seen: Facts) -> str:
     """Describe the worst fault with its first place, then count the other faults."""
     if seen.refused:
         return describe_valid_subtitles(seen)
-    words = fault_clause(seen)
+    words = describe_first_fault(seen)
     if seen.delay and seen.first and seen.first.number in WITH_CAUSE:
         return describe_delay(seen.subtitles, seen.delay) + describe_other_faults(seen)
     if seen.is_caused and seen.causes:
@@ -335,7 +339,7 @@ def describe_delay(subtitles: int, delay: int) -> str:
     return f"{which} {counted(abs(delay), 'frame')} {LATE if delay > 0 else EARLY}"
 
 
-def fault_clause(seen: Facts) -> str:
+def describe_first_fault(seen: Facts) -> str:
     """Describe the first fault with its place, and count the faults by fault number."""
     fault = seen.first
     if fault is None and seen.named:
@@ -345,14 +349,14 @@ def fault_clause(seen: Facts) -> str:
     if fault.number == LOST_PACKETS and seen.lost:
         more = f", and in {counted(len(seen.lost) - 1, 'more place')}" if len(seen.lost) > 1 else ""
         return f"{seen.lost[0]}{more}; that part was not recorded{describe_other_faults(seen)}"
-    words = WORDS.get(fault.number, fault.name)
+    words = FAULT_CLAUSES.get(fault.number, fault.name)
     block = f"{seen.of_block} (block {fault.block})," if seen.of_block else f"block {fault.block}"
     place = fault.time or (f"PES packet {fault.pes}" if fault.pes is not None else
                            block if fault.block is not None else "")
-    if seen.hint and fault.number in OF_ALL:
+    if seen.hint and fault.number in HINTS_ON_ALL:
         words, place = f"from {place} on {seen.hint}", ""
     elif seen.hint:
-        words = seen.hint if fault.number in BY_HINT else f"{words}: {seen.hint}"
+        words = seen.hint if fault.number in HINTS_FOR_CLAUSE else f"{words}: {seen.hint}"
     place = place and f"{'at' if fault.time else 'in'} {place} "
     more = f"; in all {counted(seen.faults, 'fault')}" if seen.faults > 1 else ""
     several = f": {describe_counts(seen.counts)}" if len(seen.counts) > 1 else ""
@@ -367,11 +371,11 @@ def describe_other_faults(seen: Facts) -> str:
     return f"; also {describe_counts(others)}" if others else ""
 
 
-def describe_counts(several: Sequence[Count]) -> str:
+def describe_counts(several: Sequence[FaultCount]) -> str:
     """Describe counts by fault number, worst first; only the first few if there are many."""
-    rising = sorted(several, key=lambda count: (rank_of(count.number), count.number))
-    words = [f"{count.number} {count.name}" + (f" ({count.faults:,})" if count.faults > 1 else "")
-             for count in rising]
+    rising = sorted(several, key=lambda count: (rank_number(count.number), count.number))
+    words = [f"{count.number} {count.name}" +
+             (f" ({count.fault_count:,})" if count.fault_count > 1 else "") for count in rising]
     if len(words) > MOST_NUMBERS:
         words[MOST_NUMBERS:] = [counted(len(words) - MOST_NUMBERS, "more number")]
     return " and ".join(filter(None, (", ".join(words[:-1]), words[-1])))
@@ -379,50 +383,52 @@ def describe_counts(several: Sequence[Count]) -> str:
 
 def describe_causes(causes: Causes, option: str) -> str:
     """Describe the worst cause with its first subtitle, and count the other causes."""
-    every = causes.all()
-    worst = worst_cause(every)
+    every = causes.list_causes()
+    worst = find_worst_cause(every)
     assert worst
     alike = [cause for cause in every if cause.name == worst.name]
-    subtitles = causes.programme.subtitles
+    subtitles = causes.expected.subtitles
     words = describe_single_cause(worst, causes, option) if len(alike) == 1 else \
         describe_shared_cause(alike, subtitles)
     others = collections.Counter(cause.name for cause in every if cause.name != worst.name)
     if not others:
         return words
-    known = sorted(others, key=lambda name: (OF_CAUSE[name], NAMES.index(name)))
+    known = sorted(others, key=lambda name: (CAUSE_RANKS[name], CAUSE_NAMES.index(name)))
     counts = ", ".join(f"{others[name]} {name}" for name in known)
     return f"{words}; {counted(sum(others.values()), 'other')}: {counts}"
 
 
 def describe_single_cause(cause: Cause, causes: Causes, option: str) -> str:
     """Describe the cause of one subtitle."""
-    subtitle = causes.programme.subtitles[cause.place]
-    if cause.name == IN_PAUSE:
-        return f"another text was sent in a pause, {cause.words}" + (
-            f', "{page_text(cause.sent, BY_WORD[option].bits)}"' if cause.sent else "")
-    text = page_text(causes.programme.pages[cause.place], BY_WORD[option].bits)
+    subtitle = causes.expected.subtitles[cause.subtitle_index]
+    if cause.name == TEXT_IN_PAUSE:
+        sent = format_page_text(cause.sent_page, BY_WORD[option].bits) if cause.sent_page else ""
+        return f"another text was sent in a pause, {cause.details}" + f', "{sent}"' * bool(
+            cause.sent_page)
+    text = format_page_text(causes.expected.pages[cause.subtitle_index], BY_WORD[option].bits)
     said = f"is {counted(cause.frames or 0, 'frame')} {cause.name}" \
-        if cause.name in (LATE, EARLY) else SAID[cause.name][0]
-    more = f" ({cause.words})" if cause.words else ""
-    sent = page_text(cause.sent, BY_WORD[option].bits) if cause.sent and cause.name in (
-        TEXT, OTHER) else ""
+        if cause.name in (LATE, EARLY) else CAUSE_PREDICATES[cause.name][0]
+    more = f" ({cause.details})" if cause.details else ""
+    sent = format_page_text(cause.sent_page,
+                            BY_WORD[option].bits) if cause.sent_page and cause.name in (
+        WRONG_TEXT, OTHER_TEXT) else ""
     more += f', sent: "{sent}"' if sent and sent != text else ""
     return f"at {time_of(subtitle.begin)} {subtitle.name}, \"{text}\", {said}{more}"
 
 
 def describe_shared_cause(causes: Sequence[Cause], subtitles: Sequence[Subtitle]) -> str:
     """Describe a cause that several subtitles share: how many subtitles, the first and the last."""
-    first, last = subtitles[causes[0].place], subtitles[causes[-1].place]
+    first, last = subtitles[causes[0].subtitle_index], subtitles[causes[-1].subtitle_index]
     name = causes[0].name
-    if name == IN_PAUSE:
+    if name == TEXT_IN_PAUSE:
         return f"another text was sent in {counted(len(causes), 'pause')}, the first " \
-            f"{causes[0].words}"
+            f"{causes[0].details}"
     which = f"all {len(subtitles):,} subtitles" if len(causes) == len(subtitles) else \
         f"{len(causes):,} of {len(subtitles):,} subtitles"
     when = f"first at {time_of(first.begin)}, last at {time_of(last.begin)}"
     frames = sorted(cause.frames or 0 for cause in causes)
     said = f"are {range_words(frames[0], frames[-1])} {name}" if name in (LATE, EARLY) else \
-        SAID[name][1]
-    words = {cause.words for cause in causes}
+        CAUSE_PREDICATES[name][1]
+    words = {cause.details for cause in causes}
     more = f" ({words.pop()})" if len(words) == 1 and words != {""} else ""
     return f"{which} {said}{more} ({when})"

@@ -15,10 +15,10 @@ from ..formats.stl import NamedSubtitle, Subtitle, SubtitleFile, subtitle_name, 
 from ..formats.teletext import (
     BY_WORD, NationalOption, OPTIONS, Page, character_of, has_characters, letter_at, options_with)
 from ..request.commands import MOST_LINES
-from ..stream.packets import PES, Packets, Run
+from ..stream.packets import Packets, PES, Run
 from ..stream.receiver import BLANK_PAGE, Rows, Timeline
-from .sentence import WORDS
-from .transmissions import DuePages
+from .sentence import FAULT_CLAUSES
+from .transmissions import ExpectedPages
 
 
 # Subtitle files that continue after midnight, or begin with a title at 00:00:00:00
@@ -28,7 +28,7 @@ TCI, TCO = slice(5, 9), slice(9, 13)  # of a TTI block
 AT_MIDNIGHT = "midnight: cut the file there"
 
 
-def midnight_words(fault: FaultLine, subtitles: SubtitleFile) -> str:
+def advise_on_midnight(fault: FaultLine, subtitles: SubtitleFile) -> str:
     """Advise to cut a file with a fault where times fall from over 23:00 to under 01:00; return an
     empty text for other faults."""
     if fault.block is None or fault.number not in (EMPTY_TIME, OUT_OF_ORDER):
@@ -43,7 +43,7 @@ def midnight_words(fault: FaultLine, subtitles: SubtitleFile) -> str:
     return AT_MIDNIGHT if is_night else ""
 
 
-def title_words(subtitles: SubtitleFile) -> str:
+def advise_on_title(subtitles: SubtitleFile) -> str:
     """Describe how to skip a first subtitle at 00:00:00:00, an hour before all others; return an
     empty text if there is none."""
     rest = min((frame for frame in subtitles.begins if frame), default=0)
@@ -71,34 +71,35 @@ class OptionAdvice:
         self.subtitles, self.option = subtitles, option
 
     @functools.cached_property
-    def drawing(self) -> list[NationalOption]:
+    def complete_options(self) -> list[NationalOption]:
         """Return the other national options that have every character of the file."""
         texts = {self.subtitles.text(block) for block in self.subtitles.lasts()}
         return [option for option in OPTIONS if option.word != self.option
                 and all(has_characters(text, option) for text in texts)]
 
-    def of(self, block: int, at: int) -> str:
-        """Return advice on the byte at offset `at` of the text that ends in a block."""
+    def advise(self, block: int, offset: int) -> str:
+        """Return advice on the byte at offset `offset` of the text that ends in a block."""
         text = self.subtitles.text(block)
-        return "" if at >= len(text) else advice_of(letter_at(text, at), self.drawing)
+        return "" if offset >= len(text) else advise_on_character(
+            letter_at(text, offset), self.complete_options)
 
 
-def advice_of(letter: bytes, drawing: list[NationalOption]) -> str:
-    """Return advice on a missing character; the options `drawing` have every character of the file.
-    """
-    if drawing:
-        return f"the whole file draws in {listed(drawing)}"
+def advise_on_character(letter: bytes, complete_options: list[NationalOption]) -> str:
+    """Return advice on a missing character; the options `complete_options` have every character of
+    the file."""
+    if complete_options:
+        return f"the whole file draws in {format_options(complete_options)}"
     character = character_of(letter)
     if character is None:
         return f"byte {letter[:1].hex().upper()} is no character of code table 00: mend the file"
-    having = options_with(letter)
-    if having:
-        return f"{character} is in {listed(having)}; another letter of the file is not"
+    options = options_with(letter)
+    if options:
+        return f"{character} is in {format_options(options)}; another letter of the file is not"
     return (f"{character} is in no option: at level 1 it needs another region, or packets X/26, "
             "which are refused (70): write it otherwise")
 
 
-def listed(options: list[NationalOption]) -> str:
+def format_options(options: list[NationalOption]) -> str:
     """Return national options as an argument to type."""
     return "--option " + ", ".join(option.word for option in options)
 
@@ -109,20 +110,20 @@ def listed(options: list[NationalOption]) -> str:
 # fault line names such a subtitle, nor says that the next subtitle is out of order or overlaps.
 
 # Subtitles with these faults are not compared with others.
-NO_RECORD = {16, *range(18, 22)}
-COMPARED = {56, 57}  # faults of a comparison with the previous subtitle
+NOT_COMPARED = {16, *range(18, 22)}
+ORDER_FAULTS = {56, 57}  # faults of a comparison with the previous subtitle
 MOST_NAMED = 3  # refused subtitles in the sentence
-OPENS, ERASES = "heo", "heb"  # flags of a PES packet with a page, or a blank one
+PAGE_FLAGS, ERASE_FLAGS = "heo", "heb"  # flags of a PES packet with a page, or a blank one
 
 
-class Counts(NamedTuple):
+class SubtitleCounts(NamedTuple):
     """The number of judged subtitles, and the number of subtitles that are refused or skipped with
     them."""
 
     judged: int
     refused: int
 
-    def words(self) -> str:
+    def describe(self) -> str:
         """Return both numbers as a clause, or an empty text if no subtitle is refused."""
         return f"{counted(self.judged, 'subtitle')} judged, {self.refused:,} refused" \
             if self.refused else ""
@@ -134,77 +135,81 @@ class RefusedSubtitle(NamedTuple):
 
     subtitle: NamedSubtitle
     fault: FaultLine
-    letter: str
-    do: str
+    character: str
+    advice: str
 
-    def name(self) -> str:
+    def describe_subtitle(self) -> str:
         """Return the name of the subtitle, as all tools print it, and its time."""
         subtitle = self.subtitle
         return f"{subtitle_name(subtitle.position, subtitle.number)} at {subtitle.begin}"
 
-    def why(self) -> str:
+    def describe_reason(self) -> str:
         """Return the fault with its character or meaning, and the advice."""
-        more = self.letter or WORDS.get(self.fault.number, "")
-        do = f": {self.do}" if self.do else ""
+        more = self.character or FAULT_CLAUSES.get(self.fault.number, "")
+        do = f": {self.advice}" if self.advice else ""
         return f"{self.fault.number} {self.fault.name}, {more}{do}"
 
-    def line(self) -> str:
+    def format_line(self) -> str:
         """Return the line of output on the refused subtitle."""
-        return f"undecided: {self.name()}, to {self.subtitle.end}, is refused by {self.why()}"
+        return f"undecided: {self.describe_subtitle()}, to {self.subtitle.end}, is refused by " \
+            f"{self.describe_reason()}"
 
 
-class JudgedBeside(NamedTuple):
+class ValidSubtitles(NamedTuple):
     """Subtitles that are judged although others of their file are refused; the refused subtitles;
     and the positions of all skipped subtitles."""
 
     judged: list[Subtitle]
     refused: list[RefusedSubtitle]
-    left_out: frozenset[int]
+    skipped_positions: frozenset[int]
 
-    def lines(self) -> Iterator[str]:
+    def format_lines(self) -> Iterator[str]:
         """Yield a line for each refused subtitle, up to a limit."""
-        yield from (refused.line() for refused in self.refused[:MOST_LINES])
+        yield from (refused.format_line() for refused in self.refused[:MOST_LINES])
         if len(self.refused) > MOST_LINES:
             yield f"undecided: {counted(len(self.refused) - MOST_LINES, 'more subtitle')}"
 
-    def words(self) -> str:
+    def describe(self) -> str:
         """Describe the first refused subtitles, and count the other ones."""
         if len(self.refused) == 1:
-            return f"{self.refused[0].name()} is refused by {self.refused[0].why()}"
-        named = [f"{refused.name()} by {refused.why()}" for refused in self.refused[:MOST_NAMED]]
-        more, total = len(self.refused) - len(named), len(self.judged) + len(self.left_out)
+            return f"{self.refused[0].describe_subtitle()} is refused by " \
+                f"{self.refused[0].describe_reason()}"
+        named = [f"{refused.describe_subtitle()} by {refused.describe_reason()}"
+                 for refused in self.refused[:MOST_NAMED]]
+        more, total = len(self.refused) - len(named), len(self.judged) + len(self.skipped_positions)
         last = f"{more:,} more" if more else named.pop()
         return f"{len(self.refused):,} of {total:,} subtitles are refused, " \
             f"{', '.join(named)} and {last}"
 
 
-def is_judged_beside(numbers: set[int]) -> bool:
+def has_valid_subtitles(numbers: set[int]) -> bool:
     """Return whether the program judges other subtitles though it refused some: the program then
     also reports that there was no PES packet."""
     return EMPTY in numbers and bool(numbers & STL_FAULTS)
 
 
-def beside_of(file: SubtitleFile, faults: Iterable[FaultLine], option: str) -> JudgedBeside:
+def find_valid_subtitles(file: SubtitleFile, faults: Iterable[FaultLine],
+                         option: str) -> ValidSubtitles:
     """Return which subtitles of a file can be judged, by the faults of the file."""
     by_position: dict[int, list[FaultLine]] = {}
     for fault in faults:
         subtitle = file.at_block(fault.block) if fault.block is not None else None
         if subtitle and fault.number in STL_FAULTS:
             by_position.setdefault(subtitle.position, []).append(fault)
-    asked_for = [*positions_in(file)]
+    asked_for = [*list_positions(file)]
     records = [place for place in asked_for
-               if not {one.number for one in by_position.get(place, ())} & NO_RECORD]
+               if not {one.number for one in by_position.get(place, ())} & NOT_COMPARED]
     judged = {place for place, after in zip(records, [*records[1:], None])
               if place not in by_position and not (after is not None and {
-                  one.number for one in by_position.get(after, ())} & COMPARED)}
+                  one.number for one in by_position.get(after, ())} & ORDER_FAULTS)}
     advice, known = OptionAdvice(file, option), meanings()
-    refused = [refused_of(file, by_position[place][0], advice, known)
+    refused = [make_refused_subtitle(file, by_position[place][0], advice, known)
                for place in sorted(by_position)]
-    return JudgedBeside([one for one in subtitles_read(file.data) if one.index in judged], refused,
-                        frozenset(asked_for) - judged)
+    return ValidSubtitles([one for one in subtitles_read(file.data) if one.index in judged],
+                          refused, frozenset(asked_for) - judged)
 
 
-def positions_in(file: SubtitleFile) -> Iterator[int]:
+def list_positions(file: SubtitleFile) -> Iterator[int]:
     """Yield the positions of the subtitles between --from and --to."""
     for place, block in enumerate(file.starts, 1):
         begin = frame_of_code(file.block(block)[5:9])
@@ -212,46 +217,48 @@ def positions_in(file: SubtitleFile) -> Iterator[int]:
             yield place
 
 
-def refused_of(file: SubtitleFile, fault: FaultLine, advice: OptionAdvice,
-               known: dict[int, Meaning]) -> RefusedSubtitle:
+def make_refused_subtitle(file: SubtitleFile, fault: FaultLine, advice: OptionAdvice,
+                          known: dict[int, Meaning]) -> RefusedSubtitle:
     """Return a refused subtitle, by the first fault line that names the subtitle."""
     assert fault.block is not None
     subtitle = file.at_block(fault.block)
     assert subtitle
     byte, character = file.letter(fault.block, fault.at) \
         if fault.number in LETTERS and fault.at is not None else (None, None)
-    of_letter = advice.of(fault.block, fault.at) \
+    of_letter = advice.advise(fault.block, fault.at) \
         if fault.number == CHARACTER and fault.at is not None else ""
     of_manual = plain(known[fault.number].do) if fault.number in known else ""
-    do = of_letter or midnight_words(fault, file) or of_manual
+    do = of_letter or advise_on_midnight(fault, file) or of_manual
     return RefusedSubtitle(subtitle, fault, character or (f"byte {byte}" if byte else ""), do)
 
 
-def due_beside(subtitles: Sequence[Subtitle], page: Page, option: str, layout: Layout = PLAIN) \
-        -> DuePages:
+def draw_valid_pages(subtitles: Sequence[Subtitle], page: Page, option: str,
+                     layout: Layout = PLAIN) \
+        -> ExpectedPages:
     """Draw the pages of the judged subtitles here, since `schedule` refuses their file."""
-    pages = [page_drawn(one, option, layout) for one in subtitles]
+    pages = [draw_page(one, option, layout) for one in subtitles]
     packets = Packets(PES)
     for place, (subtitle, rows) in enumerate(zip(subtitles, pages)):
-        send(packets, subtitle.begin, rows, page, option)
+        add_transmission(packets, subtitle.begin, rows, page, option)
         following = subtitles[place + 1:place + 2]
         if not following or following[0].begin > subtitle.end:
-            send(packets, subtitle.end, BLANK_PAGE, page, option)
-    return DuePages([*subtitles], pages, Timeline(packets, page, 0))
+            add_transmission(packets, subtitle.end, BLANK_PAGE, page, option)
+    return ExpectedPages([*subtitles], pages, Timeline(packets, page, 0))
 
 
-def page_drawn(subtitle: Subtitle, option: str, layout: Layout) -> Rows:
+def draw_page(subtitle: Subtitle, option: str, layout: Layout) -> Rows:
     """Draw the page of a subtitle."""
     lines = drawn(subtitle.text, subtitle.row, subtitle.justify, layout, BY_WORD[option])
     assert not isinstance(lines, Refused)
     return page_rows(lines)
 
 
-def send(packets: Packets, frame: int, rows: Rows, page: Page, option: str) -> None:
+def add_transmission(packets: Packets, frame: int, rows: Rows, page: Page, option: str) -> None:
     """Add a PES packet that sends a page at a frame."""
     number = packets.count
     header = (page[1] & 15, page[1] >> 4, 0, 8, 0, 8, 1, BY_WORD[option].bits << 1)
-    packets.runs.append(Run(number, 1, TICKS * frame, 0, ERASES if rows == BLANK_PAGE else OPENS,
+    packets.runs.append(Run(number, 1, TICKS * frame, 0,
+                            ERASE_FLAGS if rows == BLANK_PAGE else PAGE_FLAGS,
                             "".join(f"{one:X}" for one in header)))
     packets.held.append((number, tuple((row, cells) for row, cells in enumerate(rows, 1)
                                        if cells != BLANK_PAGE[0])))

@@ -8,7 +8,7 @@ from typing import Iterable, Iterator, NamedTuple, Sequence
 
 from ..clock.origin import OfPart, Origin, Sought, find
 from ..clock.start import (
-    Clock, Found, GIVEN, NoFirst, RECORDING, START, TCP, began, refuse_outside, start_frame)
+    Clock, GIVEN, NoFirst, RECORDING, START, TCP, TimedPart, began, refuse_outside, start_frame)
 from ..common.command_line import Stop, counted, error_line, pid_name
 from ..common.times import (
     FRAMES_A_SECOND, FRAMES_OF_A_DAY, TICKS, duration_text, pts_of, ticks_after, ticks_between,
@@ -19,7 +19,7 @@ from ..request.commands import Listener
 from ..request.request import (
     NONE, ORIGIN_CHOICE, PACE_CHOICE, PES_CHOICE, Request, Selection, Unclear)
 from ..stream.pace import (
-    BY_EVERY, IRREGULAR, PAUSED, Pace, REGULAR, TOO_FEW, each_of, frame_rows, pace_of, pauses_of,
+    BY_EVERY, IRREGULAR, Pace, PAUSED, REGULAR, TOO_FEW, each_of, frame_rows, pace_of, pauses_of,
     unseen_from)
 from ..stream.packets import NO_RANGE, PTSPair, Range, announced_jumps
 from ..stream.ranges import Cut, cut_of
@@ -29,60 +29,61 @@ from .part import Part
 
 
 NO_CLOCK = Clock(0, RECORDING)  # before the clock is known
-SAID = "origin: "  # prefix of lines about the origin
+ORIGIN_PREFIX = "origin: "  # prefix of lines about the origin
 
 
 class PartSearch(NamedTuple):
     """What to search for in a recording.
 
-    `whole` has the first and the last frame of the subtitles, and the clock if a clock was given.
-    `inside` are the PES packets that may be judged, `left_out` the positions of subtitles to skip.
-    `is_continued`: a subtitle that is not judged adjoins the first one and has the same text.
+    `full_range` has the first and the last frame of the subtitles, and the clock if a clock was
+    given. `allowed_packets` are the PES packets that may be judged, `skipped_positions` the
+    positions of subtitles to skip. `is_continued`: a subtitle that is not judged adjoins the first
+    one and has the same text.
     """
 
     request: Request
-    whole: Found
-    inside: Range | None
-    left_out: frozenset[int] = frozenset()
+    full_range: TimedPart
+    allowed_packets: Range | None
+    skipped_positions: frozenset[int] = frozenset()
     is_continued: bool = False
 
 
 class PartClocks(NamedTuple):
     """The parts of a recording with their clocks, and notes on the delay of the first part."""
 
-    programme: PartSearch
-    alignments: list[Found]
-    delay: list[str]
+    search: PartSearch
+    alignments: list[TimedPart]
+    delay_notes: list[str]
 
 
-def parts_of(programme: PartSearch, recording: Recording, listener: Listener) -> PartClocks:
+def find_parts(search: PartSearch, recording: Recording, listener: Listener) -> PartClocks:
     """Find the parts of a recording and their clocks. The first part has the given clock, or that
     of the first picture."""
-    request, whole = programme.request, programme.whole
-    given = given_clock(request) or by_start(programme, recording, listener)
-    origin = fitted_origin(programme, recording, given, listener)
+    request, whole = search.request, search.full_range
+    given = get_given_clock(request) or find_start_clock(search, recording, listener)
+    origin = report_estimated_origin(search, recording, given, listener)
     listener.noted(*origin.shifts)
-    alignments = found_in(origin, whole)
+    alignments = list_timed_parts(origin, whole)
     if not alignments and (given is None or request.breaks or origin.runs):
-        raise unclear_origin(origin, clock_options(recording, origin))
+        raise make_unclear_origin(origin, suggest_options(recording, origin))
     alignments, delay = alignments or [whole], list[str]()
     if given:
-        clock, delay = with_delay(given, origin)
+        clock, delay = add_delay(given, origin)
         alignments[0] = alignments[0]._replace(clock=clock)
-        refuse_another_time(programme, recording, alignments[0])
-    return PartClocks(programme, alignments, delay)
+        refuse_wrong_clock(search, recording, alignments[0])
+    return PartClocks(search, alignments, delay)
 
 
 # The clock that was given
 
-def given_clock(request: Request) -> Clock | None:
+def get_given_clock(request: Request) -> Clock | None:
     """Return the clock of --origin, or `None`."""
     return None if request.origin is None else Clock(request.origin, GIVEN)
 
 
-def by_start(programme: PartSearch, recording: Recording, listener: Listener) -> Clock | None:
+def find_start_clock(search: PartSearch, recording: Recording, listener: Listener) -> Clock | None:
     """Return the clock of the first picture, or `None` without --start."""
-    request, whole = programme.request, programme.whole
+    request, whole = search.request, search.full_range
     if request.start is None:
         return None
     try:
@@ -100,38 +101,41 @@ def by_start(programme: PartSearch, recording: Recording, listener: Listener) ->
 
 # The clock that is estimated
 
-def fitted_origin(programme: PartSearch, recording: Recording, clock: Clock | None,
-                  listener: Listener) -> Origin:
+def report_estimated_origin(search: PartSearch, recording: Recording, clock: Clock | None,
+                            listener: Listener) -> Origin:
     """Estimate the origin of a recording, compare the origin with a given clock, and report both.
     """
-    request = programme.request
-    sought = Sought(request.stl_path, recording.shown, request.page, request.option,
-                    clock and clock.origin, request.within, request.breaks, programme.inside,
-                    request.between, programme.left_out, request.late, recording.has_picture())
+    request = search.request
+    origin_search = Sought(request.stl_path, recording.shown, request.page, request.option,
+                           clock and clock.origin, request.within, request.breaks,
+                           search.allowed_packets,
+                           request.between, search.skipped_positions, request.late,
+                           recording.has_picture())
     try:
-        origin = find(sought, recording.packets)
+        origin = find(origin_search, recording.packets)
     except (Stop, OSError) as reason:
         origin = Origin(2, lines=[error_line(reason)])
-    for line in [*origin.printed, *(SAID + line for line in origin.lines)]:
+    for line in [*origin.printed, *(ORIGIN_PREFIX + line for line in origin.lines)]:
         listener.said(line)
     return origin
 
 
-def found_in(origin: Origin, whole: Found) -> list[Found]:
+def list_timed_parts(origin: Origin, full_range: TimedPart) -> list[TimedPart]:
     """Return the parts with their clocks, or no parts if the origin is not clear."""
     if origin.status:
         return []
-    return [Found(*(part.frames or (whole.begin, whole.end)), fitted_clock(part), part.packets)
+    return [TimedPart(*(part.frames or (full_range.begin, full_range.end)),
+                      make_estimated_clock(part), part.packets)
             for part in origin.parts]
 
 
-def fitted_clock(part: OfPart) -> Clock:
+def make_estimated_clock(part: OfPart) -> Clock:
     """Return the estimated clock of a part."""
     return Clock(part.origin, RECORDING, evidence=Selection(
-        ORIGIN_CHOICE, str(part.origin), f"{SAID}{part.line}", part.agree, part.among))
+        ORIGIN_CHOICE, str(part.origin), f"{ORIGIN_PREFIX}{part.line}", part.agree, part.among))
 
 
-def with_delay(clock: Clock, origin: Origin) -> tuple[Clock, list[str]]:
+def add_delay(clock: Clock, origin: Origin) -> tuple[Clock, list[str]]:
     """Return a given clock with the delay of the cues of the first part, and notes on the delay."""
     if origin.away is None or origin.status:
         return clock, []
@@ -151,17 +155,17 @@ def with_delay(clock: Clock, origin: Origin) -> tuple[Clock, list[str]]:
     return clock, [line, *filter(None, [question])]
 
 
-def refuse_another_time(programme: PartSearch, recording: Recording, part: Found) -> None:
+def refuse_wrong_clock(search: PartSearch, recording: Recording, part: TimedPart) -> None:
     """Raise `Unclear` if the given clock is wrong: by this clock the recording has nothing at the
     time of the subtitles, but the recording has the subtitles at another time."""
     clock = part.clock
-    if not clock.delay_frames or cut_within(programme, recording, part,
-                                            programme.request.within).range is not None:
+    if not clock.delay_frames or cut_packets(search, recording, part,
+                                             search.request.within).range is not None:
         return
-    raise Unclear(another_time_words(programme.request, clock, clock.delay_frames))
+    raise Unclear(describe_wrong_clock(search.request, clock, clock.delay_frames))
 
 
-def another_time_words(request: Request, clock: Clock, delay: int) -> str:
+def describe_wrong_clock(request: Request, clock: Clock, delay: int) -> str:
     """Describe how far a given clock is from the subtitles, which are `delay` frames late."""
     if clock.source == GIVEN:
         return f"by --origin {clock.origin} all subtitles come {duration_text(abs(delay))} too " \
@@ -176,7 +180,7 @@ def another_time_words(request: Request, clock: Clock, delay: int) -> str:
         "TIME is on the subtitle file's own clock, not the time of day"
 
 
-def unclear_origin(origin: Origin, again: Iterable[str]) -> Unclear:
+def make_unclear_origin(origin: Origin, again: Iterable[str]) -> Unclear:
     """Return an error that says why the origin is not clear, with the commands `again`."""
     is_said = origin.runs or origin.breaks is not None
     reason = "\n".join(origin.lines) if is_said else \
@@ -184,7 +188,7 @@ def unclear_origin(origin: Origin, again: Iterable[str]) -> Unclear:
     return Unclear(reason, *again)
 
 
-def clock_options(recording: Recording, origin: Origin) -> Iterator[str]:
+def suggest_options(recording: Recording, origin: Origin) -> Iterator[str]:
     """Yield commands that the operator may type if the origin is not clear."""
     if origin.runs:
         yield recording.again("--pes", "I-J")
@@ -195,17 +199,18 @@ def clock_options(recording: Recording, origin: Origin) -> Iterator[str]:
 
 # The PES packets of a part
 
-def cut_within(programme: PartSearch, recording: Recording, alignment: Found, within: int) -> Cut:
+def cut_packets(search: PartSearch, recording: Recording, alignment: TimedPart,
+                within: int) -> Cut:
     """Find the PES packets of the time of the subtitles, allowing some frames of delay."""
     return cut_of(recording.packets, alignment.begin, alignment.end, alignment.origin,
-                  programme.request.every, within, alignment.packets or programme.inside,
-                  programme.is_continued and alignment.begin == programme.whole.begin)
+                  search.request.every, within, alignment.packets or search.allowed_packets,
+                  search.is_continued and alignment.begin == search.full_range.begin)
 
 
-def cut_part(programme: PartSearch, part: Part, listener: Listener) -> Range:
+def find_part_packets(search: PartSearch, part: Part, listener: Listener) -> Range:
     """Find the range of the PES packets of a part, and report the range."""
-    recording, alignment = part.recorded
-    cut = cut_within(programme, recording, alignment, programme.request.within)
+    recording, alignment = part.judged_recording
+    cut = cut_packets(search, recording, alignment, search.request.within)
     damage, line = recording.packets.damage, f"cut: {cut.words()}"
     if cut.range is None:
         listener.said(line)
@@ -224,26 +229,26 @@ def cut_part(programme: PartSearch, part: Part, listener: Listener) -> Range:
 
 # The pace of PES packets if they are regular; else the losses that nothing shows
 
-NEXT = 1  # distance in frames of two PES packets in consecutive frames
+NEXT_FRAME = 1  # distance in frames of two PES packets in consecutive frames
 UNCHECKED = "not checked: whether"  # prefix of a note
 
 
-def paced_part(part: Part, times: Sequence[tuple[int, int]], listener: Listener) -> Part:
+def measure_part_pace(part: Part, times: Sequence[tuple[int, int]], listener: Listener) -> Part:
     """Return a part with the maximum PES interval, if PES packets are regular and no interval is
     configured.
 
     Add notes on losses that nothing would show. `times` are the frames of the subtitles.
     """
-    number, request, (recording, _) = part.number, part.request, part.recorded
-    pace, unseen = measured_pace(part, times)
-    jumps, count = late_jumps(part, pace)
-    notes = [jump_words(count, recording)]
+    number, request, (recording, _) = part.number, part.request, part.judged_recording
+    pace, unseen = measure_pace(part, times)
+    jumps, count = find_late_jumps(part, pace)
+    notes = [describe_jumps(count, recording)]
     if request.pace_word is not None:
-        notes.append(clock_words(recording) if request.pace_word == NONE else "")
+        notes.append(describe_missing_pcr(recording) if request.pace_word == NONE else "")
     else:
-        notes.append(note := unseen_words(pace, unseen, recording))
+        notes.append(note := describe_unchecked_losses(pace, unseen, recording))
         if pace.frames:
-            listener.chosen(chosen_of(pace, recording.is_stream, number))
+            listener.chosen(make_pace_selection(pace, recording.is_stream, number))
             request = dataclasses.replace(request, pace_word=str(pace.frames))
         elif note:  # reported with the verdict
             listener.chosen(Selection(PACE_CHOICE, None, note, part=number), is_said=False)
@@ -251,9 +256,9 @@ def paced_part(part: Part, times: Sequence[tuple[int, int]], listener: Listener)
     return dataclasses.replace(part, request=request, jumps=jumps)
 
 
-def measured_pace(part: Part, times: Sequence[tuple[int, int]]) -> tuple[Pace, int | None]:
+def measure_pace(part: Part, times: Sequence[tuple[int, int]]) -> tuple[Pace, int | None]:
     """Return the pace of a part, and from how many frames on the counter may not show a loss."""
-    request, (recording, alignment), pes = part.request, part.recorded, part.pes or NO_RANGE
+    request, (recording, alignment), pes = part.request, part.judged_recording, part.pes or NO_RANGE
     size = None if recording.is_stream else os.path.getsize(recording.path)
     rows = frame_rows(recording.packets, pes, alignment.origin, request.within)
     each = each_of(recording.packets, pes, size)
@@ -261,32 +266,32 @@ def measured_pace(part: Part, times: Sequence[tuple[int, int]]) -> tuple[Pace, i
         unseen_from(rows, each)
 
 
-def late_jumps(part: Part, pace: Pace) -> tuple[list[PTSPair], int]:
+def find_late_jumps(part: Part, pace: Pace) -> tuple[list[PTSPair], int]:
     """Return the announced jumps of the counter where the next PES packet comes late, and the
     number of other jumps that could hide a PES packet."""
-    (recording, _), inside = part.recorded, part.pes or NO_RANGE
+    (recording, _), inside = part.judged_recording, part.pes or NO_RANGE
     if not recording.is_stream:
         return [], 0
-    jumps = announced_jumps(recording.packets, inside, min(pace.apart, NEXT))
+    jumps = announced_jumps(recording.packets, inside, min(pace.apart, NEXT_FRAME))
     late = [pair for pair in jumps if ticks_between(*pair) > pace.apart * TICKS]
     return late, len(jumps) - len(late)
 
 
-def jump_words(count: int, recording: Recording) -> str:
+def describe_jumps(count: int, recording: Recording) -> str:
     """Describe at how many announced jumps of the counter losses are invisible; an empty text if at
     none."""
     return f"{UNCHECKED} some of {pid_name(recording.packets.pid)} is missing at " \
         f"{counted(count, 'place')} where a jump of its counter is announced" if count else ""
 
 
-def chosen_of(pace: Pace, is_stream: bool, part: int) -> Selection:
+def make_pace_selection(pace: Pace, is_stream: bool, part: int) -> Selection:
     """Return the pace as a choice of qc, with the number of places where the pace would show a
     loss."""
-    return Selection(PACE_CHOICE, str(pace.frames), regular_words(pace, is_stream),
+    return Selection(PACE_CHOICE, str(pace.frames), describe_pace(pace, is_stream),
                      pace.among - pace.closer, pace.among, part)
 
 
-def regular_words(pace: Pace, is_stream: bool) -> str:
+def describe_pace(pace: Pace, is_stream: bool) -> str:
     """Describe how regular the PES packets are, and the pace chosen from that."""
     more = ", and so may three" if pace.is_dense else \
         f", and in {pace.lost} at best where 16 TS packets are lost" if is_stream else ""
@@ -294,12 +299,12 @@ def regular_words(pace: Pace, is_stream: bool) -> str:
         f"{more}: --pace {pace.frames}"
 
 
-def unseen_words(pace: Pace, unseen: int | None, recording: Recording) -> str:
+def describe_unchecked_losses(pace: Pace, unseen: int | None, recording: Recording) -> str:
     """Describe which losses nothing shows; an empty text if --every or the pace shows all losses.
     """
     if pace.kind == BY_EVERY or pace.kind == REGULAR and not pace.closer:
         return ""
-    if without := clock_words(recording):
+    if without := describe_missing_pcr(recording):
         return without
     if pace.kind == REGULAR:
         what, whose = (f"up to {(pace.lost - 1) / FRAMES_A_SECOND:.2f} s of this PID alone",
@@ -317,7 +322,7 @@ def unseen_words(pace: Pace, unseen: int | None, recording: Recording) -> str:
     return f"{UNCHECKED} {what} of this PID alone is missing: its PES packets {why}"
 
 
-def clock_words(recording: Recording) -> str:
+def describe_missing_pcr(recording: Recording) -> str:
     """Describe that no PCR shows losses; an empty text if there is a PCR."""
     if not recording.is_stream or recording.survey.clock_of(recording.packets.pid) is not None:
         return ""
@@ -330,7 +335,7 @@ def clock_words(recording: Recording) -> str:
 NOT_CHECKED = "not checked: whether the pictures leave the subtitles"
 
 
-class PicturesFound(NamedTuple):
+class DesyncFindings(NamedTuple):
     """Faults of drifting pictures, and notes on drifts that --within allows and on places not
     checked."""
 
@@ -338,8 +343,8 @@ class PicturesFound(NamedTuple):
     notes: list[str]
 
 
-def left_by_pictures(survey: Survey, pid: int, alignment: Found, within: int, number: int
-                     ) -> PicturesFound:
+def find_desync(survey: Survey, pid: int, alignment: TimedPart, within: int, number: int
+                ) -> DesyncFindings:
     """Find where pictures drift from the subtitles of part `number`, whose Teletext is on PID
     `pid`."""
     kinds = {pid for programme in survey.programmes_of(pid) for pid in programme.kinds}
@@ -347,15 +352,15 @@ def left_by_pictures(survey: Survey, pid: int, alignment: Found, within: int, nu
     for (own, video), leads in survey.leads.items():
         if own == pid and video in kinds:
             departures = departures_of(leads)
-            inside = departures_in(departures or [], alignment)
+            inside = find_departures(departures or [], alignment)
             away = [departure for departure in inside if departure.ticks]
-            faults += faults_of(away, alignment, within, number)
-            notes += late_notes(away, alignment, within)
-            notes += unclear_notes(departures is not None, len(inside) - len(away))
-    return PicturesFound(faults, notes)
+            faults += make_desync_faults(away, alignment, within, number)
+            notes += make_delay_notes(away, alignment, within)
+            notes += make_unclear_notes(departures is not None, len(inside) - len(away))
+    return DesyncFindings(faults, notes)
 
 
-def departures_in(several: Sequence[Departure], alignment: Found) -> list[Departure]:
+def find_departures(several: Sequence[Departure], alignment: TimedPart) -> list[Departure]:
     """Return the drifts within a part, or from its first picture on if the clock is that of the
     picture. A drift that may lie outside of the part is unclear."""
     first = pts_of(alignment.begin, alignment.origin)
@@ -370,7 +375,7 @@ def departures_in(several: Sequence[Departure], alignment: Found) -> list[Depart
     return found
 
 
-class Away(NamedTuple):
+class Desync(NamedTuple):
     """Frames from `first` up to `end` in which subtitles are `ticks` early for viewers, or late if
     negative."""
 
@@ -378,7 +383,7 @@ class Away(NamedTuple):
     end: int
     ticks: int
 
-    def words(self) -> str:
+    def describe(self) -> str:
         """Return the fault as a clause."""
         count = counted(abs(self.ticks) // TICKS, "frame") if self.ticks % TICKS == 0 else \
             f"{abs(self.ticks) / TICKS:.1f} frames"
@@ -386,7 +391,7 @@ class Away(NamedTuple):
             f"{'early' if self.ticks > 0 else 'late'} for viewers: the pictures go on elsewhere"
 
 
-def aways_of(several: Sequence[Departure], alignment: Found) -> Iterator[Away]:
+def find_desync_spans(several: Sequence[Departure], alignment: TimedPart) -> Iterator[Desync]:
     """Yield the spans of frames in which subtitles are apart from the pictures, adding up all
     drifts."""
     first = pts_of(alignment.begin, alignment.origin)
@@ -396,30 +401,33 @@ def aways_of(several: Sequence[Departure], alignment: Found) -> Iterator[Away]:
     for departure, frame, end in zip(several, frames, [*frames[1:], alignment.end]):
         total += departure.ticks or 0
         if abs(total) * 2 >= TICKS and frame < end:
-            yield Away(frame, end, total)
+            yield Desync(frame, end, total)
 
 
-def is_allowed(ticks: int, within: int) -> bool:
+def is_allowed_delay(ticks: int, within: int) -> bool:
     """Return whether subtitles are late by no more than `within` frames; early subtitles are not
     allowed."""
     return -TICKS * within <= ticks < 0
 
 
-def faults_of(several: Sequence[Departure], alignment: Found, within: int, number: int) \
+def make_desync_faults(several: Sequence[Departure], alignment: TimedPart, within: int,
+                       number: int) \
         -> list[NamedFault]:
     """Return faults for subtitles that come early, or later than allowed."""
-    return [NamedFault(PICTURES_LEFT, away.words(), time_of(away.first), time_of(away.end - 1),
+    return [NamedFault(PICTURES_LEFT, away.describe(), time_of(away.first), time_of(away.end - 1),
                        part=number)
-            for away in aways_of(several, alignment) if not is_allowed(away.ticks, within)]
+            for away in find_desync_spans(several, alignment)
+            if not is_allowed_delay(away.ticks, within)]
 
 
-def late_notes(several: Sequence[Departure], alignment: Found, within: int) -> list[str]:
+def make_delay_notes(several: Sequence[Departure], alignment: TimedPart, within: int) -> list[str]:
     """Return notes on subtitles that are late by no more than --within allows."""
-    return [f"{away.words()}, as --within {within} allows"
-            for away in aways_of(several, alignment) if is_allowed(away.ticks, within)]
+    return [f"{away.describe()}, as --within {within} allows"
+            for away in find_desync_spans(several, alignment)
+            if is_allowed_delay(away.ticks, within)]
 
 
-def unclear_notes(is_steady: bool, count: int) -> list[str]:
+def make_unclear_notes(is_steady: bool, count: int) -> list[str]:
     """Return notes on unchecked drifts: all of them unless `is_steady`, else those at `count`
     places."""
     if not is_steady:

@@ -16,26 +16,26 @@ from ..formats.teletext import (
     BY_BITS, BY_WORD, ERASE, INHIBIT, NEWSFLASH, Page, RESERVED, SUBTITLE, SUPPRESS, has_bit,
     page_name)
 from ..request.request import Request, Unclear, Unsaid
-from ..stream.packets import CLOSED, HEADER, PES, Packets, Run, headers_in, subcode_of
+from ..stream.packets import CLOSED, HEADER, Packets, PES, Run, headers_in, subcode_of
 from ..stream.receiver import BLANK_PAGE, LEAST, Rows, State, Timeline, national_option
 from ..stream.survey import runs_told
-from .check import Answer
-from .pages import is_part, words_on
+from .check import CheckOutput
+from .pages import is_partial_page, join_page_text
 
 
 # Faults of the control bits of headers
 
-CLEAR = "C4 (erase page) is clear"
-REPEATS = f"{CLEAR}: a repeat that does not erase"
+ERASE_CLEAR = "C4 (erase page) is clear"
+REPEAT_WITHOUT_ERASE = f"{ERASE_CLEAR}: a repeat that does not erase"
 # The other control bits of a subtitle header, whether each must be set, and the fault if not.
-ASKED = (
+CONTROL_BIT_FAULTS = (
     (SUBTITLE, True, "C6 (subtitle) is clear"),
     (SUPPRESS, True, "C7 (suppress header) is clear"),
     (NEWSFLASH, False, "C5 (newsflash) is set"),
     (INHIBIT, False, "C10 (inhibit display) is set"),
 )
 # What receivers that use such a bit do, worst first.
-EFFECTS = (
+RECEIVER_EFFECTS = (
     (INHIBIT, False, "is not shown"),
     (SUBTITLE, True, "hides the picture"),
     (ERASE, True, "may stand over old text"),
@@ -45,56 +45,58 @@ EFFECTS = (
 OTHER_LETTERS = "has other letters"
 
 
-class Headed(NamedTuple):
+class PageHeader(NamedTuple):
     """A header of the page, the page's previous header, and whether the page was open when the
     header came."""
 
-    numbers: bytes
-    before: bytes | None = None
+    header: bytes
+    previous: bytes | None = None
     is_open: bool = False
 
 
-def headed(run: Run, state: State) -> list[Headed]:
+def find_page_headers(run: Run, state: State) -> list[PageHeader]:
     """Return the headers of the page in a PES packet; `state` is the decoder's state before this
     packet."""
-    heard: list[Headed] = []
+    heard: list[PageHeader] = []
     before, is_open = state.header, state.is_open
     headers = iter(headers_in(run.control))
     for letter in run.does:
         if letter == HEADER:
-            header = Headed(next(headers), before, is_open)
+            header = PageHeader(next(headers), before, is_open)
             heard.append(header)
-            before, is_open = header.numbers, True
+            before, is_open = header.header, True
         elif letter == CLOSED:
             is_open = False
     return heard
 
 
-def keeps(header: bytes) -> bool:
+def keeps_page(header: bytes) -> bool:
     """Return whether a header leaves the page in memory, with C4 (erase page) clear."""
     return not has_bit(header, ERASE)
 
 
-def unerased_words(headed: Headed, request: Request) -> str:
+def describe_missing_erase(page_header: PageHeader, request: Request) -> str:
     """Describe why a header that should erase the page does not; return an empty text if the header
     is right."""
-    if not keeps(headed.numbers):
+    if not keeps_page(page_header.header):
         return ""
     if not request.may_keep:
-        return REPEATS
-    codes = [subcode_of(header) for header in (headed.numbers, headed.before or headed.numbers)]
+        return REPEAT_WITHOUT_ERASE
+    codes = [subcode_of(header)
+             for header in (page_header.header, page_header.previous or page_header.header)]
     if codes[0] != codes[1]:
-        return f"{CLEAR}, and the sub-code is another one than before: {codes[0]} after {codes[1]}"
-    if request.is_complete and headed.is_open:
-        return f"{CLEAR}, and the page was still open: no header had ended it"
+        return f"{ERASE_CLEAR}, and the sub-code is another one than before: {codes[0]} after " \
+            f"{codes[1]}"
+    if request.is_complete and page_header.is_open:
+        return f"{ERASE_CLEAR}, and the page was still open: no header had ended it"
     return ""
 
 
-def control_words(header: bytes, option: str, unerased: str = "") -> list[str]:
-    """Return the faults of the control bits of a header, beginning with `unerased`, the fault of
+def describe_control_bits(header: bytes, option: str, erase_fault: str = "") -> list[str]:
+    """Return the faults of the control bits of a header, beginning with `erase_fault`, the fault of
     C4."""
-    faults = [unerased] if unerased else []
-    faults += [words for bit, is_set, words in ASKED if has_bit(header, bit) != is_set]
+    faults = [erase_fault] if erase_fault else []
+    faults += [words for bit, is_set, words in CONTROL_BIT_FAULTS if has_bit(header, bit) != is_set]
     bits = national_option(header)
     if bits == RESERVED:
         faults.append("C12, C13 and C14 are set, which is reserved")
@@ -103,18 +105,20 @@ def control_words(header: bytes, option: str, unerased: str = "") -> list[str]:
     return faults
 
 
-def effect_of(headers: Sequence[Headed], request: Request) -> str:
+def describe_effect(headers: Sequence[PageHeader], request: Request) -> str:
     """Describe what some receivers do with the page because of the first faulty header."""
-    numbers = next((header.numbers for header in headers if control_words(
-        header.numbers, request.option, unerased_words(header, request))), b"")
-    wrong = (words for bit, is_set, words in EFFECTS if numbers and has_bit(numbers, bit) != is_set
+    numbers = next((header.header for header in headers if describe_control_bits(
+        header.header, request.option, describe_missing_erase(header, request))), b"")
+    wrong = (words for bit, is_set,
+             words in RECEIVER_EFFECTS if numbers and has_bit(numbers, bit) != is_set
              and not (bit == ERASE and request.may_keep))
     return next(wrong, OTHER_LETTERS)
 
 
-def header_words(headers: Sequence[Headed], request: Request) -> str:
+def describe_header_faults(headers: Sequence[PageHeader], request: Request) -> str:
     """Describe the faults of the first faulty header."""
-    wrong = (control_words(header.numbers, request.option, unerased_words(header, request))
+    wrong = (describe_control_bits(header.header, request.option,
+                                   describe_missing_erase(header, request))
              for header in headers)
     return "; ".join(next(filter(None, wrong), []))
 
@@ -123,70 +127,72 @@ def header_words(headers: Sequence[Headed], request: Request) -> str:
 # page may be right though `check` reports 72: a row did not come after the last header.
 
 
-class Kept(NamedTuple):
+class KeepingHeaders(NamedTuple):
     """The number of headers of the page, and how many of them leave the page in memory."""
 
     headers: int
     keeping: int
 
-    def words(self) -> str:
+    def describe(self) -> str:
         """Return both numbers as a clause."""
-        return f"{CLEAR} in {self.keeping} of {counted(self.headers, 'header')}"
+        return f"{ERASE_CLEAR} in {self.keeping} of {counted(self.headers, 'header')}"
 
 
-def kept_in(headers: Mapping[bytes, int], option: str) -> Kept | None:
+def count_keeping_headers(headers: Mapping[bytes, int], option: str) -> KeepingHeaders | None:
     """Count the headers that leave the page in memory; return `None` if there are none, or if some
     header has another fault too."""
-    keeping = sum(count for one, count in headers.items() if keeps(one))
-    if not keeping or any(control_words(one, option) for one in headers):
+    keeping = sum(count for one, count in headers.items() if keeps_page(one))
+    if not keeping or any(describe_control_bits(one, option) for one in headers):
         return None
-    return Kept(sum(headers.values()), keeping)
+    return KeepingHeaders(sum(headers.values()), keeping)
 
 
-def left_at(held: Timeline, due: Rows, frame: int, answer: Answer | None) -> str:
+def find_omitted_rows(timeline: Timeline, expected: Rows, frame: int,
+                      output: CheckOutput | None) -> str:
     """Describe which rows the last header up to a frame left out; return an empty text if all rows
     came.
 
     The rows came if that header erases the page, if the decoded page is not the expected page, or
     if a row changed after the page was last erased.
     """
-    header = held.state_at(frame).header
-    at = bisect.bisect_right(held.sendings, frame) - 1
-    if header is None or not keeps(header) or at < 0 or held.page_at(frame) != due:
+    header = timeline.state_at(frame).header
+    at = bisect.bisect_right(timeline.sendings, frame) - 1
+    if header is None or not keeps_page(header) or at < 0 or timeline.page_at(frame) != expected:
         return ""
-    erased = held.erasings[bisect.bisect_right(held.erasings, frame) - 1] \
-        if held.erasings and held.erasings[0] <= frame else 0
-    changed = answer.marks.get(CHANGED) if answer else None
+    erased = timeline.erasings[bisect.bisect_right(timeline.erasings, frame) - 1] \
+        if timeline.erasings and timeline.erasings[0] <= frame else 0
+    changed = output.fault_spans.get(CHANGED) if output else None
     if changed and any(changed.between(erased, frame + 1)):
         return ""
-    sent = held.sendings[at]
-    runs = [run for one in range(sent, min(frame, sent + held.within) + 1)
-            for run in held.members(one)]
+    sent = timeline.sendings[at]
+    runs = [run for one in range(sent, min(frame, sent + timeline.within) + 1)
+            for run in timeline.members(one)]
     came = sum(run.units - run.does.count(HEADER) - run.does.count(CLOSED) for run in runs)
-    return left_rows_words([number for number, cells in enumerate(due, 1) if cells.strip(b" ")],
-                           answer.row_at(frame) if answer else None, came)
+    return describe_omitted_rows([number for number,
+                                  cells in enumerate(expected, 1) if cells.strip(b" ")],
+                                 output.find_fault_row(frame) if output else None, came)
 
 
-def left_rows_words(rows: Sequence[int], row: int | None, came: int) -> str:
-    """Describe which rows are missing if only `came` packets followed the header: all rows, or
+def describe_omitted_rows(rows: Sequence[int], row: int | None, received: int) -> str:
+    """Describe which rows are missing if only `received` packets followed the header: all rows, or
     `row`, at which `check` reports the fault, and at least how many more."""
     if not rows:
         return ""
-    if came <= 0:
+    if received <= 0:
         *others, last = map(str, rows)
         return f"rows {', '.join(others)} and {last}" if others else f"row {last}"
-    more = len(rows) - came - 1
+    more = len(rows) - received - 1
     first = "a row" if row is None else f"row {row}"
     return f"{first} and {more} more" if more > 0 else first
 
 
 # The expected pages of subtitles, for causes, delays, faults and reports
 
-NOTHING = 82  # the fault number of a file without subtitles
-EVERY = "1500"  # frames: the fewest repeats
+NO_SUBTITLE_FAULT = 82  # the fault number of a file without subtitles
+LONGEST_INTERVAL = "1500"  # frames: the fewest repeats
 
 
-class DuePages(SubtitleList):
+class ExpectedPages(SubtitleList):
     """The subtitles of a programme with their expected pages. `timeline` has the pages that a
     receiver decodes; it is `None` if there are no subtitles."""
 
@@ -204,14 +210,14 @@ class DuePages(SubtitleList):
         return by_page
 
     @functools.cached_property
-    def by_words(self) -> dict[str, list[int]]:
+    def by_text(self) -> dict[str, list[int]]:
         """Return the positions of the subtitles by text."""
         by_words: dict[str, list[int]] = {}
         for place, page in enumerate(self.pages):
-            by_words.setdefault(words_on(page), []).append(place)
+            by_words.setdefault(join_page_text(page), []).append(place)
         return by_words
 
-    def of_page(self, page: Rows, frame: int) -> int | None:
+    def find_subtitle(self, page: Rows, frame: int) -> int | None:
         """Return the subtitle that has a page and begins nearest to a frame; `None` for a blank
         page."""
         places = self.by_page.get(page)
@@ -224,18 +230,18 @@ class DuePages(SubtitleList):
         return self.pages[count - 1] if is_due else blank
 
 
-def program_answer(program: str, *words: str) -> list[str]:
+def run_program(program: str, *arguments: str) -> list[str]:
     """Run the program and return its lines of output; raise `Unsaid` if the program fails."""
-    done = subprocess.run([program, *words], stdin=subprocess.DEVNULL, check=False,
+    done = subprocess.run([program, *arguments], stdin=subprocess.DEVNULL, check=False,
                           stdout=subprocess.PIPE, encoding="utf-8", errors="replace")
     lines = done.stdout.splitlines()
-    if done.returncode and f"refused {NOTHING} " not in "".join(lines[-1:]):
-        raise Unsaid(f"{words[0]} was not answered: {''.join(lines[-1:])}")
+    if done.returncode and f"refused {NO_SUBTITLE_FAULT} " not in "".join(lines[-1:]):
+        raise Unsaid(f"{arguments[0]} was not answered: {''.join(lines[-1:])}")
     return lines
 
 
-def subtitles_in(program: str, stl: str, between: Between = ALL_DAY,
-                 is_open: bool = False) -> list[Subtitle]:
+def read_subtitles(program: str, stl: str, between: Between = ALL_DAY,
+                   is_open: bool = False) -> list[Subtitle]:
     """Return the subtitles of a file that begin in some frames, as `subttx show` prints them.
 
     `subttx show` rejects a file with any refused or open subtitle; then the subtitles are parsed
@@ -243,7 +249,7 @@ def subtitles_in(program: str, stl: str, between: Between = ALL_DAY,
     """
     try:
         subtitles = subtitles_read(stl_bytes(stl)) if is_open else \
-            subtitles_shown(program_answer(program, "show", "--", stl))
+            subtitles_shown(run_program(program, "show", "--", stl))
     except Unclear:
         if between == ALL_DAY:
             raise
@@ -251,198 +257,206 @@ def subtitles_in(program: str, stl: str, between: Between = ALL_DAY,
     return [subtitle for subtitle in subtitles if between.has(subtitle.begin)]
 
 
-def due_pages_of(program: str, stl: str, subtitles: list[Subtitle], page: Page, option: str,
-                 between: Between = ALL_DAY, words: Sequence[str] = ()) -> DuePages:
+def schedule_pages(program: str, stl: str, subtitles: list[Subtitle], page: Page, option: str,
+                   between: Between = ALL_DAY,
+                   layout_arguments: Sequence[str] = ()) -> ExpectedPages:
     """Return the expected pages of the subtitles of a file, decoded from what `subttx schedule`
-    transmits; `words` are options for drawing pages."""
+    transmits; `layout_arguments` are options for drawing pages."""
     if not subtitles:
-        return DuePages([], [])
+        return ExpectedPages([], [])
     with temporary_folder("subttx-qc-") as folder:
         path = os.path.join(folder, "due.pes")
-        program_answer(program, "schedule", "--page", page_name(*page), "--option", option,
-                       "--every", EVERY, *between.words(), *words, "--", stl, path)
-        due = Timeline(Packets(PES), page, 0)
+        run_program(program, "schedule", "--page", page_name(*page), "--option", option,
+                    "--every", LONGEST_INTERVAL, *between.words(), *layout_arguments, "--", stl,
+                    path)
+        timeline = Timeline(Packets(PES), page, 0)
         for run, texts in runs_told(program, path, page):
-            due.hear_run(run, texts)
-    return DuePages(subtitles, [due.page_at(subtitle.begin) for subtitle in subtitles], due)
+            timeline.hear_run(run, texts)
+    return ExpectedPages(subtitles, [timeline.page_at(subtitle.begin) for subtitle in subtitles],
+                         timeline)
 
 
 # A page transmission belongs to the nearest subtitle with this page. The search begins at the
 # previous subtitle's TCO and ends at the next one's TCI, but at least 250 frames around the TCI.
 
 
-class Sendings:
+class PageTransmissions:
     """The page transmissions of subtitles among the decoded pages."""
 
-    def __init__(self, programme: DuePages, held: Timeline) -> None:
-        self.programme, self.held = programme, held
-        self.subtitles, self.pages = programme.subtitles, programme.pages
+    def __init__(self, expected: ExpectedPages, timeline: Timeline) -> None:
+        self.expected, self.timeline = expected, timeline
+        self.subtitles, self.pages = expected.subtitles, expected.pages
 
     # The subtitle of a fault
 
-    def is_due(self, frame: int) -> bool:
+    def is_expected_page(self, frame: int) -> bool:
         """Return whether the decoded page at a frame is the expected page."""
-        return self.held.page_at(frame) == self.programme.page_at(frame)
+        return self.timeline.page_at(frame) == self.expected.page_at(frame)
 
-    def split(self, first: int, last: int) -> list[Span]:
+    def split_frames(self, first: int, last: int) -> list[Span]:
         """Split frames with a fault into spans in which neither the expected nor the decoded page
         changes."""
-        begins = {first, *self.programme.edges(first, last)}
-        begins.update(self.held.frames[number] for number in self.held.numbers(first, last + 1)
-                      if self.held.frames[number] > first)
+        begins = {first, *self.expected.edges(first, last)}
+        begins.update(self.timeline.frames[number]
+                      for number in self.timeline.numbers(first, last + 1)
+                      if self.timeline.frames[number] > first)
         rising = sorted(begins)
         return [Span(begin, end - 1) for begin, end in zip(rising, [*rising[1:], last + 1])]
 
-    def owner(self, frame: int) -> int:
+    def find_owner(self, frame: int) -> int:
         """Return the subtitle that a wrong page at a frame belongs to: the latest expected
         subtitle, or the subtitle whose page was sent at another time."""
-        place = self.programme.place_at(frame)
-        number = self.held.number_at(frame)
+        place = self.expected.place_at(frame)
+        number = self.timeline.number_at(frame)
         if place < 0 or number < 0:
             return max(place, 0)
-        if place and self.is_left_over(number, place, frame):
-            return self.owner(self.subtitles[place].begin - 1)
-        if self.is_ahead(number, place):
+        if place and self.is_delayed_page(number, place, frame):
+            return self.find_owner(self.subtitles[place].begin - 1)
+        if self.is_sent_for_next(number, place):
             return place + 1
-        page = self.held.pages[number]
-        sent = self.programme.of_page(page, self.held.frames[number])
-        if sent is None or sent == place or self.sending(sent) != self.held.frames[number]:
+        page = self.timeline.pages[number]
+        sent = self.expected.find_subtitle(page, self.timeline.frames[number])
+        if sent is None or sent == place or \
+                self.find_transmission(sent) != self.timeline.frames[number]:
             return place
         is_due = frame < self.subtitles[place].end
-        if is_due and not (sent > place and self.has_come(place)):
+        if is_due and not (sent > place and self.was_sent_by_cue(place)):
             return place
         return sent
 
-    def has_come(self, place: int) -> bool:
+    def was_sent_by_cue(self, place: int) -> bool:
         """Return whether the page of a subtitle came early or in time."""
-        came = self.sending(place)
+        came = self.find_transmission(place)
         begin = self.subtitles[place].begin
-        return came is not None and came <= begin + self.held.within or \
-            self.held.page_at(begin) == self.pages[place]
+        return came is not None and came <= begin + self.timeline.within or \
+            self.timeline.page_at(begin) == self.pages[place]
 
-    def is_left_over(self, number: int, place: int, frame: int) -> bool:
+    def is_delayed_page(self, number: int, place: int, frame: int) -> bool:
         """Return whether a page stays for an allowed delay, until the page of the next subtitle:
         the fault of such a page belongs to the previous subtitle."""
         begin, following = self.subtitles[place].begin, number + 1
-        limit = begin + self.held.within
-        return self.held.frames[number] < begin <= frame < limit and \
-            following < len(self.held.frames) and self.held.frames[following] <= limit and \
-            not self.is_due(begin - 1)
+        limit = begin + self.timeline.within
+        return self.timeline.frames[number] < begin <= frame < limit and \
+            following < len(self.timeline.frames) and self.timeline.frames[following] <= limit and \
+            not self.is_expected_page(begin - 1)
 
-    def is_ahead(self, number: int, place: int) -> bool:
+    def is_sent_for_next(self, number: int, place: int) -> bool:
         """Return whether a page of no subtitle is meant for the next subtitle: the page came after
         the subtitle's own page, and lasts longer in the time of the next subtitle."""
-        if place + 1 >= len(self.subtitles) or not self.is_strange(number, place):
+        if place + 1 >= len(self.subtitles) or not self.is_unknown_page(number, place):
             return False
         one, following = self.subtitles[place], self.subtitles[place + 1]
-        return one.begin < self.held.frames[number] < one.end and self.has_come(place) and \
-            self.length(number, following.begin, following.end) > \
-            self.length(number, one.begin, one.end)
+        return one.begin < self.timeline.frames[number] < one.end and \
+            self.was_sent_by_cue(place) and \
+            self.count_frames(number, following.begin, following.end) > \
+            self.count_frames(number, one.begin, one.end)
 
     # Transmissions
 
-    def window(self, place: int) -> Span:
+    def search_window(self, place: int) -> Span:
         """Return the frames to search for the page transmission of a subtitle."""
         begin = self.subtitles[place].begin
-        return Span(min(self.programme.before(place), begin - LEAST),
-                    max(self.programme.after(place), begin + LEAST))
+        return Span(min(self.expected.before(place), begin - LEAST),
+                    max(self.expected.after(place), begin + LEAST))
 
-    def sending(self, place: int) -> int | None:
+    def find_transmission(self, place: int) -> int | None:
         """Return the frame nearest to the TCI at which the page of a subtitle came, or `None`.
 
         A page at the TCI of another subtitle replaces the page of that subtitle, unless both
         subtitles are moved by as many frames.
         """
-        numbers = [frame for frame in self.sendings(place) if self.in_place_of(frame)
-                   in (None, place) or self.are_moved(place, frame)]
-        return nearest(numbers, self.subtitles[place].begin)
+        numbers = [frame for frame in self.find_transmissions(place)
+                   if self.find_subtitle_at_cue(frame)
+                   in (None, place) or self.are_moved_together(place, frame)]
+        return find_nearest(numbers, self.subtitles[place].begin)
 
-    def sendings(self, place: int) -> list[int]:
+    def find_transmissions(self, place: int) -> list[int]:
         """Return all frames in the search window at which the page of a subtitle came for this
         subtitle."""
-        page, window = self.pages[place], self.window(place)
-        frames = self.held.when.get(page)
+        page, window = self.pages[place], self.search_window(place)
+        frames = self.timeline.when.get(page)
         if not frames or page == BLANK_PAGE:
             return []
         first, end = (bisect.bisect_left(frames, frame)
                       for frame in (window.first, window.last + 1))
         return [frame for frame in frames[first:end]
-                if self.programme.of_page(page, frame) == place]
+                if self.expected.find_subtitle(page, frame) == place]
 
-    def in_place_of(self, frame: int) -> int | None:
+    def find_subtitle_at_cue(self, frame: int) -> int | None:
         """Return the subtitle that begins at a frame, or up to the allowed delay before the frame.
         """
-        place = self.programme.place_at(frame)
-        is_in_time = place >= 0 and frame <= self.subtitles[place].begin + self.held.within
+        place = self.expected.place_at(frame)
+        is_in_time = place >= 0 and frame <= self.subtitles[place].begin + self.timeline.within
         return place if is_in_time else None
 
-    def are_moved(self, place: int, frame: int) -> bool:
+    def are_moved_together(self, place: int, frame: int) -> bool:
         """Return whether the subtitle expected at a frame is moved as far as the subtitle whose
         page came then, allowing for delays."""
-        other = self.programme.place_at(frame)
+        other = self.expected.place_at(frame)
         begin = self.subtitles[other].begin
-        came = nearest(self.sendings(other), begin)
+        came = find_nearest(self.find_transmissions(other), begin)
         moved = frame - self.subtitles[place].begin
-        return came is not None and abs(came - begin - moved) <= self.held.within
+        return came is not None and abs(came - begin - moved) <= self.timeline.within
 
-    def strange(self, place: int, came: int | None) -> int | None:
+    def find_unknown_page(self, place: int, came: int | None) -> int | None:
         """Return the number of the page of no subtitle that lasts longest in the time of a
         subtitle, before the subtitle's own page came, or `None`. Pages from before that time don't
         count."""
         subtitle = self.subtitles[place]
         end = subtitle.end if came is None or came <= subtitle.begin else min(came, subtitle.end)
         least = subtitle.begin if place == 0 and came is not None else 0
-        numbers = [number for number in self.held.numbers(subtitle.begin, end)
-                   if self.is_of_its_time(number, place) and self.is_strange(number, place)
-                   and self.held.frames[number] >= least]
-        lengths = [self.length(number, subtitle.begin, end) for number in numbers]
+        numbers = [number for number in self.timeline.numbers(subtitle.begin, end)
+                   if self.belongs_to_subtitle(number, place)
+                   and self.is_unknown_page(number, place)
+                   and self.timeline.frames[number] >= least]
+        lengths = [self.count_frames(number, subtitle.begin, end) for number in numbers]
         return numbers[lengths.index(max(lengths))] if numbers else None
 
-    def is_of_its_time(self, number: int, place: int) -> bool:
+    def belongs_to_subtitle(self, number: int, place: int) -> bool:
         """Return whether a page came after the TCO of the previous subtitle, or was meant for this
         subtitle."""
-        begin = min(self.programme.before(place), self.subtitles[place].begin)
-        return self.held.frames[number] >= begin or \
-            place > 0 and self.is_ahead(number, place - 1)
+        begin = min(self.expected.before(place), self.subtitles[place].begin)
+        return self.timeline.frames[number] >= begin or \
+            place > 0 and self.is_sent_for_next(number, place - 1)
 
-    def is_strange(self, number: int, place: int) -> bool:
+    def is_unknown_page(self, number: int, place: int) -> bool:
         """Return whether a page belongs to no subtitle, and is neither blank nor a part of a
         subtitle's page."""
-        page = self.held.pages[number]
-        return page != BLANK_PAGE and page not in self.programme.by_page and \
-            not is_part(page, self.pages[place])
+        page = self.timeline.pages[number]
+        return page != BLANK_PAGE and page not in self.expected.by_page and \
+            not is_partial_page(page, self.pages[place])
 
-    def length(self, number: int, begin: int, end: int) -> int:
+    def count_frames(self, number: int, begin: int, end: int) -> int:
         """Count the frames between two frames in which a page is decoded."""
-        stretch = self.held.stretch(number)
+        stretch = self.timeline.stretch(number)
         return min(stretch.last + 1, end) - max(stretch.first, begin)
 
-    def other_at(self, place: int) -> int | None:
+    def find_other_at_cue(self, place: int) -> int | None:
         """Return another subtitle whose page came at the TCI of a subtitle, or within the allowed
         delay, unless both subtitles are moved by as many frames."""
         subtitle = self.subtitles[place]
-        limit = min(subtitle.begin + self.held.within + 1, subtitle.end)
-        for number in self.held.numbers(subtitle.begin, limit):
-            frame = self.held.frames[number]
-            other = self.programme.of_page(self.held.pages[number], frame)
+        limit = min(subtitle.begin + self.timeline.within + 1, subtitle.end)
+        for number in self.timeline.numbers(subtitle.begin, limit):
+            frame = self.timeline.frames[number]
+            other = self.expected.find_subtitle(self.timeline.pages[number], frame)
             if frame >= subtitle.begin and other is not None and other != place and \
-                    not self.are_moved(other, frame):
+                    not self.are_moved_together(other, frame):
                 return other
         return None
 
-    def others_in(self, place: int) -> int | None:
+    def find_other_during(self, place: int) -> int | None:
         """Return another subtitle whose page came in the time of a subtitle, but not at its own
         time."""
         subtitle = self.subtitles[place]
-        for number in self.held.numbers(subtitle.begin, subtitle.end):
-            frame = self.held.frames[number]
-            other = self.programme.of_page(self.held.pages[number], frame)
+        for number in self.timeline.numbers(subtitle.begin, subtitle.end):
+            frame = self.timeline.frames[number]
+            other = self.expected.find_subtitle(self.timeline.pages[number], frame)
             if frame >= subtitle.begin and other not in (None, place) and \
-                    self.sending(other or 0) != frame:
+                    self.find_transmission(other or 0) != frame:
                 return other
         return None
 
 
-def nearest(frames: list[int], wanted: int) -> int | None:
+def find_nearest(frames: list[int], wanted: int) -> int | None:
     """Return the frame nearest to `wanted`, or `None`."""
     return min(frames, key=lambda frame: abs(frame - wanted)) if frames else None

@@ -16,86 +16,89 @@ from ..recording.notices import Notice
 from ..request.request import Request, Selection
 from ..stream.gaps import Place, what_of
 from ..stream.receiver import Rows, Timeline
-from .part import Part, is_in
-from .sentence import Count, Facts, Lead, Rank, sentence_of, worst_name
+from .part import Part, belongs_to_part
+from .sentence import Facts, FaultCount, Rank, WorstFault, find_worst_named_fault, write_sentence
 from .status import (
     ACCEPTED, Decision, Grounds, LOST, NOT_JUDGED, REFUSED, RELATIVE, Severity, WAIVED, WARNED,
     decide)
-from .subtitles import Counts, JudgedBeside
+from .subtitles import SubtitleCounts, ValidSubtitles
 
 
 # Delays until subtitles are complete: a broadcaster chooses --within N from these
 
 # With --within 0 and none of these faults, each page is complete in the frame of its TCI.
-MOVED = {*range(30, 33), 44, 45, 60, 62, 63, 71, 72, 74, 77}
+DELAYING_FAULTS = {*range(30, 33), 44, 45, 60, 62, 63, 71, 72, 74, 77}
 
 
-class Spread(NamedTuple):
-    """Minimum, median and maximum of delays in frames; `never` counts subtitles never complete."""
+class DelaySpread(NamedTuple):
+    """Minimum, median and maximum of delays in frames; `never_complete` counts subtitles never
+    complete."""
 
-    least: int
-    middle: int
-    greatest: int
-    never: int
+    minimum: int
+    median: int
+    maximum: int
+    never_complete: int
 
-    def words(self) -> str:
+    def describe(self) -> str:
         """Return the delays as one clause."""
-        middle = "" if self.least == self.greatest else f", {self.middle} in the middle"
-        never = f"; {self.never} not seen whole" if self.never else ""
-        return f"subtitles are whole after {range_words(self.least, self.greatest)}{middle}{never}"
+        middle = "" if self.minimum == self.maximum else f", {self.median} in the middle"
+        never = f"; {self.never_complete} not seen whole" if self.never_complete else ""
+        return f"subtitles are whole after {range_words(self.minimum, self.maximum)}{middle}{never}"
 
 
-def spread_of(several: Iterable[int | None]) -> Spread | None:
+def summarize_delays(several: Iterable[int | None]) -> DelaySpread | None:
     """Return minimum, median and maximum of delays; `None` is a subtitle that was never complete.
     """
     all_of = list(several)
     known = sorted(frames for frames in all_of if frames is not None)
     if not known:
         return None
-    return Spread(known[0], known[len(known) // 2], known[-1], len(all_of) - len(known))
+    return DelaySpread(known[0], known[len(known) // 2], known[-1], len(all_of) - len(known))
 
 
-def frames_until(subtitle: Subtitle, page: Rows, held: Timeline, is_complete: bool) -> int | None:
+def measure_delay(subtitle: Subtitle, page: Rows, timeline: Timeline,
+                  is_complete: bool) -> int | None:
     """Return after how many frames the page of a subtitle is complete, and with `is_complete` also
     closed.
 
     Return `None` if that never happens, or if nothing was received before the TCI.
     """
-    if held.first > subtitle.begin:
+    if timeline.first > subtitle.begin:
         return None
-    for number in held.numbers(subtitle.begin, subtitle.end):
-        if held.pages[number] != page:
+    for number in timeline.numbers(subtitle.begin, subtitle.end):
+        if timeline.pages[number] != page:
             continue
-        stretch = held.stretch(number)
+        stretch = timeline.stretch(number)
         first = max(stretch.first, subtitle.begin)
-        frame = held.closed_from(first) if is_complete else first
+        frame = timeline.closed_from(first) if is_complete else first
         if frame is not None and frame <= min(stretch.last, subtitle.end - 1):
             return frame - subtitle.begin
     return None
 
 
-def worst_of(parts: Sequence[Part], lead: Callable[[Part], Lead | None]) -> Part | None:
-    """Return the first part whose `lead` is the most severe fault."""
+def find_worst_part(parts: Sequence[Part],
+                    find_worst: Callable[[Part], WorstFault | None]) -> Part | None:
+    """Return the first part whose `find_worst` is the most severe fault."""
     def rank(part: Part) -> Rank:
-        worst = lead(part)
+        worst = find_worst(part)
         return worst.rank if worst else Rank.LATER
 
     return min(parts, key=rank) if parts else None
 
 
-def with_lead(said: Facts, lead: Lead | None) -> Facts:
+def add_worst_fault(facts: Facts, worst: WorstFault | None) -> Facts:
     """Return the facts of a sentence with the fault to report first."""
-    return said._replace(first=lead.fault, is_caused=lead.is_caused) if lead else said
+    return facts._replace(first=worst.fault, is_caused=worst.is_caused) if worst else facts
 
 
-def counts_of_numbers(parts: Sequence[Part], left_out: Collection[int] = ()) -> list[Count]:
+def count_fault_numbers(parts: Sequence[Part], left_out: Collection[int] = ()) -> list[FaultCount]:
     """Count the faults of all parts by fault number, except numbers in `left_out`."""
     counts: collections.Counter[int] = collections.Counter()
     names: dict[int, str] = {}
     for part in parts:
-        counts.update(part.answer.counts)
-        names |= {number: fault.name for number, fault in part.answer.firsts.items()}
-    return [Count(number, names.get(number, ""), count) for number, count in counts.items()
+        counts.update(part.check_output.counts_by_number)
+        names |= {number: fault.name for number, fault in part.check_output.first_faults.items()}
+    return [FaultCount(number, names.get(number, ""), count) for number, count in counts.items()
             if number not in left_out]
 
 
@@ -114,26 +117,26 @@ class Gap:
 
     after: str | None
     before: str | None
-    words: str
+    description: str
     place: Place
     is_judged: bool
 
-    def line(self) -> str:
+    def format_line(self) -> str:
         """Return a line with the times around the gap and a description of the loss."""
         return f"between {self.after or 'the beginning'} and {self.before or 'the end'}: " \
-            f"{self.words}"
+            f"{self.description}"
 
 
 class Unjudged(NamedTuple):
     """Why a pair is not judged, in lines, and commands that the operator may type then.
 
-    `is_passing`: the cause is a failure of the machine, so another run may judge the pair.
+    `is_temporary`: the cause is a failure of the machine, so another run may judge the pair.
     `is_stopped`: a signal stopped the run.
     """
 
     reason: str
-    to_type: tuple[str, ...] = ()
-    is_passing: bool = False
+    suggestions: tuple[str, ...] = ()
+    is_temporary: bool = False
     is_stopped: bool = False
 
 
@@ -142,20 +145,20 @@ class Verdict:
     """The result of judging a pair.
 
     `notes` are other observations, one line each; `hints` explain the first character and the first
-    header that are refused. `files` describes the files when judging began; `seconds` is the time
-    it took.
+    header that are refused. `files_at_start` describes the files when judging began; `seconds` is
+    the duration of judging.
 
-    The texts computed from it, and where each of them appears:
+    The texts of a verdict appear here:
 
-        word      JSON, CSV, JUnit, reports; decides the exit status
-        line      the last line on standard output; JSON, CSV
-        lead      reports, tables of many pairs, JUnit, JSON: `line` with the worst fault
-        sentence  standard output, before the last line; reports, JSON, CSV
-        lines     standard output, before all that: a line for each of several parts
-        said      reports and JSON, as notes; standard error has only `notes`
-        fitted    standard output; elsewhere it is in `said`
-        why_not   if nothing is judged: standard error, reports, JUnit; JSON and CSV as `reason`
-        to_type   then too: standard error, reports
+        word                   JSON, CSV, JUnit, reports; decides the exit status
+        line                   the last line on standard output; JSON, CSV
+        worst_line             reports, tables of many pairs, JUnit, JSON: with the worst fault
+        sentence               standard output, before the last line; reports, JSON, CSV
+        format_part_lines      standard output, at first: a line for each of several parts
+        list_notes             reports and JSON; standard error has only `notes`
+        estimated_clock_note   standard output; elsewhere in `list_notes`
+        unjudged_reason        standard error, reports, JUnit; JSON and CSV as `reason`
+        suggestions            standard error, reports; if the pair is not judged
     """
 
     request: Request
@@ -167,18 +170,20 @@ class Verdict:
     notes: list[str] = dataclasses.field(default_factory=list)
     hints: list[str] = dataclasses.field(default_factory=list)
     commands: list[str] = dataclasses.field(default_factory=list)
-    chosen: list[Selection] = dataclasses.field(default_factory=list)
+    selections: list[Selection] = dataclasses.field(default_factory=list)
     stl: SummedFile | None = None
     recording: SummedFile | None = None
     is_kept: bool = False  # the judged files stay in the folder
     unjudged: Unjudged | None = None  # if the pair is not judged
     # Outputs that could not be written, or would describe other files than were judged.
-    failed: list[str] = dataclasses.field(default_factory=list)
-    files: dict[str, object] = dataclasses.field(default_factory=dict)
+    failed_outputs: list[str] = dataclasses.field(default_factory=list)
+    files_at_start: dict[str, object] = dataclasses.field(default_factory=dict)
     seconds: float = 0.0
-    count: int = 0  # of the subtitles
-    beside: JudgedBeside | None = None  # if some subtitles are refused, and others are judged
-    named: list[NamedFault] = dataclasses.field(default_factory=list)  # faults without a number
+    subtitle_count: int = 0
+    # If some subtitles are refused, and others are judged.
+    valid_subtitles: ValidSubtitles | None = None
+    # Faults without a number.
+    named_faults: list[NamedFault] = dataclasses.field(default_factory=list)
 
     @property
     def is_lost(self) -> bool:
@@ -190,12 +195,13 @@ class Verdict:
         self.warnings += [notice for notice in dict.fromkeys(notices)
                           if notice not in self.warnings]
 
-    def said(self) -> list[str]:
+    def list_notes(self) -> list[str]:
         """Return the notes for the report and the JSON result."""
-        return [*self.notes, *([self.fitted] if self.fitted and self.word != RELATIVE else [])]
+        return [*self.notes, *([self.estimated_clock_note] if self.estimated_clock_note
+                               and self.word != RELATIVE else [])]
 
     @property
-    def fitted(self) -> str | None:
+    def estimated_clock_note(self) -> str | None:
         """Return a note that the clock, or the clock after a break, was estimated; `None` if a
         clock was given."""
         if not any(part.clock and part.clock.is_fitted for part in self.parts):
@@ -214,26 +220,26 @@ class Verdict:
         clocks = [part.clock for part in self.parts if part.clock]
         return self.request.has_clock and not (clocks and clocks[0].is_fitted)
 
-    def seen(self) -> Grounds:
+    def collect_grounds(self) -> Grounds:
         """Return everything that decides the verdict."""
-        is_later = bool(self.fitted) and self.has_clock
+        is_later = bool(self.estimated_clock_note) and self.has_clock
         kinds = [*(warned.kind for warned in self.warnings), *[ESTIMATED] * is_later]
-        return Grounds([part.said() for part in self.parts], self.severity,
+        return Grounds([part.summarize_check() for part in self.parts], self.severity,
                        [gap.is_judged and gap.place.mark is None for gap in self.gaps], kinds,
                        self.request.is_strict, [self.unjudged.reason] if self.unjudged else [],
-                       self.failed, [fault.name for fault in self.named], self.has_clock,
-                       self.request.is_relative_allowed)
+                       self.failed_outputs, [fault.name for fault in self.named_faults],
+                       self.has_clock, self.request.is_relative_allowed)
 
     @property
     def decision(self) -> Decision:
-        return decide(self.seen())
+        return decide(self.collect_grounds())
 
     @property
     def is_final(self) -> bool:
         """Return whether another run would give the same verdict, since nothing failed or was
         stopped."""
         known = self.unjudged
-        return not (known and (known.is_passing or known.is_stopped) or self.failed)
+        return not (known and (known.is_temporary or known.is_stopped) or self.failed_outputs)
 
     @property
     def is_stopped(self) -> bool:
@@ -241,9 +247,9 @@ class Verdict:
         return bool(self.unjudged and self.unjudged.is_stopped)
 
     @property
-    def to_type(self) -> tuple[str, ...]:
+    def suggestions(self) -> tuple[str, ...]:
         """Return commands that the operator may type if the pair is not judged."""
-        return self.unjudged.to_type if self.unjudged else ()
+        return self.unjudged.suggestions if self.unjudged else ()
 
     @property
     def word(self) -> str:
@@ -251,32 +257,35 @@ class Verdict:
         return self.decision.word
 
     @property
-    def why_not(self) -> str | None:
+    def unjudged_reason(self) -> str | None:
         """Return the reason why the pair is not judged, in lines, or `None` if the pair is judged.
         """
-        reasons = [*([self.unjudged.reason] if self.unjudged else []), *self.failed]
+        reasons = [*([self.unjudged.reason] if self.unjudged else []), *self.failed_outputs]
         return "\n".join(reasons) if reasons else self.decision.reason
 
     @property
     def sentence(self) -> str:
         """Return the verdict as one sentence."""
-        refused, waived = self.leading, self.waived
+        refused, waived = self.worst_part, self.waived_numbers
         said = Facts(
-            self.word, self.count, option=self.request.option,
-            faults=self.faults - sum(part.answer.counts[one] for part in self.parts
-                                     for one in waived),
-            counts=counts_of_numbers(self.parts, waived), waived=[
-                count for count in counts_of_numbers(self.parts) if count.number in waived],
-            lost=[gap.line() for gap in self.gaps if gap.is_judged], warnings=self.seen().warnings,
-            reason=self.why_not, named=self.first_named.words if self.first_named else "",
+            self.word, self.subtitle_count, option=self.request.option,
+            faults=self.fault_count -
+            sum(part.check_output.counts_by_number[one] for part in self.parts
+                                          for one in waived),
+            counts=count_fault_numbers(self.parts, waived), waived=[
+                count for count in count_fault_numbers(self.parts) if count.number in waived],
+            lost=[gap.format_line() for gap in self.gaps if gap.is_judged],
+            warnings=self.collect_grounds().warnings,
+            reason=self.unjudged_reason,
+            named=self.worst_named_fault.words if self.worst_named_fault else "",
             is_file=self.request.recording is None, within=self.request.within,
             parts=len(self.parts), delay=self.delay_of_all, has_picture=self.has_picture)
-        if refused and self.beside:
-            said = self.sent_beside(said, self.beside)
-        elif refused and not self.first_named:
-            said = with_lead(said._replace(hint=refused.hint, of_block=refused.of_block,
-                                           causes=refused.causes), refused.worst)
-        return sentence_of(said)
+        if refused and self.valid_subtitles:
+            said = self.add_transmission_facts(said, self.valid_subtitles)
+        elif refused and not self.worst_named_fault:
+            said = add_worst_fault(said._replace(hint=refused.hint, of_block=refused.block_subtitle,
+                                                 causes=refused.causes), refused.worst_fault)
+        return write_sentence(said)
 
     @property
     def delay_of_all(self) -> int:
@@ -286,41 +295,42 @@ class Verdict:
         is_measured = clock and clock.is_delay_of_all and not self.request.within
         return clock.delay_frames or 0 if clock and is_measured else 0
 
-    def sent_beside(self, said: Facts, beside: JudgedBeside) -> Facts:
+    def add_transmission_facts(self, said: Facts, beside: ValidSubtitles) -> Facts:
         """Return the facts about the transmission of a file with refused subtitles, from the worst
         part."""
-        answers = [part.answer for part in self.parts]
-        parts = [part for part in self.parts if part.worst_sent]
-        part = worst_of(parts, lambda one: one.worst_sent)
-        said = said._replace(refused=beside.words(), subtitles=len(beside.judged), is_file=False,
-                             faults=sum(answer.count_sent for answer in answers),
-                             counts=counts_of_numbers(self.parts, STL_FAULTS | {UNDECIDED}))
-        return with_lead(said._replace(hint=part.sent_hint, causes=part.causes),
-                         part.worst_sent) if part else said
+        answers = [part.check_output for part in self.parts]
+        parts = [part for part in self.parts if part.worst_transmission_fault]
+        part = find_worst_part(parts, lambda one: one.worst_transmission_fault)
+        said = said._replace(refused=beside.describe(), subtitles=len(beside.judged), is_file=False,
+                             faults=sum(answer.transmission_fault_count for answer in answers),
+                             counts=count_fault_numbers(self.parts, STL_FAULTS | {UNDECIDED}))
+        return add_worst_fault(said._replace(hint=part.transmission_hint, causes=part.causes),
+                               part.worst_transmission_fault) if part else said
 
     @property
-    def counts(self) -> Counts | None:
+    def subtitle_counts(self) -> SubtitleCounts | None:
         """Return how many subtitles were judged and how many are refused, or `None` if unknown."""
         if self.word == NOT_JUDGED or not self.parts:
             return None
-        if self.beside:
-            return Counts(len(self.beside.judged), len(self.beside.left_out))
-        is_refused = any(part.answer.numbers & STL_FAULTS for part in self.parts)
-        return None if is_refused else Counts(self.count, 0)
+        if self.valid_subtitles:
+            return SubtitleCounts(len(self.valid_subtitles.judged),
+                                  len(self.valid_subtitles.skipped_positions))
+        is_refused = any(part.check_output.fault_numbers & STL_FAULTS for part in self.parts)
+        return None if is_refused else SubtitleCounts(self.subtitle_count, 0)
 
-    def of_part(self, part: Part, gaps: list[Gap]) -> Verdict:
+    def narrow_to_part(self, part: Part, gaps: list[Gap]) -> Verdict:
         """Return the verdict on one part alone, with the gaps of that part."""
         return dataclasses.replace(self, parts=[part], gaps=gaps)
 
     @property
-    def delays(self) -> Spread | None:
+    def delays(self) -> DelaySpread | None:
         """Return the spread of the delays until subtitles are complete."""
-        return spread_of(frames for part in self.parts for frames in part.delays)
+        return summarize_delays(frames for part in self.parts for frames in part.delays)
 
     @property
-    def faults(self) -> int:
+    def fault_count(self) -> int:
         """Return the number of faults in all parts."""
-        return sum(part.answer.count for part in self.parts) + len(self.named)
+        return sum(part.check_output.fault_count for part in self.parts) + len(self.named_faults)
 
     @property
     def status(self) -> int:
@@ -335,52 +345,53 @@ class Verdict:
         fault it is the last line of the only part, or sums over all parts.
         """
         faults: list[FaultLine | NamedFault] = [
-            fault for part in self.parts for fault in part.answer.firsts.values()]
-        faults += self.named
+            fault for part in self.parts for fault in part.check_output.first_faults.values()]
+        faults += self.named_faults
         errors = [fault for fault in faults if self.severity.is_error(
             fault.name if isinstance(fault, NamedFault) else fault.number)]
-        return self.line_of(next((fault.line for fault in errors or faults), None))
+        return self.prefix_verdict(next((fault.line for fault in errors or faults), None))
 
     @property
-    def lead(self) -> str | None:
+    def worst_line(self) -> str | None:
         """Return the first line of reports and batch tables: the last line of output, but with the
         worst error."""
-        if self.first_named:
-            return self.line_of(self.first_named.line)
-        return self.line_of(self.leading.lead if self.leading else None)
+        if self.worst_named_fault:
+            return self.prefix_verdict(self.worst_named_fault.line)
+        return self.prefix_verdict(self.worst_part.first_text if self.worst_part else None)
 
     @property
-    def first_named(self) -> NamedFault | None:
+    def worst_named_fault(self) -> NamedFault | None:
         """Return the worst fault without a number, if no other fault is worse."""
-        worst = self.leading.worst if self.leading else None
-        errors = [fault for fault in self.named if self.severity.is_error(fault.name)]
-        named = errors if errors or self.word == REFUSED else self.named
-        return worst_name(named, worst.rank if worst else None)
+        worst = self.worst_part.worst_fault if self.worst_part else None
+        errors = [fault for fault in self.named_faults if self.severity.is_error(fault.name)]
+        named = errors if errors or self.word == REFUSED else self.named_faults
+        return find_worst_named_fault(named, worst.rank if worst else None)
 
     @property
-    def leading(self) -> Part | None:
+    def worst_part(self) -> Part | None:
         """Return the part that has the worst fault."""
         refused = [part for part in self.parts if part.is_refused]
-        errors = [part for part in refused if any(map(self.severity.is_error, part.answer.numbers))]
-        return worst_of(errors or refused, lambda part: part.worst)
+        errors = [part for part in refused
+                  if any(map(self.severity.is_error, part.check_output.fault_numbers))]
+        return find_worst_part(errors or refused, lambda part: part.worst_fault)
 
     @property
-    def waived(self) -> set[int]:
+    def waived_numbers(self) -> set[int]:
         """Return the fault numbers that are only warnings, if the pair is refused for other faults.
         """
-        numbers = {number for part in self.parts for number in part.answer.numbers}
-        left_out = STL_FAULTS | {UNDECIDED} if self.beside else set[int]()
+        numbers = {number for part in self.parts for number in part.check_output.fault_numbers}
+        left_out = STL_FAULTS | {UNDECIDED} if self.valid_subtitles else set[int]()
         return {number for number in numbers - left_out if not self.severity.is_error(number)} \
             if self.word == REFUSED else set()
 
-    def line_of(self, refused: str | None) -> str | None:
+    def prefix_verdict(self, refused: str | None) -> str | None:
         """Return a line of `check` after the verdict, or `None` if the pair is not judged."""
         word = self.word
         if word == NOT_JUDGED:
             return None
         if word == REFUSED:
             return refused
-        line = self.good_line() if refused is None else f"{WAIVED}: {refused}"
+        line = self.format_good_line() if refused is None else f"{WAIVED}: {refused}"
         if word == RELATIVE and refused is not None:
             line = f"{RELATIVE}, {line}"
         if self.request.waivers:
@@ -388,40 +399,40 @@ class Verdict:
         if word == LOST:
             return f"not accepted, since TS packets are lost: {line}"
         if word == WARNED:
-            kinds = ", ".join(dict.fromkeys(self.seen().warnings))
+            kinds = ", ".join(dict.fromkeys(self.collect_grounds().warnings))
             return f"not accepted, since warnings count ({kinds}): {line}"
         return line
 
-    def good_line(self) -> str:
+    def format_good_line(self) -> str:
         """Return the line of the only part, or sums over all parts; `relative` comes first if no
         clock was given."""
-        answers = [part.answer for part in self.parts]
+        answers = [part.check_output for part in self.parts]
         line = answers[0].line if len(answers) == 1 else (
             f"{ACCEPTED} {sum(answer.frames or 0 for answer in answers)} frames "
             f"{sum(answer.transmissions or 0 for answer in answers)} transmissions in "
             f"{len(answers)} parts")
         return line if self.has_clock else f"{RELATIVE}{line.removeprefix(ACCEPTED)}"
 
-    def lines(self) -> list[str]:
+    def format_part_lines(self) -> list[str]:
         """Return a line for each of several parts: the times of the part and its last line."""
-        return [f"part {part.number}, from {' to '.join(map(str, part.times()))}: "
-                f"{part.answer.line}" for part in self.parts] if len(self.parts) > 1 else []
+        return [f"part {part.number}, from {' to '.join(map(str, part.time_codes()))}: "
+                f"{part.check_output.line}" for part in self.parts] if len(self.parts) > 1 else []
 
 
 # Gaps in the recording
 
 
-def gaps_in(recording: Recording, parts: Sequence[Part]) -> list[Gap]:
+def find_gaps(recording: Recording, parts: Sequence[Part]) -> list[Gap]:
     """Return the gaps of a recording, including gaps that announced jumps of the counter hide."""
-    return gaps_of(recording.places([jump for part in parts for jump in part.jumps]), parts)
+    return make_gaps(recording.places([jump for part in parts for jump in part.jumps]), parts)
 
 
-def gaps_of(places: Sequence[Place], parts: Sequence[Part]) -> list[Gap]:
+def make_gaps(places: Sequence[Place], parts: Sequence[Part]) -> list[Gap]:
     """Return gaps at these places, with times by the clock of the first part that contains the
     place, or else of the first part."""
     gaps = []
     for place in places:
-        own = [part for part in parts if is_in(place, part)]
+        own = [part for part in parts if belongs_to_part(place, part)]
         origin = (own or parts)[0].origin or 0
         after, before = (None if pts is None else time_in(pts, origin)
                          for pts in (place.before, place.after))

@@ -12,22 +12,23 @@ from ..common.times import frame_of, time_of
 from ..formats.listing import FaultLine, WITH_CAUSE
 from ..formats.stl import NamedSubtitle, Subtitle, SubtitleFile, subtitles_read
 from ..formats.teletext import BY_WORD, letters_of
-from ..judging.causes import Cause, IN_PAUSE, LATE, NAMES
+from ..judging.causes import Cause, CAUSE_NAMES, LATE, TEXT_IN_PAUSE
 from ..judging.cues import (
-    AFTER_IT, Cue, CueJudge, CueVerdict, RIGHT, UNSURE, WAIVED, WRONG, block_text, cues_of,
-    into_recording, recording_start, refused_subtitles)
-from ..judging.pages import page_text
+    Cue, CueJudge, CueVerdict, NEXT_IS_REFUSED, NOT_KNOWN, RIGHT, WAIVED, WRONG, find_cues,
+    find_recording_start, find_refused_subtitles, format_recording_offset, read_block_text)
+from ..judging.pages import format_page_text
 from ..judging.part import Part
-from ..judging.sentence import OF_CAUSE, describe_shared_cause, describe_single_cause, rank_of
+from ..judging.sentence import (
+    CAUSE_RANKS, describe_shared_cause, describe_single_cause, rank_number)
 from ..judging.status import Severity
-from ..judging.subtitles import JudgedBeside
+from ..judging.subtitles import ValidSubtitles
 from .blocks import fault_lines, marked_text, marked_times
 
 COLUMNS = ("No.", "Into recording", "Expected in", "Expected out", "Actual in", "Actual out",
            "Frames late (in / out)", "Text", "Verdict")
 MOST_PRINTED = 200  # rows on paper
 MOST_BARS = 12  # differences of the histogram
-LOOKS = {RIGHT: "ok", WAIVED: "waived", WRONG: "bad", UNSURE: "unseen"}  # classes of rows
+LOOKS = {RIGHT: "ok", WAIVED: "waived", WRONG: "bad", NOT_KNOWN: "unseen"}  # classes of rows
 
 
 class Kind(NamedTuple):
@@ -51,11 +52,11 @@ class CueRow(NamedTuple):
 class CueList:
     """The subtitles of a part, each with its kinds of fault."""
 
-    def __init__(self, part: Part, severity: Severity, beside: JudgedBeside | None) -> None:
+    def __init__(self, part: Part, severity: Severity, beside: ValidSubtitles | None) -> None:
         self.part, self.severity, self.beside = part, severity, beside
         self.option = BY_WORD[part.request.option].bits
-        self.start, self.causes = recording_start(part), part.causes
-        self.judge, self.cues = CueJudge(part, severity), [*cues_of(part)]
+        self.start, self.causes = find_recording_start(part), part.causes
+        self.judge, self.cues = CueJudge(part, severity), [*find_cues(part)]
         self.rows = sorted([*self.judged_rows(), *self.refused_rows()],
                            key=lambda row: row.position)
         self.counts = collections.Counter(key for row in self.rows for key in row.kinds)
@@ -74,14 +75,14 @@ class CueList:
         """Yield the rows of the subtitles that were judged."""
         last: object = None
         for cue in self.cues:
-            verdict = self.judge.verdict(cue)
+            verdict = self.judge.judge(cue)
             kinds = [*([cause_key(cue.cause)] if cue.cause else []),
-                     *(f"n{number}" for number in verdict.numbers)]
+                     *(f"n{number}" for number in verdict.fault_numbers)]
             again = cue.cause and (cue.cause.name, cue.cause.frames, tuple(kinds))
             yield CueRow(cue.subtitle.index, LOOKS[verdict.word], kinds,
                          self.cells(cue, verdict), bool(again) and again == last)
             last = again
-        if self.part.recording is None and not self.part.answer.numbers:
+        if self.part.recording is None and not self.part.check_output.fault_numbers:
             for subtitle in subtitles_read(self.file.data):
                 text = joined(map(letters_of, subtitle.text.split(b"\x8a")), BREAK)
                 yield CueRow(subtitle.index, LOOKS[RIGHT], (), [
@@ -90,44 +91,44 @@ class CueList:
 
     def cells(self, cue: Cue, verdict: CueVerdict) -> list[Value]:
         """Return the cells of a cue's row."""
-        subtitle, late = cue.subtitle, [signed(cue.late_in), signed(cue.late_out)]
+        subtitle, late = cue.subtitle, [signed(cue.delay_in), signed(cue.delay_out)]
         return [number_cell(subtitle.index, subtitle.number), self.offset_text(subtitle.begin),
                 time_of(subtitle.begin), time_of(subtitle.end),
-                shown_time(cue.begin, cue.late_in), shown_time(cue.end, cue.late_out),
+                shown_time(cue.begin, cue.delay_in), shown_time(cue.end, cue.delay_out),
                 late[0] if late[0] == late[1] else " / ".join(frames or "-" for frames in late),
                 self.text_cell(cue), self.verdict_cell(verdict)]
 
     def verdict_cell(self, verdict: CueVerdict) -> Value:
         """Return a verdict with its reason; its numbers lead to the table of faults."""
-        firsts = self.part.answer.firsts
+        firsts = self.part.check_output.first_faults
         links = [markup('<a href="#n{}">{} {}</a>', number, number, firsts[number].name)
-                 for number in verdict.numbers]
-        words = joined(filter(None, [verdict.cause, *links, verdict.unsure]), "; ")
+                 for number in verdict.fault_numbers]
+        words = joined(filter(None, [verdict.cause, *links, verdict.doubt]), "; ")
         return RIGHT if verdict.word == RIGHT else \
             markup("{}: {}", WAIVED, words) if verdict.word == WAIVED else words
 
     def text_cell(self, cue: Cue) -> Value:
         """Return the expected text, and the decoded one if it differs, with marks."""
-        expected = page_text(cue.expected, self.option)
-        sent = cue.decoded or (cue.cause.sent if cue.cause else None)
-        decoded = page_text(sent, self.option) if sent else expected
-        if decoded == expected or cue.cause is None or cue.cause.name == IN_PAUSE:
+        expected = format_page_text(cue.expected, self.option)
+        sent = cue.decoded or (cue.cause.sent_page if cue.cause else None)
+        decoded = format_page_text(sent, self.option) if sent else expected
+        if decoded == expected or cue.cause is None or cue.cause.name == TEXT_IN_PAUSE:
             return expected
         return joined([*mark_difference(expected, decoded)], BREAK)
 
     def refused_rows(self) -> Iterator[CueRow]:
         """Yield the rows of subtitles that the subtitle file has wrong, or that depend on one."""
-        for refused in refused_subtitles(self.part, self.file, self.beside):
+        for refused in find_refused_subtitles(self.part, self.file, self.beside):
             subtitle, faults = refused
             if subtitle and faults and faults[0].block:
-                text = marked_text(block_text(self.file, faults[0].block), faults)
+                text = marked_text(read_block_text(self.file, faults[0].block), faults)
                 look = LOOKS[WAIVED if refused.is_waived(self.severity) else WRONG]
                 kinds = [*dict.fromkeys(f"n{fault.number}" for fault in faults)]
                 yield self.file_row(subtitle, marked_times(subtitle, faults), text,
                                     fault_lines(self.file, faults), look, kinds)
             elif subtitle and not faults:
-                yield self.file_row(subtitle, (subtitle.begin, subtitle.end), "", AFTER_IT,
-                                    LOOKS[UNSURE], [])
+                yield self.file_row(subtitle, (subtitle.begin, subtitle.end), "", NEXT_IS_REFUSED,
+                                    LOOKS[NOT_KNOWN], [])
 
     def file_row(self, subtitle: NamedSubtitle, times: tuple[Value, Value], text: Value,
                  verdict: Value, look: str, kinds: Sequence[str]) -> CueRow:
@@ -139,23 +140,24 @@ class CueList:
 
     def offset_text(self, frame: int) -> str:
         """Return how far into the recording a frame is."""
-        return into_recording(self.part, self.start, frame)
+        return format_recording_offset(self.part, self.start, frame)
 
     # The kinds of fault.
 
     def name_of(self, number: int) -> str:
         """Return the name of a number."""
-        return self.part.answer.firsts[number].name
+        return self.part.check_output.first_faults[number].name
 
     @functools.cached_property
     def kinds(self) -> list[Kind]:
         """The kinds of fault of a part, the worst first."""
         is_waived = self.judge.is_cause_waived
-        names = {cause.name for cause in self.causes.all()} if self.causes else set[str]()
-        ranked = [(OF_CAUSE[name], Kind(cause_class(name), name, is_waived)) for name in names]
-        ranked += [(rank_of(number), Kind(f"n{number}", f"{number} {self.name_of(number)}",
-                                          not self.severity.is_error(number)))
-                   for number in self.part.answer.counts if not (names and number in WITH_CAUSE)]
+        names = {cause.name for cause in self.causes.list_causes()} if self.causes else set[str]()
+        ranked = [(CAUSE_RANKS[name], Kind(cause_class(name), name, is_waived)) for name in names]
+        ranked += [(rank_number(number), Kind(f"n{number}", f"{number} {self.name_of(number)}",
+                                              not self.severity.is_error(number)))
+                   for number in self.part.check_output.counts_by_number
+                   if not (names and number in WITH_CAUSE)]
         return [kind for _, kind in sorted(ranked)]
 
     def groups(self) -> Markup:
@@ -163,15 +165,15 @@ class CueList:
         if not self.causes:
             return NO_MARKUP
         by_name: dict[str, list[Cause]] = {}
-        for cause in self.causes.all():
+        for cause in self.causes.list_causes():
             by_name.setdefault(cause.name, []).append(cause)
         rows = []
-        for name in sorted(by_name, key=lambda name: (OF_CAUSE[name], NAMES.index(name))):
+        for name in sorted(by_name, key=lambda name: (CAUSE_RANKS[name], CAUSE_NAMES.index(name))):
             alike = by_name[name]
             words = describe_single_cause(alike[0], self.causes, self.part.request.option) \
                 if len(alike) == 1 else \
-                describe_shared_cause(alike, self.causes.programme.subtitles)
-            first = self.causes.programme.subtitles[alike[0].place]
+                describe_shared_cause(alike, self.causes.expected.subtitles)
+            first = self.causes.expected.subtitles[alike[0].subtitle_index]
             rows.append(markup('<tr><td>{}{}</td><td><a href="#s{}">{}</a></td><td>{}</td></tr>',
                                words[0].upper(), words[1:], first.index, len(alike),
                                self.offset_text(first.begin)))
@@ -179,12 +181,12 @@ class CueList:
             '<table class="groups"><caption>What is wrong with {}</caption><thead><tr><th '
             'scope="col">Cause</th><th scope="col">Subtitles</th><th scope="col">First, into the '
             "recording</th></tr></thead><tbody>{}</tbody></table>",
-            counted(len(self.causes.named), "subtitle"), joined(rows))
+            counted(len(self.causes.by_index), "subtitle"), joined(rows))
 
     def histogram(self) -> Markup:
         """Return how many cues are how many frames late, if one is."""
-        ins = collections.Counter(cue.late_in for cue in self.cues if cue.late_in is not None)
-        outs = collections.Counter(cue.late_out for cue in self.cues if cue.late_out is not None)
+        ins = collections.Counter(cue.delay_in for cue in self.cues if cue.delay_in is not None)
+        outs = collections.Counter(cue.delay_out for cue in self.cues if cue.delay_out is not None)
         both = ins + outs
         if set(both) <= {0}:
             return NO_MARKUP
@@ -255,11 +257,11 @@ class CueList:
         if self.causes is None:
             return
         seen: set[str] = set()
-        for cause in self.causes.all():
-            one = self.causes.programme.subtitles[cause.place]
-            if cause.name not in seen and one.begin >= self.causes.held.first:
+        for cause in self.causes.list_causes():
+            one = self.causes.expected.subtitles[cause.subtitle_index]
+            if cause.name not in seen and one.begin >= self.causes.timeline.first:
                 seen.add(cause.name)
-                first = self.causes.first_frames.get(cause.place, one.begin)
+                first = self.causes.first_wrong_frames.get(cause.subtitle_index, one.begin)
                 yield cause.name, one, one.begin if cause.name == LATE else first
 
 
@@ -286,7 +288,7 @@ def cause_key(cause: Cause) -> str:
 
 def cause_class(name: str) -> str:
     """Return the class of the rows with a cause."""
-    return f"c{NAMES.index(name)}"
+    return f"c{CAUSE_NAMES.index(name)}"
 
 
 def mark_difference(expected: str, decoded: str) -> tuple[Markup, Markup]:
@@ -319,7 +321,7 @@ MOST_PLACES = 20
 def places_of(part: Part) -> dict[int, list[tuple[FaultLine, str]]]:
     """Return by number the first faults, each with the time until which it lasts."""
     places: dict[int, list[tuple[FaultLine, str]]] = {}
-    for fault, end in part.answer.told():
+    for fault, end in part.check_output.read_faults():
         some = places.setdefault(fault.number, [])
         if len(some) < MOST_PLACES:
             until = f", until {end.time}" if end.time else \

@@ -11,15 +11,14 @@ from ..common.files import SummedFile
 from ..common.markup import BREAK, HEAD, Markup, NO_MARKUP, Value, joined, markup, own_style
 from ..common.program import about_program
 from ..common.times import ALL_DAY, Span, time_of
-from ..formats.listing import (
-    FaultLine, PARITY, CHANGED, CONTENT, marked_up, meanings, number_link)
+from ..formats.listing import CHANGED, CONTENT, FaultLine, PARITY, marked_up, meanings, number_link
 from ..formats.stl import Subtitle, SubtitleFile, titles_in
 from ..formats.teletext import BY_WORD, page_name
-from ..judging.causes import names_line
-from ..judging.part import Part, is_in, unseen
+from ..judging.causes import list_cause_counts
+from ..judging.part import Part, belongs_to_part, find_lost_spans
 from ..judging.status import ACCEPTED, LOST, NOT_JUDGED, REFUSED, RELATIVE, WAIVED, WARNED
-from ..judging.subtitles import midnight_words
-from ..judging.verdict import Verdict, spread_of
+from ..judging.subtitles import advise_on_midnight
+from ..judging.verdict import Verdict, summarize_delays
 from ..request.commands import CommandWords
 from ..stream.gaps import first_lines
 from ..stream.receiver import BLANK_PAGE
@@ -65,19 +64,21 @@ def verdict_box(verdict: Verdict) -> Markup:
     """Return the verdict in one sentence, its line, its clock, and what is to be known of it."""
     kind, drawn = verdict_picture(verdict.word)
     not_judged = verdict.word == NOT_JUDGED
-    line = NOT_JUDGED if not_judged else verdict.lead or ""
+    line = NOT_JUDGED if not_judged else verdict.worst_line or ""
     # The sentence of a relative verdict says that no clock was given.
     parts = [clock_words(verdict)] if verdict.word not in (NOT_JUDGED, RELATIVE) else []
-    parts += [folded_list(LOST_WORDS, [gap.line() for gap in verdict.gaps if gap.is_judged]),
-              folded_list(NAMED_WORDS, [f"{one.line}: {one.words}" for one in verdict.named])]
+    parts += [folded_list(LOST_WORDS, [gap.format_line() for gap in verdict.gaps if gap.is_judged]),
+              folded_list(NAMED_WORDS,
+                          [f"{one.line}: {one.words}" for one in verdict.named_faults])]
     if not_judged:
-        parts += [markup("<p>{}</p>", one) for one in (verdict.why_not or "").splitlines()[1:]]
+        parts += [markup("<p>{}</p>", one)
+                  for one in (verdict.unjudged_reason or "").splitlines()[1:]]
         parts += [markup('<p>Type <code class="long">{}</code></p>', one)
-                  for one in verdict.to_type]
+                  for one in verdict.suggestions]
     elif verdict.word != ACCEPTED:
         parts.append(advice_section(verdict))
     notes = [*verdict.notes, *(one.warning_text() for one in verdict.warnings), *dict.fromkeys(
-        part.otherwise for part in verdict.parts if part.otherwise)]
+        part.drawing_differences for part in verdict.parts if part.drawing_differences)]
     parts += [markup('<p class="note">{}</p>', with_options(one)) for one in notes]
     return markup('<div class="verdict {}">{}<div><p class="sentence">{}</p><p class="line" '
                   'id="verdict">{}</p>{}</div></div>', kind, drawn,
@@ -95,8 +96,8 @@ def clock_words(verdict: Verdict) -> Markup:
     clocks = [part.clock for part in verdict.parts if part.clock]
     if not clocks:
         return NO_MARKUP
-    if verdict.fitted:
-        words = verdict.fitted[0].upper() + verdict.fitted[1:]
+    if verdict.estimated_clock_note:
+        words = verdict.estimated_clock_note[0].upper() + verdict.estimated_clock_note[1:]
         return markup('<p class="clock estimated">{}.</p>', with_options(words))
     return markup('<p class="clock">{}</p>', clock_source(clocks[0]))
 
@@ -121,8 +122,9 @@ def folded_list(what: str, lines: Sequence[str]) -> Markup:
 
 def advice_section(verdict: Verdict) -> Markup:
     """Return what the manual says of the number that the verdict begins with."""
-    lead = verdict.leading.leading if verdict.leading and not verdict.first_named else None
-    known = means_and_do(verdict.leading, lead) if verdict.leading and lead else None
+    lead = verdict.worst_part.worst_fault_line if verdict.worst_part and \
+        not verdict.worst_named_fault else None
+    known = means_and_do(verdict.worst_part, lead) if verdict.worst_part and lead else None
     return markup('<details><summary>What {} {} means, and what to do</summary><dl><dt>means</dt>'
                   "<dd>{}</dd><dt>do</dt><dd>{}</dd></dl></details>", lead.number, lead.name,
                   *known) if lead and known else NO_MARKUP
@@ -131,7 +133,7 @@ def advice_section(verdict: Verdict) -> Markup:
 def means_and_do(part: Part, fault: FaultLine) -> tuple[Markup, Markup] | None:
     """Return what a fault means and what to do, by the manual if it is there."""
     meaning = meanings().get(fault.number)
-    of_night = midnight_words(fault, part.subtitle_file())
+    of_night = advise_on_midnight(fault, part.open_subtitle_file())
     return (marked_up(meaning.means), marked_up(of_night or meaning.do)) if meaning else None
 
 
@@ -143,9 +145,10 @@ class PartView:
 
     def __init__(self, verdict: Verdict, part: Part) -> None:
         self.verdict, self.part = verdict, part
-        self.list = CueList(part, verdict.severity, verdict.beside)
-        self.gaps = [gap for gap in verdict.gaps if gap.is_judged and is_in(gap.place, part)]
-        self.held = part.causes.held if part.causes else part.held
+        self.list = CueList(part, verdict.severity, verdict.valid_subtitles)
+        self.gaps = [gap for gap in verdict.gaps if gap.is_judged
+                     and belongs_to_part(gap.place, part)]
+        self.held = part.causes.timeline if part.causes else part.decoded_pages
 
     def sections(self) -> Iterator[Markup]:
         """Yield its sections."""
@@ -159,15 +162,17 @@ class PartView:
             yield markup('<section><h2 id="pictures">First of each kind</h2>{}</section>', pictures)
         if self.list.rows:
             yield self.list.list_section()
-        if self.part.answer.count:
+        if self.part.check_output.fault_count:
             yield self.faults()
 
     def timeline(self) -> Markup:
         """Return its lanes."""
-        lost = [span for span in unseen([gap.place for gap in self.gaps], self.part.origin or 0,
-                                        self.part.request.within) if span.first <= span.last]
+        lost = [span
+                for span in find_lost_spans([gap.place for gap in self.gaps], self.part.origin or 0,
+                                                 self.part.request.within)
+                if span.first <= span.last]
         held = self.held
-        for first, last in self.part.answer.passed:
+        for first, last in self.part.check_output.skipped_packets:
             before = held.frame_before(first) if held else None
             if held and before is not None:
                 lost.append(Span(before, held.frame_after(last) or before))
@@ -175,12 +180,12 @@ class PartView:
 
     def pictures(self) -> Iterator[Markup]:
         """Yield a pair of pictures for the first fault of each kind that can be seen."""
-        due, held, request = self.part.due(), self.held, self.part.request
+        due, held, request = self.part.expected_pages(), self.held, self.part.request
         if held is None:
             return
         firsts: list[tuple[str, Subtitle | None, int]] = [*self.list.first_faults()]
         firsts += [(f"{fault.number} {fault.name}", due.subtitle(fault.frame), fault.frame)
-                   for number, fault in sorted(self.part.answer.firsts.items())
+                   for number, fault in sorted(self.part.check_output.first_faults.items())
                    if fault.frame is not None and (number in (PARITY, CHANGED) or
                                                    number == CONTENT and not firsts)]
         blank = bytes([0, 0, 0, 8, 0, 8, 1, BY_WORD[request.option].bits << 1])  # C4, C6 and C7
@@ -199,10 +204,10 @@ class PartView:
 
     def faults(self) -> Markup:
         """Return a row for each number: how many, the first, what it means and what to do."""
-        answer, places = self.part.answer, places_of(self.part)
+        answer, places = self.part.check_output, places_of(self.part)
         rows = []
-        for number, count in sorted(answer.counts.items()):
-            first = answer.firsts[number]
+        for number, count in sorted(answer.counts_by_number.items()):
+            first = answer.first_faults[number]
             frame = self.held.frame_before(first.pes) if self.held and first.pes is not None \
                 else first.frame
             known = means_and_do(self.part, first)
@@ -223,7 +228,7 @@ class PartView:
         return markup(
             '<section><h2 id="faults">{}</h2><table class="faults"><caption>Faults by number, as '
             "check reports them</caption><thead><tr>{}</tr></thead><tbody>{}</tbody></table>"
-            "</section>", counted(answer.count, "fault"), joined(
+            "</section>", counted(answer.fault_count, "fault"), joined(
                 markup('<th scope="col">{}</th>', name) for name in (
                     "Number", "Faults", "First", "Into recording", "More")), joined(rows))
 
@@ -231,7 +236,7 @@ class PartView:
 def fault_place(part: Part, fault: FaultLine) -> Value:
     """Return the place of a fault: its time, or what it names, of the GSI block with its field."""
     if fault.block == 0:
-        return fault_lines(part.subtitle_file(), [fault])
+        return fault_lines(part.open_subtitle_file(), [fault])
     return fault.time or " ".join(fault.line.split(" ")[3:]) or fault.name
 
 
@@ -248,16 +253,16 @@ def scope_section(verdict: Verdict) -> Markup:
     """Return what was judged."""
     path = verdict.request.stl_path
     titles = titles_in(path) if os.path.isfile(path) else []
-    times = [part.times() for part in verdict.parts if part.alignment]
-    judged = f"{times[0][0]} to {times[-1][1]}, {counted(verdict.count, 'subtitle')}" if times \
-        else ""
-    delays = spread_of(frames for part in verdict.parts for frames in part.delays) \
+    times = [part.time_codes() for part in verdict.parts if part.alignment]
+    count = counted(verdict.subtitle_count, "subtitle")
+    judged = f"{times[0][0]} to {times[-1][1]}, {count}" if times else ""
+    delays = summarize_delays(frames for part in verdict.parts for frames in part.delays) \
         if verdict.request.within else None
     return named_list([
         ("Programme", " / ".join(titles)), ("Subtitle file", verdict.request.stl),
         ("Recording", verdict.request.recording or ""), ("Judged", judged),
         ("Page", page_name(*verdict.request.page)),
-        ("Delays", delays.words() if delays else "")])
+        ("Delays", delays.describe() if delays else "")])
 
 
 def not_checked(verdict: Verdict) -> Iterator[str]:
@@ -265,7 +270,7 @@ def not_checked(verdict: Verdict) -> Iterator[str]:
     request = verdict.request
     if request.recording is None:
         yield "the transmission: no recording was given"
-    if verdict.fitted:
+    if verdict.estimated_clock_note:
         yield DELAY
     if len(verdict.parts) > 1:
         yield BETWEEN
@@ -279,24 +284,24 @@ def not_checked(verdict: Verdict) -> Iterator[str]:
     elif request.recording:
         yield f"{request.recording}: it was not read"
     if request.between != ALL_DAY and verdict.parts:
-        count = len(SubtitleFile(verdict.parts[0].names.given).begins) - verdict.count
+        count = len(SubtitleFile(verdict.parts[0].names.given).begins) - verdict.subtitle_count
         yield f"{counted(count, 'subtitle')} outside of --from and --to"
-    if verdict.beside:
-        yield f"{counted(len(verdict.beside.left_out), 'subtitle')} refused in the file, or " \
-            "followed by such"
-    yield from (f"{gap.line()}, outside of what was judged" for gap in verdict.gaps
+    if verdict.valid_subtitles:
+        skipped = counted(len(verdict.valid_subtitles.skipped_positions), "subtitle")
+        yield f"{skipped} refused in the file, or followed by such"
+    yield from (f"{gap.format_line()}, outside of what was judged" for gap in verdict.gaps
                 if not gap.is_judged)
 
 
 def waived_faults(verdict: Verdict) -> Iterator[str]:
     """Yield the faults that a severity file names warnings."""
-    counts = {number: part.answer.firsts[number].name for part in verdict.parts
-              for number in part.answer.counts}
+    counts = {number: part.check_output.first_faults[number].name for part in verdict.parts
+              for number in part.check_output.counts_by_number}
     for number, name in sorted(counts.items()):
         if not verdict.severity.is_error(number):
-            count = sum(part.answer.counts[number] for part in verdict.parts)
+            count = sum(part.check_output.counts_by_number[number] for part in verdict.parts)
             yield f"{number} {name} ({count:,})"
-    yield from (f"{one.name}: {one.words}" for one in verdict.named
+    yield from (f"{one.name}: {one.words}" for one in verdict.named_faults
                 if not verdict.severity.is_error(one.name))
 
 
@@ -307,7 +312,7 @@ def options_of(verdict: Verdict, part: Part) -> str:
              f"--origin {part.origin or 0}", f"--option {asked.option}"]
     words += ["--complete"] * asked.is_complete
     words += [f"--within {asked.within}"] * (asked.within > 0)
-    words += [f"--pes {part.pes_name}"] if part.pes else []
+    words += [f"--pes {part.pes_argument}"] if part.pes else []
     return " ".join([*words, *part.request.between.words()])
 
 
@@ -315,7 +320,7 @@ def footer(verdict: Verdict, typed: CommandWords) -> Markup:
     """Return what was not checked, what was waived, the files and the commands."""
     program = about_program(typed.program_path)
     size = os.path.getsize(typed.program_path)
-    files = [("STL", verdict.stl), *(("PES", part.judged) for part in verdict.parts),
+    files = [("STL", verdict.stl), *(("PES", part.judged_file) for part in verdict.parts),
              ("Recording", verdict.recording),
              ("Program", SummedFile(typed.program_word, size, program.sha256))]
     rows = joined(markup('<tr><th scope="row">{}</th><td class="long">{}</td><td>{:,} bytes</td>'
@@ -351,9 +356,9 @@ def parts_table(parts: Sequence[Part]) -> Markup:
         clock = "estimated" if part.clock.is_fitted else clock_source(part.clock)
         clock += f" All {counted(abs(delay), 'frame')} {'late' if delay > 0 else 'early'}." \
             if delay else ""
-        cells: list[Value] = [*(time or "" for time in part.times()), part.lead,
-                              f"{part.answer.count:,}",
-                              names_line([part.causes]) if part.causes else "none", clock]
+        cells: list[Value] = [*(time or "" for time in part.time_codes()), part.first_text,
+                              f"{part.check_output.fault_count:,}",
+                              list_cause_counts([part.causes]) if part.causes else "none", clock]
         rows.append(markup('<tr><th scope="row"><a href="{}">part {}</a></th>{}</tr>', name,
                            part.number, joined(markup('<td data-name="{}">{}</td>', *pair)
                                                for pair in zip(PART_COLUMNS, cells))))
@@ -372,7 +377,7 @@ def report_page(verdict: Verdict, typed: CommandWords) -> Markup:
     """Return the page."""
     title = " and ".join(os.path.basename(name) for name in
                          (verdict.request.stl, verdict.request.recording) if name)
-    line = verdict.lead or f"{NOT_JUDGED}: {verdict.why_not}"
+    line = verdict.worst_line or f"{NOT_JUDGED}: {verdict.unjudged_reason}"
     views = [] if verdict.word == NOT_JUDGED else [
         PartView(verdict, part) for part in verdict.parts]
     body = [verdict_box(verdict), scope_section(verdict)]
@@ -382,10 +387,11 @@ def report_page(verdict: Verdict, typed: CommandWords) -> Markup:
         body.append(parts_table(verdict.parts))
     for view in views if len(views) > 1 else ():
         name = f"part{view.part.number}"
-        begin, end = view.part.times()
+        begin, end = view.part.time_codes()
         body.append(markup('<section class="part" id="{}"><h2>Part {}, from {} to {}: {}</h2>{}'
                            "</section>", name, view.part.number, begin or "", end or "",
-                           view.part.lead, joined(view.sections(), "\n").anchored(f"{name}-")))
+                           view.part.first_text,
+                           joined(view.sections(), "\n").anchored(f"{name}-")))
     body.append(footer(verdict, typed))
     whole = joined(body, "\n")
     links = joined((markup('<a href="#{}">{}</a>', to, words) for to, words in LINKS

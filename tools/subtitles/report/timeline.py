@@ -5,7 +5,7 @@ from typing import Iterable, Iterator
 
 from ..common.markup import Markup, NO_MARKUP, Value, joined, markup
 from ..common.times import FRAMES_A_SECOND, Span, time_of
-from ..judging.cues import Cue, text_spans
+from ..judging.cues import Cue, find_text_spans
 from ..stream.receiver import Timeline
 from .cue_list import CueList, cause_key
 
@@ -40,7 +40,7 @@ class Lanes:
                                                     for one in self.cues.cues))]
         if self.held:
             lanes.append(self.lane("received", "Decoded", (
-                (span.first, span.last + 1) for span in text_spans(self.held))))
+                (span.first, span.last + 1) for span in find_text_spans(self.held))))
         lanes += self.fault_lanes()
         if self.lost:
             lanes.append(self.lane("fault", "not recorded", (

@@ -16,8 +16,8 @@ from ..common.command_line import Stop, error_line, shown_lines
 from ..common.files import bounded_bytes, first_bytes, is_replaced, result_file, whole_file
 from ..common.program import MadeWith
 from ..common.shapes import Listed, Member, Members
-from ..judging.status import ACCEPTED, NOT_JUDGED, STATUSES, is_of_call
-from ..judging.subtitles import Counts
+from ..judging.status import ACCEPTED, NOT_JUDGED, STATUSES, matches_exit_status
+from ..judging.subtitles import SubtitleCounts
 from ..judging.verdict import Verdict
 from ..request.request import Request
 from .schema import (
@@ -189,7 +189,7 @@ def left_by_call(path: str, name: str, ended: int, told: Sequence[str]) -> dict[
     """Return the result of a call, if its status is that of the call; else `not judged`, with the
     call's last message."""
     known = object_at(path) if os.path.exists(path) else None
-    if known is not None and is_of_call(known["verdict"], known["status"], ended):
+    if known is not None and matches_exit_status(known["verdict"], known["status"], ended):
         return known
     if ended < 0:
         return unjudged(name, "the process was killed")
@@ -207,8 +207,8 @@ def row_of_object(known: dict[str, Any], name: str) -> Row:
     return Row(name, title or name, known["verdict"], known["status"],
                known["reason"] or known["worst_fault"], known["fault_count"], causes_in(known),
                [fault["line"] for fault in known["faults"][:LINES]], known["seconds"],
-               hint_in(known), Counts(**counts).words() if counts else "", known["sentence"],
-               clock_in(known))
+               hint_in(known), SubtitleCounts(**counts).describe() if counts else "",
+               known["sentence"], clock_in(known))
 
 
 def clock_in(known: dict[str, Any]) -> str:
@@ -349,7 +349,7 @@ def subtitle_lines(verdict: Verdict) -> Iterator[bytes]:
     """Yield the lines of one pair: its verdict with the sentence, then each subtitle."""
     files: Known = {"stl": verdict.request.stl, "recording": verdict.request.recording}
     pair: Known = {**files, "verdict": verdict.word,
-                   "reason": verdict.why_not or verdict.sentence}
+                   "reason": verdict.unjudged_reason or verdict.sentence}
     rows = ({**files, **row} for row in subtitle_rows(verdict))
     return map(str.encode, column_lines(itertools.chain([pair], rows), CUE_COLUMNS))
 

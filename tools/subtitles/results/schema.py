@@ -11,14 +11,14 @@ from ..clock.start import SOURCES
 from ..common.command_line import MOST_EVERY, PACKET_SIZES
 from ..common.program import MadeWith
 from ..common.shapes import (
-    COUNT, Flag, Integer, Listed, MOST_NUMBER, Maybe, Member, Number, OneOf, PID, PTS, Record,
-    Rules, SUM, Schema, TIME, Text, definitions, named)
+    COUNT, Flag, Integer, Listed, Maybe, Member, MOST_NUMBER, Number, OneOf, PID, PTS, Record,
+    Rules, Schema, SUM, Text, TIME, definitions, named)
 from ..common.times import FRAMES_OF_A_DAY, time_of
-from ..judging.causes import NAMES, Wording, counts_of
-from ..judging.cues import RIGHT, UNSURE, WAIVED, WRONG, subtitle_values
-from ..judging.faults import faults_of
+from ..judging.causes import CAUSE_NAMES, CauseDescriber, count_causes
+from ..judging.cues import NOT_KNOWN, RIGHT, WAIVED, WRONG, make_subtitle_rows
+from ..judging.faults import make_faults
 from ..judging.part import Part
-from ..judging.status import ACCEPTED, NOT_JUDGED, POSSIBLE, RELATIVE, STATUSES
+from ..judging.status import ACCEPTED, NOT_JUDGED, POSSIBLE_RESULTS, RELATIVE, STATUSES
 from ..judging.verdict import Verdict
 from ..request.request import CHOICES, members
 
@@ -50,7 +50,7 @@ SUBTITLE = Record(
     Member("begin", CODE_TIME, "TCI."),
     Member("end", CODE_TIME, "TCO."))
 
-CAUSE_NAME = named("cause_name", OneOf(*NAMES))
+CAUSE_NAME = named("cause_name", OneOf(*CAUSE_NAMES))
 CAUSE_MEMBERS = (
     Member("subtitle", SUBTITLE),
     Member("name", CAUSE_NAME, "Its name."),
@@ -134,7 +134,7 @@ class PartOf(NamedTuple):
     @property
     def judged_file(self) -> dict[str, object] | None:
         """The judged PES packets of a feed; without a name unless they are kept."""
-        file = self.part.judged
+        file = self.part.judged_file
         return file and {**file._asdict(), **({} if self.is_kept else {"name": None})}
 
 
@@ -143,21 +143,23 @@ JUDGED_PART = Record(
     Member("part", PART, of=lambda of: of.part.number),
     Member("stl", Text(), "The subtitle file, as typed.", lambda of: of.part.request.stl),
     Member("origin", Maybe(PTS), "The PTS of 00:00:00:00.", lambda of: of.part.origin),
-    Member("from", Maybe(TIME), "The first judged time.", lambda of: of.part.times()[0]),
-    Member("to", Maybe(TIME), "The last judged time.", lambda of: of.part.times()[1]),
+    Member("from", Maybe(TIME), "The first judged time.", lambda of: of.part.time_codes()[0]),
+    Member("to", Maybe(TIME), "The last judged time.", lambda of: of.part.time_codes()[1]),
     Member("verdict", OneOf("accepted", "refused", "not judged"), "not judged: a signal ended "
-           "the call, and its faults up to then are here.", lambda of: of.part.answer.verdict),
-    Member("line", Text(), "The line of check without --all.", lambda of: of.part.answer.line),
-    Member("frames", Maybe(COUNT), "Judged frames.", lambda of: of.part.answer.frames),
+           "the call, and its faults up to then are here.",
+           lambda of: of.part.check_output.verdict),
+    Member("line", Text(), "The line of check without --all.",
+           lambda of: of.part.check_output.line),
+    Member("frames", Maybe(COUNT), "Judged frames.", lambda of: of.part.check_output.frames),
     Member("transmissions", Maybe(COUNT), "Page transmissions.",
-           lambda of: of.part.answer.transmissions),
-    Member("fault_count", COUNT, "Its faults.", lambda of: of.part.answer.count),
+           lambda of: of.part.check_output.transmissions),
+    Member("fault_count", COUNT, "Its faults.", lambda of: of.part.check_output.fault_count),
     Member("pid", Maybe(PID), "The judged PID; null for PES packets.",
            lambda of: (of.part.stream or (None, None))[0]),
     Member("packet_size", OneOf(*PACKET_SIZES, None), "Bytes from one TS packet to the next; null "
            "for PES packets.", lambda of: (of.part.stream or (None, None))[1]),
     Member("pes", Maybe(Text(r"[0-9]+-[0-9]+", 40)), "The first and the last judged PES packet, as "
-           "for --pes; null if all of a feed was judged.", lambda of: of.part.pes_name),
+           "for --pes; null if all of a feed was judged.", lambda of: of.part.pes_argument),
     Member("pace", Maybe(Integer(1, MOST_EVERY)), "The longest PES interval in frames, given or "
            "measured; null: not checked.", lambda of: of.part.request.pace),
     Member("judged_file", Maybe(FILE), "The judged PES packets of a feed."),
@@ -215,7 +217,7 @@ CUE = Record(
     Member("expected_text", Maybe(Text()), "Its text, the rows joined by a slash; null: it is "
            "refused."),
     Member("decoded_text", Maybe(Text()), "The received text."),
-    Member("verdict", OneOf(RIGHT, WRONG, WAIVED, UNSURE), "right: check accepts its part, or "
+    Member("verdict", OneOf(RIGHT, WRONG, WAIVED, NOT_KNOWN), "right: check accepts its part, or "
            "trusts all its frames. waived: its faults are warnings. not known: it was not received "
            "completely, or can't be judged."),
     Member("reason", Maybe(Text()), "Why it is not right."),
@@ -244,11 +246,11 @@ PROGRAM = Record(
 
 SPREAD = Record(
     "spread", "",
-    Member("minimum", COUNT, "In frames.", lambda delays: delays.least),
-    Member("median", COUNT, "In frames.", lambda delays: delays.middle),
-    Member("maximum", COUNT, "In frames.", lambda delays: delays.greatest),
+    Member("minimum", COUNT, "In frames.", lambda delays: delays.minimum),
+    Member("median", COUNT, "In frames.", lambda delays: delays.median),
+    Member("maximum", COUNT, "In frames.", lambda delays: delays.maximum),
     Member("never_complete", COUNT, "Subtitles that were never complete.",
-           lambda delays: delays.never))
+           lambda delays: delays.never_complete))
 
 COUNTS = Record(
     "counts", "",
@@ -273,7 +275,7 @@ class Writing(NamedTuple):
 def trusted_of(known: Writing) -> Iterator[dict[str, Value]]:
     """Yield the trusted frames of all parts."""
     for part in known.verdict.parts:
-        for begin, end in part.trusted:
+        for begin, end in part.trusted_frames:
             yield {"part": part.number, "from": time_of(begin), "to": time_of(end)}
 
 
@@ -281,15 +283,15 @@ def cause_rows(known: Writing) -> Iterator[dict[str, Value]]:
     """Yield the causes of all parts, in the order of the subtitles."""
     for part in known.verdict.parts:
         if part.causes:
-            wording = Wording(part.causes, known.verdict.request.option)
-            for cause in part.causes.all():
-                yield {"part": part.number, **wording.values(cause)}
+            wording = CauseDescriber(part.causes, known.verdict.request.option)
+            for cause in part.causes.list_causes():
+                yield {"part": part.number, **wording.make_json(cause)}
 
 
 def subtitle_rows(verdict: Verdict) -> Iterator[dict[str, Value]]:
     """Yield the subtitles of all parts, unless nothing is judged."""
     for part in verdict.parts if verdict.word != NOT_JUDGED else ():
-        yield from subtitle_values(part, verdict.severity, verdict.beside)
+        yield from make_subtitle_rows(part, verdict.severity, verdict.valid_subtitles)
 
 
 def total(numbers: list[int | None]) -> int | None:
@@ -300,7 +302,7 @@ def total(numbers: list[int | None]) -> int | None:
 
 def sum_of_parts(known: Writing, name: str) -> int | None:
     """Return the sum of a count over all parts."""
-    return total([getattr(part.answer, name) for part in known.verdict.parts])
+    return total([getattr(part.check_output, name) for part in known.verdict.parts])
 
 
 FILES_AT_START = Record(
@@ -310,7 +312,7 @@ FILES_AT_START = Record(
 INPUTS = Record("inputs", "The files as they were read.",
                 Member("stl", Maybe(FILE)), Member("recording", Maybe(FILE)))
 CAUSE_COUNTS = Record("cause_counts", "The number of causes of each name.", *(
-    Member(name, COUNT) for name in NAMES))
+    Member(name, COUNT) for name in CAUSE_NAMES))
 
 # Verdict, status, last line and reason belong together.
 TEXT, NOTHING = Text(least=1), OneOf(None)
@@ -318,7 +320,7 @@ TOGETHER = Rules([
     {"verdict": OneOf(word), "status": OneOf(status),
      "line": NOTHING if word == NOT_JUDGED else TEXT,
      "worst_fault": NOTHING if word == NOT_JUDGED else TEXT,
-     "reason": TEXT if word == NOT_JUDGED else NOTHING} for word, status in POSSIBLE])
+     "reason": TEXT if word == NOT_JUDGED else NOTHING} for word, status in POSSIBLE_RESULTS])
 # Without a clock nothing is accepted or waived; `relative` has status 0 only with --relative.
 HAS_CLOCK = Rules([{"origin": PTS}, {"start": TEXT}, {"recording": NOTHING}])
 IS_ALLOWED = Rules([{"relative": OneOf(True)}])
@@ -337,7 +339,7 @@ LISTS = (
            lambda known: known.verdict.gaps),
     Member("notes", Listed(Text(), MOST_LISTED),
            "As printed.",
-           lambda known: known.verdict.said()),
+           lambda known: known.verdict.list_notes()),
     Member("hints", Listed(Text(), MOST_LISTED), "More about the first fault of some numbers, "
            "as printed.",
            lambda known: known.verdict.hints),
@@ -346,12 +348,12 @@ LISTS = (
     Member("commands", Listed(Text(), MOST_LISTED), "The commands that judged, as typed.",
            lambda known: known.verdict.commands),
     Member("choices", Listed(CHOICE, MOST_LISTED), "What qc chose, in order.",
-           lambda known: known.verdict.chosen),
+           lambda known: known.verdict.selections),
     Member("trusted_frames", Listed(TRUSTED, MOST_LISTED), "Frames without a fault; "
            "with --within N, right within N frames.", trusted_of),
     Member("faults", Listed(FAULT, MOST_LISTED), "Those without a number, then in the order of "
            "check --all.",
-           lambda known: faults_of(known.verdict)),
+           lambda known: make_faults(known.verdict)),
     Member("causes", Listed(LISTED_CAUSE, MOST_LISTED), "One for each subtitle with 72, in their "
            "order; also for the first one (63) and the last one (74), if the recording goes on "
            "there. Each has its part.", cause_rows),
@@ -369,11 +371,11 @@ VERDICT = Record(
     Member("line", Maybe(Text()), "The last line on standard output.",
            lambda known: known.verdict.line),
     Member("worst_fault", Maybe(Text()), "The same with the worst fault that is not waived.",
-           lambda known: known.verdict.lead),
+           lambda known: known.verdict.worst_line),
     Member("sentence", Text(), "The verdict in one sentence.",
            lambda known: known.verdict.sentence),
     Member("reason", Maybe(Text()), "Why it was not judged.",
-           lambda known: known.verdict.why_not),
+           lambda known: known.verdict.unjudged_reason),
     Member("scope", OneOf("transmission", "subtitle file"), "What was judged.",
            lambda known: "subtitle file" if known.verdict.request.recording is None
            else "transmission"),
@@ -381,16 +383,16 @@ VERDICT = Record(
     Member("transmissions", Maybe(COUNT), "Page transmissions.",
            lambda known: sum_of_parts(known, "transmissions")),
     Member("fault_count", COUNT, "All faults, also those that the list omits.",
-           lambda known: known.verdict.faults),
-    Member("subtitle_counts", Maybe(COUNTS), of=lambda known: known.verdict.counts),
+           lambda known: known.verdict.fault_count),
+    Member("subtitle_counts", Maybe(COUNTS), of=lambda known: known.verdict.subtitle_counts),
     Member("request", REQUEST, of=lambda known: known.verdict.request),
-    Member("files_at_start", FILES_AT_START, of=lambda known: known.verdict.files),
+    Member("files_at_start", FILES_AT_START, of=lambda known: known.verdict.files_at_start),
     Member("inputs", INPUTS, of=lambda known: known.verdict),
     Member("program", PROGRAM),
     Member("date", DATE, "When it was judged, in UTC.", lambda known: known.verdict.date),
     Member("seconds", Number(MOST_SECONDS), "How long that took.",
            lambda known: known.verdict.seconds),
-    Member("cause_counts", CAUSE_COUNTS, of=lambda known: counts_of(
+    Member("cause_counts", CAUSE_COUNTS, of=lambda known: count_causes(
         part.causes for part in known.verdict.parts if part.causes)),
     Member("complete_after", Maybe(SPREAD), "After how many frames subtitles were complete.",
            lambda known: known.verdict.delays),
