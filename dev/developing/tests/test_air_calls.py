@@ -161,6 +161,8 @@ class Calls(Feeds):
             self.delete_all("segments", "out")
             os.makedirs(self.path("out/.work-of-an-earlier-call"))
             self.write("out/.work-of-an-earlier-call/other.json", b"{}")
+            for name in (".subttx-of-an-earlier-call", "a.subttx-b", "a.work-b"):
+                self.write(f"out/{name}", b"")
             begin = time.time()
             self.record(self.feed(is_wrong))
             self.put_on_air(begin - 120)
@@ -170,7 +172,8 @@ class Calls(Feeds):
             self.check(f"{verdict}: results", [*self.verdicts().values()], [verdict])
             endings = {os.path.splitext(name.lstrip("."))[1] for name in
                        os.listdir(self.path("out"))}
-            self.check(f"{verdict}: files", endings, {".json", ".html", ".txt"})
+            self.check(f"{verdict}: files", endings, {".json", ".html", ".txt", ".subttx-b",
+                                                      ".work-b"})
 
     def test_writes_one_result_although_the_judge_is_killed(self) -> None:
         frames = self.feed()
