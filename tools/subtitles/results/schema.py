@@ -44,8 +44,8 @@ FILE = Record(
 
 SUBTITLE = Record(
     "subtitle", "",
-    Member("position", COUNT, "Its position in the subtitle file, or in that of the part, from 1; "
-           "a comment or user data has that of the previous subtitle."),
+    Member("position", COUNT, "Its position in the file, or in that of the part, from 1; of a "
+           "comment or user data that of the previous subtitle."),
     Member("number", Integer(0, 65535), "SN."),
     Member("begin", CODE_TIME, "TCI."),
     Member("end", CODE_TIME, "TCO."))
@@ -63,8 +63,8 @@ CAUSE_MEMBERS = (
     Member("other_position", Maybe(Integer(1, MOST_NUMBER)),
            "That subtitle's position in the file, from 1."),
     Member("line", Text(), "The cause as printed."))
-CAUSE = Record("cause", "Why a subtitle's content is not as expected. All its 72 faults share it, "
-               "also those before its TCI and after its TCO.", *CAUSE_MEMBERS)
+CAUSE = Record("cause", "Why a subtitle's content is not as expected. All its 72 faults share "
+               "it, also before its TCI and after its TCO.", *CAUSE_MEMBERS)
 LISTED_CAUSE = Record("listed_cause", "",
                       Member("part", PART), *CAUSE_MEMBERS)
 
@@ -90,9 +90,8 @@ FAULT = Record(
            "control code."),
     Member("text_offset", Maybe(COUNT), "For 50 and 51 that byte's offset in the text, for 52 to "
            "55 the line, from 0."),
-    Member("pes", Maybe(COUNT), "The PES packet of the recording, from 0 (of a feed: of its judged "
-           "part); null: between two. Of several in a frame, the one with the packet, or the last "
-           "one."),
+    Member("pes", Maybe(COUNT), "The PES packet, from 0 (of a feed: of its judged part); null: "
+           "between two. Of several in a frame, the one with the packet, or the last."),
     Member("pes_pts", Maybe(PTS), "Its PTS."),
     Member("pes_time", Maybe(TIME), "The time of its PTS."),
     Member("packet", Maybe(COUNT), "The Teletext packet of the frame, from 0."),
@@ -121,8 +120,8 @@ CLOCK_OF_PART = Record(
     Member("origin", PTS, "The PTS of 00:00:00:00."),
     Member("source", OneOf(*SOURCES), "recording: estimated; origin: --origin; start: --start "
            "TIME; tcp: --start tcp."),
-    Member("delay_frames", Maybe(Integer(-FRAMES_OF_A_DAY, FRAMES_OF_A_DAY)), "How many frames "
-           "the cues are later than this clock; null: unknown, as for an estimated one."))
+    Member("delay_frames", Maybe(Integer(-FRAMES_OF_A_DAY, FRAMES_OF_A_DAY)), "By how many "
+           "frames cues are later than this clock; null: unknown, as if estimated."))
 
 
 class PartOf(NamedTuple):
@@ -188,11 +187,10 @@ WARNING = Record(
     Member("kind", OneOf(
         "pts_behind", "pts_early", "pts_changed", "page", "type", "language", "option",
         "character_set", "repeat", "clock_jump", "pause", "blocks", "subtitles", "cut", "hidden"),
-           "pts_behind, pts_early, pts_changed: PTS against the PCR. page, type, language, option: "
-           "the PMT announces another one. character_set: X/28 or M/29 names one. repeat: the "
-           "repeat interval. clock_jump: the clock jumps. pause: frames without a PES packet, "
-           "though nearly all have one. blocks, subtitles: the counts TNB, TNS of the GSI block. "
-           "cut: the file ends within a PES packet. hidden: some receivers hide part of a row."),
+           "pts_behind, pts_early, pts_changed (against the PCR); page, type, language, option "
+           "(of the PMT); character_set (X/28, M/29); repeat (interval); clock_jump; pause "
+           "(frames without a PES packet); blocks, subtitles (TNB, TNS); cut (within a PES "
+           "packet); hidden (part of a row, by some receivers)."),
     Member("line", Text(), "The warning as printed."),
     Member("time", Maybe(TIME), "The first place."))
 
@@ -210,19 +208,18 @@ CUE = Record(
     Member("expected_in", CODE_TIME, "TCI."),
     Member("expected_out", CODE_TIME, "TCO."),
     Member("actual_in", Maybe(TIME), "The first frame at whose end a receiver has its page, or "
-           "another page in its place; null: none was received."),
-    Member("actual_out", Maybe(TIME), "The first frame at whose end it no longer has that page."),
+           "another one in its place; null: none."),
+    Member("actual_out", Maybe(TIME), "The first frame at whose end it has not."),
     Member("delay_in", DELAY, "How many frames late the in-cue is; negative: early."),
     Member("delay_out", DELAY, "The same for the out-cue."),
     Member("expected_text", Maybe(Text()), "Its text, the rows joined by a slash; null: it is "
            "refused."),
     Member("decoded_text", Maybe(Text()), "The received text."),
-    Member("verdict", OneOf(RIGHT, WRONG, WAIVED, NOT_KNOWN), "right: check accepts its part, or "
-           "trusts all its frames. waived: its faults are warnings. not known: it was not received "
-           "completely, or can't be judged."),
+    Member("verdict", OneOf(RIGHT, WRONG, WAIVED, NOT_KNOWN), "waived: its faults are warnings. "
+           "not known: it was not received completely, or can't be judged."),
     Member("reason", Maybe(Text()), "Why it is not right."),
-    Member("complete_after", Maybe(COUNT), "How many frames after its TCI its page was complete, "
-           "and with --complete closed; null: never before its TCO, or unknown."))
+    Member("complete_after", Maybe(COUNT), "Frames from its TCI until its page was complete, and "
+           "with --complete closed; null: never before its TCO, or unknown."))
 
 CHOICE = Record(
     "choice", "",
@@ -230,9 +227,9 @@ CHOICE = Record(
     Member("option", OneOf(*CHOICES), "The option for it, without dashes.",
            lambda choice: choice.what),
     Member("value", Maybe(Text()), "Its value; null: none."),
-    Member("matches", Maybe(COUNT), "Its evidence: for pid the PES packets with a header of the "
-           "page, for origin the matching cues, for pes the PES packets in the time of the "
-           "subtitles, for pace the places where a loss would take longer.",
+    Member("matches", Maybe(COUNT), "For pid PES packets with a header of the page, for origin "
+           "matching cues, for pes PES packets in the time of the subtitles, for pace places "
+           "where a loss would take longer.",
            lambda choice: choice.agree),
     Member("total", Maybe(COUNT), "Of how many.", lambda choice: choice.among),
     Member("line", Text(), "The evidence as printed."))
@@ -255,8 +252,7 @@ SPREAD = Record(
 COUNTS = Record(
     "counts", "",
     Member("judged", COUNT, "Judged subtitles."),
-    Member("refused", COUNT, "Refused ones, and those that the next one overlaps or "
-           "precedes."))
+    Member("refused", COUNT, "Of them refused, or overlapped or preceded by the next one."))
 
 FORMAT = 7
 MOST_LISTED = 20_000  # items of a list
@@ -306,8 +302,7 @@ def sum_of_parts(known: Writing, name: str) -> int | None:
 
 
 FILES_AT_START = Record(
-    "files_at_start", "The files when judging began. --resume and --watch judge again if they "
-    "differ.", *(
+    "files_at_start", "The files when judging began: --resume and --watch compare them.", *(
         Member(name, Maybe(FILE_AT_START)) for name in ("stl", "recording", "severity")))
 INPUTS = Record("inputs", "The files as they were read.",
                 Member("stl", Maybe(FILE)), Member("recording", Maybe(FILE)))
@@ -340,8 +335,8 @@ LISTS = (
     Member("notes", Listed(Text(), MOST_LISTED),
            "As printed.",
            lambda known: known.verdict.list_notes()),
-    Member("hints", Listed(Text(), MOST_LISTED), "More about the first fault of some numbers, "
-           "as printed.",
+    Member("hints", Listed(Text(), MOST_LISTED), "About the first fault of some numbers, as "
+           "printed.",
            lambda known: known.verdict.hints),
     Member("warnings", Listed(WARNING, MOST_LISTED), "What is unusual in the files.",
            lambda known: known.verdict.warnings),
@@ -355,12 +350,12 @@ LISTS = (
            "check --all.",
            lambda known: make_faults(known.verdict)),
     Member("causes", Listed(LISTED_CAUSE, MOST_LISTED), "One for each subtitle with 72, in their "
-           "order; also for the first one (63) and the last one (74), if the recording goes on "
-           "there. Each has its part.", cause_rows),
-    Member("subtitles", Listed(CUE, MOST_SUBTITLES), "All subtitles of the file, also refused "
-           "ones. A fault between two belongs to neither.",
+           "order; also for the first (63) and last one (74), if the recording goes on there. "
+           "Each has its part.", cause_rows),
+    Member("subtitles", Listed(CUE, MOST_SUBTITLES), "All subtitles, refused ones included. A "
+           "fault between two belongs to neither.",
            lambda known: subtitle_rows(known.verdict)))
-OMITTED = Record("omitted", "How many items are omitted of each list that is too long.", *(
+OMITTED = Record("omitted", "How many items each list lacks, if it was too long.", *(
     Member(one.name, COUNT) for one in LISTS))
 
 VERDICT = Record(
@@ -382,7 +377,7 @@ VERDICT = Record(
     Member("frames", Maybe(COUNT), "Judged frames.", lambda known: sum_of_parts(known, "frames")),
     Member("transmissions", Maybe(COUNT), "Page transmissions.",
            lambda known: sum_of_parts(known, "transmissions")),
-    Member("fault_count", COUNT, "All faults, also those that the list omits.",
+    Member("fault_count", COUNT, "All faults, omitted ones included.",
            lambda known: known.verdict.fault_count),
     Member("subtitle_counts", Maybe(COUNTS), of=lambda known: known.verdict.subtitle_counts),
     Member("request", REQUEST, of=lambda known: known.verdict.request),
