@@ -23,7 +23,7 @@ from .bench import Case
 from .streams import Packet, stream
 from .transmissions import Sent, joined, packets, programme, sendings, times
 
-FEW = "are too few to measure a pace"  # the end of a note
+FEW = "are too few to measure their interval"  # the end of a note
 
 
 class Heard(Unprinted):

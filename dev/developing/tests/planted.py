@@ -25,10 +25,11 @@ CHARACTER, ROW, COLOUR = "wrong character", "wrong row", "wrong colour"
 STAYS, ERASED = "not erased", "erased too soon"
 # What the sentence says of each fault after the subtitle's text.
 SAID = {
-    EARLY: r"is \d+ frames? early", LATE: r"is \d+ frames? late", MISSING: "was never sent",
-    CHARACTER: "has a wrong text", ROW: "stands in a wrong place",
+    EARLY: r"appeared \d+ frames? early", LATE: r"appeared \d+ frames? late", MISSING: "was never "
+                                                                                       "sent",
+    CHARACTER: "has the wrong text", ROW: "is in the wrong place",
     COLOUR: "has a wrong colour or attribute", STAYS: "is not erased",
-    ERASED: "is erased while it is due"}
+    ERASED: "is erased before its TCO"}
 
 
 class Inserter(NamedTuple):
@@ -202,8 +203,8 @@ class Programme:
         if fault.kind == EXCHANGED:
             return f"2 of {len(self.times)} subtitles have other subtitles' texts (first at " \
                 f"{self.time(place)}, last at {self.time(other)})" in sentence
-        return bool(re.match(rf'Refused: at {self.time(fault.place)} subtitle {fault.place + 1}, '
-                             rf'".*", {SAID[fault.kind]}\b', sentence))
+        return bool(re.match(rf'Refused: subtitle {fault.place + 1} at {self.time(fault.place)}'
+                             rf'(, ".*",)? {SAID[fault.kind]}\b', sentence))
 
     def time(self, place: int) -> str:
         """Return the TCI of a subtitle."""

@@ -48,8 +48,10 @@ TRIALS = {
                                       NO_BEGINNING),
     "it begins within the margin": Trial((0, ALL), False, 0, 5, "relative", True, "relative"),
     "it begins later": Trial((0, ALL), False, 0, 2, "not judged", False,
-                             "it did not begin within 2 s of 2026-12-01T08:00:00Z, but later"),
-    "the same, wrong": Trial((0, ALL), True, 0, 2, "not judged", False, "it did not begin within"),
+                             "the programme did not begin within 2 s of 2026-12-01T08:00:00Z, but "
+                             "later"),
+    "the same, wrong": Trial((0, ALL), True, 0, 2, "not judged", False, "the programme did not "
+                                "begin within"),
     "it begins earlier": Trial((0, ALL), False, LEAD + 4, 2, "not judged", False, NO_BEGINNING),
 }
 
@@ -128,7 +130,7 @@ class Checks(Feeds):
 
         with mock.patch.object(Unbroken, "read", read):
             found = self.judged(self.feed())
-        self.must("it", found.result is None and found.reason.endswith("become shorter"), found)
+        self.must("it", found.result is None and found.reason.endswith("became shorter"), found)
 
 
 class Calls(Feeds):
@@ -212,12 +214,13 @@ class Calls(Feeds):
 
     def test_reports_wrong_arguments_in_one_line_with_status_2(self) -> None:
         rows: dict[str, str] = {
-            "": "give record or judge first",
-            "watch": "give record or judge first",
-            "judge schedule nothing -o o": "nothing is not a folder: start `record` first, or name "
+            "": "the first argument must be record or judge",
+            "watch": "the first argument must be record or judge",
+            "judge schedule nothing -o o": "nothing is not a folder: start `record` first, or give "
                                            "its folder",
             "judge schedule segments": "the following arguments are required: -o",
-            "record segments --keep 0": "argument --keep: 0 is no number of hours: 1 to 99999"}
+            "record segments --keep 0": "argument --keep: 0 is not a number of hours: give 1 to "
+                                        "99999"}
         for line, message in rows.items():
             done = self.tool("air", *line.split())
             self.check(line or "none", (done.status, done.told), (2, [f"air: {message}"]))

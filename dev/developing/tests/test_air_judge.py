@@ -172,7 +172,7 @@ class Judged(Air):
         os.unlink(self.path("one.stl"))
         self.put_segments(700, 2000)
         self.run_judge(FakeChecker({}), 1000)
-        self.check("reason", self.result(NAME)["reason"], f"{self.path('one.stl')} is not there")
+        self.check("reason", self.result(NAME)["reason"], f"{self.path('one.stl')} does not exist")
 
     def test_judges_again_if_the_result_cannot_be_written(self) -> None:
         self.put_segments(0, 900)

@@ -30,14 +30,14 @@ LINES = {
                                  f"line 1: 0001-01-01T00:00:00+23:00 {NO_TIME}"),
     "an end before it": ("2026-12-01T08:00:00Z/2026-12-01T07:00:00Z news.stl", "line 1: "
                          "2026-12-01T08:00:00Z/2026-12-01T07:00:00Z ends before it begins"),
-    "a time alone": ("2026-12-01T08:00:00Z", "line 1: it names no subtitle file: write the time of "
+    "a time alone": ("2026-12-01T08:00:00Z", "line 1: it has no subtitle file: write the time of "
                      "air, then the subtitle file"),
     "a wrong option": ("2026-12-01T08:00:00Z news.stl --colour",
                        "line 1: unrecognized arguments: --colour"),
     "a place in a recording": ("2026-12-01T08:00:00Z news.stl --start 10:00:00:00",
-                               "line 1: --start and --pes name a place in a recording, and nobody "
-                               "knows where in the segments a programme will be: leave them out"),
-    "a quote": ("2026-12-01T08:00:00Z 'news.stl", "line 1: a quote does not end"),
+                               "line 1: --start and --pes depend on where the programme is in the "
+                               "segments, which is not known: remove them"),
+    "a quote": ("2026-12-01T08:00:00Z 'news.stl", "line 1: a quote is not closed"),
 }
 # Both nights on which clocks in Berlin change: the same local time an hour apart.
 NIGHTS = {"2026-10-25T02:30:00+02:00": "20261025T003000Z-a",
@@ -84,8 +84,8 @@ class Lines(Air):
     def test_reports_a_second_line_with_the_same_name(self) -> None:
         line = "2026-12-01T08:00:00Z a.stl\n"
         self.check("both", self.read_lines(line * 2), [
-            "20261201T080000Z-a 0 None", "line 2: its result would have the name of that of line "
-            "1, 20261201T080000Z-a: it is not judged"])
+            "20261201T080000Z-a 0 None", "line 2 is not judged: its result would be named "
+            "20261201T080000Z-a, as that of line 1"])
 
     def test_finds_files_in_the_folder_of_the_schedule(self) -> None:
         self.write_schedule("2026-12-01T08:00:00Z a.stl")

@@ -306,7 +306,7 @@ class ForkedPairs(Case):
                 "two", "no pair") and {*os.listdir(self.path("out"))} == {"one.json", "two.json"})
         with mock.patch("os.fork", side_effect=BlockingIOError(11, "Try again")):
             gone = self.judge_one(self.calls, self.item("accepted"))
-        self.must("no call", gone.line == "no process was begun: Try again", gone)
+        self.must("no call", gone.line == "a process could not be started: Try again", gone)
         for name in ("one", "two"):
             self.calls.start(self.item("waits", name))
         self.calls.stop()
@@ -324,7 +324,7 @@ class ForkedPairs(Case):
             with mock.patch.object(batch, "GRACE_SECONDS", most):
                 rows = judge_all(calls, [self.item(kind, "long"), self.item("accepted")], {}, 2)
             self.must(kind, (rows["long"].verdict, rows["long"].line) == (
-                "not judged", "it took more than 1 second of the processor: --limit gives more")
+                "not judged", "it used more than 1 second of CPU time: give a greater --limit")
                 and rows["one"].verdict == "accepted" and not calls.over_limit, rows)
             have = object_at(calls.result_path(self.item(kind, "long")))
             self.must("its object", have is not None and have["reason"] == rows["long"].line, have)

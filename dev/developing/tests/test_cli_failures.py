@@ -139,7 +139,7 @@ class Programs(CallCase):
                              (status, status, status == 2), done)
             if status == 2:
                 self.assertEqual(known["verdict"], "not judged")
-                self.assertTrue(known["reason"].startswith("check was not answered: "), done)
+                self.assertTrue(known["reason"].startswith("check gave no verdict: "), done)
                 self.assertEqual(done.told, [f"qc: {known['reason']}"])
 
     def test_judges_only_if_each_call_of_the_program_succeeds(self) -> None:
@@ -256,7 +256,8 @@ class UsageErrors(CallCase):
                 more = [] if "--collect" in words else ["-p", program]
                 done = self.qc(*words, option, name, *more)
                 self.assertEqual((done.status, done.told, self.read(name)),
-                                 (2, [f"qc: {name} is an input too"], before), (words, option))
+                                 (2, [f"qc: {name} is also an input: give another "
+                                      "name"], before), (words, option))
         self.assertEqual(kept, self.read("in/one.json"))
 
 

@@ -117,7 +117,7 @@ class Cues(Case):
                         f"within is {most} frames" in line for line in lines) == (
                             most + 1 in (*begins, *ends)) and sum(
                                 "z" in line for line in lines) == len(some) - 1 and
-                    "whose letters were never sent: y" in lines, found)
+                    "text never sent: y" in lines, found)
         on_time = [Delays(Counter([0]), Counter([0]), [], [])]
         of_off: list[tuple[list[Delays], tuple[int, int], str]] = [
             (on_time, (0, 100), ""), (on_time, (4, 100), ""), ([], (4, 100), ""),
@@ -148,7 +148,7 @@ class Cues(Case):
         late = Delays(Counter({0: 89, 5: 1}), Counter({0: 90}), [], [], [(5, "x begins late")])
         found = [*late_found([late], [])]
         self.check("one of 90", ("".join(one.words for one in found), found[0].lines[1]), (
-            "", "later than is usual, which this refuses: x begins late"))
+            "", "later than usual, which --within then refuses: x begins late"))
 
     def test_a_lost_repeat_is_an_exception(self) -> None:
         for name, frames, longest, exceptions in (

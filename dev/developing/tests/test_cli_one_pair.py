@@ -95,15 +95,17 @@ class LastLines(Case):
             self.must(f"{count}", said.count(place) == min(count, 20) and
                       (more in said if more else not any("more place" in one for one in said[:-2])),
                       said)
-            self.must("not recorded", "! that part was not recorded" in said, said)
+            self.must("not recorded", "! record that part again: what is missing was not "
+                                      "checked" in said, said)
         said = self.said(self.verdict([part_with(0, 99, 0)], gaps=[gap(False)]))
-        self.must("outside", said[0].endswith("3 TS packets lost, outside of what is judged") and
-                  not any("not recorded" in one for one in said), said)
+        self.must("outside", said[0].endswith("3 TS packets lost, outside the judged range") and
+                  not any("record that part" in one for one in said), said)
         said = self.said(self.verdict([part_with(0, 99, 0)], "--allow-lost", gaps=[gap(True)]))
-        self.must("allowed", not any("not recorded" in one for one in said) and
+        self.must("allowed", not any("record that part" in one for one in said) and
                   said[-1].startswith("accepted"), said)
         said = self.said(self.verdict([part_with(0, 99, 0, answer(REFUSED))], gaps=[gap(True)]))
-        self.must("refused too", "! that part was not recorded" in said, said)
+        self.must("refused too", "! record that part again: what is missing was not "
+                                 "checked" in said, said)
 
     def test_prints_the_line_of_the_first_refused_part(self) -> None:
         parts = [part_with(0, 9, 0), part_with(10, 19, 0, answer(REFUSED), 2)]
@@ -193,13 +195,14 @@ class OutputFilesOfPair(Case):
         for name in ("json", "csv", "junit"):
             for path in (self.path("one.pes"), example("story.stl"), self.path("link")):
                 self.must(f"{name} {path}",
-                          "is an input too" in self.refusal(asked, **{name: path}))
+                          "is also an input: give another "
+                          "name" in self.refusal(asked, **{name: path}))
         self.must("none", not self.refusal(asked, json=self.path("new.json")))
         for name in ("one.cut.pes", "one.recording.pes", "one.json", "one.2.txt", ".one.lock"):
             for at in ("stl", "recording", "severity"):
                 asked, path = self.verdict().request, self.write(f"out/{name}", b"")
                 setattr(asked, at, path)
-                self.must(f"{name} as {at}", "is an input too" in self.refusal(
+                self.must(f"{name} as {at}", "is also an input: give another name" in self.refusal(
                     asked, out=self.path("out")))
                 os.unlink(path)
 

@@ -46,8 +46,8 @@ class Pairs(Case):
         lines = lines_of(done)
         commands = [line[2:] for line in lines if line.startswith("+ ")]
         self.must("relative", (done.status, lines[-1], done.told) == (3, RELATIVE, [
-            "qc: not checked: whether some of this PID alone is missing: its PES packets are too "
-            "few to measure a pace"]), done)
+            "qc: not checked for losses on this PID alone: its PES packets are too few to measure "
+            "their interval"]), done)
         self.must("one command, on the two files", [one.split()[1:] for one in commands] == [[
             "check", STORY, RECORDING, "--pid", "0x101", "--pes", "2-6", "--complete", "--origin",
             "5000000000", "--all"]], commands)
@@ -117,7 +117,7 @@ class Piped(Case):
                 found = judged(self, STORY, in_pipe(self, pes), "--origin", "0")
             self.must(f"{most}", found.word == word, found.said)
         self.must("what to type", found.told[-1].endswith(
-            f" has not ended after {most:,} bytes: what does not end is recorded and judged by "
+            f" has not ended after {most:,} bytes: judge an endless feed with "
             "tools/air") and recording.MOST_PIPED == 32_000_000_000, found.told)
 
     def test_reports_a_full_disk_for_a_pipe(self) -> None:

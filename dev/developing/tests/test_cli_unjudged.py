@@ -48,7 +48,7 @@ class UnjudgedPairs(Case):
     def test_all_outputs_name_the_reason(self) -> None:
         rows: list[tuple[str, str, str, str]] = [
             ("in use", "", "", "another call is writing the files of one"),
-            ("an input", "", "--severity out/one.html", "is an input too"),
+            ("an input", "", "--severity out/one.html", "is also an input: give another name"),
             ("no result", "", "", "is no result of these tools"),
             ("no pair", "none.ts", "", "none.ts: No such file")]
         before = os.getcwd()
@@ -134,7 +134,7 @@ class UnjudgedPairs(Case):
                    [(self.path("out"),)])
         self.check("reasons", [row and row.line.replace(self.path(""), "") for row in rows],
                    ["no pair"] * 20 + [
-                       f"out/{name} is there, and is no result of these tools: move it away, or "
+                       f"out/{name} exists and is not a result of these tools: move it away, or "
                        "give another folder" for name in (
                            "one.7.txt", "two.1.txt", "three.1.html")])
 
@@ -229,7 +229,7 @@ class UnjudgedPairs(Case):
                 before = self.read(name)
                 self.must(f"{option} {name}", qc([*words, option, name]) == 2 and
                           before == self.read(name) and told.getvalue().endswith(
-                              f"{name} is an input too\n"), told.getvalue())
+                              f"{name} is also an input: give another name\n"), told.getvalue())
 
     def test_reports_omitted_faults_of_a_csv_file(self) -> None:
         for count in range(3):
@@ -298,7 +298,7 @@ class OutputsAndSignals(CallCase):
                       ["--batch", "list", "--resume"], ["--watch", self.folder]):
             done = self.qc(*words)
             self.must(f"{words}", done.status == 2 and not done.printed and
-                      " goes with -o" in done.told[0], done)
+                      " needs -o" in done.told[0], done)
 
     def test_prints_profile_options_first_and_each_hint_once(self) -> None:
         program, words = self.fake_program(ACCEPTED), ("-o", "out", "--json", "one.json")

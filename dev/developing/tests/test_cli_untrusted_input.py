@@ -54,7 +54,7 @@ class Inputs(Case):
                           self.bench.program])
         table = done.out.decode()
         self.must("told", done.status == 2 and "4 pairs: 2 relative, 2 not judged" in table and all(
-            f" not judged          out/{name} is an input too" in table
+            f" not judged          out/{name} is also an input: give another name" in table
             for name in ("b.json", "c.txt")), (done, table))
         self.must("as they were", all(self.read(f"out/{name}") == data
                                       for name, data in before.items()))
@@ -79,7 +79,7 @@ class ListLines(Case):
             f"--profile {pipe}": f"{pipe} is a pipe: give a file",
             "--profile /dev/stdin": "/dev/stdin is a pipe: give a file",
             f"--severity {pipe}": f"{pipe} is a pipe: give a file",
-            "--profile secret": "secret, line 1: its first word is no option of a profile, ",
+            "--profile secret": "secret, line 1: its first word is not an option of a profile, ",
             "--profile marked": "marked begins with a byte order mark (BOM): save it as UTF-8",
             "--severity marked": "marked begins with a byte order mark (BOM): save it as UTF-8",
             "--profile long": "long has more than 65,536 bytes",

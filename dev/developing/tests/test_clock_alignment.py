@@ -184,7 +184,7 @@ class EstimatedClocks(unittest.TestCase):
                     one = find_origin(shown, packets_of(times), within, late=shares)
                     self.assertTrue(one.status == 0 and do_all_agree(one), one.lines)
                     one = find_origin(shown, packets_of(times), within)
-                    before = [line for line in one.lines if " before what is usual" in line]
+                    before = [line for line in one.lines if " early compared with" in line]
                     self.assertTrue(one.status == 0 and do_all_agree(one) or before, one.lines)
 
     def test_reports_an_early_cue_of_a_known_inserter(self) -> None:
@@ -328,7 +328,8 @@ class JudgedPairs(Case):
             one = judged(self, stl, self.write("one.pes", joined(both)), "--every", "25",
                          "--no-complete", *words)
             self.must(name, one.word == word and (word == "accepted" or one.told[0] ==
-                                                  "the programme is there 2 times"), one.said)
+                                                  "the programme is in the recording 2 "
+                                                  "times"), one.said)
 
 
 # PTS wrap at 2^33 in each comparison and conversion.

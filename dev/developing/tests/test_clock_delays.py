@@ -43,7 +43,7 @@ class Delays(OfProgramme):
             told = [line for line in found.told if line.startswith("all subtitles")]
             if by:
                 self.must(f"{by}: the sentence", found.verdict.sentence.startswith(
-                    f"Refused: all 20 subtitles are {words}"), found.verdict.sentence)
+                    f"Refused: all 20 subtitles appeared {words}"), found.verdict.sentence)
             self.must(f"{by}: given", (found.word == "refused") == bool(by) and
                       told == [f"all subtitles are {words}"][:bool(by)] and
                       found.result["parts"][0][clock[0]][clock[1]] == by, found.said)
@@ -54,7 +54,7 @@ class Delays(OfProgramme):
         self.must("made", done.status == 0, done)
         found = judged(self, STORY, self.write("cut.pes", self.read("all.pes")[1288:2024]),
                        "--origin", "0")
-        self.must("not late", "origin: that is --origin 0" in found.said and not any(
+        self.must("not late", "clock: it is --origin 0" in found.said and not any(
             "late" in line for line in found.said if not line.startswith("refused 74 Late")) and
             found.result["parts"][0]["clock"]["delay_frames"] in (0, None), found.said)
 
@@ -73,7 +73,7 @@ class Delays(OfProgramme):
                 self.must(f"{by} {origin}: a break", (
                     found.word == "accepted" and found.said[-1].endswith(" in 2 parts")
                     if by >= 125 else found.word == "not judged" and found.told[0] ==
-                    "no break found, where --breaks 1 is said"), found.said)
+                    "no break found, but --breaks is 1"), found.said)
         feed = in_pipe(self, joined(late(1, at)(self.sent)))
         found = judged(self, self.stl, feed, *WORDS, "--origin", "0")
         self.must("a feed", found.word == "refused" and
@@ -141,7 +141,7 @@ class Delays(OfProgramme):
             both = [*self.sent, *((pts + origin, some) for pts, some in second)]
             found = self.judge(both)
             self.must(name, found.word == "not judged" and found.told[0] ==
-                      "the programme is there 2 times" and
+                      "the programme is in the recording 2 times" and
                       found.told[-1].endswith(" --pes I-J"), found.told)
             count = len(self.sent)
             for pes, word in ((f"0-{count - 1}", "accepted"), (
@@ -200,17 +200,17 @@ class FirstPictures(Case):
 
     def test_reports_a_start_that_is_off_by_hours(self) -> None:
         data = with_pictures(example_bytes("story.pes"), FIRST_PTS).data
-        ends = f"the recording begins at {STARTED}. TIME is on the subtitle file's own clock, " \
-            "not the time of day"
+        ends = f"the beginning of the recording by its subtitles, {STARTED}. TIME is on the " \
+            "subtitle file's own clock, not the time of day"
         for words, told in (
                 (("--start", "10:00:00:00"), "--start 10:00:00:00 is 10 h 14 min 59 s earlier than "
-                 f"the subtitles tell: by these {ends}"),
+                 f"{ends}"),
                 (("--start", "00:00:00:01"), "--start 00:00:00:01 is 20 h 14 min 58 s 24 frames "
-                 f"earlier than the subtitles tell: by these {ends}"),
-                (("--start", "23:00:00:00"), "--start 23:00:00:00 is 2 h 45 min 1 s later than the "
-                 f"subtitles tell: by these {ends}"),
-                (("--origin", f"{90_000 * 3600}"), "by --origin 324000000 all subtitles come 1 h "
-                 "too early: none is in the recording at its time")):
+                 f"earlier than {ends}"),
+                (("--start", "23:00:00:00"), "--start 23:00:00:00 is 2 h 45 min 1 s later than "
+                 f"{ends}"),
+                (("--origin", f"{90_000 * 3600}"), "by --origin 324000000 all subtitles are 1 h "
+                 "early: none is in the recording at its time")):
             found = self.judge(data, *words)
             self.must(f"{words}", found.word == "not judged" and found.told == [told], found.told)
 
@@ -230,7 +230,7 @@ class FirstPictures(Case):
         half = with_pictures(moved(pes, lambda _, pts: pts + 1800), FIRST_PTS).data
         for path, words, is_typed in (
                 (self.write("half.ts", half), "half a frame", False),
-                (example("story.pes"), "have no pictures", True)):
+                (example("story.pes"), "has no pictures", True)):
             found = judged(self, STORY, path, "--start", STARTED)
             self.must(words, found.word == "not judged" and words in found.told[0] and
                       ("--origin T" in found.told[-1]) == is_typed and
@@ -252,8 +252,7 @@ class FirstPictures(Case):
             lost = b"".join(made[:at] + made[at + 1:])
             scrambled = bytes([*made[at][:3], made[at][3] | 0x80, *made[at][4:]])
             for name, data, line in (
-                    ("lost", lost, "1 TS packet of MPEG-2 of PID 0x200 lost among its first "
-                     "pictures"),
+                    ("lost", lost, "MPEG-2 of PID 0x200 lost 1 TS packet among its first pictures"),
                     ("scrambled", b"".join([*made[:at], scrambled, *made[at + 1:]]),
                      "MPEG-2 of PID 0x200 is scrambled")):
                 found = self.judge(data, "--start", STARTED)
@@ -265,9 +264,9 @@ class FirstPictures(Case):
         stl = bytearray(example_bytes("story.stl"))
         for code, words in (
                 (STARTED.replace(":", ""), ""),
-                ("20150100", "comes at 20:15:00:00, before its TCP 20:15:01:00"),
-                ("20000000", "goes at 20:15:09:00, and by the TCP the recording ends at"),
-                *((code, "has no time as TCP") for code in ("        ", "2015000a", "25000000",
+                ("20150100", "begins at 20:15:00:00, before its TCP 20:15:01:00"),
+                ("20000000", "ends at 20:15:09:00, but by the TCP the recording ends at"),
+                *((code, "is not a time: ") for code in ("        ", "2015000a", "25000000",
                                                             "20150025"))):
             stl[256:264] = code.encode()
             found = self.judge(data, "--start", "tcp", stl=self.write("two.stl", stl))

@@ -54,42 +54,42 @@ class OriginLines(unittest.TestCase):
     def test_describes_a_part_by_its_best_origin(self) -> None:
         rows: list[tuple[Any, int, list[str]]] = [
             (self.part(9, 9, 9, others=[self.other(at, 9) for at in range(7)]), 20,
-             ["9 of 9 cues agree, 9 with the letters that are due; the file has 20; next best: "
-              "--origin 0 with 9", "it is not unique: as good as --origin 9 are --origin 0, "
+             ["9 of 9 cues match, 9 with the expected text; the file has 20; next best: --origin 0 "
+              "with 9", "it is ambiguous: as good as --origin 9 are --origin 0, "
               "--origin 1, --origin 2, --origin 3, --origin 4 and 2 more"]),
             (self.part(4, 9, 4), 20,
-             ["4 of 9 cues agree, 4 with the letters that are due; the file has 20; next best: "
-              "none", "fewer than half of the cues agree with --origin 9: check that this is the "
+             ["4 of 9 cues match, 4 with the expected text; the file has 20; next best: "
+              "none", "fewer than half of the cues match with --origin 9: check that this is the "
               "right subtitle file"]),
             (self.part(9, 10, 9, within=3, late=[0], early=Early(1, 30, 2), first_other=50), 20,
-             ["9 of 10 cues agree, 9 with the letters that are due; the file has 20; next best: "
-              "none", "no cue is late", "1 of 30 cues comes up to 2 frames before what is usual "
-              "for the others: that is early", "the first cue that does not agree is 00:00:02:00"]),
+             ["9 of 10 cues match, 9 with the expected text; the file has 20; next best: "
+              "none", "no cue is late", "1 of 30 cues is up to 2 frames early compared with the "
+              "others", "the first cue without a match is at 00:00:02:00"]),
             (self.part(8, 10, 8, within=3, late=[0], early=Early(2, 10, 1)), 20,
-             ["8 of 10 cues agree, 8 with the letters that are due; the file has 20; next best: "
-              "none", "no cue is late", "2 of 10 cues come up to 1 frame before what is usual for "
-              "the others: early subtitles, or an inserter that is late for the others? Give "
-              "--origin or --start"])]
+             ["8 of 10 cues match, 8 with the expected text; the file has 20; next best: "
+              "none", "no cue is late", "2 of 10 cues are up to 1 frame early compared with the "
+              "others: are these early, or is the inserter late for the others? Give --origin or "
+              "--start"])]
         for count, words in ((5, ""), (6, " and 1 more")):
             rows.append((self.part(9, 9, 9, first_other=0, others=[
                 self.other(at, 9) for at in range(count)]), 20, [
-                    "9 of 9 cues agree, 9 with the letters that are due; the file has 20; next "
-                    "best: --origin 0 with 9", "it is not unique: as good as --origin 9 are "
+                    "9 of 9 cues match, 9 with the expected text; the file has 20; next best: "
+                    "--origin 0 with 9", "it is ambiguous: as good as --origin 9 are "
                     f"--origin 0, --origin 1, --origin 2, --origin 3, --origin 4{words}",
-                    "the first cue that does not agree is 00:00:00:00"]))
+                    "the first cue without a match is at 00:00:00:00"]))
         rows.append((self.part(3, 3, 3, within=3, late=[2, 1, 3, 2]), 20, [
-            "3 of 3 cues agree, 3 with the letters that are due; the file has 20; next best: none",
-            "cues are 1 to 3 frames late, 2 in the middle"]))
+            "3 of 3 cues match, 3 with the expected text; the file has 20; next best: none",
+            "cues are 1 to 3 frames late (median 2)"]))
         rows += [(self.part(9, 9, 9, exact=9 - off), 9, [
-            "9 of 9 cues agree, 9 with the letters that are due; this part has 20; next best: none",
-            f"{off} of them only to the nearest frame: PTS that are not whole frames apart are "
-            "refused as 61"]) for off in (1, 9)]
+            "9 of 9 cues match, 9 with the expected text; this part has 20; next best: none",
+            f"{off} of them match only to the nearest frame: PTS that are not whole frames apart "
+            "are refused as 61"]) for off in (1, 9)]
         for is_begin, agree, late, line in (
-                (True, 5, 2, "all beginnings are 2 frames late compared with the ends"),
-                (False, 4, -1, "4 of 5 ends are 1 frame early compared with the beginnings")):
+                (True, 5, 2, "all in-cues are 2 frames late compared with the out-cues"),
+                (False, 4, -1, "4 of 5 out-cues are 1 frame early compared with the in-cues")):
             apart = SimpleNamespace(is_begin=is_begin, agree=agree, of=5, late=late)
             rows.append((self.part(4, 9, 4, apart=apart), 20, [
-                "4 of 9 cues agree, 4 with the letters that are due; the file has 20; next best: "
+                "4 of 9 cues match, 4 with the expected text; the file has 20; next best: "
                 "none", line]))
         for part, count, lines in rows:
             self.assertEqual([*part_lines(part, count, True)], lines, (part, count, lines))
@@ -111,7 +111,7 @@ class OriginLines(unittest.TestCase):
             else:
                 self.assertEqual((found.status, found.parts, found.breaks), (1, [], breaks),
                                  (count, said))
-                self.assertEqual(found.lines, [f"{words} found, where --breaks {said} is said",
+                self.assertEqual(found.lines, [f"{words} found, but --breaks is {said}",
                                                *break_lines(parts)], (count, said))
 
     def test_describes_each_part(self) -> None:
@@ -133,12 +133,12 @@ class OriginLines(unittest.TestCase):
                               for one in found.parts], [
                 (9 + at, (at, 7) if count > 1 else None, (1000 * at, 1000 * at + 500), edges - 1,
                  edges) for at, edges in enumerate((20, 12, 6))], (origin, count))
-            for line, is_there in (("3 parts: 35 of 38 cues agree", True),
-                                   ("19 of 20 cues agree, 19 with the letters that are due; this "
-                                    "part has 20; next best: none", True),
-                                   ("that is --origin 9", origin == 9),
+            for line, is_there in (("3 parts: 35 of 38 cues match", True),
+                                   ("19 of 20 cues match, 19 with the expected text; this part has "
+                                    "20; next best: none", True),
+                                   ("it is --origin 9", origin == 9),
                                    *((f"the subtitle from 00:00:0{at}:00 to 00:00:0{at + 2}:00 "
-                                      "reaches into the next part, and is in none", True)
+                                      "reaches into the next part, so it is in no part", True)
                                      for at in range(3))):
                 self.assertEqual(found.lines.count(line), int(is_there), found.lines)
 
@@ -164,7 +164,7 @@ class OriginLines(unittest.TestCase):
             found, part = Origin(), self.part(20, 20, 20)
             part.origin = origin
             measure(found, known, part)
-            self.assertEqual(found.lines, [f"that is {words}"] * bool(words), (known, origin))
+            self.assertEqual(found.lines, [f"it is {words}"] * bool(words), (known, origin))
             self.assertEqual(found.away, None if known is None else origin - known, (known, origin))
 
     def test_what_is_there(self) -> None:
@@ -173,15 +173,15 @@ class OriginLines(unittest.TestCase):
         marks, change = [Mark(2, None, 0, 0)], Change(0, b"", 0)
         rows: list[tuple[list[Run], list[Mark], str, list[Change], list[str]]] = [
                 (runs[:1], [], "", [change], []),
-                (runs[:1], [], "is cut", [change], ["one: is cut; what stands before is used"]),
-                (runs[:2], marks, "", [change], ["1 mark of what is missing skipped: check "
-                                                 "refuses them as 45"]),
+                (runs[:1], [], "is cut", [change], ["one: is cut; only what is before it is used"]),
+                (runs[:2], marks, "", [change], ["1 gap marker skipped: check refuses them as 45"]),
                 (runs, marks, "is cut", [change], [
-                    "one: is cut; what stands before is used", "1 mark of what is missing skipped: "
-                    "check refuses them as 45", "1 of 4 PES packets have no PTS, and are skipped "
+                    "one: is cut; only what is before it is "
+                    "used", "1 gap marker skipped: check "
+                    "refuses them as 45", "1 of 4 PES packets have no PTS and are skipped "
                     "here: check refuses them as 34"]),
-                (runs[:1], [], "", [], ["there is no header of page 888 in one; other subtitle "
-                                        "pages: 777, 150"])]
+                (runs[:1], [], "", [], ["one has no header of page 888; other subtitle pages: 777, "
+                                        "150"])]
         for several, some, damage, changes, said in rows:
             lines, packets = list[str](), Packets(0, several)
             packets.marks, packets.changes = some, changes
@@ -223,7 +223,7 @@ class OriginLines(unittest.TestCase):
             f"from 00:02:00:00 {said} 0.04 s (1 frame) late"])
         for count, left in ((20, 0), (21, 1), (25, 5)):
             found = self.shifts(*((at * 7) % 5 * 30 for at in range(count + 1)))
-            words = f"and so on, {left} time{'s' * (left != 1)} more"
+            words = f"and {left} more change{'s' * (left != 1)}"
             self.assertEqual((len(found), words in found), (20 + (left > 0), left > 0), found)
             self.assertTrue(found[-1].startswith(f"from 00:{count:02}:00:00"), found)
 
@@ -281,12 +281,12 @@ class FirstPictures(unittest.TestCase):
             for is_whole in (True, False):
                 self.assertEqual(self.said([*tables, *begun], is_whole), first, is_whole)
         lines = [*programme_with((VIDEO, MPEG_2)), *begun, f"picture {VIDEO} {3 * TICKS}"]
-        self.assertIn("leave out 2 frames", str(self.said(lines)))
+        self.assertIn("skip 2 frames", str(self.said(lines)))
         self.assertEqual(self.said([*lines, f"pictures {VIDEO} 0 0 0 0"]), first)
 
     def test_takes_the_clock_of_the_first_picture(self) -> None:
         rows: list[tuple[list[int], int, int | None, str]] = [
-            ([0], 0, 0, "agree with"), ([1], 0, 1, "moved by 1 tick forward"),
+            ([0], 0, 0, "matches"), ([1], 0, 1, "moved by 1 tick forward"),
             ([1799], 0, 1799, "forward"), ([1800], 0, None, ""), ([1801], 0, -1799, "back"),
             ([3599], 0, -1, "moved by 1 tick back"), ([1800, 1800, 5], 0, None, ""),
             ([1800, 1800, 5], 1, 5, "moved by 5 ticks forward")]
@@ -308,7 +308,7 @@ class FirstPictures(unittest.TestCase):
         lines = [*programme_with((VIDEO, MPEG_2)), f"video {VIDEO} 0", f"picture {VIDEO} {TICKS}",
                  f"picture {VIDEO} 0", f"group {VIDEO} 0 0 open"]
         self.assertEqual(began(asked, surveyed(lines), packets).clock.away, -1)
-        self.assertEqual(off_words(180), "PTS are up to 180 ticks (2.00 ms) off the frame")
+        self.assertEqual(off_words(180), "PTS are up to 180 ticks (2.00 ms) off their frames")
         for source, evidence in itertools.product((RECORDING, GIVEN, START, TCP), (
                 None, Selection(ORIGIN_CHOICE, "8", "words"))):
             chosen = (evidence or Selection(ORIGIN_CHOICE, "7", FITTED))._replace(part=2)
@@ -324,10 +324,10 @@ class FirstPictures(unittest.TestCase):
         for frames, form, first, other, away, more in (
                 (GROUP, "closed", least, flagged, 2, "; the one with the random_access_indicator "
                  f"has PTS {flagged}, 2 frames later"),
-                (GROUP, "open", flagged, least, -2, "; those of its group that come before it, "
-                 f"from PTS {least} on, 2 frames, can't be decoded"),
-                (GROUP, "unknown", flagged, least, -2, "; those of its group that come before it, "
-                 f"from PTS {least} on, 2 frames, can't be decoded"),
+                (GROUP, "open", flagged, least, -2, "; pictures of its group before it, from PTS "
+                 f"{least} on (2 frames), can't be decoded"),
+                (GROUP, "unknown", flagged, least, -2, "; pictures of its group before it, from "
+                 f"PTS {least} on (2 frames), can't be decoded"),
                 ([0, 1, 2], "open", least, None, 0, ""), ([0, 2, 1], "closed", least, None, 0, "")):
             lines = picture_lines(frames)
             found = self.said([*lines[:-1], f"group {VIDEO} {flagged} {least} {form}", lines[-1]])
@@ -338,7 +338,7 @@ class FirstPictures(unittest.TestCase):
 
     def test_asks_about_a_delay_as_long_as_to_another_picture(self) -> None:
         for away, delay, words in (
-                (-2, -2, "is the time code that of the GOP header?"), (-2, 2, ""), (-2, -1, ""),
+                (-2, -2, "is the time code from the GOP header?"), (-2, 2, ""), (-2, -1, ""),
                 (-2, 0, ""), (-2, None, ""), (0, 0, ""), (0, None, ""), (2, -2, ""),
                 (2, 2, "is the time code that of the picture with the random_access_indicator?")):
             said = Clock(0, START, delay, away=away).question()
@@ -351,20 +351,20 @@ class FirstPictures(unittest.TestCase):
                 (programme_with(), True, "has no video: PID 0x101 stream_type 06"),
                 (two, True, "has several video PIDs: PID 0x101 stream_type 06, PID 0x200 MPEG-2, "
                             "PID 0x201 H.264"),
-                (programme_with((VIDEO, 0x33)), True, "pictures of VVC are not read"),
+                (programme_with((VIDEO, 0x33)), True, "VVC video is not supported"),
                 (programme_with((VIDEO, MPEG_2)), True, "MPEG-2, has no PES packets of video"),
-                (programme_with((VIDEO, MPEG_2)), False, "no PES packet of MPEG-2 of PID 0x200 has "
-                 "come with the random_access_indicator"),
+                (programme_with((VIDEO, MPEG_2)), False, "no PES packet of MPEG-2 of PID 0x200 had "
+                 "the random_access_indicator so far"),
                 ([*programme_with((VIDEO, MPEG_2)), f"pictures {VIDEO} 0 0 7 0"], True,
                  "none of 7 PES packets of MPEG-2 of PID 0x200 has the random_access_indicator"),
                 (picture_lines([0, 1], "1 0"), True,
-                 "1 TS packet of MPEG-2 of PID 0x200 lost among"),
+                 "MPEG-2 of PID 0x200 lost 1 TS packet among"),
                 (picture_lines([0, 1], "1 1"), True, "is scrambled"),
                 (picture_lines([0, None]), True, "a picture of MPEG-2 of PID 0x200 has no PTS"),
                 (picture_lines([None]), True, "a picture of MPEG-2 of PID 0x200 has no PTS"),
                 # Two pictures in each PES packet: the first displayed one has no PTS.
                 (picture_lines(GROUP[::2] + [9]), True,
-                 "leave out 3 frames: a PES packet has several")]
+                 "skip 3 frames: a PES packet has several")]
         for lines, is_whole, words in rows:
             self.assertIn(words, self.said(lines, is_whole), (lines, is_whole))
 
@@ -388,7 +388,7 @@ BEGIN, EACH, LENGTH, COUNT = 900_000, 60, 40, 6  # frames, and subtitles of the 
 OWN = [(BEGIN + EACH * at, BEGIN + EACH * at + LENGTH) for at in range(COUNT)]
 LAST = OWN[-1][1]  # its last TCO
 OTHERS = [(LAST + EACH * at, LAST + EACH * at + LENGTH) for at in range(COUNT)]
-NEXT = "unknown: the page that comes at the last TCO is the next programme's"
+NEXT = "unknown: the page sent at the last TCO is the next programme's"
 OTHER = packet(0, 0, [9, 8, 0, 8, 0, 8, 1, 0], b" " * 32)  # a header of page 889
 
 
@@ -426,7 +426,7 @@ class LastPages(OfProgramme):
                     for pts, some in self.sent]
             causes = self.judge(sent).lines("cause: ")
             self.must(f"{count}", len(causes) == count and all(line.endswith(
-                ": rows came while 888 was not open") for line in causes), causes)
+                ": its rows came while page 888 was not open") for line in causes), causes)
 
     def test_names_a_subtitle_that_stays_until_the_next(self) -> None:
         programme(self, OWN, text=b"The same")
@@ -434,7 +434,8 @@ class LastPages(OfProgramme):
                                         text=b"The same", name="sent.stl"))
         causes = self.judge(sent).lines("cause: ")
         self.must("its cause", len(causes) == 1 and causes[0].startswith("subtitle 3 at ") and
-                  causes[0].endswith("it stays for 20 frames, up to subtitle 4, which is the same"),
+                  causes[0].endswith("it stays for 20 frames, until subtitle 4, which has the same "
+                                     "page"),
                   causes)
 
     def test_national_option_is_c12_to_c14(self) -> None:

@@ -67,7 +67,7 @@ class Origins(Case):
         pes = [*self.transmission(5000), pes_packet(CLOCK // 2, [])]
         last = len(pes) - 1
         rows: list[tuple[list[bytes], list[str], str]] = [
-            (pes, ["--pes", f"{last}-{last}"], "no cue agrees with any origin"),
+            (pes, ["--pes", f"{last}-{last}"], "no cue matches at any origin"),
             ([b"\0\0\1\xbd\0\5abcde"], [], "none of 1 PES packet in one.pes has a PTS: check "
              "refuses them as 34"),
             ([], [], "none of 0 PES packets in one.pes has a PTS: check refuses them as 34")]
@@ -77,7 +77,7 @@ class Origins(Case):
         for data in (pes[0][:-1], b"\0\0\1\xbd"):
             with self.assertRaisesRegex(Stop, "^one.pes: PES packet 0 is cut$"):
                 self.find(self.own_stl(), [data])
-        with self.assertRaisesRegex(Stop, "has no subtitle that comes and goes within a day$"):
+        with self.assertRaisesRegex(Stop, "has no subtitle that begins and ends within a day$"):
             subtitles_between(self.own_stl(), "english", ALL_DAY, range(COUNT + 1))
 
     def test_finds_any_origin_of_the_examples(self) -> None:
@@ -118,7 +118,7 @@ class Origins(Case):
             for some, which in ((made, "all"), (made[:7] + made[8:], "19 of 20"))[:count // 10 + 1]:
                 found = self.find(stl, some)
                 self.must(f"{count} {which}", found.printed == [f"--origin {TICKS}"] and
-                          f"{which} ends are 1 frame early compared with the beginnings"
+                          f"{which} out-cues are 1 frame early compared with the in-cues"
                           in found.lines, found)
 
     def test_reports_an_ambiguous_origin_of_few_cues(self) -> None:
@@ -130,14 +130,14 @@ class Origins(Case):
             pes = scheduled(self, self.stl([(200 * at + 100, 200 * at + 150, text)
                                          for at, text in enumerate(texts)], "sent.stl"))
             found = self.find(one, pes)
-            is_told = any("not unique" in line for line in found.lines)
+            is_told = any("ambiguous" in line for line in found.lines)
             self.must(f"{texts}", ([part.origin for part in found.parts], is_told) == (
                 [wanted][:wanted is not None], wanted is None), found)
         pes = scheduled(self, self.stl([(100, 150, b"Other"), (300, 350, b"Own")], "sent.stl"))
         for some, printed in ((pes[2:3], [f"--origin {200 * TICKS}"]), (pes[1:2], [])):
             found = self.find(one, some)
             self.must("one sending", found.printed == printed, found)
-        line = f"there is no header of page 100 in one.pes; other subtitle pages: 888"
+        line = "one.pes has no header of page 100; other subtitle pages: 888"
         found = self.find(one, pes, "--page", "100")
         self.must(line, (found.status, found.lines, found.parts) == (1, [line], []), found)
         alike = self.stl(evenly_spaced(30, 100, 50, b"Again"))
@@ -170,7 +170,7 @@ class Origins(Case):
                 f"--from {time_of(part[0][0])} --to {time_of(part[-1][1])} --origin {77_000 + late}"
                 for part, late in zip(parts, (0, frames * TICKS))] and
                       not any("reaches into" in line for line in found.lines) and
-                      found.lines[0] == f"2 parts: {4 * count} of {4 * count} cues agree", found)
+                      found.lines[0] == f"2 parts: {4 * count} of {4 * count} cues match", found)
         times = [*evenly_spaced(20, 70, 40), (1500, 1520, b"One"), (1600, 1650, b"Two")]
         pes = scheduled(self, self.stl(times[:20], "sent.stl")) + scheduled(self, 
             self.stl(times[20:], "sent.stl"), "--origin", str(900 * TICKS))
@@ -226,8 +226,8 @@ class Origins(Case):
                                  (12, 12, True))
         whole = self.find(self.own_stl(), self.transmission(5000))
         self.assertTrue(whole.are_all and not whole.shifts and whole.shifted_from is None)
-        self.assertIn("subtitles due from 11:06:40:00 to 11:07:12:10, page sent from 11:06:40:00 "
-                      "to 11:07:12:10", whole.lines)
+        self.assertIn("subtitles expected from 11:06:40:00 to 11:07:12:10, page received from "
+                      "11:06:40:00 to 11:07:12:10", whole.lines)
 
     def test_accepts_ends_with_the_same_delay(self) -> None:
         for late, are_all in (([3] * COUNT, True), ([3] * 6 + [9] * 6, False),
@@ -248,10 +248,10 @@ class Origins(Case):
             found = self.find(self.own_stl(), some)
             part, are_all = found.parts[0], agree == among
             self.must(f"{agree}", (part.agree, part.among, found.are_all) == (
-                agree, among, are_all) and f" {letters} with the letters " in part.line, found)
-            others = [line for line in found.lines if line.startswith("the first cue that does")]
+                agree, among, are_all) and f" {letters} with the expected text" in part.line, found)
+            others = [line for line in found.lines if line.startswith("the first cue without")]
             self.must(f"{agree}: first", others == [
-                "the first cue that does not agree is "
+                "the first cue without a match is at "
                 f"{time_of(FIRST + 350 + 40 * (agree == count - 1))}"] * (not are_all), others)
 
     def test_reports_missing_pts_gap_markers_and_other_pages(self) -> None:
@@ -262,18 +262,18 @@ class Origins(Case):
         rows: list[tuple[str, list[bytes], bool, list[str]]] = [
                 ("good", good, True, []),
                 ("bare", [bare, bare], False, ["none of 2 PES packets in a.pes has a PTS: "]),
-                ("marks", [*good, MARK], True, ["1 mark of what is missing "]),
+                ("marks", [*good, MARK], True, ["1 gap marker skipped"]),
                 ("some", [*good, MARK, bare, MARK], True, [
-                    "2 marks of what is missing ", "1 of 6 PES packets have no PTS, "]),
-                ("another page", other, False, ["there is no header of page 888 in a.pes; other "
-                                                "subtitle pages: 887"]),
+                    "2 gap markers skipped", "1 of 6 PES packets have no PTS "]),
+                ("another page", other, False, ["a.pes has no header of page 888; other subtitle "
+                                                "pages: 887"]),
                 ("other pages", [pes_packet(number, [packet(0, 0, [
                     one, 8, 0, 8, 0, 8, 1, 0], b" " * 32), CLOSING, row(1, b"%d" % number)])
                     for number, one in enumerate((1, 2, 3, 3, 2, 2, 4, 5, 4, 6))], False, [
-                        "there is no header of page 888 in a.pes; other subtitle pages: 882, 883, "
-                        "884, 881, 885"]),
+                        "a.pes has no header of page 888; other subtitle pages: 882, 883, 884, "
+                        "881, 885"]),
                 ("no page", [pes_packet(0, [CLOSING])], False, [
-                    "there is no header of page 888 in a.pes; other subtitle pages: none"])]
+                    "a.pes has no header of page 888; other subtitle pages: none"])]
         for name, pes, is_page, told in rows:
             found = self.find(self.own_stl(), pes)
             lines = [line.replace("one.pes", "a.pes") for line in found.lines]

@@ -120,7 +120,7 @@ class OriginProperties(unittest.TestCase):
             one = find_origin(shown, packets_of(sendings))
             self.assertEqual([part.origin for part in one.parts], [origin % CLOCK], one.lines)
             word = f"{abs(late)} frame{'s' * (abs(late) > 1)} {'late' if late > 0 else 'early'}"
-            self.assertTrue(any(f"ends are {word} compared with the beginnings" in line
+            self.assertTrue(any(f"out-cues are {word} compared with the in-cues" in line
                                 for line in one.lines), one.lines)
 
     def test_finds_the_origin_of_the_least_delayed_cue(self) -> None:
@@ -138,7 +138,7 @@ class OriginProperties(unittest.TestCase):
             one = find_origin(shown, packets_of(sendings), within)
             origins = [part.origin for part in one.parts]
             self.assertTrue(origins == [least] or any(
-                "before what is usual for the others" in line for line in one.lines), one.lines)
+                "early compared with the others" in line for line in one.lines), one.lines)
 
     def test_accepts_the_second_field_as_in_time(self) -> None:
         for chance, shown, edges, origin in self.each():
@@ -209,7 +209,7 @@ class OriginProperties(unittest.TestCase):
         other = [Shown(100, 150, 1, b"other"), Shown(300, 350, 2, b"another")]
         one = find_origin(shown, packets_of(page_changes(edges_of(other), 0)))
         self.assertEqual((one.status, one.parts), (1, []))
-        self.assertTrue(any("not unique" in line for line in one.lines))
+        self.assertTrue(any("ambiguous" in line for line in one.lines))
 
 
 TEXT = ((20, b"text"),)  # of a page

@@ -46,7 +46,7 @@ class Requests(Case):
             self.assertEqual((len(found.runs), [one.origin for one in found.parts]), (
                 runs, [] if number is None else [TICKS * number]), asked)
             self.assertTrue(runs or found.parts[0].line.startswith(
-                f"{count} of {count} cues agree, "), found)
+                f"{count} of {count} cues match, "), found)
 
     def test_takes_a_given_clock_and_given_delays_into_account(self) -> None:
         many, late = [0, 0, 0, *[2] * 21], Lateness({2: 1, 0: 1}, {2: 1, 0: 1})
@@ -88,8 +88,8 @@ class Requests(Case):
             packets.runs[0] = packets.runs[0]._replace(does="hs")
             found = find(Sought(self.stl, "one.pes", within=2), packets)
             self.assertEqual((found.lines[0], found.status) == (
-                "rows came while 888 was not open, in 1 PES packet", 1), is_told, found)
+                "rows came while page 888 was not open, in 1 PES packet", 1), is_told, found)
             self.assertEqual(any("rows came" in line for line in found.lines), is_told,
                              (sent, is_told))
         found = self.find([(TICKS * 99, b"other"), (TICKS * 200, b"texts")], within=1)
-        self.assertEqual((found.status, found.lines), (1, ["no cue agrees with any origin"]))
+        self.assertEqual((found.status, found.lines), (1, ["no cue matches at any origin"]))

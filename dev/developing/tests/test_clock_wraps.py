@@ -20,7 +20,7 @@ from .test_stream_pace import without_pid, filled
 
 # Members of a result, and parts of its lines, that contain a PTS or depend on the file.
 OF_FILE = {"inputs", "files_at_start", "program", "date", "seconds", "request"}
-OF_PTS = re.compile(r'(--origin |PTS |origin": |_pts": |origin", "value": ")\d+( and \d+,)?')
+OF_PTS = re.compile(r'(--origin |PTS |origin": |_pts": |origin", "value": ")\d+( and \d+(?= \())?')
 PCR_FLAG, FIELD, PTS_FLAG, DTS_FLAG = 0x10, 0x20, 0x80, 0x40
 
 

@@ -213,8 +213,8 @@ class CommandLine(Case):
             "more words": (f"{many}\n" * (whole + 1), f"line {whole + 1}")}
         for name, (text, place) in rows.items():
             told = refusal(lambda: [*lines_in(text)])
-            self.check(name, told, place and f"a list has at most 100,000 lines with words, and "
-                       f"1,000,000 words: this one has more in {place}")
+            self.check(name, told, place and f"{place} exceeds the limits of a list: 100,000 "
+                       "lines and 1,000,000 words")
         for name, (text, fault) in {
                 "the most words of a line": (many, ""),
                 "one more": (f"{many}a", "it has more than 256 words"),
@@ -317,7 +317,7 @@ class CommandLine(Case):
         for name in ("program", "text", "folder", "none"):
             path = self.path(name)
             self.check(name, refusal(lambda: built_program(path)),
-                       "" if name == "program" else f"{path} is no program")
+                       "" if name == "program" else f"{path} is not an executable program")
 
     def test_finds_the_program_of_the_sources(self) -> None:
         rows: list[tuple[tuple[str, str], str]] = [

@@ -191,7 +191,7 @@ class Clones(Case):
             file.write(bytes([byte ^ 1]))
         clone.check_fails("one byte", "dist/subttx is damaged")
         os.remove(clone.path("dist", "subttx"))
-        clone.check_fails("no file", "dist/subttx is no program")
+        clone.check_fails("no file", "dist/subttx is not an executable program")
 
     def test_detects_changed_sources(self) -> None:
         clone = Clone(self)

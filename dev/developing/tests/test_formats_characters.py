@@ -117,10 +117,10 @@ class Advice(unittest.TestCase):
                 ("C265", "é is in --option swedish, italian, french, spanish, czech"),
                 ("24", "$ is in --option english, german, italian, spanish"),
                 ("C24F", "Ó is in no option"), ("F9", "ø is in no option"),
-                ("C2", "byte C2 is no character"), ("FF", "byte FF is no character")):
+                ("C2", "byte C2 is not a character"), ("FF", "byte FF is not a character")):
             self.assertTrue(advise_on_character(bytes.fromhex(text), []).startswith(words), text)
         self.assertEqual(advise_on_character(b"\xc2e", [FRENCH, SPANISH]),
-                         "the whole file draws in --option french, spanish")
+                         "--option french, spanish have all characters of the file")
 
     def test_a_diacritical_mark_includes_the_next_letter(self) -> None:
         for text, at, letter in ((b"a\xc2eb", 1, b"\xc2e"), (b"a\xc2", 1, b"\xc2"),
@@ -343,7 +343,7 @@ def check_warnings(case: Case, name: str, done: Done, kinds: list[str]) -> list[
 
 class Warnings(Case):
     def test_warns_of_another_option_than_that_of_the_language(self) -> None:
-        may = "receivers above level 1 may show other letters"
+        may = "receivers above level 1 may show other characters"
         cases: list[tuple[str, bytes, list[str]]] = [
             ("another region", character_set_packet(29, 8),
              [f"packet 8/29/0 names character set 000 of region 0001: {may}"]),
@@ -376,25 +376,26 @@ class Warnings(Case):
         check_warnings(self, "a file", done, ["character_set"])
         done = qc(self, STORY, "-", "--origin", "0", "--strict", data=data)
         self.must("strict, a feed", done.status == 1 and lines_of(done)[-1].startswith(
-            "not accepted, since warnings count (character_set): accepted"), done)
+            "not accepted, since --strict counts warnings (character_set): accepted"), done)
 
 
 class Languages(unittest.TestCase):
     def test_takes_the_option_of_the_language_that_a_pmt_names(self) -> None:
         cases: list[tuple[list[str], str, str]] = [
-            (["eng"], "english", ""), (["eng"], "french", "eng, which is of --option english"),
-            (["fre"], "french", ""), (["fra"], "german", "fra, which is of --option french"),
+            (["eng"], "english", ""), (["eng"], "french", "eng, which uses --option english"),
+            (["fre"], "french", ""), (["fra"], "german", "fra, which uses --option french"),
             (["hun"], "swedish", ""), (["slo"], "czech", ""), (["por"], "spanish", ""),
-            (["pol"], "english", "pol, which is of another region"),
-            (["ces", "pol"], "english", "ces and pol, which is of --option czech and another "
+            (["pol"], "english", "pol, which uses another region"),
+            (["ces", "pol"], "english", "ces and pol, which uses --option czech and another "
              "region"),
-            (["fre", "fra"], "english", "fre and fra, which is of --option french"),
+            (["fre", "fra"], "english", "fre and fra, which uses --option french"),
             (["fre", "eng"], "english", ""), (["nld"], "english", ""), (["nld"], "czech", ""),
             (["fre", "und"], "english", ""), ([], "english", "")]
         for languages, option, words in cases:
             found = [one.line for one in option_notices(languages, dataclasses.replace(
                 ASKED, option=option))]
-            line = f"the PMT announces page 888 in {words}; it was judged by --option {option}"
+            line = f"the PMT announces page 888 in {words}, but it was judged with --option " \
+                   f"{option}"
             with self.subTest(languages=languages, option=option):
                 self.assertEqual(found, [line] * bool(words))
 

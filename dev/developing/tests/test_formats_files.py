@@ -72,8 +72,10 @@ class Blocks(unittest.TestCase):
 
     def test_refuses_an_invalid_gsi_block(self) -> None:
         good = gsi_block(b"", 0, 0)
-        for data, words in ((good, ""), (good[:-1], "no EBU STL file"), (b"", "no EBU STL file"),
-                            (good[:3] + b"STL24" + good[8:], "no EBU STL file"),
+        for data, words in ((good, ""), (good[:-1], "not an EBU STL "
+                                                    "file"), (b"", "not an EBU STL "
+                                                                                  "file"),
+                            (good[:3] + b"STL24" + good[8:], "not an EBU STL file"),
                             (good[:3] + b"STL30" + good[8:], "30 frames a second"),
                             (good[:3] + b"STL25.02" + good[11:], "")):
             told = refusal(lambda: list(stl.subtitles_in(data)), Damaged)

@@ -39,7 +39,7 @@ FIRST, SECOND = "refused 72 Content frame 00:00:05:00 row 20 column 1", \
 GOOD, TRUSTED, ENDED = "accepted 10 frames 2 transmissions", \
     "trusted frames 00:00:06:00 00:00:07:00", "ended 72 Content frame 00:00:07:00"
 NONE = [f"refused {number} Flags pes 0" for number in ("\u0663\u0663", "+33", "")]
-# A space before or after a line; a byte that is no character.
+# A space before or after a line; a byte that is not a character.
 AROUND = [*(f" {one}" for one in (FIRST, GOOD, TRUSTED, ENDED, "1 faults")),
           *(f"{one} " for one in (GOOD, TRUSTED, ENDED, "1 faults")),
           *(one.replace("0", "0\udcff", 1) for one in (GOOD, ENDED))]
@@ -87,7 +87,7 @@ class Answers(Case):
             faults = [one for one in lines if re.match(r"refused \d+( |$)", one, re.ASCII)]
             with self.subTest(lines=lines, status=status):
                 self.assertEqual((None if reason else made.verdict, reason), (
-                    wanted, "" if wanted else "check was not answered: "
+                    wanted, "" if wanted else "check gave no verdict: "
                     f"{last or 'it printed nothing'}, status {status}"))
                 self.assertEqual(heard, [*itertools.takewhile(GOOD.__ne__, lines),
                                          *[GOOD] * (wanted == "accepted")])

@@ -56,9 +56,9 @@ class SenderFaults(OfProgramme):
             told = self.with_pages((frame, wrong))
             words = f"another text was sent in a pause, at {time}"
             self.must(f"{frame}", self.causes(told) == [
-                ("another text in a pause", number, f'{words}, sent: "Others"')] and
-                told.verdict.sentence == f'Refused: {words}, "Others".' and
-                told.lines("cause: ") == [f'{words}, sent: "Others"'], told.said)
+                ("another text in a pause", number, f'{words}, received: "Others"')] and
+                told.verdict.sentence == f'Refused: {words}: "Others".' and
+                told.lines("cause: ") == [f'{words}, received: "Others"'], told.said)
         told = self.with_pages((60, wrong), (270, wrong))
         self.must("two", told.verdict.sentence == "Refused: another text was sent in 2 pauses, the "
                   "first at 10:00:02:10.", told.verdict.sentence)
@@ -73,15 +73,18 @@ class SenderFaults(OfProgramme):
 
     def test_names_an_extra_row(self) -> None:
         own = next(some[1] for pts, some in self.sent if pts == TICKS * (BEGIN + 100))
-        for rows, words in (((own, row(11, b"Share prices")), "another row beside it: row 11"),
-                            ((row(3, b"A"), row(11, b"B"), own), "other rows beside it: rows 3 and "
+        for rows, words in (((own, row(11, b"Share prices")), "an additional row: 11"),
+                            ((row(3, b"A"), row(11, b"B"), own), "additional rows: 3 and "
                              "11"), ((row(11, b"Share prices"), row(22, b"Number 9")), "")):
             told = self.with_pages((100, rows))
             found = told.result["causes"][0]
             self.must(words, found["name"] == "wrong text" and words in found["line"] and
-                      ("beside" in found["line"]) == bool(words), told.said)
-            self.must(f"{words}: sentence", (f"has a wrong text ({words}), sent: " if words else
-                                             "has a wrong text, sent: ") in told.verdict.sentence,
+                      ("additional" in found["line"]) == bool(words), told.said)
+            self.must(f"{words}: "
+                      "sentence", (f"has the wrong text ({words}): "
+                                             "expected " if words else
+                                             "has the wrong text: "
+                                             "expected ") in told.verdict.sentence,
                       told.verdict.sentence)
 
     def test_names_a_header_without_rows(self) -> None:
@@ -89,7 +92,7 @@ class SenderFaults(OfProgramme):
             told = self.with_pages((frame, ()))
             self.must(f"{frame}", self.causes(told) == [(
                 "erased", frame // 100 + 1, f"erased: by a header without rows, at {time}")] and
-                "is erased while it is due (by a header without rows, at" in told.verdict.sentence,
+                "is erased before its TCO (by a header without rows, at" in told.verdict.sentence,
                 told.said)
         sent = self.sent
         at = next(number for number, (pts, _) in enumerate(sent) if pts == (BEGIN + 25) * TICKS)
@@ -97,7 +100,7 @@ class SenderFaults(OfProgramme):
         sent[at:at + 1] = [(pts, packets[:1]), (pts + 2 * TICKS, packets[1:])]
         told = self.judge(sent)
         self.must("rows later", [one[0] for one in self.causes(told)] == ["unknown"] and
-                  "it is gone at 10:00:01:00" in self.causes(told)[0][2], told.said)
+                  "it disappears at 10:00:01:00" in self.causes(told)[0][2], told.said)
 
     def test_names_a_subtitle_whose_transmissions_are_lost(self) -> None:
         made = multiplexed(self.pes, Shape(100))
@@ -418,11 +421,11 @@ class WorkedRows(unittest.TestCase):
                 (LATE, 3, "a", None, "", "late by 3 frames"),
                 (EARLY, 1, None, None, "why", "early by 1 frame: why"),
                 (NOT_ERASED, None, "a", None, "", "not erased at 00:00:06:00"),
-                (WRONG_TEXT, None, "z", None, "why", f'wrong text: why, sent: "{strange}"'),
+                (WRONG_TEXT, None, "z", None, "why", f'wrong text: why, received: "{strange}"'),
                 (NEVER, None, None, None, "", "never sent"),
                 (OTHER_TEXT, None, "c", 2, "",
-                 f"another subtitle's text at its time, sent: \"{other}\""
-                 " of subtitle 3 (SN 8)")):
+                 f"another subtitle's text at its time, received: \"{other}\" of subtitle 3 (SN "
+                 "8)")):
             one = Cause(0, name, frames, None if sent is None else page_of(sent), of, words, 0)
             known = wording.make_json(one)
             self.assertEqual(

@@ -31,13 +31,13 @@ from .test_judging_reasons import KEEPING_HEADER
 
 TS = example("story.stl"), example("recording.ts")
 PES = example("story.stl"), example("story.pes")
-RECORDING_PID = "PID 0x101: page 888 has a header in 7 of 7 PES packets, and on no other PID"
-AGREE = "origin: 5 of 5 cues agree, 5 with the letters that are due; the file has 5; next best: "
+RECORDING_PID = "PID 0x101: page 888 has a header in 7 of 7 PES packets, on no other PID"
+AGREE = "clock: 5 of 5 cues match, 5 with the expected text; the file has 5; next best: "
 ORIGIN_OF_TS = "origin", "5000000000", 5, 5, 1, f"{AGREE}--origin 1678370000 with 2"
-CUT = "pes", "2-6", 5, 7, 1, "cut: 5 of 7 PES packets, from 20:15:00:00 to 20:15:09:00"
+CUT = "pes", "2-6", 5, 7, 1, "range: 5 of 7 PES packets, from 20:15:00:00 to 20:15:09:00"
 PID = "pid", "0x101", 7, 7, None, RECORDING_PID
-PACE = "pace", None, None, None, 1, "not checked: whether some of this PID alone is missing: " \
-    "its PES packets are too few to measure a pace"
+PACE = "pace", None, None, None, 1, "not checked for losses on this PID alone: its PES packets " \
+    "are too few to measure their interval"
 # Arguments of a call, and the choices: option, value, matches, total, part, line.
 ROWS: list[tuple[Sequence[str], list[tuple[Any, ...]]]] = [
     (TS, [PID, ORIGIN_OF_TS, CUT, PACE]),
@@ -95,8 +95,8 @@ class Choices(Case):
         found = judged(self, stl, path, "--origin", "0")
         pace = [one for one in choices_of(found) if one[0] == "pace"]
         self.must("asked", pace == [
-            ("pace", "1", pace[0][3], pace[0][3], 1, "pace: a PES packet comes within 1 frame of "
-             "the one before: --pace 1")] and pace[0][3] > 5_000, found.said)
+            ("pace", "1", pace[0][3], pace[0][3], 1, "pace: at most 1 frame from one PES packet to "
+             "the next: --pace 1")] and pace[0][3] > 5_000, found.said)
         made = multiplexed([pes_packet(pts + TICKS * 250, some) for pts, some in every
                         if some or pts // TICKS % 60 < 25], Shape(100))
         path = self.write("one.ts", stream(made))
@@ -105,7 +105,7 @@ class Choices(Case):
             pace = [one for one in choices_of(found) if one[0] == "pace"]
             self.must(f"{words}",
                       [one[1:5] for one in pace] == [(None, None, None, 1)] * (not words)
-                      and all("not checked: " in one[5] for one in pace)
+                      and all("not checked for " in one[5] for one in pace)
                       and not [*wrong_choices(found.result, found.said)], found.said)
 
     def test_chooses_the_option_of_the_language_code(self) -> None:
@@ -257,8 +257,8 @@ class Profiles(Case):
         for some in itertools.permutations(several):
             found = every_of(some)
             self.must(f"{some}", (found.words, *found.lines) == (
-                "--every 50", "every: of 20 headers of the page the next comes within 50 frames, "
-                "the first of these from 00:00:00:07 on, and 26 are usual"), found)
+                "--every 50", "every: at most 50 frames from one header of the page to the next, "
+                "first from 00:00:00:07 on, in 20 headers; 26 are usual"), found)
 
     def test_a_measured_profile_accepts_its_recording(self) -> None:
         stl = self.write_stl("one.stl")
@@ -296,25 +296,27 @@ class Profiles(Case):
                 moved.append((pts + by * TICKS, some))
             pes = self.write(f"{name}.pes", joined(sorted(moved, key=lambda one: one[0])))
             lines = self.profile(stl, pes, "--origin", "0")
-            counts = f"# within, late: begins {wanted[0]}; ends {wanted[1]} (frames late: how many)"
+            counts = f"# within, late: in-cues {wanted[0]}; out-cues {wanted[1]} (frames " \
+                     "late:how many)"
             self.must(name, counts in lines, lines)
             bound = [line for line in lines if line.startswith(("--within", "--late"))]
             self.must(f"{name}: proposed", bound == wanted[2], bound)
-            early = [line for line in lines if line.startswith("# early, which nothing accepts: ")]
+            early = [line for line in lines if line.startswith("# early, which no option "
+                                                               "accepts: ")]
             self.must(f"{name}: early", bool(early) == (name == "early") and all(
                 "subtitle 5 (SN 4) at 10:00:16:00 begins 3 frames early; " in line and
                 "subtitle 6 (SN 5) at 10:00:20:00 ends 1 frame early" in line for line in early),
                 lines)
         lines = self.profile(stl, self.path("begins.pes"), "--within", "3")
         self.must("no clock", not any(line.startswith(("--within", "--late")) for line in lines) and
-                  any("no clock is given" in line for line in lines), lines)
+                  any("no clock was given" in line for line in lines), lines)
 
     def test_proposes_a_layout_that_ten_subtitles_show(self) -> None:
         stl = self.write_stl("one.stl")
         for text, why in (
                 ("before=0B0B08", "all would flash"),
-                ("before=0B", "receivers show a line behind two start boxes"),
-                ("row=-10", "no house moves all by more than 2 rows"), ("row=-1", ""),
+                ("before=0B", "receivers show a line only after two start boxes"),
+                ("row=-10", "no site moves all by more than 2 rows"), ("row=-1", ""),
                 ("before=0B0B06", ""), ("double,row=-1", ""), ("", "")):
             pes = self.write("one.pes", joined(sendings(
                 self, stl, *(["--layout", text] if text else []))))
@@ -324,9 +326,9 @@ class Profiles(Case):
             self.must(f"{text}: why", not why or any(line.endswith(f"more of 12: {why}") for line in
                                                    lines), lines)
         for name, end, justify, words, said in (
-                ("spaces", " ", 2, (), "a space stands in the box in 12 of these 12 others"),
+                ("spaces", " ", 2, (), "a space is in the box in 12 of the 12 others"),
                 ("block", "", 1, ("--layout", "left=9"),
-                 "lines are a block, aligned left, in ")):
+                 "lines form a block, aligned left, in ")):
             pes = self.write("one.pes", joined(sendings(
                 self, self.write_stl(f"{name}.stl", end, justify), *words)))
             lines = self.profile(stl, pes)
@@ -346,8 +348,8 @@ class Profiles(Case):
         against = [line for line in lines if line.startswith("# against it: ")]
         self.must("one", "--layout after=0A" in lines and len(against) == 1 and
                   f"{stl}, subtitle 4 (SN 3) at 10:00:12:00: sent row 20" in against[0], lines)
-        self.must("rests", "# layout: 11 of 12 subtitles as they were sent; after=0A rests on 12, "
-                  "of which 11 were sent so" in lines, lines)
+        self.must("rests", "# layout: 11 of 12 subtitles as they were sent; after=0A is based on "
+                  "12, of which 11 were sent so" in lines, lines)
 
     def test_proposes_keeping_if_nothing_else_is_wrong_in_headers(self) -> None:
         stl = self.write_stl("one.stl")
@@ -401,13 +403,13 @@ class Profiles(Case):
         stl = self.write_stl("one.stl")
         pes = self.write("one.pes", joined(sendings(self, stl)))
         for words, said in (
-                ([stl], f"--measure takes pairs, STL RECORDING: {stl} has no recording"),
-                ([stl, pes, stl, pes, "--origin", "0"], "--origin and --start are the clock of one "
-                 "recording: give a list"),
-                ([stl, pes, stl, pes, "--start", "00:00:01:00"], "are the clock of one recording"),
+                ([stl], f"--measure needs pairs, STL RECORDING: {stl} has no recording"),
+                ([stl, pes, stl, pes, "--origin", "0"], "--origin and --start give the clock of "
+                 "one recording: for several, give a list"),
+                ([stl, pes, stl, pes, "--start", "00:00:01:00"], "give the clock of one recording"),
                 ([stl, self.write("none.pes", b"")], "none.pes is empty"),
-                ([stl, pes, "--every", "25"], "--every goes with a recording"),
-                ([stl, pes, "--batch", "x"], "are two calls")):
+                ([stl, pes, "--every", "25"], "--every may be given with a recording"),
+                ([stl, pes, "--batch", "x"], "can't be given together")):
             done = self.tool("qc", "--measure", *words)
             self.must(said, done.status == 2 and not done.out and len(done.told) == 1 and
                       said in done.told[0], done)
@@ -417,8 +419,7 @@ class Profiles(Case):
     def test_never_proposes_an_implausible_layout(self) -> None:
         for text, words in (
                 ("before=0B0B08", "all would flash"),
-                ("row=3", "no house moves all by more than 2 rows"),
-                ("strip=03", "it takes from a page what a viewer sees"),
-                ("after=0A", "10 subtitles have to show it, and 9 in 10 of these as they were "
-                 "sent")):
+                ("row=3", "no site moves all by more than 2 rows"),
+                ("strip=03", "it removes something that viewers see"),
+                ("after=0A", "10 subtitles have to show it, 9 in 10 of them as they were sent")):
             self.assertEqual(never_words(text), words, text)

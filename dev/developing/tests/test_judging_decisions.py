@@ -356,7 +356,7 @@ class PartedSubtitles(Case):
         three = [(0, 3), (9, 12), (18, 21)]
         left, both = (f"{count} of one.stl would be in no part, " for count in (
             "1 subtitle", "2 subtitles"))
-        other = "the parts of one.stl would hold other subtitles than it has"
+        other = "the parts of one.stl would have other subtitles than the file"
         for name, subtitles, parts, wanted in (
                 ("as they are", nine, three, ""),
                 ("parts that adjoin", nine, [(0, 9), (9, 18), (18, 27)], ""),

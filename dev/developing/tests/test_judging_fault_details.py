@@ -95,11 +95,11 @@ class FaultDetails(Case):
         rows: list[tuple[str, str, str]] = [
             ("67 Control frame 00:00:01:00 packet 0", "C4 (erase page) is clear: a repeat that "
              "does not erase", ""), ("50 Character block 1 at 0", "",
-                                "the whole file draws in --option german, swedish"),
+                                "--option german, swedish have all characters of the file"),
             ("50 Character block 1 at 2", "", ""), ("21 Times block 2", "", AT_MIDNIGHT),
             ("21 Times block 1", "", ""), ("56 Order block 4", "", AT_MIDNIGHT),
             ("56 Order block 2", "", ""), ("13 Display block 0", "",
-                                           "its DSC is 0, open subtitles: --open takes it"),
+                                           "its DSC is 0 (open subtitles): --open accepts it"),
             ("72 Content frame 00:00:01:00 row 1 column 1", "", "drawn otherwise"),
             ("68 Parity frame 00:00:01:00 packet 0", "", "")]
         part = part_with(0, 99, 0, answer([*(f"refused {line}" for line, _, _ in rows),
@@ -110,7 +110,7 @@ class FaultDetails(Case):
         verdict = verdict_of([part])
         firsts = {line[:2]: means or do for line, means, do in reversed(rows)}
         self.assertEqual(list(list_hints(verdict)), [
-            f"{number}: {words or 'a byte of the page comes with even parity'}"
+            f"{number}: {words or 'a byte of the page has even parity'}"
             for number in dict.fromkeys(line[:2] for line, _, _ in rows)
             for words in [firsts[number]]])
         self.assertEqual([(one["byte"], one["character"]) for one in make_faults(verdict)][:3], [
@@ -168,17 +168,20 @@ class FaultDetails(Case):
         part = part_with(0, 99, 0, expected_pages=lambda: ExpectedPages(
             [Subtitle(1, 1, 25, 50, 22, 2, b"")], [tuple(pages)]))
         rows: list[tuple[tuple[int, ...], str]] = [
-            ((), "a byte"), ((0,), "a byte, start box,"), ((4, 5), "a byte, a space,"),
-            ((5,), "a byte, alpha red,"), ((3,), 'the letter "b"'), ((2, 3, 6), 'the letter "A"'),
-            ((0, 6), 'the letter "c"')]
+            ((), "a byte"), ((0,), "a byte (start box)"), ((4, 5), "a byte (a space)"),
+            ((5,), "a byte (alpha "
+                   "red)"), ((3,), 'the character '
+                                                 '"b"'), ((2, 3, 6), 'the character '
+                                                                                   '"A"'),
+            ((0, 6), 'the character "c"')]
         for (hit, words), (frame, whose) in itertools.product(rows, (
                 (24, "the page"), (25, 'subtitle 1, "Ab  c",'),
-                (50, "the page behind subtitle 1"))):
+                (50, "the page after subtitle 1"))):
             fault = fault_of(f"refused 68 Parity frame {time_of(frame)} packet 1")
             cells = bytes(HIT if at in hit else code for at, code in enumerate(pages[21]))
             held = FaultPlace(None, None, (*pages[:21], cells, *pages[22:]))
-            said = words if frame == 25 or not hit else "a byte, a space,"
-            for place, wanted in ((held, f"{said} of {whose} comes with even parity"),
+            said = words if frame == 25 or not hit else "a byte (a space)"
+            for place, wanted in ((held, f"{said} of {whose} has even parity"),
                                   (held._replace(rows=None), "")):
                 with mock.patch.object(judging_faults, "find_fault_place", return_value=place):
                     self.assertEqual(describe_parity_fault(fault, part), wanted, (hit, frame))

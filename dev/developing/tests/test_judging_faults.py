@@ -51,35 +51,35 @@ def causes_of(*several: Cause, count: int = 9, text: bytes = b"text") -> Any:
 class Descriptions(Case):
     def test_leads_with_the_worst_cause(self) -> None:
         for several, wanted in (
-                ([cause(2, LATE, 3)], 'at 00:00:02:00 subtitle 3, "text", is 3 frames late'),
-                ([cause(2, EARLY, 1)], 'at 00:00:02:00 subtitle 3, "text", is 1 frame early'),
+                ([cause(2, LATE, 3)], 'subtitle 3 at 00:00:02:00, "text", appeared 3 frames late'),
+                ([cause(2, EARLY, 1)], 'subtitle 3 at 00:00:02:00, "text", appeared 1 frame early'),
                 ([cause(0, NEVER, None, "why")],
-                 'at 00:00:00:00 subtitle 1, "text", was never sent (why)'),
+                 'subtitle 1 at 00:00:00:00, \"text\", was never sent (why)'),
                 ([cause(0, WRONG_TEXT), cause(1, NEVER)],
-                 'at 00:00:01:00 subtitle 2, "text", was never ' "sent; 1 other: 1 wrong text"),
+                 'subtitle 2 at 00:00:01:00, \"text\", was never sent; other causes: 1 wrong text'),
                 ([cause(0, WRONG_TEXT), cause(1, NEVER), cause(3, NEVER)],
-                 "2 of 9 subtitles were never sent (first at 00:00:01:00, last at 00:00:03:00); 1 "
-                 "other: 1 wrong text"),
+                 "2 of 9 subtitles were never sent (first at 00:00:01:00, last at 00:00:03:00); "
+                 "other causes: 1 wrong text"),
                 ([cause(0, LATE, 2), cause(1, LATE, 1), cause(3, WRONG_TEXT), cause(5, WRONG_PLACE),
                   cause(6, WRONG_TEXT), cause(8, WRONG_ATTRIBUTE)],
-                 "2 of 9 subtitles have wrong texts "
-                 "(first at 00:00:03:00, last at 00:00:06:00); 4 others: 1 wrong place, 2 late, 1 "
-                 "wrong colour or attribute"),
+                 "2 of 9 subtitles have the wrong text (first at 00:00:03:00, last at "
+                 "00:00:06:00); other causes: 1 wrong place, 2 late, 1 wrong colour or attribute"),
                 ([cause(0, OTHER_TEXT), cause(1, OTHER_TEXT), cause(2, NEVER)],
-                 'at 00:00:02:00 subtitle 3, '
-                 '"text", was never sent; 2 others: 2 another subtitle\'s text'),
+                 'subtitle 3 at 00:00:02:00, \"text\", was never sent; other causes: 2 another '
+                 'subtitle\'s text'),
                 ([cause(0,
                         WRONG_TEXT)._replace(sent_page=(b" " * 40,) * 23 + (b"texts".ljust(40),))],
-                 'at 00:00:00:00 subtitle 1, "text", has a wrong text, sent: "texts"'),
+                 'subtitle 1 at 00:00:00:00 has the wrong text: expected "text", received "texts"'),
                 ([cause(4, LATE, 7), cause(6, LATE, 3), cause(8, LATE, 5)],
-                 "3 of 9 subtitles are 3 to 7 frames late (first at 00:00:04:00, last at "
+                 "3 of 9 subtitles appeared 3 to 7 frames late (first at 00:00:04:00, last at "
                  "00:00:08:00)"),
                 ([cause(4, LATE, 7), cause(8, LATE, 7)],
-                 "2 of 9 subtitles are 7 frames late (first at 00:00:04:00, last at 00:00:08:00)"),
+                 "2 of 9 subtitles appeared 7 frames late (first at 00:00:04:00, last at "
+                 "00:00:08:00)"),
                 ([cause(0, NOT_ERASED, None, "a"), cause(1, NOT_ERASED, None, "a")],
                  "2 of 9 subtitles are not erased (a) (first at 00:00:00:00, last at 00:00:01:00)"),
                 ([cause(0, UNKNOWN_CAUSE, None, "a"), cause(1, UNKNOWN_CAUSE, None, "b")],
-                 "2 of 9 subtitles are not held as they are due (first at 00:00:00:00, last at "
+                 "2 of 9 subtitles are not as expected (first at 00:00:00:00, last at "
                  "00:00:01:00)"),
                 ([cause(0, OTHER_TEXT), cause(7, OTHER_TEXT)], "2 of 9 subtitles have other "
                  "subtitles' texts (first at 00:00:00:00, last at 00:00:07:00)"),
@@ -88,15 +88,15 @@ class Descriptions(Case):
                 ([cause(at, TEXT_IN_PAUSE, None, f"at 10:0{at}") for at in (2, 4)],
                  "another text was sent in 2 pauses, the first at 10:02"),
                 ([cause(8, WRONG_ATTRIBUTE)],
-                 'at 00:00:08:00 subtitle 9, "text", has a wrong colour or attribute')):
+                 'subtitle 9 at 00:00:08:00, "text", has a wrong colour or attribute')):
             self.assertEqual(describe_causes(causes_of(*several), "english"), wanted, several)
         wrong = cause(0, WRONG_TEXT)._replace(sent_page=(b"]".ljust(40),) + BLANK_PAGE[1:])
         part = part_with(0, 9, 0, answer(["refused 72 X frame 00:00:00:00", "1 faults"]),
                          causes=causes_of(wrong, text=b"["))
         verdict = verdict_of([part])
         verdict.request = asked_for("one.stl", "one.pes", "--option", "german")
-        self.assertEqual(verdict.sentence, 'Refused: at 00:00:00:00 subtitle 1, "Ä", has a wrong '
-                         'text, sent: "Ü".')
+        self.assertEqual(verdict.sentence, 'Refused: subtitle 1 at 00:00:00:00 has the wrong text: '
+                         'expected "Ä", received "Ü".')
 
     def test_lists_other_faults_after_a_cause(self) -> None:
         content = fault_of_line("refused 72 Content frame 00:00:01:00 row 1 column 1")
@@ -116,9 +116,9 @@ class Descriptions(Case):
             self.must(f"{numbers}", words == describe_causes(several, "english") + wanted, words)
 
     def test_counts_faults_without_a_cause(self) -> None:
-        for counts, wanted in (([FaultCount(68, "Parity", 3)], "; in all 3 faults"),
+        for counts, wanted in (([FaultCount(68, "Parity", 3)], "; 3 faults in all"),
                                ([FaultCount(73, "Gap", 1), FaultCount(68, "Parity", 2)],
-                                "; in all 3 faults: 68 Parity (2) and 73 Gap")):
+                                "; 3 faults in all: 68 Parity (2) and 73 Gap")):
             words = describe_faults(Facts("refused", 9, fault_of_line(
                 "refused 68 Parity frame 00:00:01:00 packet 1"), False, 3, counts, "a letter"))
             self.must(wanted, words == f"at 00:00:01:00 a letter{wanted}", words)
@@ -163,8 +163,8 @@ class Descriptions(Case):
 
     def test_reports_why_the_teletext_ends(self) -> None:
         packets = Packets(0x101, [Run(0, 5, 0, TICKS, "h", "")], refusal=31)
-        why = "PID 0x101 has other than PES packets of private_stream_1 from PES packet 5 on: " \
-            "refused 31 Start pes 5"
+        why = "PID 0x101 has something else than PES packets of private_stream_1 from PES packet " \
+            "5 on: refused 31 Start pes 5"
         for last, words in ((4, why), (3, "")):
             part = part_with(0, 9, 0, packets=packets, pes=(0, last))
             self.assertEqual(describe_pid_end(part), words, last)
@@ -176,10 +176,10 @@ class Descriptions(Case):
             (each, 1000, 50, {73}, [], "100 frames"), (each, 1000, 99, {73}, [], "100 frames"),
             (each, 1000, 100, {73}, [], ""), (each, 1000, 50, {73, 38}, [], ""),
             (each, 1000, 50, {73, 72}, [], "100 frames"), (less, 1000, 99, {73}, [], "200 frames"),
-            (less, 1000, 100, {73}, [], "200 frames, and 100 are usual"),
+            (less, 1000, 100, {73}, [], "200 frames (100 are usual)"),
             (less, 1000, 100, {73}, begins, "200 frames"),
             (each[1:], 1000, 50, {73}, [], "100 frames"),
-            (each, 1100, 100, {73}, [], "101 frames, and 100 are usual"),
+            (each, 1100, 100, {73}, [], "101 frames (100 are usual)"),
             (each, 1098, 99, {73}, [], "100 frames"), ((0, 101), 101, 100, {73}, [], "101 frames"),
             ((), 5, 1, {73}, [], "")]
         for frames, last, every, numbers, times, wanted in rows:
@@ -190,7 +190,7 @@ class Descriptions(Case):
                                   str(abs(off)))
                 found = describe_longest_gap((headers, ends), origin, asked, numbers, times)
                 self.must(f"{frames} {numbers} {origin} {off}", found ==
-                          (wanted and f"the longest gap is {wanted}"), found)
+                          (wanted and f"the page had no header for up to {wanted}"), found)
 
     def test_gives_a_hint_for_the_first_fault_of_each_number(self) -> None:
         data = b"".join(
@@ -202,7 +202,7 @@ class Descriptions(Case):
                  "refused 72 Content frame 00:00:04:00 row 1 column 1", "4 faults"]
         good = ["accepted 1 frames 1 transmissions"]
         wanted = ["67: C4 (erase page) is clear: a repeat that does not erase",
-                  "73: the longest gap is 225 frames"]
+                  "73: the page had no header for up to 225 frames"]
         parts = [part_with(0, 99, ORIGIN, answer(some, path=self.path(f"list{at}")), at,
                            packets=packets_told(self, data), pes=(0, 4),
                            request=asked_for("one.stl", "one.pes"))
@@ -259,7 +259,7 @@ class ProgramCalls(Case):
                 found: list[str] | None = run_program(path, "schedule", "x")
             except Unclear as reason:
                 found = None
-                self.must("why", reason.reason == "schedule was not answered: "
+                self.must("why", reason.reason == "schedule gave no result: "
                           f"{''.join(lines[-1:])}", reason.reason)
             self.must(f"{lines} {status}", found == (lines if is_right else None), found)
 

@@ -32,10 +32,11 @@ from .test_stream_layouts import HOUSES, line
 FIRST, EACH, LASTS = 3000, 60, 45  # frames: first TCI, from one to the next, length of each
 DSC = slice(11, 12)
 FAULTS = [
-    ("left=40", "left=40 is no item: left takes 0 to 39"), ("fit,fit", "fit is given twice"),
-    ("fit=1", "fit=1 is no item: fit takes no value"), ("pitch=1", "pitch=1 is no item"),
-    ("", "nothing between commas is no item"), ("fit,", "nothing between commas is no item"),
-    ("up,after=0E", "after=0E is no item: after takes up to 4 codes 01 to 0D"), ("fit,up", None)]
+    ("left=40", "left=40 is not an item: left takes 0 to 39"), ("fit,fit", "fit is given twice"),
+    ("fit=1", "fit=1 is not an item: fit takes no value"), ("pitch=1", "pitch=1 is not an item"),
+    ("", "an empty word is not an item"), ("fit,", "an empty word is not an item"),
+    ("up,after=0E", "after=0E is not an item: after takes up to 4 codes 01 to "
+                    "0D"), ("fit,up", None)]
 def file_of(case: Case, texts: list[tuple[bytes, int]], name: str, dsc: bytes = b"1") -> str:
     """Write a subtitle file of texts with justification codes."""
     blocks = b"".join(subtitle_blocks(
@@ -68,8 +69,8 @@ class OtherLayouts(Case):
         some = random.Random(85)
         texts = texts_of(some, False, b"\x8a", 30)
         found = self.judge(texts, "after=0A", "-o", self.path("out"))
-        words = "the letters of subtitle 1 (SN 0) are right and drawn otherwise: row 18, 0A " \
-            "behind its letters where 0A 0A is due, and so are those of 29 more subtitles"
+        words = "subtitle 1 (SN 0) and 29 more subtitles have the right text in another layout: " \
+            "row 18, 0A after the text instead of 0A 0A"
         self.must("told", found.word == "refused" and found.result["hints"] == [f"72: {words}"]
                   and f"72: {words}" in found.said
                   and found.result["faults"][0]["remedy"] == words, found.said)
@@ -106,23 +107,23 @@ class LayoutMessages(Case):
     def test_reports_what_replaces_auto(self) -> None:
         done = self.tool("qc", "one.stl", "one.ts", "--layout", "auto")
         self.must("auto", done.status == 2 and len(done.told) == 1 and
-                  "find your inserter's by `--measure STL RECORDING ..`" in done.told[0], done)
+                  "find your inserter's with `--measure STL RECORDING ..`" in done.told[0], done)
 
     def test_names_the_cells_in_which_pages_differ(self) -> None:
         for text, wanted in (
-                ("row=1", "row 19 where 18 is due"), ("after=0A", "row 18, 0A behind its letters "
-                 "where 0A 0A is due"), ("after=", "row 18, column 18 where 17 is due, nothing "
-                 "behind its letters where 0A 0A is due"),
-                ("before=060B0B", "row 18, column 16 where 17 is due, 06 0B 0B before its letters "
-                 "where 0B 0B is due")):
+                ("row=1", "row 19 instead of 18"), ("after=0A", "row 18, 0A after the text "
+                 "instead of 0A 0A"), ("after=", "row 18, column 18 instead of 17, nothing after "
+                 "the text instead of 0A 0A"),
+                ("before=060B0B", "row 18, column 16 instead of 17, 06 0B 0B before the text "
+                 "instead of 0B 0B")):
             due, sent = (page_rows(lines) for layout in (PLAIN, layout_of(text)) if layout and
                          not isinstance(lines := drawn(b"Hi", 18, 2, layout, ENGLISH), Refused))
             self.must(text, describe_row_difference(due, sent) == wanted,
                       describe_row_difference(due, sent))
         for first, second, wanted in (
-                (b"Hi Ho", b"Hi\x8aHo", "in 2 rows, where 1 are due"),
-                (b"H i", b"H\x02i", "row 18, other codes between its letters"),
-                (b"Hi\x8aH o", b"Hi\x8aH\x02o", "row 19, other codes between its letters")):
+                (b"Hi Ho", b"Hi\x8aHo", "2 rows instead of 1"),
+                (b"H i", b"H\x02i", "row 18, other codes within the text"),
+                (b"Hi\x8aH o", b"Hi\x8aH\x02o", "row 19, other codes within the text")):
             due, sent = (page_rows(lines) for text in (first, second) if not isinstance(
                 lines := drawn(text, 18, 2, PLAIN, ENGLISH), Refused))
             self.must(f"{second!r}", describe_row_difference(due, sent) == wanted,
@@ -132,10 +133,10 @@ class LayoutMessages(Case):
 class OpenSubtitles(Case):
     def test_judges_open_subtitles_with_the_advised_option(self) -> None:
         texts = [(b"Number %d\x0a" % at, 2) for at in range(12)]  # a code that may hide text
-        for dsc, kind in ((b"0", "0, open subtitles"), (b" ", "a space, none"), (b"3", None)):
+        for dsc, kind in ((b"0", "0 (open subtitles)"), (b" ", "blank"), (b"3", None)):
             stl = file_of(self, texts, "open.stl", dsc)
             alone = judged(self, stl)
-            hint = f"its DSC is {kind}: --open takes it"
+            hint = f"its DSC is {kind}: --open accepts it"
             self.must(f"{kind}: 13", alone.result["line"] == "refused 13 Display block 0"
                       and alone.result["hints"] == [f"13: {hint}"] * bool(kind)
                       and (alone.result["faults"][0]["remedy"] == hint) == bool(kind), alone.said)

@@ -67,14 +67,14 @@ class HiddenPages(OfProgramme):
                       told.result["line"] == "refused 79 Silent frame 10:00:12:00"
                       and "--pace none" not in told.verdict.sentence, told.said)
             self.must(f"{count}: said", told.lines("pace: ") == [
-                "a PES packet comes within 1 frame of the one before: --pace 1"])
+                "at most 1 frame from one PES packet to the next: --pace 1"])
 
     def test_notes_an_undetectable_loss_in_a_file(self) -> None:
         sent = self.with_wrong(50)
         each_other = [one for at, one in enumerate(sent) if at % 2 == 0 or at == PLACE + 1]
         told = self.judge(each_other)
-        self.must("closer", told.parts("pace") == [(2,)] and "not checked: whether a PES packet of "
-                  "this file is missing, at 1 place where they come closer" in
+        self.must("closer", told.parts("pace") == [(2,)] and "not checked for a missing PES packet "
+                  "at 1 place where PES packets are closer together" in
                   told.result["notes"], told.said)
 
     def test_notes_an_undetectable_loss_between_repeat_and_cue(self) -> None:
@@ -90,15 +90,15 @@ class HiddenPages(OfProgramme):
                                  ("missing", sent[:place] + sent[place + 1:], "accepted")):
             told = self.judge(some, "--every", "25")
             self.must(name, told.word == word and told.parts("pace") == [(25,)] and any(
-                "is missing, at " in note for note in told.result["notes"]), told.said)
+                "not checked for a missing " in note for note in told.result["notes"]), told.said)
 
     def test_finds_a_loss_that_an_announced_jump_hides(self) -> None:
         made = self.multiplexed(self.with_wrong(), 0, 1 << 20, 3)
         whole = self.judge_stream(made)
         self.must("it is wrong", whole.word == "refused" and whole.result["losses"] == [],
                   whole.said)
-        line = "between 10:00:11:24 and 10:00:12:01: more time passes than usual, and a jump of " \
-            "the counter is announced"
+        line = "between 10:00:11:24 and 10:00:12:01: an unusually long interval with an " \
+            "announced jump of the counter"
         for words, word in (((), "lost"), (("--pace", "none"), "lost"),
                             (("--allow-lost",), "accepted")):
             told = self.judge_stream(lost(made, 3, True), *words)
@@ -124,16 +124,16 @@ class HiddenPages(OfProgramme):
         sent = [one for at, one in enumerate(self.with_wrong()) if at % 12 == 0 or one[1]]
         sent = [one for one in sent if one[0] // TICKS < BEGIN + 600]
         place = [pts // TICKS for pts, _ in sent].index(AT)
-        note = "not checked: whether PES packets of this file are missing: they are too few to " \
-            "measure a pace"
+        note = "not checked for missing PES packets: those of this file are too few to measure " \
+            "their interval"
         for some, word in ((sent, "refused"), (sent[:place] + sent[place + 1:], "accepted")):
             told = self.judge(some, "--to", "10:00:18:00")
             known = [one.replace(self.folder + "/", "") for one in told.result["notes"]]
             self.must(f"a file, {word}", len(sent) < 101 and told.word == word and note in known
                       and told.parts("pace") == [(None,)], told.said)
         made = multiplexed([large(pes_packet(pts, some), 4) for pts, some in sent], Shape(100))
-        note = "not checked: whether 1.4 s or more of this PID alone is missing: its PES packets " \
-            "are too few to measure a pace"
+        note = "not checked for losses of 1.4 s or more on this PID alone: its PES packets are " \
+            "too few to measure their interval"
         for count, is_announced, word in ((0, False, "refused"), (16, False, "accepted"),
                                           (4, True, "lost")):
             told = self.judge_stream(lost(made, count, is_announced) if count else made, "--to",
@@ -147,8 +147,8 @@ class HiddenPages(OfProgramme):
         frame = sent[wrong - 1][0] // TICKS + 1  # between two that stay
         sent[wrong:wrong + 1] = [(frame * TICKS, WRONG), (AT * TICKS, [])]
         made = self.multiplexed(sent, 0, 1 << 20, 3)
-        note = "not checked: whether some of PID 0x101 is missing at 1 place where a jump of its " \
-            "counter is announced"
+        note = "not checked for losses on PID 0x101 at 1 place where a jump of its counter is " \
+            "announced"
         for words in ((), ("--pace", "3"), ("--pace", "none")):
             whole = self.judge_stream(made, *words)
             told = self.judge_stream(lost(made, 3, True, frame), *words)
@@ -168,7 +168,8 @@ class Taken(unittest.TestCase):
     def test_says_from_how_long_on_a_loss_may_be_unseen(self) -> None:
         recording: Any = SimpleNamespace(is_stream=True, packets=SimpleNamespace(pid=5),
                                          survey=mock.Mock())
-        for frames, words in ((None, "some"), (0, "some"), (2, "some"), (3, "0.1 s or more"),
-                              (25, "1.0 s or more")):
-            self.assertIn(f"{UNCHECKED} {words} of this PID", describe_unchecked_losses(
+        for frames, words in ((None, "losses"), (0, "losses"), (2, "losses"),
+                              (3, "losses of 0.1 s or more"),
+                              (25, "losses of 1.0 s or more")):
+            self.assertIn(f"{UNCHECKED} {words} on this PID", describe_unchecked_losses(
                 Pace(IRREGULAR), frames, recording), frames)

@@ -25,7 +25,7 @@ from .transmissions import (
 from .test_judging_verdicts import verdict_of
 
 STORY, HELLO, ACCENT = example("story.stl"), example("hello.stl"), example("accent.stl")
-UNREAD = "nothing of the recording was read, and --severity leaves no fault an error"
+UNREAD = "nothing of the recording was read, and --severity makes all faults warnings"
 EVERY = ["--every", "40"]  # frames; two page transmissions in a row may be missing
 BITS = {33: (6, 0xC0), 34: (7, 0x80), 35: (8, 1), 36: (13, 1), 37: (DATA - 1, 0x30),
         38: (DATA + UNIT + 1, 1), 39: (DATA + UNIT + 3, 1), 40: (DATA + UNIT + 2, 0x0F)}
@@ -83,8 +83,9 @@ class UnreadablePackets(OfProgramme):
                                             found.result["losses"]] ==
                   [(time_of(self.frames[before]), time_of(self.frames[after]))
                    for before, after in ((21, 24), (60, 62))], found.result["losses"])
-        told = [line for line in found.told if "between" in line or "recorded" in line]
-        self.must("told", len(told) == 3 and told[2] == "that part was not recorded", told)
+        told = [line for line in found.told if "between" in line or "record" in line]
+        self.must("told", len(told) == 3 and told[2] == "record that part again: what is missing "
+                                                        "was not checked", told)
         severity = self.write("severity", b"45 warning\n")
         others = self.write("others", b"others warning\n")
         rows: list[tuple[list[str], str]] = [
@@ -174,27 +175,27 @@ class Sentences(OfProgramme):
 
         gone = [one for one in self.sent if not 301 * TICKS <= one[0] < 350 * TICKS]
         rows: list[tuple[Sent, list[str], str]] = [
-            (moved(range(2, 21)), [], "Refused: 19 of 20 subtitles are 7 frames late (first at "
-             "00:00:08:00, last at 00:01:20:00)."),
-            (moved(range(4, 8)), [], "Refused: 4 of 20 subtitles are 7 frames late (first at "
+            (moved(range(2, 21)), [], "Refused: 19 of 20 subtitles appeared 7 frames late (first "
+             "at 00:00:08:00, last at 00:01:20:00)."),
+            (moved(range(4, 8)), [], "Refused: 4 of 20 subtitles appeared 7 frames late (first at "
              "00:00:16:00, last at 00:00:28:00)."),
-            (moved([3]), [], 'Refused: at 00:00:12:00 subtitle 3 (SN 52), "Number 52", is 7 frames '
-             "late."),
-            (moved([3], 2), [], 'Refused: at 00:00:12:00 subtitle 3 (SN 52), "Number 52", is 2 '
-             "frames late."),
+            (moved([3]), [], 'Refused: subtitle 3 (SN 52) at 00:00:12:00, "Number 52", appeared 7 '
+             'frames late.'),
+            (moved([3], 2), [], 'Refused: subtitle 3 (SN 52) at 00:00:12:00, "Number 52", appeared '
+             '2 frames late.'),
             (self.sent, [], "Accepted: all 20 subtitles have the right text from the first "
              "frame to the last."),
             (self.sent, ["--within", "2"], "Accepted: all 20 subtitles have the right text "
              "within 2 frames."),
-            (self.sent, ["--strict"], "Not accepted: there are warnings, which count (repeat); "
-             "what was received is right."),
-            (gone, ["--every", "49"], "Refused: from 00:00:13:24 on the longest gap is 50 frames, "
-             "and 25 are usual."),
+            (self.sent, ["--strict"], "Not accepted: --strict counts warnings (repeat); everything "
+             "that was received is right."),
+            (gone, ["--every", "49"], "Refused: from 00:00:13:24 on the page had no header for up "
+             "to 50 frames (25 are usual)."),
             (gone, ["--every", "49", "--severity", self.write("mild", b"73 warning\n")],
-             "Waived, since these faults are named warnings: from 00:00:13:24 on the longest gap "
-             "is 50 frames, and 25 are usual."),
-            (self.sent, ["--every", "20"], "Refused: from 00:00:04:20 on the longest gap is 25 "
-             "frames; in all 59 faults.")]
+             "Waived, since these faults are declared as warnings: from 00:00:13:24 on the page "
+             "had no header for up to 50 frames (25 are usual)."),
+            (self.sent, ["--every", "20"], "Refused: from 00:00:04:20 on the page had no header "
+             "for up to 25 frames; 59 faults in all.")]
         for sent, words, wanted in rows:
             found = self.judge(sent, *words)
             self.must(wanted, found.said[-2].startswith(wanted) and
@@ -223,8 +224,8 @@ class Sentences(OfProgramme):
                 (one["name"], one["expected_text"], one["decoded_text"], one["other_number"],
                  one["other_position"], one["line"]) for one in causes] == [
                 ("another subtitle's text", "Number 52", text, number + 49, number,
-                 f"another subtitle's text at its time, sent: \"{text}\" of subtitle {number} (SN "
-                 f"{number + 49})")] and
+                 f"another subtitle's text at its time, received: \"{text}\" of subtitle {number} "
+                 f"(SN {number + 49})")] and
                 found.result["cause_counts"]["another subtitle's text"] == 1 and
                 "1 subtitle: 1 another subtitle's text" in found.lines("causes of "), causes)
 
@@ -236,7 +237,8 @@ class Sentences(OfProgramme):
         pes[broken_at] = broken(pes[broken_at], 37)
         found = judged(self, self.stl, self.write("one.pes", b"".join(pes)), "--origin", "0")
         self.must("can't be read", [one["name"] for one in found.result["causes"]] == ["unknown"]
-                  and "not all that was sent then can be read" in "".join(found.said), found.said)
+                  and "not everything that was sent then can be "
+                      "read" in "".join(found.said), found.said)
         back = [((1 << 33) - at * TICKS, early[0][1]) for at in (200, 150, 100, 50)]
         found = self.judge([*back, *one_late(3, 4)(self.sent)])
         self.must("of another clock", found.lines("cause: ") == [
@@ -280,25 +282,26 @@ class Sentences(OfProgramme):
                       and found.result["notes"][-1].endswith(FEW), found.result["notes"])
 
     def test_gives_hints_for_the_first_faults(self) -> None:
-        whole = "the whole file draws in --option swedish, italian, french, spanish, czech"
+        whole = "--option swedish, italian, french, spanish, czech have all characters of the " \
+                "file"
         found = judged(self, ACCENT)
         self.must("list", "1 faults" in found.said, found.said)
         self.must("letter", found.result["hints"] == [f"50: {whole}"] and found.said[-3::2] == [
             f"50: {whole}", "refused 50 Character block 1 at 6"] and
             [one["remedy"] for one in found.result["faults"]] == [whole] and any(
-                '"Café" (block 1), a letter cannot be shown' in one
+                '"Café" (block 1), the national option lacks' in one
                 for one in found.lines("Refused: ")),
             found.said)
         found = judged(self, programme(self, times(1), text=b"\xa35"), "--option", "german")
         self.must("by the option", found.result["hints"][0].startswith(
-            "50: the whole file draws in --option english, ") and [
+            "50: --option english, ") and [
                 (one["text_offset"], one["byte"]) for one in found.result["faults"]] == [(0, "A3")],
                   found.result)
         data = bytearray(example_bytes("hello.pes"))
         at = DATA + 4 + 2 + 7  # in the first PES packet: C11 to C14 of its first header
         data[at:at + 1] = mirrored(b"\xd0")  # the code word of 8: C12 to C14 are those of German
         found = judged(self, HELLO, self.write("one.pes", data))
-        words = "the header is German, and english is asked for"
+        words = "the header is German, but --option is english"
         self.must("header", found.result["hints"] == [f"67: {words}"] and found.said[-3::2] == [
             f"67: {words}", "refused 67 Control frame 10:00:00:00 packet 0"] and
             found.result["faults"][0]["meaning"] == words, found.said)

@@ -23,7 +23,8 @@ from .transmissions import (
     Change, EACH, LASTS, ORIGIN, Sent, apart, joined, late, one_late, programme, sendings, times)
 
 HELLO = example("hello.stl")
-WARNING = "! warning: the page is repeated each 25 frames; --every 25 would hold it to that"
+WARNING = "! warning: the page is repeated every 25 frames: give --every 25 to notice a missing " \
+          "repeat"
 
 
 def cause_of(number: int, begin: int, by: int) -> str:
@@ -119,7 +120,7 @@ class SeveralParts(OfProgramme):
                 for number, by in changes.items()], found.result["faults"])
             name = cause_of(first, EACH * first, 0).partition(" at ")[0]
             self.must(f"{changes}: sentence", found.lines("Refused: ") == [
-                f'at {time_of(EACH * first)} {name}, "Number {first}", is {changes[first]} '
+                f'{name} at {time_of(EACH * first)}, "Number {first}", appeared {changes[first]} '
                 f"frame{'s' * (changes[first] > 1)} late. See refusals.md#n72."], found.said)
             self.must(f"{changes}: each", [
                 one["complete_after"] for one in found.result["subtitles"]] == [
@@ -129,7 +130,7 @@ class SeveralParts(OfProgramme):
 
     def test_sums_up_the_delays_of_all_parts(self) -> None:
         found = self.judge_parts((1000, 3000), {10: 2, 19: 4}, "--within", "1")
-        self.must("refused", "subtitles are whole after 0 to 4 frames, 0 in the middle" in
+        self.must("refused", "subtitles are complete after 0 to 4 frames (median 0)" in
                   found.said[-5:], found.said)
         found = self.judge_parts((1000, 3000), {10: 2, 19: 4}, "--within", "4")
         self.must("accepted", found.word == "accepted")
@@ -149,7 +150,7 @@ class SeveralParts(OfProgramme):
             self.must(f"{at}: times", [one["from"] for one in lost] == [
                 time_of(self.sent[place - 1][0] // TICKS) for place in places[:len(own)]], lost)
             self.must(f"{at}: lost", found.verdict.is_lost == bool(own) and
-                      ("not recorded" in "".join(found.told)) == bool(own))
+                      ("record that part" in "".join(found.told)) == bool(own))
             allowed = self.judge_parts((1000, 3000), {}, *every, *clock, "--allow-lost",
                                        marks=places)
             self.must(f"{at}: allowed", allowed.word == ("waived" if own else "accepted"))
@@ -245,7 +246,7 @@ class Tolerances(OfProgramme):
             found = self.judge(some, "--origin", str(ORIGIN))
             self.must(f"{name}: refused", found.word == "refused", found.said)
             self.must(f"{name}: hint", name != "jitter" or found.result["hints"] == [
-                "61: PTS are up to 448 ticks (4.98 ms) off the frame"], found.said)
+                "61: PTS are up to 448 ticks (4.98 ms) off their frames"], found.said)
             for words in (["--page", "888"], ["--origin", str(ORIGIN)]):
                 found = self.judge(some, "--within", str(least), *words)
                 spread = found.result["complete_after"]
@@ -275,7 +276,7 @@ class Tolerances(OfProgramme):
             packets = packets_told(self, joined(change(self.sent)))
             origin = find(Sought(self.stl, "one.pes"), packets)
             self.must(f"{ticks}: within 0", origin.parts[0].origin == ORIGIN + ticks and
-                      any(f"all ends are {early} early compared with" in line
+                      any(f"all out-cues are {early} early compared with" in line
                           for line in origin.lines), origin)
 
     def test_measures_the_delay_of_each_subtitle(self) -> None:
@@ -310,12 +311,13 @@ class Tolerances(OfProgramme):
         sent = [(ORIGIN + pts, some) for pts, some in sendings(self, pauses)]
         behind = [(sent[0][0] - 40 * TICKS, sent[-1][1]), sent[0],
                   *((pts + 3 * TICKS, some) for pts, some in sent[1:])]
-        row = "late by 3 frames: the page is not whole for 6 frames in a row, from 00:00:08:03 on"
+        row = "late by 3 frames: the page is incomplete for 6 frames in a row, from 00:00:08:03 " \
+              "on"
         for stl, some, within, begin, cause in (
-                (HELLO, in_fields_at_once(hello), 0, "10:00:00:00", "unknown: as it is due only "
+                (HELLO, in_fields_at_once(hello), 0, "10:00:00:00", "unknown: as expected only "
                  "after another PES packet of the same frame"),
                 (HELLO, [*hello[:1], *with_late_rows(hello[1:2], 4), *hello[2:]], 2, "10:00:00:00",
-                 "unknown: it is gone at 10:00:01:00"),
+                 "unknown: it disappears at 10:00:01:00"),
                 (pauses, behind, 3, "00:00:08:06", row),
                 (pauses, behind, 5, "00:00:08:06", row)):
             found = judged(self, stl, self.write("one.pes", joined(some)), "--origin", str(ORIGIN),

@@ -42,7 +42,7 @@ class OffFramePts(OfProgramme):
             found = self.judge(sent, "--every", "25")
             sentence = found.verdict.sentence
             self.check(f"{name}: leads", sentence.startswith("Refused: from PES packet ") and
-                       f" on PTS are up to {words} off the frame" in sentence, True)
+                       f" on PTS are up to {words} off their frames" in sentence, True)
             self.check(f"{name}: advice", [word for word in ADVICE if word in "".join(
                 [sentence, *found.result["hints"]])], [])
             self.check(f"{name}: within 1", self.judge(
@@ -69,7 +69,8 @@ class EarlyFirstSubtitle(OfProgramme):
                     [(at, some[:1]), (at + ticks, some[1:])] if ticks and len(some) > 2
                     else [(at, some)])]
                 found = self.judge(sent, "--every", "27", "--within", "1")
-                sentence = 'Refused: at 10:00:00:00 subtitle 1, "Number 1", is 25 frames early.'
+                sentence = 'Refused: subtitle 1 at 10:00:00:00, "Number 1", appeared 25 frames ' \
+                           'early.'
                 self.check(f"rows {ticks} ticks later, {len(before)} blank", (
                     found.word, found.verdict.sentence == sentence), ("refused", ticks < TICKS))
 
@@ -92,10 +93,10 @@ class NoClock(OfProgramme):
 class Blocks(Case):
     def test_names_the_subtitle_of_a_block(self) -> None:
         long = b"A line of thirty-eight letters and a b"
-        rows = {"a letter": (b"To \xe6 morrow\x8a\x8anow", "a letter cannot be shown",
+        rows = {"a letter": (b"To \xe6 morrow\x8a\x8anow", "the national option lacks",
                              "To \u0132 morrow / now"),
                 "a long line": (long, "a line has more than 40 cells", long.decode()),
-                "an accent": (b"\xc2e\xe6", "a letter cannot be shown", "\u00e9\u0132")}
+                "an accent": (b"\xc2e\xe6", "the national option lacks", "\u00e9\u0132")}
         for name, (text, words, shown) in rows.items():
             stl = subtitle_file(self, [(100, 150, b"One"), (200, 250, text), (300, 350, b"Three")],
                                 first=7)

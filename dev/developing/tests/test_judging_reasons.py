@@ -52,8 +52,8 @@ class Reasons(OfProgramme):
         found = self.judge(all_changed(self.sent, 3, 8, 0), *WORDS)
         words = "C4 (erase page) is clear in 49 of 49 headers"
         self.must("said", found.word == "refused" and found.verdict.sentence ==
-                  'Refused: at 00:00:04:00 subtitle 1, "Number 1", may stand over old text on some '
-                  f"sets: {words}; in all 49 faults." and
+                  'Refused: at 00:00:04:00 subtitle 1, "Number 1", may appear over old text on '
+                  f'some receivers: {words}; 49 faults in all.' and
                   found.result["hints"] == [f"67: {words}"] and
                   not any(COMPLETED_LATER in line for line in found.said), found.said)
 
@@ -78,7 +78,7 @@ class Reasons(OfProgramme):
         for at in range(0, len(data), 188):
             if (data[at + 1] & 31, data[at + 2]) == (TELETEXT_PID >> 8, TELETEXT_PID & 255):
                 data[at + 3] |= 0x80
-        words = f"PID 0x101 is scrambled: all {len(self.pes)} TS packets of it"
+        words = f"PID 0x101 is scrambled, in all its {len(self.pes)} TS packets"
         for recording in (self.write("one.ts", data), in_pipe(self, bytes(data))):
             found = judged(self, self.stl, recording)
             self.must(recording, found.word == "not judged" and found.verdict.sentence ==
@@ -92,7 +92,7 @@ class Reasons(OfProgramme):
                          for one in self.pes]
             data = in_turn(self.pes, [(0, OLD)], lambda at: [(OLD, of_length[at])])
             words = f"the PES header of PID 0x101 has {9 + length} bytes (PES_header_data_length " \
-                f"{length:02X}), where Teletext has 45 (24): EN 300 472"
+                f"{length:02X}), but EN 300 472 requires 45 (24)"
             found = self.judge_stream(data)
             self.must(f"{length}", words in found.verdict.sentence and
                       found.word == ("refused" if length > 99 else "not judged"), found.said)
@@ -115,10 +115,11 @@ class Reasons(OfProgramme):
             for words, word in (((), "not judged"), (("--origin", "0"), "refused")):
                 found = judged(self, self.stl, path, *WORDS, *words)
                 self.must(f"{name} {words}", found.word == word and
-                          "rows came while 888 was not open" in found.verdict.sentence, found.said)
+                          "rows came while page 888 was not "
+                          "open" in found.verdict.sentence, found.said)
             reason = judged(self, self.stl, path, *WORDS).verdict.sentence
             self.must(f"{name}: first", reason.startswith(
-                "Not judged: the origin is not clear: rows came while 888 was not open, in "),
+                "Not judged: the clock is not clear: rows came while page 888 was not open, in "),
                 reason)
 
     def test_reports_alternating_sub_pages(self) -> None:
@@ -126,7 +127,7 @@ class Reasons(OfProgramme):
             (pts, some), (pts + 4 * TICKS, [changed(HEADER, 2, 15, 2), row(20, b"Other"),
                                             CLOSING]))]
         once = all_changed(self.sent[:20], 2, 15, 1) + all_changed(self.sent[20:], 2, 15, 2)
-        words = "sub-pages of 888 alternate, by the sub-codes 0001 and 0002"
+        words = "sub-pages of 888 alternate, with the sub-codes 0001 and 0002"
         blank = [(pts, [HEADER, CLOSING]) for pts, _ in self.sent]
         for name, sent, is_told in (("alternate", alternate, True), ("once", once, False),
                                     ("one", blank, False)):
@@ -158,9 +159,9 @@ class Reasons(OfProgramme):
                         name="long.stl")
         made = multiplexed(scheduled(self, stl, "--every", "1"), Shape(4000, 1800))
         for count, lost, words in (
-                (2, 2, "2 TS packets lost"), (16, 0, "TS packets of 0.64 s are missing, by the PCR "
+                (2, 2, "2 TS packets lost"), (16, 0, "TS packets of 0.64 s are missing by the PCR "
                                               "and the counters of other PIDs"),
-                (50, 2, "TS packets of 2.00 s are missing, by the PCR; their counter tells 2 of "
+                (50, 2, "TS packets of 2.00 s are missing by the PCR; the counter shows 2 of "
                  "them")):
             path = self.write("one.ts", stream(without(made, 200, count)))
             found = judged(self, stl, path, "--origin", "0")
@@ -181,8 +182,8 @@ class Reasons(OfProgramme):
         for clocked, wanted in rows:
             one.clocked = clocked
             self.assertEqual(places_of(one), [wanted], clocked)
-        self.assertEqual(what_of(Place(1, 2, 3, 4, 9000)), "TS packets of 0.10 s are missing, by "
-                         "the PCR; their counter tells 3 of them, 4 TS packets scrambled")
+        self.assertEqual(what_of(Place(1, 2, 3, 4, 9000)), "TS packets of 0.10 s are missing by "
+                         "the PCR; the counter shows 3 of them, 4 TS packets scrambled")
 
 
 # Headers that keep the page: their descriptions, and pairs with such repeats.
@@ -228,8 +229,8 @@ class Headers(Case):
 
     def test_explains_why_a_header_must_erase(self) -> None:
         other = of_subcode(KEEPS, 1)
-        subcode = f"{CLEAR}, and the sub-code is another one than before: 0000 after 0001"
-        is_open = f"{CLEAR}, and the page was still open: no header had ended it"
+        subcode = f"{CLEAR}, though the sub-code changes from 0001 to 0000"
+        is_open = f"{CLEAR}, and the page was still open: no header had terminated it"
         for header, words, wanted in (
                 (PageHeader(NUMBERS, other, True), "", ""),
                 (PageHeader(KEEPS), "", REPEAT_WITHOUT_ERASE),
@@ -248,15 +249,15 @@ class Headers(Case):
     def test_describes_the_first_wrong_header_of_several(self) -> None:
         good, keeps, german, plain = map(PageHeader, (
             NUMBERS, KEEPS, bytes([*NUMBERS[:7], 8]), bytes([*NUMBERS[:5], 0, 1, 0])))
-        other, clear = "the header is German, and english is asked for", "C6 (subtitle) is clear"
+        other, clear = "the header is German, but --option is english", "C6 (subtitle) is clear"
         for headers, words, effect, said in (
-                ([good, keeps, plain], "", "may stand over old text", REPEAT_WITHOUT_ERASE),
+                ([good, keeps, plain], "", "may appear over old text", REPEAT_WITHOUT_ERASE),
                 ([good, keeps, plain], "--keeping", "hides the picture", clear),
-                ([german, keeps], "", "has other letters", other),
+                ([german, keeps], "", "has other characters", other),
                 ([german, plain], "--option german", "hides the picture",
-                 f"{clear}; the header is English, and german is asked for"),
-                ([german, keeps, good], "--option german --keeping", "has other letters",
-                 "the header is English, and german is asked for"), ([good], "", None, "")):
+                 f"{clear}; the header is English, but --option is german"),
+                ([german, keeps, good], "--option german --keeping", "has other characters",
+                 "the header is English, but --option is german"), ([good], "", None, "")):
             asked = asked_for("one.stl", "one.pes", *words.split())
             self.must(f"{headers} {words}", describe_header_faults(headers, asked) == said and
                       effect in (None, describe_effect(headers, asked)),
@@ -373,7 +374,7 @@ class MissingRows(Case):
 
     def test_an_early_header_without_rows_erases_nothing(self) -> None:
         one, faulty = Subtitle(1, 1, 25, 100, 20, 2, b"1"), FaultyFrames()
-        for frame, name, words in ((0, "unknown", f"it has not come at {time_of(25)}"),
+        for frame, name, words in ((0, "unknown", f"it is missing at {time_of(25)}"),
                                    (30, "erased", "by a header without rows, at 00:00:01:05")):
             bare, whole = (frame, [HEADER, CLOSING]), (26 if not frame else 25, WHOLE)
             held, _ = self.decode(*sorted([bare, whole, (50, WHOLE)]), within=1)
@@ -434,12 +435,12 @@ class KeepingRepeats(OfProgramme):
         self.must("a cause", found.word == "refused" and {one["number"] for one in found.result[
             "faults"]} == {CONTENT} and [one["line"] for one in found.result["causes"]] ==
             [f"not repeated whole: row 22 {OMITTED_BY_REPEAT}"] and
-            "(row 22 left out behind a header" in found.verdict.sentence, found.said)
+            "(row 22 missing after a header" in found.verdict.sentence, found.said)
 
     def test_refuses_another_subcode_with_keeping(self) -> None:
         found = self.judged("subcode", "--keeping")
         self.must("by it", found.word == "refused" and found.result["hints"] == [
-            f"67: {CLEAR}, and the sub-code is another one than before: 0001 after 0000"],
+            f"67: {CLEAR}, though the sub-code changes from 0000 to 0001"],
             found.said)
 
     def test_rows_of_the_next_frame_make_the_page_late(self) -> None:

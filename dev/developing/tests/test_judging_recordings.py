@@ -84,7 +84,8 @@ class Recordings(Case):
             strict = judged(self, stl, path, "--origin", "0", "--strict")
             self.must(f"{descriptor!r} {ahead}: strict", strict.word == (
                 "warned" if kinds else "accepted") and (not kinds or strict.said[-1].startswith(
-                    f"not accepted, since warnings count ({', '.join(kinds)}): ")), strict.said)
+                    "not accepted, since --strict counts warnings "
+                    f"({', '.join(kinds)}): ")), strict.said)
 
     def test_handles_truncated_files(self) -> None:
         pes = example_bytes("story.pes")
@@ -97,7 +98,7 @@ class Recordings(Case):
                 found.said)
         cut = self.write("cut.stl", example_bytes("story.stl")[:-128])
         self.must("counts", judged(self, cut, "--strict").said[-1].startswith(
-            "not accepted, since warnings count (blocks, subtitles): "))
+            "not accepted, since --strict counts warnings (blocks, subtitles): "))
 
     def test_judges_a_pipe_in_parts(self) -> None:
         stl = programme(self, times(24))
@@ -134,7 +135,7 @@ class Recordings(Case):
         pes = example_bytes("story.pes")
         whole = in_stream((TELETEXT_PID, pes))
         junk = whole[:188 * 20] + b"x" * 40 + whole[188 * 20:]
-        skipped, cut = " of no TS packet skipped", "it was read up to there"
+        skipped, cut = " outside of TS packets skipped", "it was read up to there"
         for data, size, count in ((whole, 188, ""), (spaced(whole, 192), 192, ""),
                                   (spaced(whole, 204), 204, ""), (junk, 188, "40 bytes")):
             for recording in (self.write("one.ts", data), in_pipe(self, data)):
@@ -161,19 +162,21 @@ class Recordings(Case):
             ([STORY, self.write("moved.ts", in_turn(packets(pes), [(0, OLD), (2, NEW)]))],
              "page 888 is sent on 2 PIDs of ", ["--pid 0x101", "--pid 0x111"]),
             ([STORY, both, "--page", "801"], "no header of page 801", ["--page 888"]),
-            ([STORY, one, "--pid", "0x200"], "PID 0x200 has no whole PES packet",
+            ([STORY, one, "--pid", "0x200"], "PID 0x200 has no complete PES packet",
              ["--pid 0x101"]),
-            ([STORY, one, "--pid", "0x300"], "PID 0x300 carries nothing", ["--pid 0x101"]),
+            ([STORY, one, "--pid", "0x300"], "PID 0x300 has no packets", ["--pid 0x101"]),
             ([other, self.path("own.pes")], "fewer than half", ["--origin T"]),
             ([STORY, one, "--origin", "900000000"], "none is in the recording at its time", []),
             ([STORY, STORY], "is a subtitle file", []), ([STORY, "none.ts"], "No such file", []),
-            (["none.stl", one], "none.stl is no file, or is not there", []),
-            (["--", "-none.stl", one], "-none.stl is no file, or is not there", []),
-            (["", one], "an empty name is no file", []), ([ACCENT, "none.ts"], "No such file", []),
-            ([self.folder, one], "is no file, or is not there", []),
-            ([one], "is a recording: the subtitle file stands before it", []),
+            (["none.stl", one], "none.stl does not exist or is not a file", []),
+            (["--", "-none.stl", one], "-none.stl does not exist or is not a file", []),
+            (["", one], "an empty name does not exist or is not a file", []),
+            ([ACCENT, "none.ts"], "No such file", []),
+            ([self.folder, one], "does not exist or is not a file", []),
+            ([one], "is a recording: give the subtitle file before it", []),
             ([STORY, self.write("empty.ts", b"")], "is empty", []),
-            ([STORY, self.write("text.ts", b"no packets\n" * 400)], "no transport stream", [])]
+            ([STORY, self.write("text.ts", b"no packets\n" * 400)], "is not a transport "
+                                                                    "stream", [])]
         for words, why, to_type in rows:
             found = judged(self, *words)
             typed = [one.split(" ", 4)[-1] for one in found.told
@@ -220,10 +223,10 @@ class Recordings(Case):
                   self.read("out/one.html"), found.said)
 
     def test_judges_a_subtitle_file_alone(self) -> None:
-        for stl, lines in ((STORY, ["Accepted: nothing is wrong with 3 subtitles.",
-                                    "3 subtitles, nothing is wrong with them"]),
-                           (HELLO, ["Accepted: nothing is wrong with 1 subtitle.",
-                                    "1 subtitle, nothing is wrong with it"]),
+        for stl, lines in ((STORY, ["Accepted: 3 subtitles without a fault.",
+                                    "3 subtitles without a fault"]),
+                           (HELLO, ["Accepted: 1 subtitle without a fault.",
+                                    "1 subtitle without a fault"]),
                            (ACCENT, ["refused 50 Character block 1 at 6"])):
             found = judged(self, stl)
             self.must(stl, found.said[-len(lines):] == lines and found.parts("from", "pes") ==

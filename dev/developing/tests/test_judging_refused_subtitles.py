@@ -43,7 +43,7 @@ from .test_judging_verdicts import verdict_of
 # file.
 
 BAD = b"\xe6: no letter"
-CURE = "it needs another region, or packets X/26, which are refused (70): write it otherwise"
+CURE = "replace it (at level 1 it needs another region, or packets X/26, which are refused as 70)"
 WORDS = "--origin", "0", "--every", "100"
 PAGE = 0, 0x88
 
@@ -78,18 +78,18 @@ class RefusedSubtitles(Case):
         return judged(self, stl, *words, *WORDS)
 
     def test_counts_judged_and_names_refused_subtitles(self) -> None:
-        first = f"subtitle 3 at 00:00:12:00 is refused by 50 Character, \u0132: \u0132 is in no " \
-            f"option: at level 1 {CURE}"
+        first = "subtitle 3 at 00:00:12:00 is refused by 50 Character (\u0132): \u0132 is in no " \
+            f"option: {CURE}"
         slow = self.write("slow.pes", joined(late(5, 3600 * 600, 3600 * 650)(self.sent)))
         for pes, end in ((self.pes, "all have the right text from the first frame to the last"),
-                         (slow, 'at 00:00:24:00 subtitle 6, "Number 6", is 5 frames late')):
+                         (slow, 'subtitle 6 at 00:00:24:00, "Number 6", appeared 5 frames late')):
             found = self.judge(self.write_stl(3), pes)
             self.must(pes, found.word == "refused" and found.verdict.sentence ==
                       f"Refused: {first}; 9 other subtitles were judged: {end}.",
                       found.verdict.sentence)
             self.must(f"{pes}: line", found.said[-1] == "refused 50 Character block 3 at 0" and
                       found.verdict.status == 1 and found.lines("undecided: ") == [
-                          first.replace(" is refused", ", to 00:00:14:10, is refused", 1)],
+                          first.replace(" is refused", ", up to 00:00:14:10, is refused", 1)],
                       found.said)
             self.must(f"{pes}: list", found.listed[0] == found.said[-1] and
                       "refused 78 Undecided frame 00:00:10:10" in found.listed, found.listed)
@@ -160,7 +160,7 @@ class RefusedSubtitles(Case):
             found = self.judge(self.write_stl(3), self.pes, *words)
             self.must(f"{words}", found.word == word and found.verdict.subtitle_counts == (
                 counts and SubtitleCounts(*counts)), found.said)
-        self.must("none is left", "no subtitle of " in found.told[0] and " is left: " in
+        self.must("none is left", " has no subtitle with a TCI at " in
                   found.told[0], found.told)
 
     def test_judges_each_part_with_refused_subtitles(self) -> None:
@@ -169,7 +169,7 @@ class RefusedSubtitles(Case):
                 for at, (pts, some) in enumerate(two)]
         for bad, sent, said in (((7,), two, "all have the right text"),
                                 ((2, 7), two, "all have the right text"),
-                                ((2, 7), kept, " headers; in all 2 faults.")):
+                                ((2, 7), kept, " headers; 2 faults in all.")):
             found = judged(self, self.write_stl(*bad), self.write("two.pes", joined(sent)),
                            "--breaks",
                            "1", "--every", "100")
@@ -208,7 +208,8 @@ class RefusedSubtitles(Case):
         others = "13 other subtitles were judged: "
         for bad, by, said in (
                 ((), 0, ""), ((3,), 0, f"{others}all have the right text from the first"),
-                ((3,), 5, f'{others}at 00:00:24:00 subtitle 6, "Nümber 6", is 5 frames late')):
+                ((3,), 5, f'{others}subtitle 6 at 00:00:24:00, "Nümber 6", appeared 5 frames '
+                          'late')):
             def with_late(_: int, pts: int, by: int = by) -> int:
                 return pts + 3600 * by * (pts == 3600 * 600)
 
@@ -225,7 +226,7 @@ class RefusedSubtitles(Case):
             "refused 50 Character block 3 at 0", "1 faults"] and
             found.result["subtitle_counts"] is None and
             f"the other subtitles were not judged: {empty} is empty" in found.verdict.notes and
-            " (block 3), a letter " in found.verdict.sentence, found.said)
+            " (block 3), the national option " in found.verdict.sentence, found.said)
         odd, mild = bytearray(self.read("good.stl")), self.write("severity", b"others warning\n")
         odd[11:12] = b"7"  # with this DSC no subtitle of the file is judged
         rows: list[tuple[str, list[str], str]] = [
@@ -302,7 +303,7 @@ class ExpectedPages(unittest.TestCase):
             said = found.describe()
             self.assertTrue(said.startswith(f"{count} of {count + 2} subtitles are refused, "),
                             count)
-            self.assertEqual([at for at in range(1, count + 1) if f", letter {at}" in said],
+            self.assertEqual([at for at in range(1, count + 1) if f" (letter {at})" in said],
                              [*range(1, min(count, 3) + 1)], count)
             self.assertEqual(re.findall(r" and (\d+) more$", said), [f"{count - 3}"] * (count > 3),
                              count)

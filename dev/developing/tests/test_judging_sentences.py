@@ -39,14 +39,14 @@ from .test_judging_faults import cause, causes_of
 
 ADD = f"was not checked: {clock_advice(False)}"
 OF_PACKETS = {3, 4}  # refusals of `normal` that `check` does not have
-VERB = re.compile(r"\b(is|are|has|have|was|were|does|ends|comes|begins?|differs|fall|shows|stands?|"
-                  r"cannot)\b")
+VERB = re.compile(r"\b(is|are|has|have|was|were|does|ends|comes|begins?|differs|fall|appeared|"
+                  r"lacks|had|do)\b")
 
 
 class HeaderOptions(unittest.TestCase):
     def test_names_the_option_of_a_header(self) -> None:
         for sent, asked in itertools.product(OPTIONS, repeat=2):
-            words = f"the header is {sent.name}, and {asked.word} is asked for"
+            words = f"the header is {sent.name}, but --option is {asked.word}"
             with self.subTest(sent=sent.word, asked=asked.word):
                 self.assertEqual(describe_control_bits(bytes([8, 8, 0, 8, 0, 8, 1, sent.bits << 1]),
                                                        asked.word), [words] * (sent != asked))
@@ -59,29 +59,29 @@ class Sentences(unittest.TestCase):
         block = fault_of_line("refused 24 Unfinished block 12")
         for seen, wanted in (
                 (Facts(NOT_JUDGED, 0, reason="no\nmore"), "Not judged: no."),
-                (Facts(NOT_JUDGED, 0), "Not judged: check was not answered."),
+                (Facts(NOT_JUDGED, 0), "Not judged: check gave no verdict."),
                 (Facts(ACCEPTED, 1), "Accepted: 1 subtitle has the right "
                  "text from the first frame to the last."),
                 (Facts(ACCEPTED, 1, within=1),
                  "Accepted: 1 subtitle has the right text within 1 frame."),
                 (Facts(LOST, 2, lost=["a", "b", "c"]),
-                 "Not accepted: a, and in 2 more places; what was received is right."),
+                 "Not accepted: a, and in 2 more places; everything that was received is right."),
                 (Facts(LOST, 2, first=fault, faults=1, lost=["a"]),
-                 "Not accepted: a; all faults that were seen are named warnings."),
+                 "Not accepted: a; all faults that were found are declared as warnings."),
                 (Facts(LOST, 2, faults=1, named="pictures", lost=["a"]),
-                 "Not accepted: a; all faults that were seen are named warnings."),
-                (Facts(WARNED, 1, refused="one", warnings=["page"]), "Not accepted: there are "
-                 "warnings, which count (page); all faults that were seen are named warnings."),
+                 "Not accepted: a; all faults that were found are declared as warnings."),
+                (Facts(WARNED, 1, refused="one", warnings=["page"]), "Not accepted: --strict "
+                 "counts warnings (page); all faults that were found are declared as warnings."),
                 (Facts(WAIVED, 2, first=fault, faults=1, hint="no header"), "Waived, since these "
-                 "faults are named warnings: from 10:00:00:00 on no header."),
-                (Facts(WARNED, 2, warnings=["page", "page", "pause"]), "Not accepted: there are "
-                 "warnings, which count (page, pause); what was received is right."),
+                 "faults are declared as warnings: from 10:00:00:00 on no header."),
+                (Facts(WARNED, 2, warnings=["page", "page", "pause"]), "Not accepted: --strict "
+                 "counts warnings (page, pause); everything that was received is right."),
                 (Facts(REFUSED, 1234, first=fault_of_line("refused 72 Content frame 10:00:00:00"),
                        faults=2, delay=50,
                        counts=[FaultCount(72, "Content", 1), FaultCount(73, "Gap", 1)]),
-                 "Refused: all 1,234 subtitles are 50 frames late; also 73 Gap."),
+                 "Refused: all 1,234 subtitles appeared 50 frames late; also 73 Gap."),
                 (Facts(REFUSED, 1, first=fault_of_line("refused 63 Early frame 10:00:00:00"),
-                       faults=1, delay=-1), "Refused: the subtitle is 1 frame early."),
+                       faults=1, delay=-1), "Refused: the subtitle appeared 1 frame early."),
                 (Facts(REFUSED, 2, first=fault, faults=1, hint="no header", delay=50),
                  "Refused: from 10:00:00:00 on no header."),
                 (Facts(RELATIVE, 40), "All 40 subtitles match relative to each other. No clock was "
@@ -97,16 +97,16 @@ class Sentences(unittest.TestCase):
                  f"their part. No clock was given, so a delay that all of a part share {ADD}."),
                 (Facts(RELATIVE, 1), "The subtitle has the right text and length. No clock was "
                  f"given, so its delay {ADD}."),
-                (Facts(RELATIVE, 2, first=fault, faults=1, hint="no header"), "Waived, since these "
-                 "faults are named warnings: from 10:00:00:00 on no header. No clock was given, so "
-                 f"a delay that all subtitles share {ADD}."),
+                (Facts(RELATIVE, 2, first=fault, faults=1, hint="no header"), "Waived, since "
+                 "these faults are declared as warnings: from 10:00:00:00 on no header. No clock "
+                 f"was given, so a delay that all subtitles share {ADD}."),
                 (Facts(REFUSED, 2, first=fault_of_line("refused 45 Lost pes 7"), faults=3, lost=[
                     "a", "b"], counts=[FaultCount(45, "Lost", 2), FaultCount(73, "Gap", 1)]),
-                 "Refused: a, " "and in 1 more place; that part was not recorded; also 73 Gap."),
+                 "Refused: a, and in 1 more place; record that part again; also 73 Gap."),
                 (Facts(REFUSED, 2, first=fault, faults=1, hint="no header"),
                  "Refused: from 10:00:00:00 on no header."),
                 (Facts(REFUSED, 2, first=fault, faults=3, hint="no header"),
-                 "Refused: from 10:00:00:00 on no header; in all 3 faults.")):
+                 "Refused: from 10:00:00:00 on no header; 3 faults in all.")):
             found = write_sentence(seen)
             self.assertEqual(found, wanted, seen)
         for told, begin in ((packet, "Refused: in PES packet 0 "), (block, "Refused: in block 12 "),
@@ -136,11 +136,11 @@ class Sentences(unittest.TestCase):
             for several in ([cause(2, name, 3)], [cause(2, name, 3), cause(4, name, 5)]):
                 words = describe_causes(causes_of(*several), "english")
                 said = CAUSE_PREDICATES[name][len(several) > 1] if name in CAUSE_PREDICATES else \
-                    f"{'are' if len(several) > 1 else 'is'} 3 "
+                    "appeared 3 "
                 with self.subTest(name, count=len(several)):
                     self.assertIn(f" {said}", words)
                     self.assertRegex(words, VERB)
-                    self.assertRegex(words, r"^(at \d\d:\d\d:\d\d:\d\d |2 of )")
+                    self.assertRegex(words, r"^(subtitle 3 at \d\d:\d\d:\d\d:\d\d,? |2 of )")
 
 
 # What leads: faults that a viewer sees, in all outputs; and an empty range.
@@ -177,7 +177,7 @@ class LeadingFaults(OfProgramme):
         told = self.told
         lead = told.result["worst_fault"]
         self.must("lead", told.result["line"].startswith("refused 67 ") and
-                  lead.startswith("refused 72 ") and "has a wrong text" in told.result["sentence"]
+                  lead.startswith("refused 72 ") and "has the wrong text" in told.result["sentence"]
                   and told.result["sentence"].endswith("; also 67 Control."), told.result)
         page = self.read("out/one.html").decode()
         self.must("report", f'id="verdict">{lead}<' in page and "<title>" in page)
@@ -198,18 +198,20 @@ class RecordingEnds(OfProgramme):
     def test_counts_subtitles_that_are_cut_off(self) -> None:
         whole = (100, 1060)
         rows: list[tuple[str, int, tuple[int, int], list[str], str]] = [
-            ("all are late, none is cut off", 2, whole, [], "all 10 subtitles are 2 frames late"),
+            ("all are late, none is cut "
+             "off", 2, whole, [], "all 10 subtitles appeared 2 frames "
+                                                            "late"),
             ("all are early, none is cut off", -2, whole, [],
-             "all 10 subtitles are 2 frames early"),
+             "all 10 subtitles appeared 2 frames early"),
             ("the first one is cut off", 0, (110, 1060), [
                 "63: 1 of 10 subtitles was not recorded completely; --from 00:00:08:00 judges "
-                "the others"], "the recording begins after the first subtitle"),
+                "the others"], "the recording begins after the first TCI"),
             ("all are late, the first one is cut off", 2, (110, 1060), [
                 "63: 1 of 10 subtitles was not recorded completely; --from 00:00:08:00 judges "
-                "the others"], "all 10 subtitles are 2 frames late"),
+                "the others"], "all 10 subtitles appeared 2 frames late"),
             ("the last one is cut off", 0, (100, 1050), [
                 "74: 1 of 10 subtitles was not recorded completely; --to 00:00:38:11 judges the "
-                "others"], "the recording ends, and the last TCO is after it")]
+                "others"], "the recording ends before the last TCO")]
         for name, frames, (first, last), hints, sentence in rows:
             sent = [(pts, some) for pts, some in self.sent
                     if first * TICKS <= pts <= last * TICKS]
@@ -223,11 +225,12 @@ class RecordingEnds(OfProgramme):
         pts, (header, text, *more) = sent[0]
         sent[0] = pts, [header, text[:-1] + bytes([text[-1] ^ 0x80]), *more]
         for waived, sentence, last in (
-                ("", "at 00:00:12:00 subtitle 3, \"Number 3\", is 2 frames late; also 68 Parity",
+                ("", "subtitle 3 at 00:00:12:00, \"Number 3\", appeared 2 frames late; also 68 "
+                     "Parity",
                  "refused 68 Parity"),
-                ("68", "at 00:00:12:00 subtitle 3, \"Number 3\", is 2 frames late; waived: 68 "
-                 "Parity", "refused 72 Content"),
-                ("72", "of subtitle 1, \"Number 1\", comes with even parity; waived: 72 Content.",
+                ("68", "subtitle 3 at 00:00:12:00, \"Number 3\", appeared 2 frames late; waived: "
+                 "68 Parity", "refused 72 Content"),
+                ("72", "of subtitle 1, \"Number 1\", has even parity; waived: 72 Content.",
                  "refused 68 Parity"), ("others", "Waived", "waived: refused 68 Parity")):
             severity = self.write("mild", f"{waived} warning\n".encode() if waived else b"")
             found = self.judge(sent, "--severity", severity)
@@ -254,25 +257,29 @@ class NamedPlaces(OfProgramme):
 
         at, end, first = "10:00:04:00", "10:00:05:15", TIMES[2]
         rows: tuple[tuple[int, str, Callable[[list[bytes]], list[bytes]]], ...] = (
-            (first[0], f'at {at} the letter "Ö" of {name}, comes with even parity',
+            (first[0], f'at {at} the character "Ö" of {name}, has even parity',
              lambda some: [*map(even(b"\\"), some)]),
-            (first[0], f"at {at} a byte, start box, of {name}, comes with even parity",
+            (first[0], f"at {at} a byte (start box) of {name}, has even parity",
              lambda some: [some[0], even(b"\x0b")(some[1]), *some[2:]]),
-            (first[0], f"at {at} {name}, hides the picture on some sets: C6 (subtitle) is clear",
+            (first[0], f"at {at} {name}, hides the picture on some receivers: C6 (subtitle) is "
+                       "clear",
              lambda some: [header(c5=0), *some[1:]]),
-            (first[0], f"at {at} {name}, is not shown on some sets: C10 (inhibit display) is set",
+            (first[0], f"at {at} {name}, is not shown on some receivers: C10 (inhibit display) is "
+                       "set",
              lambda some: [header(c7=9), *some[1:]]),
-            (first[0], f"at {at} {name}, hides the picture on some sets: C6 (subtitle) is clear; "
-             "C7 (suppress header) is clear; the header is French",
+            (first[0], f"at {at} {name}, hides the picture on some receivers: C6 (subtitle) is "
+             "clear; C7 (suppress header) is clear; the header is French",
              lambda some: [header(c5=0, c7=0, option=2), *some[1:]]),
-            (first[0], f"at {at} {name}, comes as a newsflash on some sets: C5 (newsflash) is set",
+            (first[0], f"at {at} {name}, appears as a newsflash on some receivers: C5 (newsflash) "
+                       "is set",
              lambda some: [header(c5=12), *some[1:]]),
-            (first[0], f"at {at} {name}, has other letters on some sets: the header is French",
+            (first[0], f"at {at} {name}, has other characters on some receivers: the header is "
+                       "French",
              lambda some: [header(option=2), *some[1:]]),
-            (first[0], f"at {at} {name}, may stand over old text on some sets: C4 (erase page) is "
-             "clear in 1 of ", lambda some: [header(c4=0), *some[1:]]),
-            (first[1], f"at {end} the page behind subtitle 3 hides the picture on some sets: C6 "
-             "(subtitle) is clear", lambda some: [header(c5=0), *some[1:]]))
+            (first[0], f"at {at} {name}, may appear over old text on some receivers: C4 (erase "
+             "page) is clear in 1 of ", lambda some: [header(c4=0), *some[1:]]),
+            (first[1], f"at {end} the page after subtitle 3 hides the picture on some receivers: "
+             "C6 (subtitle) is clear", lambda some: [header(c5=0), *some[1:]]))
         for frame, wanted, change in rows:
             made = [(pts, change(some) if pts == 3600 * frame % CLOCK else some)
                     for pts, some in sent]
@@ -280,7 +287,7 @@ class NamedPlaces(OfProgramme):
             told = self.judge(made)
             self.must(wanted, told.result["sentence"].startswith(f"Refused: {wanted}"),
                       told.result["sentence"])
-        self.must("a hint", any(line.startswith("68: the letter ") for line in self.judge(
+        self.must("a hint", any(line.startswith("68: the character ") for line in self.judge(
             [(pts, rows[0][2](some)) for pts, some in sent]).said))
 
 
@@ -291,16 +298,17 @@ class EmptyRanges(OfProgramme):
         for words in ((), ("--origin", "0")):
             for pes, is_none in (("100-200", True), ("7-7", True), ("6-200", False)):
                 told = self.judge(self.sent[:7], "--pes", pes, *words)
-                said = f"{self.path('one.pes')} has 7 PES packets, 0-6: --pes {pes} is none of them"
+                said = f"{self.path('one.pes')} has 7 PES packets, 0-6: --pes {pes} is outside " \
+                       "of them"
                 self.must(f"{pes} {words}", (said in told.told) == is_none and
                           (told.word == "not judged") >= is_none, told.told)
 
 
 # Rows that no receiver or only some show: as a table, compared with libzvbi, and judged.
 
-NO_BOX = 'no set shows "Hi", outside of a box'
-ALIKE = 'no set shows "Hi", in the colour of its background'
-ONE = 'libzvbi does not show "Hi", behind one start box (0B), and ffmpeg does'
+NO_BOX = 'no receiver shows "Hi", which is outside of a box'
+ALIKE = 'no receiver shows "Hi", which has the colour of its background'
+ONE = 'libzvbi does not show "Hi", which follows a single start box (0B); ffmpeg does'
 # Cells of a row, its visibility, and the message.
 ROWS: tuple[tuple[bytes, Visibility, str], ...] = (
     (b"", Visibility.ALL, ""), (b"\x0b\x0b\x0a\x0a", Visibility.ALL, ""),  # no characters
@@ -318,12 +326,13 @@ ROWS: tuple[tuple[bytes, Visibility, str], ...] = (
     (b"\x0b\x0b\x1d\x01\x07Hi", Visibility.NONE, ALIKE), (b"\x1dHi", Visibility.NONE, ALIKE),
     (b"\x0bHi", Visibility.SOME, ONE), (b"\x0b\x07\x0bHi", Visibility.SOME, ONE),
     (b"\x0bHi\x0a\x0a", Visibility.SOME, ONE),
-    (b"\x0b\x0bH\x0a\x0ai", Visibility.SOME, 'no set shows "i", outside of a box'),
-    (b"H\x0b\x0bi", Visibility.SOME, 'no set shows "H", outside of a box'),
-    (b"\x0b\x0bH\x1di", Visibility.SOME, 'no set shows "i", in the colour of its background'),
+    (b"\x0b\x0bH\x0a\x0ai", Visibility.SOME, 'no receiver shows "i", which is outside of a box'),
+    (b"H\x0b\x0bi", Visibility.SOME, 'no receiver shows "H", which is outside of a box'),
+    (b"\x0b\x0bH\x1di", Visibility.SOME, 'no receiver shows "i", which has the colour of its '
+                                         'background'),
     (b"H\x0bi", Visibility.SOME,
-     'no set shows "H", outside of a box; libzvbi does not show "i", behind '
-     "one start box (0B), and ffmpeg does"))
+     'no receiver shows "H", which is outside of a box; libzvbi does not show "i", which follows a '
+     'single start box (0B); ffmpeg does'))
 HIDDEN, OPACITY_AT, INK_AT, PAPER_AT = 0, 2, 3, 4  # of a character of libzvbi
 
 
@@ -416,7 +425,7 @@ class VisibleRows(Case):
                 self.must(f"{text!r} {more}", told.word == word, told.said)
                 if word == "refused":
                     self.must(f"{text!r}: sentence", told.result["sentence"].startswith(
-                        f"Refused: {words}; in all 3 faults"), told.result["sentence"])
+                        f"Refused: {words}; 3 faults in all"), told.result["sentence"])
                     self.must(f"{text!r}: lines", told.result["worst_fault"] == told.said[-1] ==
                               "refused not shown block 1" and told.said[-2].endswith(
                                   " See refusals.md#not-shown."), told.said)

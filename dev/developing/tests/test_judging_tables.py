@@ -57,7 +57,7 @@ class PartClocks(unittest.TestCase):
     def test_takes_parts_only_if_the_origin_is_clear(self) -> None:
         whole = TimedPart(3, 9, Clock(7, GIVEN))
         self.assertEqual(list_timed_parts(Origin(1, [OfPart(5)]), whole), [])
-        told = Selection("origin", "5", "origin: 3 of 4", 3, 4)
+        told = Selection("origin", "5", "clock: 3 of 4", 3, 4)
         self.assertEqual(list_timed_parts(Origin(0, [OfPart(5, (1, 2), None, 3, 4, "3 of 4")]),
                                           whole),
                          [TimedPart(3, 9, Clock(5, RECORDING, evidence=told), (1, 2))])
@@ -123,11 +123,11 @@ class Notices(Case):
         of_pages: list[tuple[list[list[Announced]], str]] = [
             ([], ""), ([[own]], ""), ([[other, own]], ""), ([[], [own]], ""),
             ([[other], [own]], ""), ([[own], [other]], ""), ([[own, other]], ""),
-            ([[]], "announces no page of PID 0x101: receivers do not find page 888"),
-            ([[], []], "announces no page of PID 0x101: receivers do not find page 888"),
-            ([[other]], "announces 150 ger subtitles for the hard of hearing, and not page 888"),
-            ([[other], [other]], "150 ger subtitles for the hard of hearing, and not page 888"),
-            ([[Announced((0, 0x89), "eng", 2)]], "announces 889 eng subtitles, and not page 888")]
+            ([[]], "announces no page on PID 0x101, so receivers do not find page 888"),
+            ([[], []], "announces no page on PID 0x101, so receivers do not find page 888"),
+            ([[other]], "announces 150 ger subtitles for the hard of hearing, but not page 888"),
+            ([[other], [other]], "150 ger subtitles for the hard of hearing, but not page 888"),
+            ([[Announced((0, 0x89), "eng", 2)]], "announces 889 eng subtitles, but not page 888")]
         for pages, words in of_pages:
             listing: Any = SimpleNamespace(programmes_of=lambda pid: [
                 SimpleNamespace(pages={0x101: some, 0x102: [other]}) for some in pages])
@@ -155,8 +155,8 @@ class Notices(Case):
         data = gsi_block(b"", 1, 1)[:238] + b"  x  00000" + gsi_block(b"", 1, 1)[248:]
         self.assertEqual([one[:2] for one in said(count_notices(SubtitleFile(self.write(
             "one.stl", data + blocks[0]))))], [
-                ("subtitles", "the GSI block counts 0 subtitles (TNS), and there is 1: is the "
-                 "subtitle file whole?")])
+                ("subtitles", "the GSI block counts 0 subtitles (TNS), but there is 1: is the "
+                 "subtitle file complete?")])
         self.assertEqual([count_text(one) for one in (0, 1, 2, 1234)],
                          ["there are 0", "there is 1", "there are 2", "there are 1,234"])
         comment = tti_block(2, 30, 40, 20, 2, b"", comment=1)
@@ -189,8 +189,11 @@ class Notices(Case):
             asked = asked_for("one.stl", "one.pes", "--every", str(every))
             return [one.line for one in repeat_notices(headers, asked, 0, [(0, 599)])]
 
-        for step, every, words in ((25, 51, "25 frames; --every 25"), (25, 50, ""), (25, 25, ""),
-                                   (1, 3, "frame; --every 1"), (1, 2, ""), (2, 5, "2 frames")):
+        for step, every, words in ((25, 51, "25 frames: give --every "
+                                            "25 "), (25, 50, ""), (25, 25, ""),
+                                   (1, 3, "frame: give --every "
+                                          "1 "), (1, 2, ""), (2, 5, "2 "
+                                                                                        "frames")):
             found = warned(step, every)
             self.assertEqual((len(found), words in "".join(found)), (bool(words), True),
                              (step, every))
@@ -367,9 +370,9 @@ class PageDifferences(Case):
             self.assertEqual(describe_attribute_difference(own, other), words, other)
         for other, words in (
                 (own, ""), (page_with((20, self.ONE), (22, b"  two"), (2, b"x")),
-                            "another row beside it: row 2"),
+                            "an additional row: 2"),
                 (page_with((20, self.ONE), (22, b"  two"), (2, b"x"), (24, b"y")),
-                 "other rows beside it: rows 2 and 24"),
+                 "additional rows: 2 and 24"),
                 (page_with((20, self.TWO), (22, b"  two"), (2, b"x")), "")):
             self.assertEqual(describe_extra_rows(own, other), words, other)
         for sent, due, moved in (
@@ -403,7 +406,7 @@ class PageDifferences(Case):
             self.assertTrue(all(one.startswith(word) for one, word in zip(found, words)), found)
         self.assertEqual(describe_control_bits(bytes([*good[:7], 8]), "german"), [])
         self.assertEqual(describe_control_bits(bytes(good), "german"),
-                         ["the header is English, and german is asked for"])
+                         ["the header is English, but --option is german"])
 
     def test_finds_characters_of_a_subtitle_with_several_blocks(self) -> None:
         first = tti_block(7, 25, 50, 20, 2, b"a\xc2e\x80", 0)
@@ -433,7 +436,7 @@ class PageDifferences(Case):
         german = SubtitleFile(self.write("two.stl", gsi_block(b"", 1, 1) + tti_block(
             1, 25, 50, 20, 2, b"\xc8a")))
         self.assertEqual(OptionAdvice(german, "english").advise(1, 0),
-                         "the whole file draws in --option german, swedish")
+                         "--option german, swedish have all characters of the file")
 
 
 class RepeatIntervals(unittest.TestCase):

@@ -73,7 +73,7 @@ class Verdicts(Case):
         relative = "relative 10 frames 2 transmissions"
         good, content, first = "accepted 10 frames 2 transmissions", REFUSED[0], OTHER[0]
         has = "; the profile has --allow-lost and --severity"
-        warned, of_loss = "not accepted, since warnings count (pause, page)", \
+        warned, of_loss = "not accepted, since --strict counts warnings (pause, page)", \
             "not accepted, since TS packets are lost"
         rows: list[tuple[str, dict[str, Any], str, str | None, str | None]] = [
             ("a", {}, "accepted", good, good),
@@ -93,8 +93,8 @@ class Verdicts(Case):
             ("a", strict, "warned", f"{warned}: {good}", None),
             ("r", {**strict, "is_mild": True}, "warned", f"{warned}: waived: {content}", None),
             ("af", {}, "accepted", "accepted 20 frames 4 transmissions in 2 parts", None),
-            ("af", {**strict, "warnings": []}, "warned", "not accepted, since warnings count "
-             "(estimated): accepted 20 frames 4 transmissions in 2 parts", None),
+            ("af", {**strict, "warnings": []}, "warned", "not accepted, since --strict counts "
+             "warnings (estimated): accepted 20 frames 4 transmissions in 2 parts", None),
             ("f", untimed, "relative", relative, relative),
             ("f", {}, "relative", relative, relative),
             ("ff", untimed, "relative", "relative 20 frames 4 transmissions in 2 parts", None),
@@ -147,7 +147,7 @@ class Verdicts(Case):
             "Not accepted: between 1 and 9: 1 lost, and in 2 more places;"), verdict.sentence)
         refused = dataclasses.replace(verdict_of(self.three(0)), named_faults=[
             NamedFault(NEVER_SENT, "nothing was sent")])
-        self.must("a name", refused.sentence == "Refused: nothing was sent; in all 2 faults.",
+        self.must("a name", refused.sentence == "Refused: nothing was sent; 2 faults in all.",
                   refused.sentence)
         alone = verdict.narrow_to_part(verdict.parts[1], verdict.gaps[3:4])
         self.must("of a part", (alone.parts, alone.gaps) == (verdict.parts[1:2], verdict.gaps[3:4])

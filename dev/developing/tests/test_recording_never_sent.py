@@ -65,8 +65,8 @@ class Announcements(Case):
             time = None if frame < 0 else f"00:00:{frame // 25:02}:{frame % 25:02}"
             where = f"from {time or f'PTS {pts}'} on"
             self.must(f"{origin} {frame}", [*timing_notices(packets, origin)] == [Notice(
-                "pts_behind", f"{where} PTS of the Teletext are behind the PCR, by up to 0.10 s: 1 "
-                "of 3 that were looked at", time)], [*timing_notices(packets, origin)])
+                "pts_behind", f"{where} PTS of the Teletext are behind the PCR, by up to 0.10 s, "
+                "in 1 of 3 samples", time)], [*timing_notices(packets, origin)])
 
     def test_finds_an_announced_page_that_is_not_sent(self) -> None:
         begin, end = 10 * SECOND, 20 * SECOND
@@ -208,7 +208,7 @@ class JudgedStreams(OfProgramme):
     def test_refuses_a_page_that_comes_on_another_pid(self) -> None:
         told = self.judge_plan([(0, OLD)], self.on_old, "--every", "25")
         self.must("sent", told.word == "accepted")
-        words = "page 888 is announced in PID 0x111, never sent (no TS packet of PID 0x111); " \
+        words = "page 888 is announced on PID 0x111, but never sent (no TS packet of PID 0x111); " \
             "PID 0x101 has it"
         self.check_never_sent("announced elsewhere", self.judge_plan([(0, NEW)], self.on_old),
                               words)
@@ -222,7 +222,7 @@ class JudgedStreams(OfProgramme):
             self.must(name, told.word == "accepted", told.said)
 
     def test_refuses_a_page_that_never_comes_while_it_is_expected(self) -> None:
-        words = "page 888 is announced in PID 0x111, never sent"
+        words = "page 888 is announced on PID 0x111, but never sent"
         rows: list[tuple[str, int | None, list[str], bool]] = [
                 ("all", None, [], True), ("a third", len(self.pes) // 3, [], False),
                 ("a third, by the clock", len(self.pes) // 3, ["--origin", "0"], True),
@@ -241,7 +241,7 @@ class JudgedStreams(OfProgramme):
                       Programme({NEW: []}, first, VIDEO_PID + 1)], frames)
         told = self.judge_stream(made.data)
         self.must("asked", told.word == "not judged" and told.told[0].endswith(
-            "and sent on PID 0x101, not on PID 0x111") and [
+            "but sent only on PID 0x101, not on PID 0x111") and [
                 line.split()[-1] for line in told.told if line.startswith(("type ", "or "))] == [
                     "0x101", "0x111"], told.said)
 
@@ -252,7 +252,7 @@ class JudgedStreams(OfProgramme):
         self.must("refused", told.verdict.line == "refused 50 Character block 3 at 7" and
                   {one["number"] for one in told.result["faults"]} == {50, None} and
                   told.told[0].startswith("the other subtitles were not judged: page 888 is "
-                                          "announced in PID 0x111, never sent "), told.said)
+                                          "announced on PID 0x111, but never sent "), told.said)
 
     def test_is_not_judged_if_the_fault_is_waived(self) -> None:
         path = self.write("severity", b"never sent warning\n")
@@ -263,7 +263,7 @@ class JudgedStreams(OfProgramme):
         out = self.path("out")
         self.judge_plan([(0, NEW)], self.bare, "-o", out)
         page = self.read("out/one.html").decode()
-        self.must("report", "is announced in PID 0x111, never sent" in page and
+        self.must("report", "is announced on PID 0x111, but never sent" in page and
                   json.loads(self.read("out/one.json"))["status"] == 1, page[:2000])
 
 

@@ -110,8 +110,10 @@ class ChosenPids(Case):
         for head, size, words in (
                 (b"", None, "is empty"), (b"850STL25", None, "is a subtitle file"),
                 (b"\0\0\1\xe0", None, "stream_id E0 instead of BD"), (b"\0\0\1\xe0", 188, ""),
-                (b"\0\0\1", None, "no transport stream"), (b"\0\0\1\xbd", None, "no transport"),
-                (b"\0\0\1\xbd", 0, ""), (b"G", None, "no transport stream"), (b"G", 192, "")):
+                (b"\0\0\1", None, "is not a transport "
+                                  "stream"), (b"\0\0\1\xbd", None, "is not a "
+                                                                                      "transport"),
+                (b"\0\0\1\xbd", 0, ""), (b"G", None, "is not a transport stream"), (b"G", 192, "")):
             survey, found = Survey(), ""
             survey.head, survey.size = head, size
             try:
@@ -137,7 +139,7 @@ class Messages(Case):
             one.print_losses()
             wanted = [["is damaged"] * bool(damage), [
                 *["refused 31 Start"] * bool(refusal),
-                *["40 bytes of no TS packet"] * bool(skipped),
+                *["40 bytes outside of TS packets"] * bool(skipped),
                 *["1 TS packet lost"] * marks] * bool(size)]
             self.check_lines(one.listener.lines, [*wanted[0], *wanted[1]])
 

@@ -86,17 +86,17 @@ class Modes(Case):
             found = vars(make_parser("").parse_args(["a.stl", "a.ts", *words.split()]))
             self.must(words, found[name] == value, found)
         for words, mode, said in (
-                ("--every 25 --every 50", COLLECT, "--every goes with"),
-                ("--complete --no-complete", ALONE, "--complete goes with"),
-                ("--no-complete --complete", COLLECT, "--complete goes with"),
+                ("--every 25 --every 50", COLLECT, "--every may be given with"),
+                ("--complete --no-complete", ALONE, "--complete may be given with"),
+                ("--no-complete --complete", COLLECT, "--complete may be given with"),
                 ("--jobs 2 --settled 3", BATCH,
-                 "--settled goes with --watch, not with --batch"),
-                ("--every 25 --breaks 1", COLLECT, "--every goes with"),
+                 "--settled may be given with --watch, not with --batch"),
+                ("--every 25 --breaks 1", COLLECT, "--every may be given with"),
                 # also if the value is the default
-                ("--pes=1-2", ALONE, "--pes goes with"),
-                ("--breaks 0", ALONE, "--breaks goes with"),
-                ("--breaks=0", ALONE, "--breaks goes with"),
-                ("--start tcp", ALONE, "--start goes with")):
+                ("--pes=1-2", ALONE, "--pes may be given with"),
+                ("--breaks 0", ALONE, "--breaks may be given with"),
+                ("--breaks=0", ALONE, "--breaks may be given with"),
+                ("--start tcp", ALONE, "--start may be given with")):
             with self.assertRaises(Stop) as refused:
                 refuse_options(make_parser(""), [*CALLS[mode], *words.split()], mode)
             self.must(words, str(refused.exception).startswith(said), refused.exception)
@@ -144,7 +144,8 @@ class Modes(Case):
                       ["--batch", "list", "--settled", "5"]):
             done = self.tool("qc", *words)
             self.must(" ".join(words), done.status == 2 and len(done.told) == 1
-                      and words[2] in done.told[0] + words[2] and " goes with " in done.told[0],
+                      and words[2] in done.told[0] + words[2] and " may be given "
+                                                                  "with " in done.told[0],
                       done)
 
     def test_prints_the_names_of_tools_as_typed(self) -> None:
@@ -359,7 +360,7 @@ class WrongArguments(Case):
 
     def test_names_files_as_they_were_given(self) -> None:
         for words, named in ((["qc", STL, "no/folder.pes"], "no/folder.pes"),
-                             (["qc", "-"], "qc: - is"), (["qc", ""], "an empty name"),
+                             (["qc", "-"], "qc: - does not exist"), (["qc", ""], "an empty name"),
                              (["qc", "--", "-x.stl"], "qc: -x.stl"),
                              (["qc", STL, self.write("cut.pes", b"\0\0\1"), "-p",
                                self.bench.program], self.path("cut.pes"))):

@@ -123,8 +123,8 @@ class NewOptions(Case):
                   "A new one. What is new." and made["schema"]["newer"] == {
                       "description": "It is newer.", "type": "boolean"}, made["schema"])
         alone, pair, collect = made["not with"]
-        self.must("modes", pair is None and "--newer goes with" in alone and
-                  "--new-one goes with" in collect, made["not with"])
+        self.must("modes", pair is None and "--newer may be given with" in alone and
+                  "--new-one may be given with" in collect, made["not with"])
 
 
 class OptionRows(Case):
@@ -251,7 +251,7 @@ class ProfileFiles(Case):
         self.must("typed", (typed.option, typed.language) == ("swedish", None), typed)
 
     def test_refuses_wrong_lines_by_number(self) -> None:
-        not_there = f"is no option of a profile, which may have {MAY}"
+        not_there = f"is not an option of a profile, which may have {MAY}"
         for text, number, said in (
                 ("--every 25\n\n--breaks 1", 3, f"--breaks {not_there}"),
                 *((f"{name}=1", 1, f"{name} {not_there}") for name in (
@@ -260,12 +260,12 @@ class ProfileFiles(Case):
                     "--no-keeping", "--no-allow-lost", "--strict", "--open")),
                 *((text, 1, f"its first word {not_there}") for text in (
                     "--json=1", "--new=1", "keeping=1", "one.stl", "root:*:20228:0")),
-                ("--every 0", 1, "argument --every: 0 is no repeat interval: give 1 to 2160000 "
+                ("--every 0", 1, "argument --every: 0 is not a repeat interval: give 1 to 2160000 "
                  "frames"),
                 ("#\n--within", 2, "argument --within: expected one argument"),
                 ("--keeping --every 25", 1, "unrecognized arguments: --every 25"),
                 ("--every 25 50", 1, "unrecognized arguments: 50"),
-                ("--every '25", 1, "a quote does not end"),
+                ("--every '25", 1, "a quote is not closed"),
                 ("--every 25\n--every 25", 2, "--every is already in line 1"),
                 ("--complete\n#\n--no-complete", 3, "--no-complete is already in line 1"),
                 ("--late 0:1", 1, "argument --late: 0:1 has no shares of delays: give "
@@ -370,7 +370,7 @@ class Overrides(Case):
         good, bad, none = pairs_at(path, defaults())
         self.must("good", good.asked and good.asked.every == 25 and self.path("in/house") in
                   good.files, good)
-        said = f"{path}, line 2: {self.path('in/bad')}, line 2: --breaks is no option of a "
+        said = f"{path}, line 2: {self.path('in/bad')}, line 2: --breaks is not an option of a "
         self.must("bad", bad.asked is None and str(bad.reason).startswith(said), bad.reason)
         self.must("none", none.asked is None and f"{self.path('in/none')}" in str(none.reason),
                   none.reason)
@@ -416,7 +416,8 @@ class ProfileVerdicts(Case):
         path = self.write("house", b"--every 25\n")
         bad = self.write("bad", b"\n--every")
         for words, said in (
-                (["--profile", path, "--json", path], f"{path} is an input too"),
+                (["--profile", path, "--json", path], f"{path} is also an input: give another "
+                                                      "name"),
                 (["--profile", bad, "--json", "x.json"],
                  f"{bad}, line 2: argument --every: expected one argument")):
             done = self.tool("qc", STORY, RECORDING, *words)

@@ -42,8 +42,10 @@ STRANGE: list[Any] = [
 # File contents, and why each is no result.
 TEXTS = {
     b"[" * 100_000: "it is too deep", b'{"a":' * 100_000: "it is too deep",
-    b'{"verdict": ' + b"9" * 5_000 + b"}": "is no number", b'{"verdict": NaN}': "is no number",
-    b'{"verdict": -Infinity}': "is no number", b"": "Expecting value",
+    b'{"verdict": ' + b"9" * 5_000 + b"}": "is not a "
+                                           "number", b'{"verdict": NaN}': "is not a "
+                                                                                   "number",
+    b'{"verdict": -Infinity}': "is not a number", b"": "Expecting value",
     b"\xff": "codec can't decode",
     b"\xef\xbb\xbf{}": "Unexpected UTF-8 BOM", b'{"verdict"': "Expecting"}
 
@@ -283,7 +285,7 @@ class CollectedResults(Case):
                 self.must(f"{name} to -", self.end(**{name: "-"}) == (2, "", table))
         status, out, told = self.end(csv=self.path("no/x"), junit=self.path("no/y"))
         self.must("failed", status == 2 and
-                  out == f"{table.rstrip()}; not all was written\n" and
+                  out == f"{table.rstrip()}; an output was not written\n" and
                   len(told.splitlines()) == 2 and
                   "no/x" in told.splitlines()[0] and "no/y" in told.splitlines()[1], told)
         self.end(json=self.path("all"), csv=self.path("lines"), junit=self.path("cases"))
@@ -326,7 +328,7 @@ class CollectedResults(Case):
         self.write("in/one.json", json.dumps(result("accepted")).encode())
         status, out, told = collect()
         self.must("accepted", status == 0 and "1 pair: 1 accepted" in out and
-                  told.count(".json is no JSON result of a pair, and is skipped") == 2, told)
+                  told.count(".json is not a JSON result of a pair and is skipped") == 2, told)
         with self.assertRaises(Stop):
             collection.refuse_output_names(argparse.Namespace(
                 json=None, csv=self.path("in"), junit=None))
@@ -354,4 +356,4 @@ class CollectedResults(Case):
             lines = table_lines([collection.load_for_csv(path)])
             self.check("lines of some", len([*lines]), 3)
         self.must("told", told.getvalue().endswith(
-            f": {path} leaves out 7 faults, and so do the lines\n"), told.getvalue())
+            f": {path} omits 7 faults, so the CSV file does too\n"), told.getvalue())

@@ -103,7 +103,8 @@ class Silences(unittest.TestCase):
             others = [line for line in found if line.startswith("and at")]
             self.assertEqual((len(found), others), (
                 min(count, TOLD), [f"and at {more + 1} more places"] * (more > 0)), count)
-            times = f"PTS {SECOND} and {SECOND + 2 * TICKS}, 00:00:00:00 and 00:00:00:02 on"
+            times = f"PTS {SECOND} and {SECOND + 2 * TICKS} (00:00:00:00 and 00:00:00:02 after " \
+                "the first)"
             self.assertEqual(found[:1], [f"between {times}: 1 TS packet lost"][:count], count)
 
 

@@ -17,17 +17,17 @@ class ExtractMessages(Case):
     def test_reports_why_nothing_is_extracted(self) -> None:
         known = Survey()
         for pid, packets, scrambled, refusal, count, words in (
-                (6, 3, 2, 0, 0, "PID 0x6 has no whole PES packet in 3 TS packets"),
-                (5, 3, 3, 0, 0, "PID 0x5 is scrambled: all 3 TS packets of it"),
-                (9, 1, 1, 0, 0, "PID 0x9 is scrambled: all 1 TS packet of it"),
+                (6, 3, 2, 0, 0, "PID 0x6 has no complete PES packet in 3 TS packets"),
+                (5, 3, 3, 0, 0, "PID 0x5 is scrambled, in all its 3 TS packets"),
+                (9, 1, 1, 0, 0, "PID 0x9 is scrambled, in all its 1 TS packet"),
                 (10, 9, 9, 0, 1, None),
-                (4, 9, 0, 31, 1, "PID 0x4 has other than PES packets of private_stream_1 from PES "
-                                 "packet 1 on: refused 31 Start pes 1"),
-                (7, 9, 1, 32, 2, "PID 0x7 has other than PES packets of 184 to 1656 bytes from PES "
-                                 "packet 2 on: refused 32 Length pes 2"),
-                (3, 0, 0, 0, 0, "PID 0x3 carries nothing"), (8, 9, 0, 0, 1, None),
+                (4, 9, 0, 31, 1, "PID 0x4 has something else than PES packets of private_stream_1 "
+                                 "from PES packet 1 on: refused 31 Start pes 1"),
+                (7, 9, 1, 32, 2, "PID 0x7 has something else than PES packets of 184 to 1656 bytes "
+                                 "from PES packet 2 on: refused 32 Length pes 2"),
+                (3, 0, 0, 0, 0, "PID 0x3 has no packets"), (8, 9, 0, 0, 1, None),
                 (2, 7, 0, 31, 0, "PID 0x2 has no PES packets of private_stream_1, as Teletext has"),
-                (1, 1, 0, 0, 0, "PID 0x1 has no whole PES packet in 1 TS packet")):
+                (1, 1, 0, 0, 0, "PID 0x1 has no complete PES packet in 1 TS packet")):
             one = Packets(pid, packets=packets, scrambled=scrambled, refusal=refusal)
             one.runs += [Run(0, count, 0, 0, "", "")] * bool(count)
             known.by_pid[pid] = one

@@ -302,10 +302,10 @@ def without_pid(made: list[Packet], first: int, count: int) -> list[Packet]:
     return [one for at, one in enumerate(made) if at not in gone]
 
 
-UNSEEN = "not checked: whether {} s or more of this PID alone is missing: its PES packets "
-IRREGULAR_NOTE = UNSEEN.format("0.6") + "come at irregular distances"
-PACE_LINE = "a PES packet comes within 1 frame of the one before, and in 3 at best where 16 TS " \
-    "packets are lost: --pace 2"
+UNSEEN = "not checked for losses of {} s or more on this PID alone: its PES packets "
+IRREGULAR_NOTE = UNSEEN.format("0.6") + "come at irregular intervals"
+PACE_LINE = "at most 1 frame from one PES packet to the next, at least 3 after a loss of 16 TS " \
+    "packets: --pace 2"
 
 
 class Losses(OfProgramme):
@@ -346,7 +346,7 @@ class Losses(OfProgramme):
                           line.startswith("refused 45") for line in told.listed), told.listed)
         told = self.judge_stream(without_pid(made, first, 16))
         self.must("how long", told.verdict.sentence ==
-                  "Refused: at 10:00:26:11 no PES packet has come for as many frames as --pace "
+                  "Refused: at 10:00:26:11 there was no PES packet for as many frames as --pace "
                   "allows: none for 16 frames from 10:00:26:10 on.", told.verdict.sentence)
 
     def test_reports_losses_with_two_pes_packets_a_frame(self) -> None:
@@ -354,13 +354,13 @@ class Losses(OfProgramme):
         none: list[bytes] = []
         both = [one for pts, some in sent for one in ((pts, some), (pts + TICKS // 2, none))]
         made = self.multiplexed(both, 400)
-        note = "not checked: whether up to 0.08 s of this PID alone is missing, at "
+        note = "not checked for losses of up to 0.08 s on this PID alone at "
         for count in (0, 16, 32, 48, 160):
             told = self.judge_stream(without_pid(made, 1320, count), "--within", "1")
             self.must(f"{count}", told.word == ("refused" if count else "accepted") and bool(
                 count) == ("refused 79 Silent frame 10:00:26:11" in told.listed), told.listed)
-            self.must(f"{count}: said", told.lines("pace: ") == ["a PES packet comes within 1 "
-                      "frame of the one before, and so may three: --pace 2"] and sum(
+            self.must(f"{count}: said", told.lines("pace: ") == ["at most 1 frame from one PES "
+                      "packet to the next, in which three may come: --pace 2"] and sum(
                           line.startswith(note) for line in told.told) == 1, told.said)
         without_one = [one for at, one in enumerate(both) if at // 2 not in (510, 610)]
         told = self.judge_stream(self.multiplexed(without_one, 400), "--within", "1")
@@ -418,7 +418,7 @@ class Losses(OfProgramme):
                     "refused 73 Gap frame 10:00:40:04" in told.listed), told.listed)
 
     def test_notes_that_no_pace_exists_for_a_pausing_inserter(self) -> None:
-        for count, note in ((4, UNSEEN.format("0.6") + "pause, for up to 1701 frames"),
+        for count, note in ((4, UNSEEN.format("0.6") + "pause for up to 1701 frames"),
                             (6, IRREGULAR_NOTE)):
             times = [(BEGIN + 2000 * at, BEGIN + 2000 * at + 200) for at in range(count)]
             sent = filled(sendings(self, programme(self, times), every=25))

@@ -145,16 +145,16 @@ class DepartureFaults(Case):
         faults, notes = find_desync(survey_with(lines_of(steps, origin)), PID, TimedPart(
             1000, 2000, Clock(origin, source)), within, 1)
         self.check("kinds", {(one.name, one.part) for one in faults} - {(PICTURES_LEFT, 1)}, set())
-        return [(one.time, one.until, one.words.partition(" on subtitles come ")[2].partition(
+        return [(one.time, one.until, one.words.partition(" on subtitles are ")[2].partition(
             " for viewers")[0]) for one in faults], notes
 
     def test_reports_departures_as_early_or_late(self) -> None:
         middle, end = "00:01:00:00", "00:01:19:24"
-        unclear = f"{NOT_CHECKED} at 1 place where their decoding times step: the multiplexer's " \
-            "delay varies, pictures are lost as well, or it is within a second of the " \
-            "programme's begin or end"
-        allowed = f"from {middle} on subtitles come 2 frames late for viewers: the pictures go " \
-            "on elsewhere, as --within 2 allows"
+        unclear = f"{NOT_CHECKED} at 1 place where its decoding times jump: the multiplexer's " \
+            "delay varies, pictures are lost too, or it is within a second of the programme's " \
+            "beginning or end"
+        allowed = f"from {middle} on subtitles are 2 frames late for viewers: the video's " \
+            "timestamps jump, as --within 2 allows"
         rows: dict[str, tuple[list[tuple[float, int]], int, list[tuple[str, str, str]],
                               list[str]]] = {
             "none": ([], 0, [], []),
@@ -196,7 +196,7 @@ class DepartureFaults(Case):
         lines = [line for line in lines_of([(by + 0.5, at) for by, at in steps])]
         for name, survey, wanted in (
                 ("at random", survey_with(lines),
-                 [f"{NOT_CHECKED}: their decoding times have no usual step"]),
+                 [f"{NOT_CHECKED}: the decoding times of the video have no usual step"]),
                 ("no line", Survey(), [])):
             found = find_desync(survey, PID, TimedPart(1000, 2000, Clock(0, GIVEN)), 0, 1)
             self.check(name, found, ([], wanted))
@@ -215,7 +215,7 @@ class Pairs(Case):
             made = Programme({TELETEXT_PID: pes}, TICKS * begin, later=[(1500, TICKS * frames)])
             path = self.write("one.ts", shown([made], end - begin).data)
             found = judged(self, stl, path, "--origin", "0", *words)
-            line = f" on subtitles come {way} for viewers: the pictures go on elsewhere"
+            line = f" on subtitles are {way} for viewers: the video's timestamps jump"
             self.must(f"{frames} {words}", found.word == word and (not way or any(
                 line in one for one in found.said)), found.said)
             several = [time_of(begin + 1500 + frame) for frame in range(-25, 26)]  # to a second

@@ -59,13 +59,13 @@ class LossPlaces(Case):
                 told = [((one.before, one.after), one.is_announced)
                         for one in places_of(packets, jumps)]
                 self.must(f"{shift} {marks} {clocks} {jumps}", told == wanted, told)
-                where = [line.partition(",")[0] for line in marks_told(packets)]
+                where = [line.partition(" (")[0] for line in marks_told(packets)]
                 self.must(f"{shift} {marks}: lines", where == [
                     f"between PTS {before} and {after}" if None not in (before, after) else
                     f"before PTS {after}" if before is None else f"after PTS {before}"
                     for (before, after), _ in wanted[:len(marks)]], where)
-        self.must("said", what_of(Place(1, 2, is_announced=True)) == "more time passes than usual, "
-                  "and a jump of the counter is announced")
+        self.must("said", what_of(Place(1, 2, is_announced=True)) == "an unusually long interval "
+                  "with an announced jump of the counter")
 
     def test_merges_losses_between_the_same_pes_packets(self) -> None:
         ends = [None, *range(5)]
@@ -171,21 +171,21 @@ class StreamLosses(Case):
         words = [self.path("story.stl"), self.path("one.ts"), "--origin", "0"]
         own = [one for one in made if one.pid == TELETEXT_PID]
         jumped = multiplexed(pes, Shape(jump=(60, 8641 * SECOND)))
-        hole = "s are missing, by the PCR and the counters of other PIDs"
+        hole = "s are missing by the PCR and the counters of other PIDs"
         for name, sent, word, more, line in (
                 ("whole", made, "accepted", "--pid=0x101", ""),
                 ("a hole", without(made, 27, 16), "lost", "--pace=none", hole),
                 ("and the pace", without(made, 27, 16), "refused", "--page=888", hole),
                 ("allowed", without(made, 27, 16), "waived", "--allow-lost", hole),
                 ("a jump", jumped, "accepted", "--page=888", "the clock jumps by 2:24:01 at "
-                 "10:00:02:08: an encoder that was started anew?"),
+                 "10:00:02:08, but no packet is missing: was an encoder restarted?"),
                 ("alone", own, "accepted", "--pid=0x101", ""),
                 ("not asked", own, "accepted", "--pace=none",
-                 "there is no PCR of the programme of ")):
+                 " has no PCR: ")):
             self.write("one.ts", stream(sent))
             found = judged(self, *words, more)
             told = [one for one in found.told if one.startswith("warning: the clock") or
-                    one.startswith("there is no PCR") or hole in one]
+                    " has no PCR: " in one or hole in one]
             self.must(name, found.word == word and len(told) == bool(line) and
                       line in "".join(told), found.said)
             if word == "lost":
@@ -224,7 +224,7 @@ class PaceOptions(Case):
                          self.options("--batch", "list", "--pace", "7"))
         self.must("lines", [item.asked and item.asked.pace for item in items] == [7, 9, None, None]
                   and str(items[3].reason).endswith(
-                      "line 4: argument --pace: 0 is no PES interval: give 1 to 2160000 frames"),
+                      "line 4: argument --pace: 0 is not a PES interval: give 1 to 2160000 frames"),
                   items)
 
     def test_judges_again_with_another_pace(self) -> None:

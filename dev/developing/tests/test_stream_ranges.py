@@ -84,7 +84,7 @@ class DayFiles(Case):
             for recording in list[list[str]]([[], [second]]):
                 found = judged(self, day, *recording, *words)
                 self.must(f"{words} {recording}", found.word == "not judged" and
-                          f"no subtitle of {day} is left" in found.told[-1], found.said)
+                          f"{day} has no subtitle with a TCI" in found.told[-1], found.said)
         none = self.write("none.stl", gsi_block(b"", 0, 0))
         found = judged(self, none, second)
         self.must("nor has the file one", found.word == "not judged" and
@@ -94,8 +94,8 @@ class DayFiles(Case):
         for words in (("--from", "1:00"), ("--to", "24:00:00:00"), ("--from", "00:00:00:25")):
             done = self.tool("qc", self.day(), *words)
             self.must(f"{words}", done.status == 2 and done.told == [
-                f"qc: argument {words[0]}: {words[1]} is no time of the day: give HH:MM:SS:FF, "
-                "25 frames a second"], done)
+                f"qc: argument {words[0]}: {words[1]} is not a time of day: give HH:MM:SS:FF, 25 "
+                "frames a second"], done)
 
     def test_finds_parts_within_the_range(self) -> None:
         times = [(100 * at, 100 * at + 60) for at in range(1, 15)]
@@ -170,7 +170,7 @@ class SkippedSubtitles(Case):
             data = b"".join(tti_block(1, begin, begin, 20, 2, b"text") for begin in begins)
             path = self.write("one.stl", gsi_block(b"", 1, 1) + data)
             words = advise_on_title(SubtitleFile(path))
-            self.must(f"{begins}", words.endswith(f"say --from {time}") if time else words == "",
+            self.must(f"{begins}", words.endswith(f"give --from {time}") if time else words == "",
                       words)
 
     def test_prints_the_note_on_a_title_once(self) -> None:
@@ -183,7 +183,7 @@ class SkippedSubtitles(Case):
                 found = judged(self, whole, *recording)
                 notes = [one for one in found.told if "00:00:00:00" in one]
                 self.must(f"{title} {recording}", len(notes) == 1 and notes[0].endswith(
-                    "say --from 10:00:02:00"), found.said)
+                    "give --from 10:00:02:00"), found.said)
                 self.must(f"{title} {recording}: refused", not (recording or number == 21) or
                           str(number) in (found.verdict.line or ""), found.said)
                 found = judged(self, whole, *recording, "--from", "10:00:02:00")
@@ -214,7 +214,7 @@ class Adjoining(OfProgramme):
             told = self.judge(sent, "--to", time_of(250))
             self.must(name, told.word == "refused", told.said)
         self.check("the fault leads, and not the end", told.verdict.sentence,
-                   'Refused: at 00:00:08:00 subtitle 2, "Number 2", is 1 frame late.')
+                   'Refused: subtitle 2 at 00:00:08:00, "Number 2", appeared 1 frame late.')
 
     def test_expects_pages_with_the_options_of_the_call(self) -> None:
         words = "--open", "--layout", "row=-2", "--option", "german", "--page", "150"

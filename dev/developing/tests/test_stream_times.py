@@ -361,7 +361,7 @@ class ClockTables(unittest.TestCase):
                     came[0] if came else None, taken[0] if taken else None,
                     ends[-1] if ends else None))
                 words = f"{read} PES packet{'s' * (read != 1)}"
-                self.assertTrue(found.words().startswith(f"none of {words} is of" if wanted is None
+                self.assertTrue(found.words().startswith(f"none of {words} is in" if wanted is None
                                 else f"{wanted[1] - wanted[0] + 1} of {words}, from 00:00:0"))
         made = Packets(257, [Run(at, 1, TICKS * frame, 0, does, "") for at, (frame, does) in
                              enumerate(((75, "he"), (100, "he"), (200, "heb")))],
@@ -438,19 +438,21 @@ class ClockTables(unittest.TestCase):
         for place, words in (
                 (Place(1, 2), "a break in the stream"), (Place(1, 2, 1), "1 TS packet lost"),
                 (Place(1, 2, 2, 1), "2 TS packets lost, 1 TS packet scrambled"),
-                (Place(1, 2, missing=225_000), "TS packets of 2.50 s are missing, by the PCR and "
+                (Place(1, 2, missing=225_000), "TS packets of 2.50 s are missing by the PCR and "
                  "the counters of other PIDs")):
             self.assertEqual(what_of(place), words, place)
         for place, words in (
-                (Place(3600, 7200, 1), "between PTS 3600 and 7200, 00:00:00:01 and 00:00:00:02 on"),
-                (Place(None, 7200, 1), "before PTS 7200, 00:00:00:02 on"),
-                (Place(3600, None, 1), "after PTS 3600, 00:00:00:01 on")):
+                (Place(3600, 7200, 1), "between PTS 3600 and 7200 (00:00:00:01 and 00:00:00:02 "
+                                       "after the first)"),
+                (Place(None, 7200, 1), "before PTS 7200 (00:00:00:02 after the first)"),
+                (Place(3600, None, 1), "after PTS 3600 (00:00:00:01 after the first)")):
             self.assertEqual(place_line(place, 0), f"{words}: 1 TS packet lost", place)
-        words = f"between PTS {CLOCK - 3600} and 3600, 00:00:00:01 and 00:00:00:03 on: "
+        words = f"between PTS {CLOCK - 3600} and 3600 (00:00:00:01 and 00:00:00:03 after the " \
+            "first): "
         for first, last in ((CLOCK - 7200, 3600), (CLOCK - 7201, 3599)):
             said = place_line(Place(CLOCK - 3600, last, 1, 2), first)
             self.assertEqual(said, words.replace(" 3600", f" {last}") +
                              "1 TS packet lost, 2 TS packets scrambled", (first, last))
         self.assertEqual(place_line(Place(None, 3600, 0), None),
-                         "before PTS 3600, 00:00:00:01 on: a break in the stream")
+                         "before PTS 3600 (00:00:00:01 after the first): a break in the stream")
         self.assertEqual(place_line(Place(None, None, 1), None), "1 TS packet lost")

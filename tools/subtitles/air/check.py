@@ -81,11 +81,11 @@ class BeginCheck(NamedTuple):
         missing = seconds_before_first(part)
         if verdict.word not in CORRECT and missing > 0 and \
                 self.packets_by(self.first + missing + QUIET).get(pid, 0):
-            raise Unclear("the first subtitle was due before the page's first PES packet in what "
-                          f"was recorded: it did not begin within {words}, or its beginning was "
-                          "not recorded")
+            raise Unclear("the first subtitle was expected before the first recorded PES packet of "
+                          f"the page: the programme did not begin within {words}, or its beginning "
+                          "was not recorded")
         if begin_number(part) >= self.packets_by(self.air_time + self.margin).get(pid, 0):
-            raise Unclear(f"it did not begin within {words}, but later")
+            raise Unclear(f"the programme did not begin within {words}, but later")
         verdict.notes.append(f"begun within {words}")
 
 

@@ -115,7 +115,7 @@ class Judge:
         name, has_passed = programme.name, now >= window.last + SOON
         segments = segments_between(self.segments, window.first, window.last)
         if not os.path.exists(programme.request.stl):
-            reason = f"{programme.request.stl} is not there"
+            reason = f"{programme.request.stl} does not exist"
             is_over = has_passed and not segments
             return Outcome(unjudged(name, reason) if is_over else None, reason)
         stretches, outcomes = [*stretches_in(segments, self.args.pause)], list[Outcome]()

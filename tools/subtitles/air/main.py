@@ -18,41 +18,40 @@ megabytes_word = number_reader("megabytes", 0, 999_999_999)
 
 def record_parser() -> Words:
     """Return the parser of `record`."""
-    parser = Words("Records a feed in segments that are named by time, and deletes the oldest.")
-    parser.add_argument("segments", metavar="SEGMENTS", help="the folder of the segments")
+    parser = Words("Record a feed in segments that are named by time, and delete the oldest.")
+    parser.add_argument("segments", metavar="SEGMENTS", help="write segments to this folder")
     parser.add_argument("--length", metavar="S", type=read_seconds, default=10,
-                        help="seconds of a segment; without it: 10")
+                        help="begin a segment every S seconds (default: 10)")
     parser.add_argument("--keep", metavar="HOURS", type=hours_word, default=48,
-                        help="hours for which a segment is kept; without it: 48")
+                        help="delete segments older than HOURS (default: 48)")
     parser.add_argument("--free", metavar="MB", type=megabytes_word, default=1000,
-                        help="megabytes that stay free on the disk; without it: 1000")
+                        help="keep MB megabytes of the disk free (default: 1000)")
     return parser
 
 
 def judge_parser() -> Words:
     """Return the parser of `judge`."""
-    parser = Words("Judges the programmes of a schedule from segments of a feed, each once it is "
+    parser = Words("Judge the programmes of a schedule from segments of a feed, each once it is "
                    "over.")
-    parser.add_argument("schedule", metavar="SCHEDULE", help="the file with times of air")
-    parser.add_argument("segments", metavar="SEGMENTS", help="the folder of the segments")
+    parser.add_argument("schedule", metavar="SCHEDULE", help="read the times of air from this file")
+    parser.add_argument("segments", metavar="SEGMENTS", help="read segments from this folder")
     parser.add_argument("-o", dest="out", metavar="OUT", required=True,
-                        help="the folder of the results")
+                        help="write results to OUT")
     parser.add_argument("--margin", metavar="S", type=read_seconds, default=300,
-                        help="seconds by which a programme may begin early or late; without it: "
-                             "300")
+                        help="let a programme begin up to S seconds early or late (default: 300)")
     parser.add_argument("--pause", metavar="S", type=read_seconds, default=5,
-                        help="seconds without a byte between two segments, from which on something "
-                             "was not recorded; without it: 5")
+                        help="treat S seconds without a byte between two segments as not recorded "
+                             "(default: 5)")
     parser.add_argument("--every-seconds", metavar="S", type=read_seconds, default=5,
-                        help="seconds between two looks; without it: 5")
+                        help="look for new segments every S seconds (default: 5)")
     parser.add_argument("--once", dest="is_once", action="store_true",
-                        help="judge what is over, and end, as a timer does")
+                        help="judge what is over, then end, for use with a timer")
     parser.add_argument("--work", metavar="DIR",
-                        help="the folder for a copy of what is judged; without it: OUT")
+                        help="copy the PES packets to judge to DIR (default: OUT)")
     parser.add_argument("--keep", dest="is_kept", action="store_true",
-                        help="keep the PES packets of each programme beside its result")
+                        help="keep the PES packets of each programme next to its result")
     parser.add_argument("--on-result", metavar="COMMAND",
-                        help="a program that is called with each JSON result and its verdict")
+                        help="call COMMAND with each JSON result and its verdict")
     add_program(parser)
     add_options(parser)
     return parser
@@ -68,9 +67,9 @@ def main(text: str, words: list[str]) -> int:
         return 0
     if mode != "judge":
         Words(text).parse_known_args(words)  # --help, --version
-        raise Stop("give record or judge first")
+        raise Stop("the first argument must be record or judge")
     args = read_options(judge_parser(), line, {}, {}, is_typed=True)
     args.out = plain_name(args.out)
     if not os.path.isdir(args.segments):
-        raise Stop(f"{args.segments} is not a folder: start `record` first, or name its folder")
+        raise Stop(f"{args.segments} is not a folder: start `record` first, or give its folder")
     return judge_schedule(args, os.path.join(TOP, "tools", "qc"))

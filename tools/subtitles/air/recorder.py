@@ -50,7 +50,7 @@ class Recorder:
                     raise
                 if not self.delete_oldest(1):
                     if time.monotonic() > until:
-                        tell(f"{self.folder}: no room: {len(left)} bytes are lost")
+                        tell(f"{self.folder} has no room: {len(left)} bytes are lost")
                         self.close()
                         self.is_new = True
                         return
@@ -72,7 +72,7 @@ class Recorder:
         last = names_in(self.folder)[-1:]
         self.latest = max(now, self.latest + 0.001, *(begin + 0.001 for begin, _ in last))
         if self.latest > now + 1:
-            tell(f"the clock is {self.latest - now:.0f} seconds behind the last segment")
+            tell(f"the system's clock is {self.latest - now:.0f} seconds behind the last segment")
         file = os.open(os.path.join(self.folder, segment_name(self.latest, self.is_new)),
                        os.O_WRONLY | os.O_CREAT | os.O_APPEND | os.O_CLOEXEC)
         self.is_new = False

@@ -86,8 +86,8 @@ def parse_schedule(text: str, folder: str, options: argparse.Namespace) -> Sched
             faults.append(f"line {line.number}: {error_line(reason)}")
             continue
         if programme.name in programmes:
-            faults.append(f"line {line.number}: its result would have the name of that of line "
-                          f"{lines[programme.name]}, {programme.name}: it is not judged")
+            faults.append(f"line {line.number} is not judged: its result would be named "
+                          f"{programme.name}, as that of line {lines[programme.name]}")
         programmes.setdefault(programme.name, programme)
         lines.setdefault(programme.name, line.number)
     return Schedule([*programmes.values()], faults, text)
@@ -99,12 +99,12 @@ def parse_line(line: Line, folder: str, options: argparse.Namespace) -> Programm
         raise Stop(line.fault)
     begin, end = times_of_air(line.words[0])
     if len(line.words) < 2:
-        raise Stop("it names no subtitle file: write the time of air, then the subtitle file")
+        raise Stop("it has no subtitle file: write the time of air, then the subtitle file")
     stl = os.path.join(folder, line.words[1])
     request = request_of_line([stl, RECORDING, *line.words[2:]], options, folder)
     if request.start or request.pes:
-        raise Stop("--start and --pes name a place in a recording, and nobody knows where in the "
-                   "segments a programme will be: leave them out")
+        raise Stop("--start and --pes depend on where the programme is in the segments, which is "
+                   "not known: remove them")
     return Programme(result_name(begin, stl), begin, end, request)
 
 

@@ -117,7 +117,7 @@ def read_range(path: str, first: int, end: int) -> Iterator[bytes]:
         while first < end:
             block = file.read(min(end - first, BLOCK))
             if not block:
-                raise OSError(errno.EIO, "it has become shorter", path)
+                raise OSError(errno.EIO, "it became shorter", path)
             first += len(block)
             yield block
 

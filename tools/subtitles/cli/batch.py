@@ -72,7 +72,7 @@ class ForkedProcess:
                 self.errors.close()
                 os.close(self.alive_pipe)
                 os.close(alive)
-                raise Stop(f"no process was begun: {error.strerror}") from None
+                raise Stop(f"a process could not be started: {error.strerror}") from None
             if not self.pid:
                 run_and_exit(does, self.errors.fileno(), alive)
             os.close(alive)
@@ -273,8 +273,8 @@ class PairRunner:
             known = left_by_call(self.result_path(item), item.name, status, lines)
             if known["verdict"] == NOT_JUDGED and is_over:
                 return self.record_unjudged(
-                    item, f"it took more than {counted(limit, 'second')} of the processor: "
-                    "--limit gives more")
+                    item, f"it used more than {counted(limit, 'second')} of CPU time: give a "
+                    "greater --limit")
             return self.record_unjudged(item, known["reason"]) if "request" not in known else \
                 row_of_object(known, item.name)
         finally:
@@ -307,7 +307,7 @@ def judge_batch(args: argparse.Namespace, program_name: str) -> int:
     """Judges all pairs; answers the status."""
     typed = CommandWords(program_name, args.program)
     if args.is_resumed and args.out is None:
-        raise Stop("--resume goes with -o, where the results of an earlier call are")
+        raise Stop("--resume needs -o, the folder with the results of an earlier call")
     if args.line is None:
         items, more, of_all = pairs_at(args.batch, args), list[str](), args.out
     else:  # others judge the other lines: nothing is written over all of them
@@ -438,12 +438,12 @@ class FolderWatch:
 def refuse_folders(args: argparse.Namespace) -> None:
     """Both folders have to be there, and be two."""
     if args.out is None:
-        raise Stop("--watch goes with -o, the folder for results and reports")
+        raise Stop("--watch needs -o, the folder for results and reports")
     if not os.path.isdir(args.watch):
-        raise Stop(f"{args.watch} is no folder")
+        raise Stop(f"{args.watch} is not a folder")
     os.makedirs(args.out, exist_ok=True)
     if os.path.samefile(args.watch, args.out):
-        raise Stop(f"{args.out} is the folder that is watched: give another one with -o")
+        raise Stop(f"{args.out} is the watched folder: give another one with -o")
     refuse_folder_files(args.out, NOTHING)
 
 

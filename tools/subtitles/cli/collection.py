@@ -82,8 +82,8 @@ def index_page(folder: str, rows: Sequence[Row], date: str) -> bytes:
                   "share was not checked.</p>", NO_CLOCK.capitalize(), without,
                   counted(len(rows), "pair")) if without else NO_MARKUP
     page = HEAD + markup("<title>{}</title>", title) + STYLE + hiding + markup(
-        "</style></head><body><main>\n<h1>{}</h1>\n<p><small>Made {}. Pairs that somebody has to "
-        "look at come first.</small></p>\n{}{}\n<fieldset><legend>Show</legend>{}</fieldset>\n"
+        "</style></head><body><main>\n<h1>{}</h1>\n<p><small>Made {}. Pairs that need attention "
+        "come first.</small></p>\n{}{}\n<fieldset><legend>Show</legend>{}</fieldset>\n"
         '<table class="pairs"><caption>All pairs</caption><thead><tr>{}</tr></thead><tbody>\n{}\n'
         "</tbody></table>\n</main></body></html>\n", title, date, note, cause_totals(rows), radios,
         heads, lines)
@@ -149,11 +149,11 @@ def collect(args: argparse.Namespace) -> int:
     folder = args.collect
     refuse_output_names(args)
     if not os.path.isdir(folder):
-        raise Stop(f"{folder} is no folder")
+        raise Stop(f"{folder} is not a folder")
     rows, paths = [], []
     for path, known in objects_in(folder):
         if known is None:
-            tell(f"{path} is no JSON result of a pair, and is skipped")
+            tell(f"{path} is not a JSON result of a pair and is skipped")
             continue
         name = os.path.basename(path).removesuffix(ENDING)
         rows.append(row_of_object(known, name))
@@ -185,7 +185,8 @@ def write_collection(args: argparse.Namespace, rows: Sequence[Row], places: Sequ
         except (Stop, OSError) as reason:
             failed.append(error_line(reason))
             tell(failed[-1])
-    why = "stopped before the others" if is_stopped else "not all was written" if failed else ""
+    why = "stopped before the others" if is_stopped else "an output was not written" if failed \
+        else ""
     is_output_taken = any(path in OWN_OUTPUT for path in (args.json, args.csv, args.junit))
     out = sys.stderr if is_output_taken else sys.stdout
     try:
@@ -324,7 +325,7 @@ def load_for_csv(place: ResultSource) -> dict[str, Any]:
     known = load_result(place)
     left_out = known["omitted"]["faults"] if "request" in known else 0
     if left_out:
-        tell(f"{place} leaves out {counted(left_out, 'fault')}, and so do the lines")
+        tell(f"{place} omits {counted(left_out, 'fault')}, so the CSV file does too")
     return known
 
 

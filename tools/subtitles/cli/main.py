@@ -28,7 +28,8 @@ def number_reader(what: str, least: int, most: int) -> Callable[[str], int]:
     def read(text: str) -> int:
         is_number = text.isascii() and text.isdecimal() and len(text) <= len(str(most))
         if not is_number or not least <= int(text) <= most:
-            raise argparse.ArgumentTypeError(f"{text} is no number of {what}: {least} to {most}")
+            raise argparse.ArgumentTypeError(f"{text} is not a number of {what}: give {least} to "
+                                             f"{most}")
         return int(text)
 
     return read
@@ -79,10 +80,10 @@ def find_mode(args: argparse.Namespace) -> Mode:
              MEASURE: args.measure}
     given = [mode for mode, value in asked.items() if value is not None]
     if len(given) > 1:
-        raise Stop(f"{given[0].words} and {given[1].words} are two calls")
+        raise Stop(f"{given[0].words} and {given[1].words} can't be given together")
     if given and args.stl is not None:
-        own = "behind it" if given[0] is MEASURE else f"from {asked[given[0]]}"
-        raise Stop(f"{args.stl} stands beside {given[0].words}, which takes its pairs {own}")
+        own = "from its arguments" if given[0] is MEASURE else f"from {asked[given[0]]}"
+        raise Stop(f"{given[0].words} takes its pairs {own}: remove {args.stl}")
     return given[0] if given else ALONE if args.recording is None else PAIR
 
 
@@ -180,7 +181,7 @@ def dispatch(text: str, program_name: str, line: list[str]) -> int:
     refuse_options(make_parser(text), line, find_mode(make_parser(text).parse_args(line)))
     args = read_options(make_parser(text), line, {}, {}, is_typed=True)
     if args.is_kept and args.out is None:
-        raise Stop("--keep goes with -o DIR, where it keeps what was judged")
+        raise Stop("--keep needs -o DIR, the folder in which it keeps the recording")
     args.out = args.out and plain_name(args.out)
     if args.collect is not None:
         from . import collection  # one pair needs nothing of these

@@ -80,13 +80,13 @@ def every_of(several: Sequence[Repeats]) -> Finding:
         return Finding("", ["every: there are too few headers of the page"])
     worst = max(several, key=lambda one: one.longest)
     usual = [one.usual for one in several if one.usual is not None]
-    words = f", and {max(usual)} are usual" if usual else ""
+    words = f"; {max(usual)} are usual" if usual else ""
     lines = [
-        f"every: of {counted(sum(repeats.headers for repeats in several), 'header')} of the page "
-        f"the next comes within {counted(worst.longest, 'frame')}, the first of these from "
-        f"{time_of(worst.since)} on{words}"]
+        f"every: at most {counted(worst.longest, 'frame')} from one header of the page to the "
+        f"next, first from {time_of(worst.since)} on, in "
+        f"{counted(sum(repeats.headers for repeats in several), 'header')}{words}"]
     return Finding(f"--every {worst.longest}", lines + named_lines(
-        "longer without a header, which this refuses", [
+        "longer without a header, which --every then refuses", [
             f"{counted(frames, 'frame')} from {time_of(since)} on" for repeats in several
             for since, frames in repeats.exceptions if frames > worst.longest]))
 
@@ -94,9 +94,9 @@ def every_of(several: Sequence[Repeats]) -> Finding:
 # How far apart PES packets come.
 
 WHY_NONE = {
-    IRREGULAR: "PES packets come at irregular distances", PAUSED: "PES packets pause",
+    IRREGULAR: "PES packets come at irregular intervals", PAUSED: "PES packets pause",
     BY_EVERY: "--every shows each loss", TOO_FEW: "PES packets are too few, or "
-    "too close together, for a loss to show"}
+    "too close together, to show a loss"}
 
 
 def pace_found(paces: Sequence[Pace]) -> Finding:
@@ -108,8 +108,8 @@ def pace_found(paces: Sequence[Pace]) -> Finding:
                                       if its is None))
         return Finding("", [f"pace: none, since {why or 'there are no PES packets'}"])
     return Finding(f"--pace {max(known)}", [
-        f"pace: a PES packet comes within {counted(max(pace.apart for pace in paces), 'frame')} of "
-        "the one before nearly everywhere"])
+        f"pace: nearly always at most {counted(max(pace.apart for pace in paces), 'frame')} from "
+        "one PES packet to the next"])
 
 
 # How late cues are, by a clock that is given.
@@ -200,25 +200,25 @@ def late_found(several: Sequence[Delays], without: Sequence[str],
     is usual, the bound is one frame at least."""
     off, count = off_frame
     least = int(off * UNUSUAL >= count > 0)
-    lines = [f"within: of {count} PTS {off} are off their frames, which "
-             f"{'--within 1 accepts' if least else 'this refuses (61)'}"] * (off > 0)
-    lines += [f"within, late: no clock is given of {name} (--origin, --start), so nobody knows how "
-              "late its cues are" for name in without]
+    lines = [f"within: {off} of {count} PTS are off their frames, which "
+             f"{'--within 1 accepts' if least else '--within 0 refuses (61)'}"] * (off > 0)
+    lines += [f"within, late: no clock was given for {name} (--origin or --start), so it is not "
+              "known how late its cues are" for name in without]
     if not several:
         yield Finding("--within 1" if least else "", lines)
         return
     begins, ends = collections.Counter[int](), collections.Counter[int]()
     for delays in several:
         begins, ends = begins + delays.begins, ends + delays.ends
-    lines += [f"within, late: begins {counts_text(begins)}; ends {counts_text(ends)} (frames late: "
-              "how many)"]
+    lines += [f"within, late: in-cues {counts_text(begins)}; out-cues {counts_text(ends)} (frames "
+              "late:how many)"]
     begins, ends = usual_in(begins), usual_in(ends)
-    lines += named_lines("early, which nothing accepts", [
+    lines += named_lines("early, which no option accepts", [
         name for one in several for name in one.early])
-    lines += named_lines("whose letters were never sent", [
+    lines += named_lines("text never sent", [
         name for one in several for name in one.unseen])
     longest = max([*begins, *ends, least])
-    lines += named_lines("later than is usual, which this refuses", [
+    lines += named_lines("later than usual, which --within then refuses", [
         words for one in several for delay, words in one.late if delay > longest])
     if longest > MOST_WITHIN:
         lines.append(f"within is {MOST_WITHIN} frames at most")
@@ -253,18 +253,17 @@ def keeping_of(headers: int, keeping: int, is_alone: bool) -> Finding:
     lines = [f"keeping: C4 (erase page) is clear in {keeping} of {counted(headers, 'header')}"]
     is_habit = keeping > 0 and keeping * UNUSUAL >= headers
     if keeping and not is_habit:
-        lines.append("keeping: they are too few to be how a site sends, and are refused (67)")
+        lines.append("keeping: these are too few to be the site's habit: they are refused (67)")
     if is_habit and not is_alone:
-        lines.append("keeping: other control bits of a header are wrong too, which are refused "
-                     "(67)")
+        lines.append("keeping: other control bits of a header are wrong too: they are refused (67)")
     return Finding("--keeping" if is_habit and is_alone else "", lines)
 
 
 def option_of(options: Iterable[str], judged: str) -> Finding:
     """The national option of all headers."""
     sent = sorted(options)
-    lines = [f"option: by C12 to C14 of its headers the page is {' and '.join(sent) or 'unknown'}; "
-             f"letters were read as {judged}"]
+    lines = [f"option: {' and '.join(sent) or 'unknown'} by C12 to C14 of the headers; the text "
+             f"was read as {judged}"]
     return Finding(f"--option {sent[0]}" if len(sent) == 1 else "", lines)
 
 
@@ -279,13 +278,13 @@ def layout_found(sendings: Sequence[Sending], option: NationalOption) -> Finding
     there is none, with the nearest."""
     closest, choice = choices_of([sending.sent for sending in sendings], option)
     if closest.total < FEWEST:
-        return Finding("", [f"layout: {counted(closest.total, 'subtitle')} with their letters were "
-                            f"found, and {FEWEST} say how a house draws"])
+        return Finding("", [f"layout: {counted(closest.total, 'subtitle')} found with their text, "
+                            f"but {FEWEST} are needed"])
     text = layout_text(choice.layout)
     if not choice.is_clear:
         nearest = choice if closest.is_clear else closest
         return Finding("", [*no_layout(nearest, sendings, option), *left_lines(choice)])
-    rests = [f"{rest.text} rests on {rest.decides}, of which {rest.drawn} were sent so"
+    rests = [f"{rest.text} is based on {rest.decides}, of which {rest.drawn} were sent so"
              for rest in choice.items]
     lines = ["; ".join([f"layout: {counts_words(choice)}", *rests])]
     return Finding(f"--layout {quoted(text)}" if text else "", [
@@ -323,11 +322,11 @@ def no_layout(nearest: Choice, sendings: Sequence[Sending], option: NationalOpti
               if not draws(nearest.layout, sending.sent, option)]
     text = layout_text(nearest.layout)
     yield f"layout: none is proposed. The nearest, {text or 'that without --layout'}, draws " \
-        f"{counts_words(nearest)}, and {TENTHS} in 10 have to be"
+        f"{counts_words(nearest)}; {TENTHS} in 10 are needed"
     for words, is_one in KINDS:
         count = sum(is_one(sent, nearest, option) for sent in others)
         if count:
-            yield f"{words} in {count} of these {len(others)} others: no layout says that"
+            yield f"{words} in {count} of the {len(others)} others: no layout can do that"
     yield from against_lines(nearest, sendings, option)
 
 
@@ -346,7 +345,7 @@ def is_block(sample: Sent, nearest: Choice, option: NationalOption) -> bool:
 
 
 KINDS: Sequence[tuple[str, Callable[[Sent, Choice, NationalOption], bool]]] = (
-    ("a space stands in the box", is_spaced), ("lines are a block, aligned left,", is_block))
+    ("a space is in the box", is_spaced), ("lines form a block, aligned left,", is_block))
 
 
 def sendings_of(stl: str, subtitles: Iterable[Subtitle], held: Timeline, option: NationalOption) \
@@ -363,11 +362,11 @@ def never_words(text: str) -> str:
     if FLASH in brought:
         return "all would flash"
     if ("before", 0) in taken:
-        return "receivers show a line behind two start boxes"
+        return "receivers show a line only after two start boxes"
     if ("row", 0) in taken:
-        return f"no house moves all by more than {MOST_MOVED} rows"
-    return "it takes from a page what a viewer sees" if taken else \
-        f"{FEWEST} subtitles have to show it, and {TENTHS} in 10 of these as they were sent"
+        return f"no site moves all by more than {MOST_MOVED} rows"
+    return "it removes something that viewers see" if taken else \
+        f"{FEWEST} subtitles have to show it, {TENTHS} in 10 of them as they were sent"
 
 
 def counts_words(choice: Choice) -> str:
@@ -436,12 +435,12 @@ def requests_of(words: argparse.Namespace) -> list[Request]:
     if len(names) == 1 and not is_stl(names[0]):
         return requests_in(names[0], words)
     if len(names) % 2:
-        raise Stop(f"--measure takes pairs, STL RECORDING: {names[-1]} has no recording")
+        raise Stop(f"--measure needs pairs, STL RECORDING: {names[-1]} has no recording")
     requests = [request_with(stl, recording, words)
                 for stl, recording in zip(names[::2], names[1::2])]
     if len(requests) > 1 and (words.origin is not None or words.start not in (None, TCP)):
-        raise Stop("--origin and --start are the clock of one recording: give a list, and in each "
-                   "line a pair with its clock")
+        raise Stop("--origin and --start give the clock of one recording: for several, give a list "
+                   "of pairs, each with its clock")
     return requests
 
 
@@ -470,9 +469,9 @@ def measured(request: Request, typed: CommandWords, folder: str) -> Measured:
             found = of_pair(pair_of(request, typed, folder))
         return found._replace(option=request.option)
     except Unclear as why:
-        raise Stop(f"{request.stl} {request.recording} can't be measured: {why}") from None
+        raise Stop(f"{request.stl} and {request.recording} can't be measured: {why}") from None
     except NeverSent as why:
-        raise Stop(f"{request.stl} {request.recording} can't be measured: {why}") from None
+        raise Stop(f"{request.stl} and {request.recording} can't be measured: {why}") from None
 
 
 def pair_of(request: Request, typed: CommandWords, folder: str) -> PairJudge:
@@ -496,7 +495,7 @@ def judged_lines(requests: Sequence[Request], typed: CommandWords, folder: str) 
         if not is_good:
             refused += 1
             first, *more = sentence.splitlines()
-            yield f"# By this profile {request.stl} {request.recording} is not accepted. {first}"
+            yield f"# By this profile {request.stl} {request.recording} is not accepted: {first}"
             yield from (f"# {line}" for line in more)
     if not refused:
         yield "# By this profile none of these recordings is refused."
@@ -533,7 +532,7 @@ def cut_of_part(programme: PartSearch, part: Part) -> Part:
     """A part with the PES packets of its time."""
     pes = cut_packets(programme, *part.judged_recording, programme.request.within).range
     if pes is None:
-        raise Unclear("nothing of the page is in the recording at the time of the subtitles")
+        raise Unclear("the recording has nothing of the page at the time of the subtitles")
     return part.add_packets(pes)
 
 
@@ -560,9 +559,9 @@ def pid_of(pair: PairJudge) -> tuple[str | None, list[str]]:
     for programme in recording.survey.programmes:
         for other, pages in programme.pages.items():
             if any(one.page == pair.request.page for one in pages):
-                lines.append(f"programme {programme.number} announces page {name} in PID "
+                lines.append(f"programme {programme.number} announces page {name} on PID "
                              f"0x{other:X}: {', '.join(one.line() for one in pages)}")
-    return f"0x{pid:X}", [*dict.fromkeys(lines)] or [f"PID 0x{pid:X} was asked for"]
+    return f"0x{pid:X}", [*dict.fromkeys(lines)] or [f"PID 0x{pid:X} was given"]
 
 
 # What is printed.
@@ -573,8 +572,8 @@ def profile_lines(requests: Sequence[Request], recordings: Sequence[Measured]) -
     files = " ".join(quoted(name) for request in requests
                      for name in (request.stl, request.recording or ""))
     yield f"# qc {version()} --measure {files}"
-    yield (f"# Measured of {counted(len(requests), 'recording')}, what is usual there. Read each "
-           "line, and keep what is true of your site.")
+    yield (f"# What is usual in {counted(len(requests), 'recording')}. Read each line, and keep "
+           "what is true of your site.")
     are_known = [request.origin is not None or request.start is not None for request in requests]
     counts = [one.headers for one in recordings]
     options = {option for one in recordings for option in one.options}
@@ -604,5 +603,5 @@ def pid_found(recordings: Sequence[Measured]) -> Finding:
              for line in dict.fromkeys(line for one in recordings for line in one.said)]
     pid = next(iter(pids)) if len(pids) == 1 else None
     if len(pids) > 1:
-        lines.append("pid: it is not the same in all recordings")
+        lines.append("pid: not the same in all recordings")
     return Finding(f"--pid {pid}" if pid else "", lines)

@@ -91,7 +91,7 @@ def refuse_file(path: str, inputs: Inputs) -> None:
     with contextlib.suppress(FileNotFoundError, NotADirectoryError):
         about = os.lstat(path)
         if not stat.S_ISLNK(about.st_mode) and (kind_of(about.st_mode) or not is_own_file(path)):
-            raise Stop(f"{path} is there, and is no result of these tools: move it away, or give "
+            raise Stop(f"{path} exists and is not a result of these tools: move it away, or give "
                        "another folder")
 
 
@@ -316,11 +316,11 @@ def print_verdict(verdict: Verdict, speech: Speech, page: str | None = None) -> 
     for line in verdict.format_part_lines():
         speech.say(line)
     for line in first_lines([gap.format_line() +
-                             ("" if gap.is_judged else ", outside of what is judged")
+                             ("" if gap.is_judged else ", outside the judged range")
                              for gap in verdict.gaps]):
         speech.tell(line)
     if verdict.is_lost and not verdict.request.is_loss_allowed:
-        speech.tell("that part was not recorded")
+        speech.tell("record that part again: what is missing was not checked")
     for line in verdict.notes:
         speech.tell(line)
     for warning in verdict.warnings:

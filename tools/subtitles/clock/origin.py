@@ -91,7 +91,7 @@ def subtitles_between(path: str, option: str, between: Between,
             shown.append(Shown(begin, end, (stored.row, stored.justify, stored.text),
                                letters_on_page(stored.text, option)))
     if not shown:
-        raise Stop(f"{path} has no subtitle that comes and goes within a day")
+        raise Stop(f"{path} has no subtitle that begins and ends within a day")
     return shown
 
 
@@ -103,15 +103,15 @@ def find(sought: Sought, packets: Packets) -> Origin:
         return origin
     bases = bases_of(subtitles, packets, sought.within, sought.inside)
     if not bases:
-        origin.lines += [*other_words(packets, sought.page), "no cue agrees with any origin"]
+        origin.lines += [*other_words(packets, sought.page), "no cue matches at any origin"]
         return origin
     if (count := len(packets.bases())) > MOST_BASES:
-        origin.lines.append(f"PTS go back at {count - 1} places: of what lies between, the "
-                            f"{MOST_BASES} stretches are looked at in which the page changes most")
+        origin.lines.append(f"PTS go back at {count - 1} places: only the {MOST_BASES} stretches "
+                            "between them with the most page changes are searched")
     runs = runs_of(bases, sought.origin is not None)
     if len(runs) > 1:
         origin.runs = [packets_of(runs, number, bases, packets) for number in range(len(runs))]
-        origin.lines.append(f"the programme is there {len(runs)} times")
+        origin.lines.append(f"the programme is in the recording {len(runs)} times")
         return origin
     row = find_row(bases)
     if sought.breaks:
@@ -130,22 +130,21 @@ def is_sent(packets: Packets, sought: Sought, lines: list[str]) -> bool:
     if packets.damage:
         if not count:
             raise Stop(f"{sought.name}: {packets.damage}")
-        lines.append(f"{sought.name}: {packets.damage}; what stands before is used")
+        lines.append(f"{sought.name}: {packets.damage}; only what is before it is used")
     if not timed:
         lines.append(f"none of {counted(count, 'PES packet')} in {sought.name} has a PTS: check "
                      "refuses them as 34")
         return False
     if marks:
-        lines.append(f"{counted(marks, 'mark')} of what is missing skipped: check refuses them as "
-                     "45")
+        lines.append(f"{counted(marks, 'gap marker')} skipped: check refuses them as 45")
     if timed + marks < count:
-        lines.append(f"{count - timed - marks} of {counted(count, 'PES packet')} have no PTS, and "
+        lines.append(f"{count - timed - marks} of {counted(count, 'PES packet')} have no PTS and "
                      "are skipped here: check refuses them as 34")
     if not packets.changes:
         own = page_name(*sought.page)
         others = sorted((page for page in packets.sent if page != own),
                         key=lambda page: -packets.sent[page])
-        lines.append(f"there is no header of page {own} in {sought.name}; other subtitle pages: "
+        lines.append(f"{sought.name} has no header of page {own}; other subtitle pages: "
                      f"{', '.join(others[:NAMED]) or 'none'}")
     return bool(packets.changes)
 
@@ -154,7 +153,7 @@ def take_one(origin: Origin, sought: Sought, bases: Sequence[Base],
              row: Sequence[Stretch], parts: Sequence[FittedPart]) -> None:
     """Store the origin of the first part, if it is clear."""
     if not parts:
-        origin.lines.append("no cue agrees with any origin")
+        origin.lines.append("no cue matches at any origin")
         return
     part, edges = by_known(parts[0], sought.origin), bases[0].edges
     if is_clear(part, sought.origin is not None):
@@ -172,8 +171,8 @@ def take_one(origin: Origin, sought: Sought, bases: Sequence[Base],
         origin.shifts = [drift_line(drift)]
     origin.lines += origin.shifts
     first, last = (time_in(pts, part.origin) or "outside of the day" for pts in part.sent.sent)
-    origin.lines.append(f"subtitles due from {time_of(edges[0].frame)} to "
-                        f"{time_of(edges[-1].frame)}, page sent from {first} to {last}")
+    origin.lines.append(f"subtitles expected from {time_of(edges[0].frame)} to "
+                        f"{time_of(edges[-1].frame)}, page received from {first} to {last}")
 
 
 def by_known(part: FittedPart, known: int | None) -> FittedPart:
@@ -195,7 +194,7 @@ def take_parts(origin: Origin, sought: Sought, bases: Sequence[Base],
     if len(parts) != sought.breaks + 1:
         origin.breaks = max(len(parts) - 1, 0)
         breaks = counted(origin.breaks, "break") if origin.breaks else "no break"
-        origin.lines += [f"{breaks} found, where --breaks {sought.breaks} is said",
+        origin.lines += [f"{breaks} found, but --breaks is {sought.breaks}",
                          *break_lines(parts)]
         return
     count = sum(len(part.sent.edges) for part in parts)
@@ -205,13 +204,13 @@ def take_parts(origin: Origin, sought: Sought, bases: Sequence[Base],
             add(origin, part, part.sent.packets if len(bases) > 1 else None,
                 (part.begin, part.end), count)
     origin.lines += [f"{len(parts)} parts: {sum(part.best.agree for part in parts)} of "
-                     f"{counted(count, 'cue')} agree", *break_lines(parts)]
+                     f"{counted(count, 'cue')} match", *break_lines(parts)]
     for part in parts:
         origin.lines += part_lines(part, count, sought.has_picture)
         if part is parts[0]:
             measure(origin, sought.origin, part)
         origin.lines += [f"the subtitle from {time_of(shown.begin)} to {time_of(shown.end)} "
-                         "reaches into the next part, and is in none" for shown in part.over]
+                         "reaches into the next part, so it is in no part" for shown in part.over]
 
 
 def add(origin: Origin, part: FittedPart, packets: Range | None,
@@ -234,8 +233,8 @@ def measure(origin: Origin, known: int | None, part: FittedPart) -> None:
     origin.away = None if known is None else away
     if known is not None or abs(away) // TICKS <= NEAR and not 0 <= abs(away) < TICKS:
         which = f"--origin {known or 0}"
-        origin.lines.append(f"that is {frames_words(away)} compared with {which}" if away else
-                            f"that is {which}")
+        origin.lines.append(f"it is {frames_words(away)} compared with {which}" if away else
+                            f"it is {which}")
 
 
 # ---- text
@@ -245,7 +244,7 @@ def other_words(packets: Packets, page: Page) -> Iterator[str]:
     name = page_name(*page)
     if packets.strays:
         count = sum(run.length for run in packets.runs if STRAY in run.does)
-        yield f"rows came while {name} was not open, in {counted(count, 'PES packet')}"
+        yield f"rows came while page {name} was not open, in {counted(count, 'PES packet')}"
     subcodes = turns_of(packets)
     if subcodes:
         yield subcode_words(subcodes, name)
@@ -280,9 +279,8 @@ def agree_line(part: FittedPart, count: int) -> str:
     best, others, edges = part.best, part.others, len(part.sent.edges)
     following = f"--origin {others[0].origin} with {others[0].agree}" if others else "none"
     return (f"{best.agree} of {counted(best.among, 'cue')} "
-            f"{'agrees' if best.agree == 1 else 'agree'}, {best.letters} with the letters that are "
-            f"due; {'the file' if edges == count else 'this part'} has {edges}; next best: "
-            f"{following}")
+            f"{'matches' if best.agree == 1 else 'match'}, {best.letters} with the expected text; "
+            f"{'the file' if edges == count else 'this part'} has {edges}; next best: {following}")
 
 
 def part_lines(part: FittedPart, count: int, has_picture: bool = False) -> Iterator[str]:
@@ -292,36 +290,36 @@ def part_lines(part: FittedPart, count: int, has_picture: bool = False) -> Itera
     if part.sent.within:
         late = sorted(best.late)
         yield "no cue is late" if not late[-1] else f"cues are " \
-            f"{range_words(late[0], late[-1])} late, {late[len(late) // 2]} in the middle"
+            f"{range_words(late[0], late[-1])} late (median {late[len(late) // 2]})"
     equal, apart = as_good(part), part.sent.apart(best)
     if equal:
         names = ", ".join(f"--origin {fit.origin}" for fit in equal[:NAMED])
-        yield (f"it is not unique: as good as --origin {best.origin} are {names}"
+        yield (f"it is ambiguous: as good as --origin {best.origin} are {names}"
                + (f" and {len(equal) - NAMED} more" if len(equal) > NAMED else ""))
     if part.early:
         yield early_line(part.early, has_picture)
     if best.first_other is not None:
-        yield f"the first cue that does not agree is {time_of(best.first_other)}"
+        yield f"the first cue without a match is at {time_of(best.first_other)}"
     if apart:
-        some, others_ = ("beginnings", "ends") if apart.is_begin else ("ends", "beginnings")
+        some, others_ = ("in-cues", "out-cues") if apart.is_begin else ("out-cues", "in-cues")
         which = "all" if apart.agree == apart.of else f"{apart.agree} of {apart.of}"
         yield f"{which} {some} are {frames_words(TICKS * apart.late)} compared with the {others_}"
     if best.exact < best.agree:
-        yield (f"{best.agree - best.exact} of them only to the nearest frame: PTS that are not "
-               "whole frames apart are refused as 61")
+        yield (f"{best.agree - best.exact} of them match only to the nearest frame: PTS that are "
+               "not whole frames apart are refused as 61")
     if best.agree * 2 < best.among and not apart:
-        yield (f"fewer than half of the cues agree with --origin {best.origin}: check that this "
+        yield (f"fewer than half of the cues match with --origin {best.origin}: check that this "
                "is the right subtitle file")
 
 
 def early_line(early: Early, has_picture: bool) -> str:
     """Return how many cues come before the chosen clock, and why that may be."""
     count = f"{early.cues} of {counted(early.among, 'cue')} " \
-        f"{'comes' if early.cues == 1 else 'come'} up to {counted(early.frames, 'frame')} before " \
-        "what is usual for the others"
+        f"{'is' if early.cues == 1 else 'are'} up to {counted(early.frames, 'frame')} early " \
+        "compared with the others"
     options = "--origin or --start" if has_picture else "--origin"
-    return f"{count}: early subtitles, or an inserter that is late for the others? Give {options}" \
-        if early.are_many else f"{count}: that is early"
+    return f"{count}: are these early, or is the inserter late for the others? Give {options}" \
+        if early.are_many else count
 
 
 def drift_line(drift: Drift) -> str:
@@ -329,7 +327,7 @@ def drift_line(drift: Drift) -> str:
     way = "later and later" if drift.frames > 0 else "earlier and earlier"
     by = counted(abs(drift.frames), "frame")
     return f"from {time_of(drift.first)} to {time_of(drift.last)} subtitles come {way}, by {by}: " \
-        "is the file, or the recording, for another frame rate?"
+        "does the file or the recording have another frame rate?"
 
 
 def shift_lines(row: Sequence[Stretch], parts: Sequence[FittedPart], known: int) -> list[str]:
@@ -344,7 +342,7 @@ def shift_lines(row: Sequence[Stretch], parts: Sequence[FittedPart], known: int)
         lines.append(f"from {time_of(stretch.track.edges[stretch.first].frame)} on{back} subtitles "
                      f"are {words}")
     left = lines[LISTED - 1:-1]
-    lines = lines[:LISTED - 1] + [f"and so on, {counted(len(left), 'time')} more"] * bool(left) \
+    lines = lines[:LISTED - 1] + [f"and {counted(len(left), 'more change')}"] * bool(left) \
         + lines[LISTED - 1:][-1:]
     return lines
 

@@ -18,7 +18,7 @@ from ..stream.survey import Survey
 # The clock of a part
 
 RECORDING, GIVEN, START, TCP = "recording", "given", "start", "tcp"
-SOURCES = {RECORDING: "fitted to the recording", GIVEN: "given", START: "by the first picture",
+SOURCES = {RECORDING: "estimated", GIVEN: "given", START: "by the first picture",
            TCP: "by the first picture, TCP"}
 FITTED = "no clock was given, so a delay that all subtitles share was not checked"
 FITTED_LATER = "the clock after a break was estimated, so a delay that all subtitles of that " \
@@ -61,8 +61,8 @@ class Clock(NamedTuple):
         that; return nothing otherwise."""
         if not self.away or self.delay_frames != self.away:
             return ""
-        return "is the time code that of the GOP header? That is of the first picture in the " \
-            "order of showing, also where it can't be shown" if self.away < 0 else \
+        return "is the time code from the GOP header? That belongs to the first picture in " \
+            "display order, even if it can't be decoded" if self.away < 0 else \
             "is the time code that of the picture with the random_access_indicator? Others are " \
             "shown before it"
 
@@ -122,8 +122,8 @@ class First(NamedTuple):
         more = "" if self.other is None else \
             f"; the one with the random_access_indicator has PTS {self.other}, {frames} later" \
             if self.away > 0 else \
-            f"; those of its group that come before it, from PTS {self.other} on, {frames}, " \
-            "can't be decoded"
+            f"; pictures of its group before it, from PTS {self.other} on ({frames}), can't be " \
+            "decoded"
         return (f"the first picture has PTS {self.pts}, {NAMES[self.kind]} of "
                 f"{pid_name(self.pid)}; {counted(self.passed, 'PES packet')} of video before it "
                 f"skipped{more}")
@@ -153,7 +153,7 @@ def video_of(survey: Survey, teletext: int) -> tuple[int, int]:
                       f"{'several video PIDs' if videos else 'no video'}: {there}")
     pid, kind = videos.popitem()
     if kind not in NAMES:
-        raise NoFirst(f"pictures of {OTHERS[kind]} are not read: {there}")
+        raise NoFirst(f"{OTHERS[kind]} video is not supported: {there}")
     return pid, kind
 
 
@@ -167,7 +167,7 @@ def first_picture(survey: Survey, teletext: int) -> First:
     pid, kind = video_of(survey, teletext)
     name, video = f"{NAMES[kind]} of {pid_name(pid)}", survey.videos.get(pid)
     if video is None and not survey.is_whole:
-        raise NoFirst(f"no PES packet of {name} has come with the random_access_indicator")
+        raise NoFirst(f"no PES packet of {name} had the random_access_indicator so far")
     if video is None:
         raise NoFirst(f"{pid_name(pid)}, which the PMT names as {NAMES[kind]}, has no PES packets "
                       "of video that can be read")
@@ -177,14 +177,13 @@ def first_picture(survey: Survey, teletext: int) -> First:
     if video.scrambled:
         raise NoFirst(f"{name} is scrambled")
     if video.lost:
-        raise NoFirst(f"{counted(video.lost, 'TS packet')} of {name} lost among its first pictures")
+        raise NoFirst(f"{name} lost {counted(video.lost, 'TS packet')} among its first pictures")
     pts = [pts for pts in video.pictures if pts is not None]
     if len(pts) < len(video.pictures):
         raise NoFirst(f"a picture of {name} has no PTS")
     if frames := left_out(pts, video.is_cut):
-        raise NoFirst(f"the PTS of the first pictures of {name} leave out "
-                      f"{counted(frames, 'frame')}: a PES packet has several pictures, or some are "
-                      "missing")
+        raise NoFirst(f"the PTS of the first pictures of {name} skip {counted(frames, 'frame')}: a "
+                      "PES packet has several pictures, or some are missing")
     least = min(pts, key=lambda each: ticks_between(pts[0], each))
     first, other = (least, pts[0]) if video.form in ("", CLOSED) else (pts[0], least)
     return First(pid, kind, first, video.passed, other if video.form and other != first else None)
@@ -237,7 +236,7 @@ def start_frame(request: Request) -> int:
     is_code = code.isascii() and code.isdecimal() and len(code) == 8
     first = frame_of_code(int(code[at:at + 2]) for at in range(0, 8, 2)) if is_code else None
     if first is None:
-        raise Unclear(f"the GSI block of {request.stl} has no time as TCP: {shown(code)!r}")
+        raise Unclear(f"the TCP in the GSI block of {request.stl} is not a time: {shown(code)!r}")
     return first
 
 
@@ -247,28 +246,28 @@ def began(request: Request, survey: Survey, packets: Packets) -> Began:
     first, frame = first_picture(survey, packets.pid), start_frame(request)
     after = after_frame(packets, first.pts, request.within)
     if after * 2 == TICKS:
-        raise Unclear(f"{first.line()}. The PTS of the Teletext are half a frame after it: the "
-                      "frame of neither is clear")
+        raise Unclear(f"{first.line()}. The PTS of the Teletext are half a frame later, so it is "
+                      "not clear to which frame they belong")
     ticks = after if after * 2 < TICKS else after - TICKS
     moved = wrapped(first.pts - TICKS * frame + ticks)
     source = TCP if request.start == TCP else START
     name = f"the TCP {time_of(frame)}" if source == TCP else f"--start {time_of(frame)}"
-    said = "which the PTS of the Teletext agree with" if not ticks else \
+    said = "which matches the PTS of the Teletext" if not ticks else \
         f"moved by {counted(abs(ticks), 'tick')} {'forward' if ticks > 0 else 'back'} to the PTS " \
         "of the Teletext"
     return Began(Clock(moved, source, away=first.away),
-                 [first.line(), f"{name} there is --origin {moved}, {said}"], frame)
+                 [first.line(), f"{name} there means --origin {moved}, {said}"], frame)
 
 
 def refuse_outside(request: Request, began: Began, begin: int, end: int, last: int | None) -> None:
     """Raise `Unclear` if subtitles lie outside of a recording that begins at its TCP; `last` is its
     last PTS."""
     if begin < began.frame:
-        raise Unclear(f"the first subtitle of {request.stl} comes at {time_of(begin)}, before its "
-                      f"TCP {time_of(began.frame)}, at which the recording would begin")
+        raise Unclear(f"the first subtitle of {request.stl} begins at {time_of(begin)}, before "
+                      f"its TCP {time_of(began.frame)}, at which the recording would begin")
     over = None if last is None else frame_in(last, began.clock.origin)
     if over is not None and end > over + FRAMES_NEAR:
-        raise Unclear(f"the last subtitle of {request.stl} goes at {time_of(end)}, and by the TCP "
+        raise Unclear(f"the last subtitle of {request.stl} ends at {time_of(end)}, but by the TCP "
                       f"the recording ends at {time_of(over)}")
 
 
@@ -286,5 +285,5 @@ def most_off(several: Sequence[int], origin: int) -> int:
 
 def off_words(most: int) -> str:
     """Return how far PTS are off, in ticks and in time, or nothing if they are not."""
-    return f"PTS are up to {counted(most, 'tick')} ({most / MILLISECOND:.2f} ms) off the frame" \
+    return f"PTS are up to {counted(most, 'tick')} ({most / MILLISECOND:.2f} ms) off their frames" \
         if most else ""

@@ -104,7 +104,7 @@ def page_word(text: str) -> tuple[int, int]:
     """Parse a page as 888: its magazine (0 is 8) and its number."""
     page = page_in(text)
     if page is None:
-        raise argparse.ArgumentTypeError(f"{text} is no page: give a digit 1 to 8 and two "
+        raise argparse.ArgumentTypeError(f"{text} is not a page: give a digit 1 to 8 and two "
                                          "hexadecimal digits other than FF, as 888")
     return page
 
@@ -114,7 +114,7 @@ def time_word(text: str) -> int:
     frame = frame_of(text)
     if frame is None:
         raise argparse.ArgumentTypeError(
-            f"{text} is no time of the day: give HH:MM:SS:FF, 25 frames a second")
+            f"{text} is not a time of day: give HH:MM:SS:FF, 25 frames a second")
     return frame
 
 
@@ -123,7 +123,7 @@ def number_word(text: str, least: int, most: int, refusal: str) -> int:
     digits = text.lstrip("0") or "0"
     is_number = text.isascii() and text.isdecimal() and len(digits) <= len(str(most))
     if not is_number or not least <= int(digits) <= most:
-        raise argparse.ArgumentTypeError(f"{text} is no {refusal}")
+        raise argparse.ArgumentTypeError(f"{text} is not a {refusal}")
     return int(digits)
 
 
@@ -136,7 +136,7 @@ def range_word(text: str) -> tuple[int, int]:
     """Parse the numbers of the first and the last PES packet."""
     found = re.fullmatch(r"(\d{1,12})-(\d{1,12})", text, re.ASCII)
     if not found or int(found[1]) > int(found[2]):
-        raise argparse.ArgumentTypeError(f"{text} is no range of PES packets: give it as 0-99")
+        raise argparse.ArgumentTypeError(f"{text} is not a range of PES packets: give it as 0-99")
     return int(found[1]), int(found[2])
 
 
@@ -158,7 +158,7 @@ def within_word(text: str) -> int:
 def breaks_word(text: str) -> int:
     """Parse a number of breaks."""
     if not (text.isascii() and text.isdecimal() and len(text) <= MOST_DIGITS):
-        raise argparse.ArgumentTypeError(f"{text} is no number of breaks: give 0 to "
+        raise argparse.ArgumentTypeError(f"{text} is not a number of breaks: give 0 to "
                                          f"{10 ** MOST_DIGITS - 1}")
     return int(text)
 
@@ -167,7 +167,7 @@ def start_word(text: str) -> str:
     """Check the time code of the first picture, or `tcp`."""
     if text != TCP_WORD and frame_of(text) is None:
         raise argparse.ArgumentTypeError(
-            f"{text} is no start: give HH:MM:SS:FF, 25 frames a second, or {TCP_WORD}")
+            f"{text} is not a time code: give HH:MM:SS:FF, 25 frames a second, or {TCP_WORD}")
     return text
 
 
@@ -178,7 +178,7 @@ def pid_word(text: str) -> int:
     except ValueError:
         pid = NO_PID
     if not 0 <= pid < NO_PID:
-        raise argparse.ArgumentTypeError(f"{text} is no PID: give 0 to 8190, or as 0x101")
+        raise argparse.ArgumentTypeError(f"{text} is not a PID: give 0 to 8190, or as 0x101")
     return pid
 
 
@@ -233,7 +233,7 @@ def shares_in(text: str) -> dict[int, int]:
         if not 0 <= delay <= MOST_WITHIN or not 1 <= share <= MOST_SHARE or \
                 delay <= max(shares, default=-1):
             raise argparse.ArgumentTypeError(
-                f"{piece!r} is no delay with its share: give 0 to {MOST_WITHIN} frames and 1 to "
+                f"{piece!r} is not a delay and its share: give 0 to {MOST_WITHIN} frames and 1 to "
                 f"{MOST_SHARE}, as 1:40, the delays rising")
         shares[delay] = share
     return shares

@@ -213,7 +213,7 @@ class Inputs:
         have its inode."""
         for one in identities(path, is_followed):
             if one in self.known and one in identities(self.known[one], True):
-                raise IsInput(f"{path} is an input too")
+                raise IsInput(f"{path} is also an input: give another name")
 
 
 def identities(name: str, is_followed: bool) -> set[tuple[int, int]]:

@@ -39,7 +39,7 @@ def built_program(path: str | None = None) -> str:
     """Return the program at `path`, or the one that was built from the current sources."""
     if path:
         if os.path.isdir(path) or not os.access(path, os.X_OK):
-            raise Stop(f"{path} is no program")
+            raise Stop(f"{path} is not an executable program")
         return behind_script(path)
     program, why = chosen(TOP)
     if not program:
@@ -253,8 +253,7 @@ def remove(prefix: str) -> list[str]:
     if not os.path.isfile(os.path.join(home, "tools", "qc")):
         raise Stop(f"{prefix} has no subttx: there is no {os.path.join(home, 'tools', 'qc')}")
     if os.path.islink(home):
-        raise Stop(f"{home} is a link, which was not made by an installation: take away what it "
-                   "leads to, then the link")
+        raise Stop(f"{home} is a link that no installation made: remove its target, then the link")
     made = {os.path.normpath(os.path.join(prefix, name))
             for name in (read(os.path.join(home, FOLDERS)) or "").splitlines()}
     paths = [os.path.join(prefix, "bin", "subttx"), *links_into(prefix),

@@ -132,7 +132,7 @@ def fault_in(text: str) -> str | None:
             return f"{name} is given twice"
         if item_of(name, value if equals else None) is None:
             takes = TAKES.get(name, "no value" if name in FLAGS else "")
-            return f"{word or 'nothing between commas'} is no item" + f": {name} takes {takes}" * \
+            return f"{word or 'an empty word'} is not an item" + f": {name} takes {takes}" * \
                 bool(takes)
         names.add(name)
     return None

@@ -40,7 +40,7 @@ def subtitles_in(data: bytes) -> Iterator[StoredSubtitle]:
     """Yield the subtitles of a file without comments and user data; `Damaged` if a block can't be
     read. Only `subttx check` judges them."""
     if len(data) < GSI or data[3:8] not in (b"STL25", b"STL30"):
-        raise Damaged("no EBU STL file: its GSI block is cut, or its DFC is not STL25.01")
+        raise Damaged("not an EBU STL file: its GSI block is cut, or its DFC is not STL25.01")
     if data[3:8] == b"STL30":
         raise Damaged("30 frames a second (STL30.01): give a file of 25 (STL25.01)")
     first: bytes | None = None

@@ -30,10 +30,10 @@ NOT_ERASED, INCOMPLETE_REPEAT, UNKNOWN_CAUSE = "not erased", "not repeated whole
 ERASED, TEXT_IN_PAUSE, NOT_RECEIVED = "erased", "another text in a pause", "not received"
 CAUSE_NAMES = (LATE, EARLY, NEVER, OTHER_TEXT, WRONG_TEXT, WRONG_PLACE, WRONG_ATTRIBUTE, NOT_ERASED,
                INCOMPLETE_REPEAT, ERASED, TEXT_IN_PAUSE, NOT_RECEIVED, UNKNOWN_CAUSE)
-NOT_READABLE = "not all that was sent then can be read"
-NEXT_PROGRAMME = "the page that comes at the last TCO is the next programme's"
-COMPLETED_LATER = "as it is due only after another PES packet of the same frame"
-OMITTED_BY_REPEAT = "left out behind a header with C4 (erase page) clear"
+NOT_READABLE = "not everything that was sent then can be read"
+NEXT_PROGRAMME = "the page sent at the last TCO is the next programme's"
+COMPLETED_LATER = "as expected only after another PES packet of the same frame"
+OMITTED_BY_REPEAT = "missing after a header with C4 (erase page) clear"
 EVEN_PARITY = "a byte of its rows has even parity"
 
 
@@ -157,7 +157,7 @@ class CauseFinder(PageTransmissions):
         """Describe for how many consecutive frames the page was incomplete before frame `came`:
         more frames than the subtitle is late if the page was incomplete before the TCI too."""
         first = self.find_first_wrong_frame(came - 1)
-        return f"the page is not whole for {counted(came - first, 'frame')} in a row, from " \
+        return f"the page is incomplete for {counted(came - first, 'frame')} in a row, from " \
             f"{time_of(first)} on"
 
     def classify_missing_page(self, place: int) -> Cause:
@@ -193,7 +193,7 @@ class CauseFinder(PageTransmissions):
 
     def describe_closed_page(self) -> str:
         """Return that rows came while the page was not open."""
-        return f"rows came while {page_name(*self.timeline.page)} was not open"
+        return f"its rows came while page {page_name(*self.timeline.page)} was not open"
 
     def classify_difference(self, place: int, number: int) -> Cause:
         """Return how the page at the time of a subtitle differs, if the page is not that of another
@@ -233,7 +233,7 @@ class CauseFinder(PageTransmissions):
             return self.classify_replacement(place, faulty.during)
         if faulty.after_end is None:
             return self.make_unknown_cause(place, subtitle.begin, subtitle.end,
-                                           "it is sent at another time too")
+                                           "it is also sent at another time")
         number = self.timeline.number_at(faulty.after_end.first)
         until = self.timeline.stretch(number).last
         if self.timeline.frames[number] >= subtitle.end:
@@ -293,11 +293,11 @@ class CauseFinder(PageTransmissions):
         following = self.subtitles[place + 1:place + 2]
         if following and following[0].begin <= until and \
                 self.pages[place + 1] == self.timeline.pages[number]:
-            return f"it stays for {counted(following[0].begin - end, 'frame')}, up to " \
-                f"{following[0].name}, which is the same"
+            return f"it stays for {counted(following[0].begin - end, 'frame')}, until " \
+                f"{following[0].name}, which has the same page"
         if until == self.timeline.last or self.timeline.halt is not None:
             return ""
-        return f"gone {counted(until + 1 - end, 'frame')} later"
+        return f"it disappears {counted(until + 1 - end, 'frame')} later"
 
     def classify_replacement(self, place: int, span: Span) -> Cause:
         """Return the cause of a subtitle whose page came, and was replaced before the TCO."""
@@ -313,11 +313,11 @@ class CauseFinder(PageTransmissions):
             erased = self.timeline.frames[number]
             if erased < subtitle.begin:  # before its TCI
                 return self.make_unknown_cause(place, span.first, subtitle.end,
-                                               f"it has not come at {time_of(span.first)}")
+                                               f"it is missing at {time_of(span.first)}")
             if self.was_erased(number):
                 return Cause(place, ERASED, None, None, None,
                              f"by a header without rows, at {time_of(erased)}", subtitle.end)
-            return self.make_unknown_cause(place, span.first, subtitle.end, "it is gone at "
+            return self.make_unknown_cause(place, span.first, subtitle.end, "it disappears at "
                                            f"{time_of(self.find_first_wrong_frame(span.first))}")
         return self.classify_difference(place, number)
 
@@ -341,7 +341,7 @@ class CauseFinder(PageTransmissions):
 
 # The causes in a list of `check --all`
 
-SENT_BEFORE_CUT = f"its page transmission is before what was cut, so {BEGIN} is reported"
+SENT_BEFORE_CUT = f"its page was sent before the judged range, so {BEGIN} is reported"
 
 
 class Causes:
@@ -541,7 +541,7 @@ class CauseDescriber:
             sent = format_page_text(cause.sent_page or (), self.option)
             if sent != self.format_expected_text(cause):
                 words += f'; "{sent}" was shown instead' if cause.name == NEVER else \
-                    f', sent: "{sent}"'
+                    f', received: "{sent}"'
         if cause.other_index is not None:
             words += f" of {self.subtitles[cause.other_index].name}"
         return words

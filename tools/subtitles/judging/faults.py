@@ -150,7 +150,7 @@ def describe_first_hint(fault: FaultLine, part: Part, verdict: Verdict) -> str:
         return words
     effect = describe_effect(find_fault_place(fault, part.packets, part.decoded_pages).headers,
                              verdict.request)
-    return f"{describe_subtitle_at(fault.frame, part)} {effect} on some sets: {words}"
+    return f"{describe_subtitle_at(fault.frame, part)} {effect} on some receivers: {words}"
 
 
 def describe_subtitle_at(frame: int, part: Part) -> str:
@@ -159,7 +159,7 @@ def describe_subtitle_at(frame: int, part: Part) -> str:
     due = part.expected_pages()
     count, is_due = due.due(frame)
     if not is_due:
-        return f"the page behind {due.subtitles[count - 1].name}" if count else "the page"
+        return f"the page after {due.subtitles[count - 1].name}" if count else "the page"
     text = format_page_text(due.pages[count - 1], BY_WORD[part.request.option].bits)
     return f'{due.subtitles[count - 1].name}, "{text}",'
 
@@ -176,10 +176,10 @@ def describe_parity_fault(fault: FaultLine, part: Part) -> str:
     if code is None:
         what = "a byte"
     elif code > SPACE:
-        what = f'the letter "{letters(BY_WORD[part.request.option].bits)[code]}"'
+        what = f'the character "{letters(BY_WORD[part.request.option].bits)[code]}"'
     else:
-        what = f"a byte, {describe_code(code)},"
-    return f"{what} of {describe_subtitle_at(fault.frame, part)} comes with even parity"
+        what = f"a byte ({describe_code(code)})"
+    return f"{what} of {describe_subtitle_at(fault.frame, part)} has even parity"
 
 
 def describe_pid_end(part: Part) -> str:
@@ -237,8 +237,8 @@ def format_stored_text(text: bytes) -> str:
 
 def describe_open_option(subtitles: SubtitleFile) -> str:
     """Describe how to accept a display standard code of open subtitles, or of none."""
-    kind = {b"0": "0, open subtitles", b" ": "a space, none"}.get(subtitles.data[DSC])
-    return f"its DSC is {kind}: --open takes it" if kind else ""
+    kind = {b"0": "0 (open subtitles)", b" ": "blank"}.get(subtitles.data[DSC])
+    return f"its DSC is {kind}: --open accepts it" if kind else ""
 
 
 def describe_silence(fault: FaultLine, part: Part) -> str:
@@ -264,9 +264,9 @@ def describe_longest_gap(sent: tuple[Sequence[int], Sequence[int]], origin: int,
     gap = longest_gap([*headers, end] if headers and end > headers[-1] else headers)
     if gap <= request.every or numbers & PASSED_OVER:
         return ""
-    words = f"the longest gap is {counted(gap, 'frame')}"
+    words = f"the page had no header for up to {counted(gap, 'frame')}"
     usual = repeat_distance(headers, edges_of(times))
-    return f"{words}, and {usual} are usual" if usual and usual <= request.every else words
+    return f"{words} ({usual} are usual)" if usual and usual <= request.every else words
 
 
 # The faults of a verdict

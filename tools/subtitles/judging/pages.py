@@ -150,8 +150,8 @@ def describe_extra_rows(due: Rows, sent: Rows) -> str:
                            if not due[line.row - 1].strip())]
     if not last:
         return ""
-    return f"other rows beside it: rows {', '.join(others[1:])} and {last}" if others[1:] else \
-        f"another row beside it: row {last}"
+    return f"additional rows: {', '.join(others[1:])} and {last}" if others[1:] else \
+        f"an additional row: {last}"
 
 
 def is_partial_page(sent: Rows, due: Rows) -> bool:
@@ -192,10 +192,10 @@ def describe_drawing_differences(subtitles: Sequence[Subtitle], pages: Sequence[
     if not differing:
         return ""
     subtitle, page, rows = differing[0]
-    others = f", and so are those of {counted(len(differing) - 1, 'more subtitle')}" \
-        if len(differing) > 1 else ""
-    return f"the letters of {subtitle.name} are right and drawn otherwise: " \
-        f"{describe_row_difference(page, rows)}{others}"
+    others = f" and {counted(len(differing) - 1, 'more subtitle')} have" \
+        if len(differing) > 1 else " has"
+    return f"{subtitle.name}{others} the right text in another layout: " \
+        f"{describe_row_difference(page, rows)}"
 
 
 def describe_row_difference(due: Rows, sent: Rows) -> str:
@@ -203,16 +203,16 @@ def describe_row_difference(due: Rows, sent: Rows) -> str:
     codes."""
     lines, others = [*find_coded_rows(due)], [*find_coded_rows(sent)]
     if len(lines) != len(others):
-        return f"in {counted(len(others), 'row')}, where {len(lines)} are due"
+        return f"{counted(len(others), 'row')} instead of {len(lines)}"
     row, other = next((pair for pair in zip(lines, others) if pair[0] != pair[1]),
                       (lines[0], others[0]))
     words = [
-        f"row {other.row} where {row.row} is due" if other.row != row.row else f"row {row.row}",
-        *([f"column {other.column} where {row.column} is due"] * (other.column != row.column)),
-        *(f"{format_codes(its)} {where} its letters where {format_codes(own)} is due"
+        f"row {other.row} instead of {row.row}" if other.row != row.row else f"row {row.row}",
+        *([f"column {other.column} instead of {row.column}"] * (other.column != row.column)),
+        *(f"{format_codes(its)} {where} the text instead of {format_codes(own)}"
           for where, own, its in (("before", row.codes_before, other.codes_before),
-                                  ("behind", row.codes_after, other.codes_after)) if own != its),
-        *(["other codes between its letters"] * (other.characters != row.characters))]
+                                  ("after", row.codes_after, other.codes_after)) if own != its),
+        *(["other codes within the text"] * (other.characters != row.characters))]
     return ", ".join(words)
 
 
@@ -303,10 +303,11 @@ def describe_hidden_characters(cells: bytes, option: str) -> str:
     alike = [cell for cell in unseen if cell.is_invisible]
     outside = [cell for cell in unseen if not cell.is_invisible and not cell.is_after_start_box]
     behind = [cell for cell in unseen if cell.is_shown_anywhere]
-    words = [f"no set shows {text(alike)}, in the colour of its background"] if alike else []
-    words += [f"no set shows {text(outside)}, outside of a box"] if outside else []
-    words += [f"libzvbi does not show {text(behind)}, behind one start box (0B), and ffmpeg does"] \
-        if behind else []
+    words = [f"no receiver shows {text(alike)}, which has the colour of its background"] \
+        if alike else []
+    words += [f"no receiver shows {text(outside)}, which is outside of a box"] if outside else []
+    words += [f"libzvbi does not show {text(behind)}, which follows a single start box (0B); "
+              "ffmpeg does"] if behind else []
     return "; ".join(words)
 
 

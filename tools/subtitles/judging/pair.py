@@ -230,7 +230,7 @@ class PairJudge:
         """
         answer = check_file_alone(self.request, self.command_words.program_path, self.names)
         if answer.verdict != REFUSED or not answer.fault_numbers <= STL_FAULTS | {EMPTY}:
-            raise Unsaid(f"{NOT_ANSWERED}: {answer.last_line}, where there is no PES packet")
+            raise Unsaid(f"{NOT_ANSWERED}: {answer.last_line}, though there is no PES packet")
         return answer
 
     def find_valid_subtitles(self, answer: CheckOutput) -> CheckOutput:
@@ -258,8 +258,7 @@ class PairJudge:
             self.listener.speech.end_list(answer.last_line)
         else:
             count = self.verdict.subtitle_count = len(self.find_subtitles())
-            answer.accept_file(f"{counted(count, 'subtitle')}, nothing is wrong with "
-                               f"{'it' if count == 1 else 'them'}")
+            answer.accept_file(f"{counted(count, 'subtitle')} without a fault")
         part = Part(1, self.request, self.names, answer, severity=self.verdict.severity,
                     is_recording_read=self.request.recording is None)
         self.verdict.parts.append(part)
@@ -278,7 +277,7 @@ class PairJudge:
         subtitles = read_subtitles(self.command_words.program_path, self.names.given, between,
                                    self.request.is_open)
         if not subtitles and between != ALL_DAY:
-            raise Unclear(f"no subtitle of {self.request.stl} is left: none comes at "
+            raise Unclear(f"{self.request.stl} has no subtitle with a TCI at "
                           f"{time_of(between.begin)} or later and before {time_of(between.end)}")
         return subtitles
 
@@ -328,7 +327,7 @@ class PairJudge:
         count, pes = recording.packets.count, self.request.pes
         if pes and count and pes[0] >= count:
             has = f"{counted(count, 'PES packet')}, 0-{count - 1}"
-            raise Unclear(f"{recording.name} has {has}: --pes {pes[0]}-{pes[1]} is none of them",
+            raise Unclear(f"{recording.name} has {has}: --pes {pes[0]}-{pes[1]} is outside of them",
                           self.format_call("--pes", f"0-{count - 1}"))
 
     def judge_valid_subtitles(self, answer: CheckOutput) -> None:
@@ -421,8 +420,8 @@ class PairJudge:
             return
         # Unless the range is the default one, refused subtitles are skipped, not an error.
         subtitles = read_subtitles(program, given, Between(0, FRAMES_OF_A_DAY + 1), request.is_open)
-        raise Unclear(f"at {time_of(at)}, where --to cuts the file, the next subtitle adjoins: all "
-                      "before it is as it is due, and nothing ends there",
+        raise Unclear(f"--to cuts the file at {time_of(at)}, where the next subtitle follows "
+                      "directly: the page is right up to there, and is not erased",
                       *(self.format_call("--to", time_of(end + 1))
                         for end in find_nearest_pauses(subtitles, at)))
 

@@ -247,10 +247,10 @@ def refuse_missing_subtitles(parts: Sequence[TimedPart], subtitles: Sequence[Sub
     own = [subtitle for part in parts for subtitle in subtitles if part.between.has(subtitle.begin)]
     left = len(subtitles) - len(own)
     if left > 0:
-        raise Unclear(f"{counted(left, 'subtitle')} of {stl} would be in no part, and nobody would "
-                      "look at it: mend its times")
+        raise Unclear(f"{counted(left, 'subtitle')} of {stl} would be in no part, so nothing would "
+                      "check it: correct its times")
     if own != [*subtitles]:
-        raise Unclear(f"the parts of {stl} would hold other subtitles than it has")
+        raise Unclear(f"the parts of {stl} would have other subtitles than the file")
 
 
 # The causes of a part, by the pages decoded around it

@@ -20,7 +20,7 @@ from .causes import (
     WRONG_TEXT)
 from .check import CheckOutput
 from .pages import format_page_text
-from .status import ACCEPTED, LOST, NOT_JUDGED, REFUSED, RELATIVE, WAIVED, WARNED
+from .status import ACCEPTED, LOST, NOT_ANSWERED, NOT_JUDGED, REFUSED, RELATIVE, WAIVED, WARNED
 
 
 # The sentence, reports and batch tables begin with the fault of the worst rank.
@@ -138,7 +138,7 @@ FAULT_CLAUSES = {
     17: "CF is over 1",
     18: "JC is over 3",
     19: "VP is not 1 to 23",
-    20: "TCI or TCO is no time of the day at 25 frames a second",
+    20: "TCI or TCO is not a time of day at 25 frames a second",
     21: "TCI is not before TCO",
     22: "the blocks of one subtitle have more than one SGN or SN",
     23: "a subtitle has a tenth block",
@@ -156,35 +156,35 @@ FAULT_CLAUSES = {
     39: "the framing code of a Teletext unit is not E4",
     40: "two Teletext units are on one line, or lines fall within a PES packet",
     44: "there is a byte after 2,160,000 PES packets, a day of frames",
-    45: "something of the recording is missing: all bytes of the PES packet from 6 on are FF",
-    50: "a letter cannot be shown with this national option",
-    51: "a control code is outside of the profile",
-    52: "a line has more than 40 cells, with the box codes that it gets",
-    53: "a line that is not empty is under row 23",
-    54: "double height (0D) is on row 23, which has no row to reach into",
-    55: "a line is directly under one with double height, which hides it",
-    56: "TCI is before the TCI of the subtitle before",
-    57: "TCI is before the TCO of the subtitle before",
-    60: "nothing is read",
-    61: "the PTS is no frame of the day at this origin",
-    62: "its frame is not after that of the PES packet before",
-    63: "the recording begins after the first subtitle",
+    45: "part of the recording is missing: the PES packet is a gap marker, with FF from byte 6 on",
+    50: "the national option lacks a character",
+    51: "a control code is not allowed",
+    52: "a line has more than 40 cells, box codes included",
+    53: "a line with text is below row 23",
+    54: "double height (0D) is on row 23, which has no row below",
+    55: "a line is directly below one with double height, which hides it",
+    56: "TCI is before the TCI of the previous subtitle",
+    57: "TCI is before the TCO of the previous subtitle",
+    60: "no PES packet was read",
+    61: "the PTS is not that of any frame of the day by this origin",
+    62: "its frame is not after that of the previous PES packet",
+    63: "the recording begins after the first TCI",
     64: "an address byte has a wrong bit",
     65: "one of the eight coded bytes of a header has a wrong bit",
     66: "C11 (magazine serial) differs from the first header's",
     67: "a header of the page has C4, C6 or C7 clear, or C5 or C10 set, or its C12 to C14 are not "
         "those of the national option",
-    68: "a byte of a row of the page has even parity",
-    69: "a row of the page comes again with other bytes and no new header between",
-    70: "a packet X/25 to X/28 of the magazine comes while the page is open",
+    68: "a byte in a row of the page has even parity",
+    69: "a row of the page is sent again with other bytes, and no new header between",
+    70: "a packet X/25 to X/28 of the magazine is sent while the page is open",
     71: "the first frame has no header of the page",
-    72: "the page shows something else than the subtitle file asks for",
-    73: "no header of the page has come for as many frames as --every allows",
-    74: "the recording ends, and the last TCO is after it",
-    76: "the subtitle file has another text than its own pages show",
-    77: "the page is still open, since no header after its last one has ended it",
-    78: "what is due is not known, since a subtitle is refused",
-    79: "no PES packet has come for as many frames as --pace allows",
+    72: "the decoded page is not the expected one",
+    73: "the page had no header for as many frames as --every allows",
+    74: "the recording ends before the last TCO",
+    76: "the pages do not show the text of the subtitle file",
+    77: "the page is still open: no other header terminates it",
+    78: "the expected page is unknown, since a subtitle is refused",
+    79: "there was no PES packet for as many frames as --pace allows",
     82: "the file has no subtitle",
 }
 
@@ -195,14 +195,14 @@ FAULT_CLAUSES = {
 CAUSE_PREDICATES = {
     NEVER: ("was never sent", "were never sent"),
     OTHER_TEXT: ("has another subtitle's text", "have other subtitles' texts"),
-    WRONG_TEXT: ("has a wrong text", "have wrong texts"),
-    WRONG_PLACE: ("stands in a wrong place", "stand in wrong places"),
+    WRONG_TEXT: ("has the wrong text", "have the wrong text"),
+    WRONG_PLACE: ("is in the wrong place", "are in the wrong place"),
     WRONG_ATTRIBUTE: ("has a wrong colour or attribute", "have wrong colours or attributes"),
     NOT_ERASED: ("is not erased", "are not erased"),
-    INCOMPLETE_REPEAT: ("is not repeated whole", "are not repeated whole"),
-    ERASED: ("is erased while it is due", "are erased while they are due"),
+    INCOMPLETE_REPEAT: ("is not repeated completely", "are not repeated completely"),
+    ERASED: ("is erased before its TCO", "are erased before their TCO"),
     NOT_RECEIVED: ("was not received", "were not received"),
-    UNKNOWN_CAUSE: ("is not held as it is due", "are not held as they are due")}
+    UNKNOWN_CAUSE: ("is not as expected", "are not as expected")}
 HINTS_ON_ALL = {GAP, OFF_FRAME}  # faults whose hint is about everything that was judged
 HINTS_FOR_CLAUSE = {CONTROL, PARITY}  # faults whose hint replaces the clause
 MOST_NUMBERS = 4  # listed in a sentence
@@ -250,7 +250,7 @@ class Facts(NamedTuple):
 def write_sentence(seen: Facts) -> str:
     """Return the sentence of a verdict."""
     if seen.word == NOT_JUDGED:
-        return f"Not judged: {(seen.reason or 'check was not answered').splitlines()[0]}."
+        return f"Not judged: {(seen.reason or NOT_ANSWERED).splitlines()[0]}."
     if seen.word == REFUSED:
         waived = f"; waived: {describe_counts(seen.waived)}" if seen.waived else ""
         return f"Refused: {describe_faults(seen)}{waived}."
@@ -258,22 +258,22 @@ def write_sentence(seen: Facts) -> str:
         return f"{describe_relative_match(seen)} was not checked: {clock_advice(seen.has_picture)}."
     if seen.word == WAIVED:
         return f"{describe_waived_faults(seen)}."
-    good = "all faults that were seen are named warnings" if seen.faults or seen.refused else \
-        "what was received is right"
+    good = "all faults that were found are declared as warnings" if seen.faults or seen.refused \
+        else "everything that was received is right"
     if seen.word == LOST:
         more = f", and in {counted(len(seen.lost) - 1, 'more place')}" if len(seen.lost) > 1 else ""
         lost = seen.lost[0] if seen.lost else "TS packets are lost"
         return f"Not accepted: {lost}{more}; {good}."
     if seen.word == WARNED:
         kinds = ", ".join(dict.fromkeys(seen.warnings))
-        return f"Not accepted: there are warnings, which count ({kinds}); {good}."
+        return f"Not accepted: --strict counts warnings ({kinds}); {good}."
     assert seen.word == ACCEPTED
     return f"Accepted: {describe_success(seen)}."
 
 
 def describe_waived_faults(seen: Facts) -> str:
     """Describe faults that the severity file makes warnings."""
-    return f"Waived, since these faults are named warnings: {describe_faults(seen)}"
+    return f"Waived, since these faults are declared as warnings: {describe_faults(seen)}"
 
 
 def describe_relative_match(seen: Facts) -> str:
@@ -296,7 +296,7 @@ def describe_success(seen: Facts) -> str:
     """Describe subtitles without a fault."""
     subtitles = counted(seen.subtitles, "subtitle")
     if seen.is_file:
-        return f"nothing is wrong with {subtitles}"
+        return f"{subtitles} without a fault"
     if seen.subtitles > 1:
         return f"all {subtitles} have the right text {describe_text_period(seen)}"
     return f"{subtitles} has the right text {describe_text_period(seen)}"
@@ -335,20 +335,20 @@ def describe_faults(seen: Facts) -> str:
 
 def describe_delay(subtitles: int, delay: int) -> str:
     """Describe by how many frames all subtitles are late or early."""
-    which = f"all {subtitles:,} subtitles are" if subtitles > 1 else "the subtitle is"
-    return f"{which} {counted(abs(delay), 'frame')} {LATE if delay > 0 else EARLY}"
+    which = f"all {subtitles:,} subtitles" if subtitles > 1 else "the subtitle"
+    return f"{which} appeared {counted(abs(delay), 'frame')} {LATE if delay > 0 else EARLY}"
 
 
 def describe_first_fault(seen: Facts) -> str:
     """Describe the first fault with its place, and count the faults by fault number."""
     fault = seen.first
     if fault is None and seen.named:
-        return seen.named + (f"; in all {counted(seen.faults, 'fault')}" * (seen.faults > 1))
+        return seen.named + f"; {seen.faults:,} faults in all" * (seen.faults > 1)
     if fault is None:
         return f"{counted(seen.faults, 'fault')}"
     if fault.number == LOST_PACKETS and seen.lost:
         more = f", and in {counted(len(seen.lost) - 1, 'more place')}" if len(seen.lost) > 1 else ""
-        return f"{seen.lost[0]}{more}; that part was not recorded{describe_other_faults(seen)}"
+        return f"{seen.lost[0]}{more}; record that part again{describe_other_faults(seen)}"
     words = FAULT_CLAUSES.get(fault.number, fault.name)
     block = f"{seen.of_block} (block {fault.block})," if seen.of_block else f"block {fault.block}"
     place = fault.time or (f"PES packet {fault.pes}" if fault.pes is not None else
@@ -358,7 +358,7 @@ def describe_first_fault(seen: Facts) -> str:
     elif seen.hint:
         words = seen.hint if fault.number in HINTS_FOR_CLAUSE else f"{words}: {seen.hint}"
     place = place and f"{'at' if fault.time else 'in'} {place} "
-    more = f"; in all {counted(seen.faults, 'fault')}" if seen.faults > 1 else ""
+    more = f"; {seen.faults:,} faults in all" if seen.faults > 1 else ""
     several = f": {describe_counts(seen.counts)}" if len(seen.counts) > 1 else ""
     return f"{place}{words}{more}{several}"
 
@@ -395,7 +395,7 @@ def describe_causes(causes: Causes, option: str) -> str:
         return words
     known = sorted(others, key=lambda name: (CAUSE_RANKS[name], CAUSE_NAMES.index(name)))
     counts = ", ".join(f"{others[name]} {name}" for name in known)
-    return f"{words}; {counted(sum(others.values()), 'other')}: {counts}"
+    return f"{words}; other causes: {counts}"
 
 
 def describe_single_cause(cause: Cause, causes: Causes, option: str) -> str:
@@ -403,17 +403,18 @@ def describe_single_cause(cause: Cause, causes: Causes, option: str) -> str:
     subtitle = causes.expected.subtitles[cause.subtitle_index]
     if cause.name == TEXT_IN_PAUSE:
         sent = format_page_text(cause.sent_page, BY_WORD[option].bits) if cause.sent_page else ""
-        return f"another text was sent in a pause, {cause.details}" + f', "{sent}"' * bool(
+        return f"another text was sent in a pause, {cause.details}" + f': "{sent}"' * bool(
             cause.sent_page)
     text = format_page_text(causes.expected.pages[cause.subtitle_index], BY_WORD[option].bits)
-    said = f"is {counted(cause.frames or 0, 'frame')} {cause.name}" \
+    said = f"appeared {counted(cause.frames or 0, 'frame')} {cause.name}" \
         if cause.name in (LATE, EARLY) else CAUSE_PREDICATES[cause.name][0]
     more = f" ({cause.details})" if cause.details else ""
     sent = format_page_text(cause.sent_page,
                             BY_WORD[option].bits) if cause.sent_page and cause.name in (
         WRONG_TEXT, OTHER_TEXT) else ""
-    more += f', sent: "{sent}"' if sent and sent != text else ""
-    return f"at {time_of(subtitle.begin)} {subtitle.name}, \"{text}\", {said}{more}"
+    name = f"{subtitle.name} at {time_of(subtitle.begin)}"
+    return f'{name} {said}{more}: expected "{text}", received "{sent}"' \
+        if sent and sent != text else f'{name}, "{text}", {said}{more}'
 
 
 def describe_shared_cause(causes: Sequence[Cause], subtitles: Sequence[Subtitle]) -> str:
@@ -427,8 +428,8 @@ def describe_shared_cause(causes: Sequence[Cause], subtitles: Sequence[Subtitle]
         f"{len(causes):,} of {len(subtitles):,} subtitles"
     when = f"first at {time_of(first.begin)}, last at {time_of(last.begin)}"
     frames = sorted(cause.frames or 0 for cause in causes)
-    said = f"are {range_words(frames[0], frames[-1])} {name}" if name in (LATE, EARLY) else \
-        CAUSE_PREDICATES[name][1]
+    said = f"appeared {range_words(frames[0], frames[-1])} {name}" if name in (LATE, EARLY) \
+        else CAUSE_PREDICATES[name][1]
     words = {cause.details for cause in causes}
     more = f" ({words.pop()})" if len(words) == 1 and words != {""} else ""
     return f"{which} {said}{more} ({when})"

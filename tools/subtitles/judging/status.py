@@ -81,8 +81,8 @@ STATUSES = {ACCEPTED: 0, WAIVED: 0, REFUSED: 1, LOST: 1, WARNED: 1, NOT_JUDGED: 
 POSSIBLE_RESULTS = [*STATUSES.items(), (RELATIVE, 0)]  # the last pair with --relative
 WORST_FIRST = (2, 1, 3, 0)
 
-NOT_ANSWERED = "check was not answered"
-NOTHING_READ = "nothing of the recording was read, and --severity leaves no fault an error"
+NOT_ANSWERED = "check gave no verdict"
+NOTHING_READ = "nothing of the recording was read, and --severity makes all faults warnings"
 
 
 class CheckSummary(NamedTuple):

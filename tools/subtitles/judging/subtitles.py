@@ -25,7 +25,7 @@ from .transmissions import ExpectedPages
 
 HOUR = 3600 * FRAMES_A_SECOND
 TCI, TCO = slice(5, 9), slice(9, 13)  # of a TTI block
-AT_MIDNIGHT = "midnight: cut the file there"
+AT_MIDNIGHT = "the file runs past midnight: split it there"
 
 
 def advise_on_midnight(fault: FaultLine, subtitles: SubtitleFile) -> str:
@@ -49,8 +49,8 @@ def advise_on_title(subtitles: SubtitleFile) -> str:
     rest = min((frame for frame in subtitles.begins if frame), default=0)
     if not rest >= HOUR or subtitles.begins[0]:
         return ""
-    return (f"the subtitle file begins at 00:00:00:00, and all else comes from {time_of(rest)} on: "
-            f"if that is a title, which is not sent, say --from {time_of(rest)}")
+    return (f"the first subtitle is at 00:00:00:00, all others are from {time_of(rest)} on: if "
+            f"that is a title, which is not sent, give --from {time_of(rest)}")
 
 
 def falls_at_midnight(earlier: bytes, later: bytes) -> bool:
@@ -88,15 +88,17 @@ def advise_on_character(letter: bytes, complete_options: list[NationalOption]) -
     """Return advice on a missing character; the options `complete_options` have every character of
     the file."""
     if complete_options:
-        return f"the whole file draws in {format_options(complete_options)}"
+        verb = "has" if len(complete_options) == 1 else "have"
+        return f"{format_options(complete_options)} {verb} all characters of the file"
     character = character_of(letter)
     if character is None:
-        return f"byte {letter[:1].hex().upper()} is no character of code table 00: mend the file"
+        return f"byte {letter[:1].hex().upper()} is not a character of code table 00: correct it"
     options = options_with(letter)
     if options:
-        return f"{character} is in {format_options(options)}; another letter of the file is not"
-    return (f"{character} is in no option: at level 1 it needs another region, or packets X/26, "
-            "which are refused (70): write it otherwise")
+        return f"{character} is in {format_options(options)}, but another character of the file " \
+            "is not"
+    return (f"{character} is in no option: replace it (at level 1 it needs another region, or "
+            "packets X/26, which are refused as 70)")
 
 
 def format_options(options: list[NationalOption]) -> str:
@@ -147,12 +149,12 @@ class RefusedSubtitle(NamedTuple):
         """Return the fault with its character or meaning, and the advice."""
         more = self.character or FAULT_CLAUSES.get(self.fault.number, "")
         do = f": {self.advice}" if self.advice else ""
-        return f"{self.fault.number} {self.fault.name}, {more}{do}"
+        return f"{self.fault.number} {self.fault.name} ({more}){do}"
 
     def format_line(self) -> str:
         """Return the line of output on the refused subtitle."""
-        return f"undecided: {self.describe_subtitle()}, to {self.subtitle.end}, is refused by " \
-            f"{self.describe_reason()}"
+        return f"undecided: {self.describe_subtitle()}, up to {self.subtitle.end}, is refused " \
+            f"by {self.describe_reason()}"
 
 
 class ValidSubtitles(NamedTuple):

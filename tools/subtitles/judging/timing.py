@@ -29,7 +29,7 @@ from .part import Part
 
 
 NO_CLOCK = Clock(0, RECORDING)  # before the clock is known
-ORIGIN_PREFIX = "origin: "  # prefix of lines about the origin
+CLOCK_PREFIX = "clock: "
 
 
 class PartSearch(NamedTuple):
@@ -88,7 +88,7 @@ def find_start_clock(search: PartSearch, recording: Recording, listener: Listene
         return None
     try:
         if not recording.is_stream:
-            raise NoFirst("PES packets of Teletext have no pictures")
+            raise NoFirst("a file of Teletext PES packets has no pictures")
         begin = began(request, recording.survey, recording.packets)
     except NoFirst as reason:
         raise recording.no_picture_error(reason) from None
@@ -115,7 +115,7 @@ def report_estimated_origin(search: PartSearch, recording: Recording, clock: Clo
         origin = find(origin_search, recording.packets)
     except (Stop, OSError) as reason:
         origin = Origin(2, lines=[error_line(reason)])
-    for line in [*origin.printed, *(ORIGIN_PREFIX + line for line in origin.lines)]:
+    for line in [*origin.printed, *(CLOCK_PREFIX + line for line in origin.lines)]:
         listener.said(line)
     return origin
 
@@ -132,7 +132,7 @@ def list_timed_parts(origin: Origin, full_range: TimedPart) -> list[TimedPart]:
 def make_estimated_clock(part: OfPart) -> Clock:
     """Return the estimated clock of a part."""
     return Clock(part.origin, RECORDING, evidence=Selection(
-        ORIGIN_CHOICE, str(part.origin), f"{ORIGIN_PREFIX}{part.line}", part.agree, part.among))
+        ORIGIN_CHOICE, str(part.origin), f"{CLOCK_PREFIX}{part.line}", part.agree, part.among))
 
 
 def add_delay(clock: Clock, origin: Origin) -> tuple[Clock, list[str]]:
@@ -168,7 +168,7 @@ def refuse_wrong_clock(search: PartSearch, recording: Recording, part: TimedPart
 def describe_wrong_clock(request: Request, clock: Clock, delay: int) -> str:
     """Describe how far a given clock is from the subtitles, which are `delay` frames late."""
     if clock.source == GIVEN:
-        return f"by --origin {clock.origin} all subtitles come {duration_text(abs(delay))} too " \
+        return f"by --origin {clock.origin} all subtitles are {duration_text(abs(delay))} " \
             f"{'late' if delay > 0 else 'early'}: none is in the recording at its time"
     given = start_frame(request)
     estimated = wrapped(clock.origin + TICKS * delay)
@@ -176,15 +176,16 @@ def describe_wrong_clock(request: Request, clock: Clock, delay: int) -> str:
     name = "the TCP" if clock.source == TCP else "--start"
     which = "earlier" if given < begins else "later"
     return f"{name} {time_of(given)} is {duration_text(abs(given - begins))} {which} than the " \
-        f"subtitles tell: by these the recording begins at {time_of(begins % FRAMES_OF_A_DAY)}. " \
-        "TIME is on the subtitle file's own clock, not the time of day"
+        "beginning of the recording by its subtitles, " \
+        f"{time_of(begins % FRAMES_OF_A_DAY)}. TIME is on the subtitle file's own clock, not the " \
+        "time of day"
 
 
 def make_unclear_origin(origin: Origin, again: Iterable[str]) -> Unclear:
     """Return an error that says why the origin is not clear, with the commands `again`."""
     is_said = origin.runs or origin.breaks is not None
     reason = "\n".join(origin.lines) if is_said else \
-        f"the origin is not clear: {'; '.join(origin.lines)}"
+        f"the clock is not clear: {'; '.join(origin.lines)}"
     return Unclear(reason, *again)
 
 
@@ -211,7 +212,7 @@ def find_part_packets(search: PartSearch, part: Part, listener: Listener) -> Ran
     """Find the range of the PES packets of a part, and report the range."""
     recording, alignment = part.judged_recording
     cut = cut_packets(search, recording, alignment, search.request.within)
-    damage, line = recording.packets.damage, f"cut: {cut.words()}"
+    damage, line = recording.packets.damage, f"range: {cut.words()}"
     if cut.range is None:
         listener.said(line)
     else:
@@ -219,9 +220,9 @@ def find_part_packets(search: PartSearch, part: Part, listener: Listener) -> Ran
         listener.chosen(Selection(PES_CHOICE, f"{first}-{last}", line, last - first + 1, cut.read,
                                   part.number))
     if damage and not cut.is_over:
-        listener.said(f"cut: {recording.shown}: {damage}; it was read up to there")
+        listener.said(f"range: {recording.shown}: {damage}; it was read up to there")
     if cut.range is None:
-        raise Unclear("nothing of the page is in the recording at the time of the subtitles",
+        raise Unclear("the recording has nothing of the page at the time of the subtitles",
                       recording.again("--origin", "T"),
                       *recording.other_pages([recording.packets]))
     return cut.range
@@ -230,7 +231,7 @@ def find_part_packets(search: PartSearch, part: Part, listener: Listener) -> Ran
 # The pace of PES packets if they are regular; else the losses that nothing shows
 
 NEXT_FRAME = 1  # distance in frames of two PES packets in consecutive frames
-UNCHECKED = "not checked: whether"  # prefix of a note
+UNCHECKED = "not checked for"  # prefix of a note
 
 
 def measure_part_pace(part: Part, times: Sequence[tuple[int, int]], listener: Listener) -> Part:
@@ -280,7 +281,7 @@ def find_late_jumps(part: Part, pace: Pace) -> tuple[list[PTSPair], int]:
 def describe_jumps(count: int, recording: Recording) -> str:
     """Describe at how many announced jumps of the counter losses are invisible; an empty text if at
     none."""
-    return f"{UNCHECKED} some of {pid_name(recording.packets.pid)} is missing at " \
+    return f"{UNCHECKED} losses on {pid_name(recording.packets.pid)} at " \
         f"{counted(count, 'place')} where a jump of its counter is announced" if count else ""
 
 
@@ -293,9 +294,9 @@ def make_pace_selection(pace: Pace, is_stream: bool, part: int) -> Selection:
 
 def describe_pace(pace: Pace, is_stream: bool) -> str:
     """Describe how regular the PES packets are, and the pace chosen from that."""
-    more = ", and so may three" if pace.is_dense else \
-        f", and in {pace.lost} at best where 16 TS packets are lost" if is_stream else ""
-    return f"pace: a PES packet comes within {counted(pace.apart, 'frame')} of the one before" \
+    more = ", in which three may come" if pace.is_dense else \
+        f", at least {pace.lost} after a loss of 16 TS packets" if is_stream else ""
+    return f"pace: at most {counted(pace.apart, 'frame')} from one PES packet to the next" \
         f"{more}: --pace {pace.frames}"
 
 
@@ -307,32 +308,31 @@ def describe_unchecked_losses(pace: Pace, unseen: int | None, recording: Recordi
     if without := describe_missing_pcr(recording):
         return without
     if pace.kind == REGULAR:
-        what, whose = (f"up to {(pace.lost - 1) / FRAMES_A_SECOND:.2f} s of this PID alone",
-                       "its PES packets") if recording.is_stream else (
-                           "a PES packet of this file", "they")
-        return f"{UNCHECKED} {what} is missing, at {counted(pace.closer, 'place')} where {whose} " \
-            "come closer"
-    why = {IRREGULAR: "come at irregular distances",
-           PAUSED: f"pause, for up to {counted(pace.apart, 'frame')}",
-           TOO_FEW: "are too few to measure a pace"}[pace.kind]
+        what = f"losses of up to {(pace.lost - 1) / FRAMES_A_SECOND:.2f} s on this PID alone" \
+            if recording.is_stream else "a missing PES packet"
+        return f"{UNCHECKED} {what} at {counted(pace.closer, 'place')} where PES packets are " \
+            "closer together"
+    why = {IRREGULAR: "come at irregular intervals",
+           PAUSED: f"pause for up to {counted(pace.apart, 'frame')}",
+           TOO_FEW: "are too few to measure their interval"}[pace.kind]
     if not recording.is_stream:
-        return f"{UNCHECKED} PES packets of this file are missing: they {why}"
+        return f"{UNCHECKED} missing PES packets: those of this file {why}"
     tenths = 10 * (unseen or 0) // FRAMES_A_SECOND
-    what = f"{tenths / 10} s or more" if tenths else "some"
-    return f"{UNCHECKED} {what} of this PID alone is missing: its PES packets {why}"
+    what = f"losses of {tenths / 10} s or more" if tenths else "losses"
+    return f"{UNCHECKED} {what} on this PID alone: its PES packets {why}"
 
 
 def describe_missing_pcr(recording: Recording) -> str:
     """Describe that no PCR shows losses; an empty text if there is a PCR."""
     if not recording.is_stream or recording.survey.clock_of(recording.packets.pid) is not None:
         return ""
-    return f"there is no PCR of the programme of {pid_name(recording.packets.pid)}: a hole that " \
-        "its counter does not show, as one of 16 TS packets, can't be seen"
+    return f"the programme of {pid_name(recording.packets.pid)} has no PCR: a loss that its " \
+        "counter does not show, as of 16 TS packets, is not noticed"
 
 
 # Pictures that drift from the subtitles: a fault for viewers that no PTS of Teletext shows
 
-NOT_CHECKED = "not checked: whether the pictures leave the subtitles"
+NOT_CHECKED = "not checked whether the video and the subtitles drift apart"
 
 
 class DesyncFindings(NamedTuple):
@@ -387,8 +387,8 @@ class Desync(NamedTuple):
         """Return the fault as a clause."""
         count = counted(abs(self.ticks) // TICKS, "frame") if self.ticks % TICKS == 0 else \
             f"{abs(self.ticks) / TICKS:.1f} frames"
-        return f"from {time_of(self.first)} on subtitles come {count} " \
-            f"{'early' if self.ticks > 0 else 'late'} for viewers: the pictures go on elsewhere"
+        return f"from {time_of(self.first)} on subtitles are {count} " \
+            f"{'early' if self.ticks > 0 else 'late'} for viewers: the video's timestamps jump"
 
 
 def find_desync_spans(several: Sequence[Departure], alignment: TimedPart) -> Iterator[Desync]:
@@ -431,7 +431,7 @@ def make_unclear_notes(is_steady: bool, count: int) -> list[str]:
     """Return notes on unchecked drifts: all of them unless `is_steady`, else those at `count`
     places."""
     if not is_steady:
-        return [f"{NOT_CHECKED}: their decoding times have no usual step"]
-    return [f"{NOT_CHECKED} at {counted(count, 'place')} where their decoding times step: the "
-            "multiplexer's delay varies, pictures are lost as well, or it is within a second of "
-            "the programme's begin or end"] if count else []
+        return [f"{NOT_CHECKED}: the decoding times of the video have no usual step"]
+    return [f"{NOT_CHECKED} at {counted(count, 'place')} where its decoding times jump: the "
+            "multiplexer's delay varies, pictures are lost too, or it is within a second of the "
+            "programme's beginning or end"] if count else []

@@ -38,11 +38,11 @@ CONTROL_BIT_FAULTS = (
 RECEIVER_EFFECTS = (
     (INHIBIT, False, "is not shown"),
     (SUBTITLE, True, "hides the picture"),
-    (ERASE, True, "may stand over old text"),
+    (ERASE, True, "may appear over old text"),
     (SUPPRESS, True, "shows a header line"),
-    (NEWSFLASH, False, "comes as a newsflash"),
+    (NEWSFLASH, False, "appears as a newsflash"),
 )
-OTHER_LETTERS = "has other letters"
+OTHER_LETTERS = "has other characters"
 
 
 class PageHeader(NamedTuple):
@@ -85,10 +85,9 @@ def describe_missing_erase(page_header: PageHeader, request: Request) -> str:
     codes = [subcode_of(header)
              for header in (page_header.header, page_header.previous or page_header.header)]
     if codes[0] != codes[1]:
-        return f"{ERASE_CLEAR}, and the sub-code is another one than before: {codes[0]} after " \
-            f"{codes[1]}"
+        return f"{ERASE_CLEAR}, though the sub-code changes from {codes[1]} to {codes[0]}"
     if request.is_complete and page_header.is_open:
-        return f"{ERASE_CLEAR}, and the page was still open: no header had ended it"
+        return f"{ERASE_CLEAR}, and the page was still open: no header had terminated it"
     return ""
 
 
@@ -101,7 +100,7 @@ def describe_control_bits(header: bytes, option: str, erase_fault: str = "") -> 
     if bits == RESERVED:
         faults.append("C12, C13 and C14 are set, which is reserved")
     elif bits != BY_WORD[option].bits:
-        faults.append(f"the header is {BY_BITS[bits].name}, and {option} is asked for")
+        faults.append(f"the header is {BY_BITS[bits].name}, but --option is {option}")
     return faults
 
 
@@ -236,7 +235,7 @@ def run_program(program: str, *arguments: str) -> list[str]:
                           stdout=subprocess.PIPE, encoding="utf-8", errors="replace")
     lines = done.stdout.splitlines()
     if done.returncode and f"refused {NO_SUBTITLE_FAULT} " not in "".join(lines[-1:]):
-        raise Unsaid(f"{arguments[0]} was not answered: {''.join(lines[-1:])}")
+        raise Unsaid(f"{arguments[0]} gave no result: {''.join(lines[-1:])}")
     return lines
 
 

@@ -41,9 +41,10 @@ class DelaySpread(NamedTuple):
 
     def describe(self) -> str:
         """Return the delays as one clause."""
-        middle = "" if self.minimum == self.maximum else f", {self.median} in the middle"
-        never = f"; {self.never_complete} not seen whole" if self.never_complete else ""
-        return f"subtitles are whole after {range_words(self.minimum, self.maximum)}{middle}{never}"
+        middle = "" if self.minimum == self.maximum else f" (median {self.median})"
+        never = f"; {self.never_complete} never seen complete" if self.never_complete else ""
+        return f"subtitles are complete after {range_words(self.minimum, self.maximum)}{middle}" \
+            f"{never}"
 
 
 def summarize_delays(several: Iterable[int | None]) -> DelaySpread | None:
@@ -400,7 +401,7 @@ class Verdict:
             return f"not accepted, since TS packets are lost: {line}"
         if word == WARNED:
             kinds = ", ".join(dict.fromkeys(self.collect_grounds().warnings))
-            return f"not accepted, since warnings count ({kinds}): {line}"
+            return f"not accepted, since --strict counts warnings ({kinds}): {line}"
         return line
 
     def format_good_line(self) -> str:

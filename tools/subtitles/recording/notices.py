@@ -46,8 +46,8 @@ def timing_notices(packets: Packets, origin: int) -> Iterator[Notice]:
         time = time_in(strange.pts, origin)
         where = f"from {time} on" if time else f"from PTS {strange.pts} on"
         yield Notice(f"pts_{strange.kind}", f"{where} PTS of the Teletext {SAID[strange.kind]}, "
-                     f"by up to {abs(strange.worst) / SECOND:.2f} s: {strange.number} of "
-                     f"{strange.among} that were looked at", time)
+                     f"by up to {abs(strange.worst) / SECOND:.2f} s, in {strange.number} of "
+                     f"{strange.among} samples", time)
 
 
 def jump_notices(packets: Packets, origin: int, first: int, last: int) -> Iterator[Notice]:
@@ -57,7 +57,7 @@ def jump_notices(packets: Packets, origin: int, first: int, last: int) -> Iterat
         if first <= frame <= last:
             way = "by" if jump.ticks > 0 else "back by"
             yield Notice("clock_jump", f"the clock jumps {way} {duration_text(abs(jump.ticks))} at "
-                         f"{time_of(frame)}: an encoder that was started anew?",
+                         f"{time_of(frame)}, but no packet is missing: was an encoder restarted?",
                          time_of(frame))
 
 
@@ -78,10 +78,10 @@ def pmt_notices(survey: Survey, pid: int, request: Request) -> Iterator[Notice]:
     own = [one for one in announced if one.page == request.page]
     name = request.page_name
     if not announced:
-        yield Notice("page", f"the PMT announces no page of {pid_name(pid)}: receivers do not find "
-                     f"page {name}")
+        yield Notice("page", f"the PMT announces no page on {pid_name(pid)}, so receivers do not "
+                     f"find page {name}")
     elif not own:
-        yield Notice("page", f"the PMT announces {page_list(announced)}, and not page {name}")
+        yield Notice("page", f"the PMT announces {page_list(announced)}, but not page {name}")
     else:
         yield from page_notices(own, request)
 
@@ -92,14 +92,14 @@ def page_notices(own: list[Announced], request: Request) -> Iterator[Notice]:
     if not any(announced.kind in SUBTITLE_KINDS for announced in own):
         kinds = " and ".join(dict.fromkeys(KINDS.get(announced.kind, "of an unknown kind")
                                            for announced in own))
-        yield Notice("type", f"the PMT announces page {name} as {kinds}, and not as subtitles")
+        yield Notice("type", f"the PMT announces page {name} as {kinds}, not as subtitles")
     code = language_code(request.stl_path)
     wanted = {*names_of(code)}
     languages = dict.fromkeys(announced.language.lower() for announced in own)
     if wanted and not (wanted | ANY) & languages.keys():
         yield Notice("language", f"the PMT announces page {name} in "
-                     f"{' and '.join(map(shown, languages))}; the LC of the GSI block is {code}, "
-                     f"{' or '.join(names_of(code))}")
+                     f"{' and '.join(map(shown, languages))}, but the language of the subtitle "
+                     f"file is {' or '.join(names_of(code))} (LC {code})")
     yield from option_notices([*languages], request)
 
 
@@ -114,8 +114,8 @@ def option_notices(languages: list[str], request: Request) -> Iterator[Notice]:
     words = list(dict.fromkeys(f"--option {option.word}" if option else "another region"
                                for option in options))
     yield Notice("option", f"the PMT announces page {request.page_name} in "
-                 f"{' and '.join(languages)}, which is of {' and '.join(words)}; it was judged by "
-                 f"--option {request.option}")
+                 f"{' and '.join(languages)}, which uses {' and '.join(words)}, but it was judged "
+                 f"with --option {request.option}")
 
 
 def character_set_notices(packets: Packets, request: Request) -> Iterator[Notice]:
@@ -128,7 +128,7 @@ def character_set_notices(packets: Packets, request: Request) -> Iterator[Notice
         else:
             continue
         yield Notice("character_set", f"packet {request.page_name[0]}/{number}/{designation} "
-                     f"names {named}: receivers above level 1 may show other letters")
+                     f"names {named}: receivers above level 1 may show other characters")
 
 
 def page_list(announced: list[Announced]) -> str:
@@ -147,12 +147,12 @@ def count_notices(subtitles: SubtitleFile) -> Iterator[Notice]:
     expected = read_count(subtitles.data[TNB])
     there = subtitles.count()
     if expected is not None and expected != there:
-        yield Notice("blocks", f"the GSI block counts {counted(expected, 'TTI block')} (TNB), and "
-                     f"{count_text(there)}: is the subtitle file whole?")
+        yield Notice("blocks", f"the GSI block counts {counted(expected, 'TTI block')} (TNB), but "
+                     f"{count_text(there)}: is the subtitle file complete?")
     expected, known = read_count(subtitles.data[TNS]), subtitles.ended()
     if expected is not None and expected not in known:
         yield Notice("subtitles", f"the GSI block counts {counted(expected, 'subtitle')} (TNS), "
-                     f"and {count_text(known[0])}: is the subtitle file whole?")
+                     f"but {count_text(known[0])}: is the subtitle file complete?")
 
 
 def read_count(digits: bytes) -> int | None:
@@ -183,9 +183,9 @@ def repeat_notices(headers: Sequence[int], request: Request, origin: int,
     every = repeat_distance((frame_in(pts, origin, request.within) for pts in headers),
                             edges_of(times))
     if every is not None and every * 2 < request.every:
-        yield Notice("repeat", f"the page is repeated each "
-                     f"{'frame' if every == 1 else counted(every, 'frame')}; --every {every} would "
-                     "hold it to that")
+        yield Notice("repeat", f"the page is repeated every "
+                     f"{'frame' if every == 1 else counted(every, 'frame')}: give --every {every} "
+                     "to notice a missing repeat")
 
 
 # A page that the PMT announces, and that never comes on its PID.
@@ -277,7 +277,7 @@ def never_sent_text(survey: Survey, page: Page, pids: Collection[int],
                 carriers: Collection[int] = ()) -> str:
     """What is wrong: where the page is announced, and which PID has it."""
     names = " and ".join(map(pid_name, sorted(pids)))
-    words = f"page {page_name(*page)} is announced in {names}, never sent"
+    words = f"page {page_name(*page)} is announced on {names}, but never sent"
     none = [pid for pid in sorted(pids)
             if pid not in survey.by_pid or not survey.by_pid[pid].packets]
     if none:

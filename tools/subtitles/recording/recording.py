@@ -38,8 +38,8 @@ def copy_piped(name: str, path: str, speech: Speech) -> SummedFile:
         for data in pieces_of(name, may_be_pipe=True):
             count += len(data)
             if count > MOST_PIPED:
-                raise Stop(f"{source} has not ended after {MOST_PIPED:,} bytes: what does not end "
-                           "is recorded and judged by tools/air")
+                raise Stop(f"{source} has not ended after {MOST_PIPED:,} bytes: judge an endless "
+                           "feed with tools/air")
             digest.update(data)
             with naming(path):
                 file.write(data)
@@ -75,7 +75,7 @@ def pes_header_problem(begun: bytes, pid: int) -> str:
         return ""
     length, whose = begun[LENGTH_AT], f" of {pid_name(pid)}" if pid != PES else ""
     return (f"the PES header{whose} has {FIXED + length} bytes (PES_header_data_length "
-            f"{length:02X}), where Teletext has {FIXED + TELETEXT} ({TELETEXT:02X}): EN 300 472")
+            f"{length:02X}), but EN 300 472 requires {FIXED + TELETEXT} ({TELETEXT:02X})")
 
 
 # A recording: what `subttx survey` tells of it, and how the program reads it once more.
@@ -92,9 +92,9 @@ def refuse_files(request: Request) -> None:
     judged."""
     if not os.path.isfile(request.stl_path):
         name = request.stl.removeprefix("./") if request.stl.startswith("./-") else request.stl
-        raise Unclear(f"{name or 'an empty name'} is no file, or is not there")
+        raise Unclear(f"{name or 'an empty name'} does not exist or is not a file")
     if is_recording(request.stl_path):
-        raise Unclear(f"{request.stl} is a recording: the subtitle file stands before it")
+        raise Unclear(f"{request.stl} is a recording: give the subtitle file before it")
     if request.recording is not None and request.recording != STANDARD:
         os.stat(request.recording)
 
@@ -105,12 +105,12 @@ def refuse_stream(survey: Survey, name: str) -> None:
     if not head:
         raise Stop(f"{name} is empty")
     if head[3:6] == b"STL":
-        raise Stop(f"{name} is a subtitle file: the recording stands after the subtitle file")
+        raise Stop(f"{name} is a subtitle file: give the recording after the subtitle file")
     if survey.size is None and head.startswith(START[:3]) and head[3:4] not in (b"", START[3:]):
-        raise Stop(f"{name} has PES packets of another kind than Teletext's: stream_id "
+        raise Stop(f"{name} has PES packets of another kind than Teletext: stream_id "
                    f"{head[3]:02X} instead of BD")
     if survey.size is None:
-        raise Unclear(f"{name}: no transport stream: packets of 188 bytes that begin with 47")
+        raise Unclear(f"{name} is not a transport stream: packets of 188 bytes that begin with 47")
 
 
 def unreadable_packets(survey: Survey) -> list[Packets]:
@@ -185,7 +185,7 @@ class Recording:
         if silent and self.request.pes is None:
             raise Unclear(self.said(
                 f"page {self.request.page_name} is announced by several programmes of {self.name}, "
-                f"and sent on {' and '.join(map(pid_name, sorted(carriers)))}, not on "
+                f"but sent only on {' and '.join(map(pid_name, sorted(carriers)))}, not on "
                 f"{' and '.join(map(pid_name, sorted(silent)))}"),
                 *(self.again("--pid", f"0x{pid:X}") for pid in sorted({*carriers} | silent)))
 
@@ -193,7 +193,7 @@ class Recording:
         """Says which PID is chosen, and by what."""
         begun = sum(run.length for run in packets.timed() if HEADER in run.does)
         line = f"{pid_name(packets.pid)}: page {self.request.page_name} has a header in {begun} " \
-            f"of {counted(packets.count, 'PES packet')}, and {why}"
+            f"of {counted(packets.count, 'PES packet')}, {why}"
         self.listener.chosen(Selection(PID_CHOICE, f"0x{packets.pid:X}", line, begun,
                                        packets.count))
 
@@ -222,7 +222,8 @@ class Recording:
         if why:
             self.listener.said(why)
         if self.survey.skipped:
-            self.listener.said(f"{counted(self.survey.skipped, 'byte')} of no TS packet skipped")
+            self.listener.said(f"{counted(self.survey.skipped, 'byte')} outside of TS packets "
+                               "skipped")
         for line in marks_told(packets):
             self.listener.said(line)
 
@@ -291,7 +292,7 @@ class Recording:
         is_open = self.packets.is_cut and not self.packets.refusal
         if self.is_stream and is_open:
             notices.append(Notice("cut", f"{shown(self.name)} ends within a PES packet of the "
-                                  "page's PID, which is left out"))
+                                  "page's PID, which is not judged"))
         if self.packets.damage:
             notices.append(Notice("cut", f"{shown(self.name)}: {self.packets.damage}; it was "
                                   "read up to there"))
@@ -311,7 +312,7 @@ class Recording:
         return self.is_stream and has_first_picture(self.survey, self.packets.pid)
 
     def no_picture_error(self, reason: NoFirst) -> Unclear:
-        return Unclear(f"{self.name}: there is no first picture for --start: {reason}",
+        return Unclear(f"{self.name}: no first picture for --start: {reason}",
                        self.again("--origin", "T"))
 
     def again(self, *more: str) -> str:
@@ -329,4 +330,4 @@ class Recording:
         """A reason, and what there is."""
         if self.request.pid is not None:
             self.survey = survey(self.typed.program_path, self.path, self.request.page)
-        return "\n".join([reason, *(self.survey.lines() or ["there is no PID with Teletext"])])
+        return "\n".join([reason, *(self.survey.lines() or ["no PID has Teletext"])])

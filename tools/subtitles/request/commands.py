@@ -32,7 +32,7 @@ class CommandWords:
         self.program_word = program or self.beside()
         path = os.path.abspath(program or os.path.join(TOP, "subttx"))
         if os.path.isdir(path) or not os.access(path, os.X_OK):
-            raise Stop(f"{self.program_word} is no program")
+            raise Stop(f"{self.program_word} is not an executable program")
         self.program_path = behind_script(path)  # the script would look for it at each call
 
     def beside(self) -> str:

@@ -66,8 +66,8 @@ def lines_in(text: str) -> Iterator[Line]:
         line_count += bool(line.words)
         word_count += len(line.words)
         if line_count > MOST_LINES or word_count > MOST_WORDS:
-            raise Stop(f"a list has at most {MOST_LINES:,} lines with words, and {MOST_WORDS:,} "
-                       f"words: this one has more in line {number}")
+            raise Stop(f"line {number} exceeds the limits of a list: {MOST_LINES:,} lines and "
+                       f"{MOST_WORDS:,} words")
         if line.words:
             yield line
 
@@ -91,7 +91,7 @@ def split(line: str) -> list[str]:
     while at < len(line):
         piece = PIECE_OF_LIST.match(line, at)
         if piece is None:
-            raise ValueError("a quote does not end" if line[at] in "'\"" else
+            raise ValueError("a quote is not closed" if line[at] in "'\"" else
                              "it ends with a backslash")
         at, kind = piece.end(), piece.lastgroup or ""
         if kind in ("blank", "comment"):
@@ -120,7 +120,7 @@ def setting_in(words: Sequence[str]) -> Setting:
     option = next((one for one in OPTIONS if one.name == name), None)
     if option is None or not option.in_profile:
         names = ", ".join(one.name for one in OPTIONS if one.in_profile)
-        raise Stop(f"{option.name if option else 'its first word'} is no option of a profile, "
+        raise Stop(f"{option.name if option else 'its first word'} is not an option of a profile, "
                    f"which may have {names}")
     parser = Words("")
     add_options(parser, [option])
@@ -195,7 +195,7 @@ def goes_with(name: str, modes: Sequence[Mode], mode: Mode) -> str:
     """Return the message that an option does not go with a call."""
     *others, last = (one.words for one in modes)
     known = f"{', '.join(others)} or {last}" if others else last
-    return f"{name} goes with {known}, not with {mode.words}"
+    return f"{name} may be given with {known}, not with {mode.words}"
 
 
 @functools.lru_cache(maxsize=None)
@@ -213,7 +213,7 @@ def request_of_line(line: Sequence[str], defaults: argparse.Namespace, folder: s
     known, bare = pair_options(defaults), pair_options(getattr(defaults, "bare", defaults))
     asked = request_of(read_options(line_parser(), line, known, bare, folder))
     if asked.recording == "-":
-        raise Stop("a list can't have - as a recording: give a file")
+        raise Stop("a list can't have standard input (-) as a recording: give a file")
     return asked
 
 
@@ -345,10 +345,10 @@ def at_line(path: str, number: int, defaults: argparse.Namespace) -> tuple[Item,
     """Return the pair of a line of a list, or why it is none, and the words of all lines, which may
     name inputs. Earlier lines decide its name; the files of others are not looked at."""
     if os.path.isdir(path):
-        raise Stop(f"{path} is no list: --line needs a LIST")
+        raise Stop(f"{path} is not a list: --line needs a LIST")
     lines = [*lines_in(list_at(path, may_be_pipe=True))]
     before = [line for line in lines if line.number <= number]
     if not before or before[-1].number < number:
-        raise Stop(f"{path}, line {number}: there is no pair")
+        raise Stop(f"{path}, line {number} has no pair")
     *_, item = of_list(path, before, defaults)
     return with_files(item), [word for line in lines for word in line.words]

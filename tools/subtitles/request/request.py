@@ -140,11 +140,11 @@ def layout_word(text: str) -> str:
     """Check a layout as the program takes it."""
     if text == AUTO:
         raise argparse.ArgumentTypeError(
-            "auto is no layout any more: find your inserter's by `--measure STL RECORDING ..`, and "
-            "keep it in a profile")
+            "auto is no longer a layout: find your inserter's with `--measure STL RECORDING ..`, "
+            "and keep it in a profile")
     fault = fault_in(text)
     if fault is not None:
-        raise argparse.ArgumentTypeError(f"{text!r} is no layout: {fault}")
+        raise argparse.ArgumentTypeError(f"{text!r} is not a layout: {fault}")
     return text
 
 

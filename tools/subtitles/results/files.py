@@ -176,7 +176,7 @@ def number_in(digits: str) -> int:
 
 def refuse_constant(text: str) -> int:
     """Reject a number."""
-    raise ValueError(f"{text[:MOST_DIGITS]} is no number of a result")
+    raise ValueError(f"{text[:MOST_DIGITS]} is not a number of a result")
 
 
 def why(reason: Exception) -> str:

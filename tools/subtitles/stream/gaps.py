@@ -95,12 +95,12 @@ def is_after(place: Place, other: Place) -> bool:
 def what_of(place: Place) -> str:
     """Return what is missing at a place."""
     said = [f"{counted(place.lost, 'TS packet')} lost"] if place.lost and not place.missing else []
-    by = f"their counter tells {place.lost} of them" if place.lost else \
+    by = f"the counter shows {place.lost} of them" if place.lost else \
         "and the counters of other PIDs"
-    said += [f"TS packets of {place.missing / SECOND:.2f} s are missing, by the PCR"
+    said += [f"TS packets of {place.missing / SECOND:.2f} s are missing by the PCR"
              f"{'; ' if place.lost else ' '}{by}"] if place.missing else []
     said += [f"{counted(place.scrambled, 'TS packet')} scrambled"] if place.scrambled else []
-    said += ["more time passes than usual, and a jump of the counter is announced"] \
+    said += ["an unusually long interval with an announced jump of the counter"] \
         if place.is_announced else []
     return ", ".join(said) or "a break in the stream"
 
@@ -111,7 +111,7 @@ def place_line(place: Place, first: int | None) -> str:
     names = " and ".join(map(str, known))
     times = " and ".join(time_of(wrapped(pts - (first or 0)) // TICKS) for pts in known)
     where = "between" if len(known) == 2 else "before" if place.before is None else "after"
-    return (f"{where} PTS {names}, {times} on: " if known else "") + what_of(place)
+    return (f"{where} PTS {names} ({times} after the first): " if known else "") + what_of(place)
 
 
 def first_lines(lines: Sequence[str]) -> list[str]:
@@ -136,16 +136,16 @@ def why_refused(packets: Packets) -> str | None:
         return None
     if not packets.refusal:
         if not packets.packets:
-            return f"{name} carries nothing"
+            return f"{name} has no packets"
         if packets.scrambled == packets.packets:
-            return f"{name} is scrambled: all {counted(packets.packets, 'TS packet')} of it"
-        return f"{name} has no whole PES packet in {counted(packets.packets, 'TS packet')}"
+            return f"{name} is scrambled, in all its {counted(packets.packets, 'TS packet')}"
+        return f"{name} has no complete PES packet in {counted(packets.packets, 'TS packet')}"
     which = "PES packets of private_stream_1" if packets.refusal == 31 else \
         "PES packets of 184 to 1656 bytes"
     if not packets.count:
         return f"{name} has no {which}, as Teletext has"
     word = "Start" if packets.refusal == 31 else "Length"
-    return f"{name} has other than {which} from PES packet {packets.count} on: refused " \
+    return f"{name} has something else than {which} from PES packet {packets.count} on: refused " \
         f"{packets.refusal} {word} pes {packets.count}"
 
 

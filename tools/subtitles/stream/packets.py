@@ -206,7 +206,7 @@ def turns_of(packets: Packets, inside: Range | None = None) -> list[str]:
 
 def subcode_words(subcodes: Sequence[str], page: str) -> str:
     """Return that sub-pages alternate."""
-    return f"sub-pages of {page} alternate, by the sub-codes {', '.join(subcodes[:-1])} and " \
+    return f"sub-pages of {page} alternate, with the sub-codes {', '.join(subcodes[:-1])} and " \
         f"{subcodes[-1]}"
 
 

@@ -41,8 +41,7 @@ class Cut(NamedTuple):
     def words(self) -> str:
         count = counted(self.read, "PES packet")
         if self.range is None or self.first is None or self.last is None:
-            return f"none of {count} is of these frames and comes with, or after, a header of " \
-                "the page there"
+            return f"none of {count} is in these frames with a header of the page, or after one"
         kept = self.range[1] - self.range[0] + 1
         return f"{kept} of {count}, from {time_of(self.first)} to {time_of(self.last)}"
 

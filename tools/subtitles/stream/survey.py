@@ -252,7 +252,7 @@ class Survey:
     def refuse(self, status: int) -> None:
         """Raise `Unanswered` if the output is incomplete."""
         if self.strange or status or not self.is_whole:
-            raise Unanswered("survey was not answered: "
+            raise Unanswered("survey gave no complete result: "
                              f"{self.strange or 'it did not end'}, status {status}")
 
 
