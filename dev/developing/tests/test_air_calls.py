@@ -38,7 +38,7 @@ class Trial(NamedTuple):
     reason: str
 
 
-NO_BEGINNING = "the first subtitle was due before the page's first PES packet in what was recorded"
+NO_BEGINNING = "the first subtitle was expected before the first recorded PES packet of the page"
 TRIALS = {
     "right": Trial((0, ALL), False, 0, 60, "relative", True, "relative"),
     "wrong": Trial((0, ALL), True, 0, 60, "refused", True, "refused 72"),
@@ -51,7 +51,7 @@ TRIALS = {
                              "the programme did not begin within 2 s of 2026-12-01T08:00:00Z, but "
                              "later"),
     "the same, wrong": Trial((0, ALL), True, 0, 2, "not judged", False, "the programme did not "
-                                "begin within"),
+                             "begin within"),
     "it begins earlier": Trial((0, ALL), False, LEAD + 4, 2, "not judged", False, NO_BEGINNING),
 }
 
