@@ -5,7 +5,7 @@ from types import SimpleNamespace
 from typing import Any
 
 from developing.stl import gsi_block
-from subtitles.common.times import Spans
+from subtitles.common.times import Span, Spans
 from subtitles.formats.stl import NamedSubtitle, Subtitle, SubtitleFile
 from subtitles.judging.causes import Cause, LATE, NEVER, NOT_RECEIVED, UNKNOWN_CAUSE, WRONG_TEXT
 from subtitles.judging.cues import Cue, CueJudge, find_decoded_times
@@ -82,6 +82,7 @@ class CueVerdicts(Case):
             (None, [], 101, ["not known", "not known", "not known"]),
             (None, [67], 100, ["waived", "wrong", "waived"]),
             (LATE, [], 100, ["wrong", "waived", "waived"]),
+            (LATE, [63], 100, ["wrong", "wrong", "waived"]),
             (LATE, [67], 100, ["wrong", "wrong", "waived"]),
             (WRONG_TEXT, [68], 100, ["wrong", "wrong", "waived"]),
             (UNKNOWN_CAUSE, [], 100, ["not known", "waived", "waived"]),
@@ -98,6 +99,15 @@ class CueVerdicts(Case):
             cue = Cue(subtitle, page(b"one"), cause or None)
             found = [CueJudge(part, severity).judge(cue).word for severity in waived]
             self.check(f"{name}, {numbers}, trusted from {first} on", found, wanted)
+
+    def test_does_not_know_subtitles_with_losses(self) -> None:
+        cue = Cue(Subtitle(1, 1, 100, 200, 20, 2, b""), page(b"one"), None)
+        for span, word in (((0, 99), "right"), ((100, 100), "not known"), ((199, 300), "not known"),
+                           ((200, 300), "right")):
+            part: Any = SimpleNamespace(
+                causes=None, unmarked_losses=[Span(*span)],
+                check_output=SimpleNamespace(fault_spans={}, verdict=ACCEPTED))
+            self.check(f"{span}", CueJudge(part, severity_of("")).judge(cue).word, word)
 
 
 class TextMarkup(Case):
