@@ -9,6 +9,7 @@ from .packets import Packet
 SECOND, TENTH = 90_000, 9_000  # ticks
 MEDIANS, FEWEST = 100, 5  # distances in a median; with fewer distances no PCR is late
 MOST_BREAKS = 256
+NEAR = 256  # TS packets
 Say = Callable[[str], None]
 
 
@@ -64,10 +65,19 @@ class Clock:
             self.say(f"pcr {self.pid} {pcr}")
         return jump
 
+    def usual(self) -> tuple[int, int]:
+        """Return the medians of the distances, in ticks and in TS packets."""
+        if not self.distances:
+            return 0, 0
+        ticks, packets = (sorted(some)[len(some) // 2] for some in zip(*self.distances))
+        return ticks, packets
+
+    def is_near(self, place: int) -> bool:
+        """Return whether there is a PCR not far before a TS packet."""
+        return self.last is not None and place - self.place < max(NEAR, 4 * self.usual()[1])
+
     def jump(self, ticks: int, place: int) -> Jump | None:
-        packets, half = place - self.place, len(self.distances) // 2
-        usual, usual_packets = (sorted(some)[half] for some in zip(*self.distances)) \
-            if self.distances else (0, 0)
+        packets, (usual, usual_packets) = place - self.place, self.usual()
         is_late = len(self.distances) >= FEWEST and ticks > max(TENTH, 3 * usual)
         if ticks < 0 or is_late:
             return Jump(ticks, packets, usual, usual_packets, self.place, place)

@@ -20,7 +20,7 @@ DATA_IDENTIFIERS = range(0x10, 0x20)
 def survey(data: bytes, page: Page, pid: int | None = None, size: int | None = None) -> list[str]:
     """Return the lines of `survey`; the PID and the packet size are detected if not given."""
     lines = ["survey 1", f"head {data[:HEAD_BYTES].hex()}".rstrip()]
-    if data.startswith(START):
+    if data.startswith(START) and data[4:5] != b"\x47":
         return lines + pes_file_lines(data, page)
     size = size or size_of(data)
     if size is None:
@@ -191,6 +191,7 @@ class Stream:
             if teletext.leads.is_next(pts):
                 self.say(f"lead {teletext.pid} {pts} {ticks_between(video.decoding, pts)} "
                          f"{video.pid} {video.number}")
-        pcr = self.clocks[programme.clock].last
-        if pcr is not None and not teletext.is_behind_gap and teletext.aheads.is_next(pts):
-            self.say(f"ahead {teletext.pid} {pts} {ticks_between(pcr, pts)}")
+        clock = self.clocks[programme.clock]
+        if clock.last is not None and clock.is_near(self.place) and not teletext.is_behind_gap \
+                and teletext.aheads.is_next(pts):
+            self.say(f"ahead {teletext.pid} {pts} {ticks_between(clock.last, pts)}")

@@ -37,6 +37,7 @@ class PesLines:
     def __init__(self, pid: int, page: Page, say: Say) -> None:
         self.pid, self.say = pid, say
         self.count = self.marks = 0
+        self.ends_with_gap = False
         self.page = DecodedPage(page)
         # The line that is not printed yet: the PTS of its PES packets, and what follows STEP.
         self.times: list[int | None] = []
@@ -56,7 +57,7 @@ class PesLines:
     def gap(self, lost: int = 0, scrambled: int = 0) -> None:
         self.flush()
         self.say(f"gap {self.pid} {self.count} {lost} {scrambled}")
-        self.count, self.marks = self.count + 1, self.marks + 1
+        self.count, self.marks, self.ends_with_gap = self.count + 1, self.marks + 1, True
 
     def read(self, data: bytes) -> None:
         """Read a PES packet."""
@@ -90,7 +91,7 @@ class PesLines:
         if None in times or rest != self.rest or step_of(times[-2:]) != step_of(times[:2]):
             self.flush()
         self.times.append(pts)
-        self.rest, self.count = rest, self.count + 1
+        self.rest, self.count, self.ends_with_gap = rest, self.count + 1, False
 
     def note(self, data: bytes) -> None:
         """Note the first subtitle header of each page, and character sets."""
@@ -179,7 +180,8 @@ class Teletext:
             self.lost += (packet.counter - before.counter - 1) % 16
         if packet.begins or good.is_break or good.is_seam or not before:
             self.has_gap |= self.part != b"" and not self.is_given
-            self.is_behind_gap = self.has_gap and not self.refusal and self.lines.count > 0
+            self.is_behind_gap = not self.refusal and self.lines.count > 0 \
+                and (self.has_gap or self.lines.ends_with_gap)
             self.part, self.begins, self.is_given, self.is_timed = b"", packet.begins, False, False
             self.is_complete &= not packet.begins
         self.part += packet.payload
