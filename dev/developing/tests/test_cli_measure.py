@@ -149,10 +149,13 @@ class Cues(Case):
         found = [*late_found([late], [])]
         self.check("one of 90", ("".join(one.words for one in found), found[0].lines[1]), (
             "", "later than usual, which --within then refuses: x begins late"))
+        late = late._replace(begins=Counter({0: 19, 5: 1}))
+        self.check("one of 20", next(late_found([late], [])).lines[1:], [])
 
     def test_a_lost_repeat_is_an_exception(self) -> None:
         for name, frames, longest, exceptions in (
                 ("one is lost", [*range(0, 400, 25), *range(425, 900, 25)], 25, [(375, 50)]),
+                ("one of twenty", [*range(0, 400, 25), *range(425, 550, 25)], 50, []),
                 ("none is lost", [*range(0, 900, 25)], 25, []),
                 ("some are longer", [at for at in range(0, 900, 25) if at % 100 != 50], 50, [])):
             found = repeats_in([TICKS * frame for frame in frames], None, 0, [(0, 900)])
