@@ -182,13 +182,13 @@ OPTIONS: tuple[Option, ...] = (
     Option("--pid", "PID", "judge this PID of a transport stream", MEASURED_PAIRS,
            "the one that carries the page", field="pid", read=pid_word,
            write=lambda pid: f"0x{pid:X}", in_profile=True, shape=Maybe(PID), note=IN_PART),
-    Option("--allow-lost", None, "count lost TS packets (45, 79) as warnings", PAIRS,
+    Option("--allow-lost", None, "treat lost TS packets (45, 79) as warnings", PAIRS,
            "they are errors", field="is_loss_allowed", default=False, in_profile=True,
            shape=Flag()),
-    Option("--no-allow-lost", None, "count them as errors, whatever the profile says", PAIRS,
+    Option("--no-allow-lost", None, "treat them as errors, whatever the profile says", PAIRS,
            "they are errors", field="is_loss_allowed", default=False, sets=False),
-    Option("--severity", "FILE", "read from FILE which faults are only warnings, in lines `NUMBER "
-           "warning`, `NUMBER error` and `others warning`", JUDGED, "all are errors",
+    Option("--severity", "FILE", "read from FILE which faults are only warnings; a line is `NUMBER "
+           "warning`, `NUMBER error` or `others warning`", JUDGED, "all are errors",
            field="severity", in_profile=True, shape=Maybe(Text())),
     Option("--breaks", "N", "expect N [breaks](#programmes-with-breaks) in the "
            "programme, each part with its own clock", PAIRS, "0", field="breaks", default=0,
@@ -197,20 +197,21 @@ OPTIONS: tuple[Option, ...] = (
            "twice", MEASURED_PAIRS, "all", field="pes", read=range_word, write=range_text,
            shape=Maybe(Listed(COUNT, 2, 2))),
     Option("--start", "TIME|tcp", "take TIME as the time code of the recording's [first picture]"
-           "(#the-clock-by-the-first-picture); `tcp`: that of the GSI block",
+           "(#the-clock-by-the-first-picture); `tcp`: the TCP of the GSI block",
            MEASURED_PAIRS, "estimated", field="start", read=start_word, in_profile=True,
            shape=Maybe(Text())),
-    Option("--relative", None, "give [`relative`](#verdicts-and-exit-status) status 0: a delay of "
-           "all subtitles is not checked", PAIRS, "status 3", field="is_relative_allowed",
-           default=False, in_profile=True, shape=Flag()),
+    Option("--relative", None, "give [`relative`](#verdicts-and-exit-status) status 0: a delay "
+           "that all subtitles share is not checked", PAIRS, "status 3",
+           field="is_relative_allowed", default=False, in_profile=True, shape=Flag()),
     Option("--within", "N", "accept pages that are complete at most N frames after their cues",
            MEASURED_PAIRS, "0", field="within", default=0, read=within_word, of_check=0,
            in_profile=True, shape=Integer(0, MOST_WITHIN)),
-    Option("--late", "SHARES", "pick the likeliest clock by how many in-cues, and behind the slash "
-           "out-cues, are usually 0, 1 .. frames late, as `0:31,1:40,2:29/0:100`; with `--within`",
+    Option("--late", "SHARES", "choose the likeliest clock: SHARES are how many in-cues, and after "
+           "the slash out-cues, are usually 0, 1 .. frames late, for example "
+           "`0:31,1:40,2:29/0:100`; only with `--within`",
            PAIRS, "none", field="late", read=late_word, write=late_text, in_profile=True,
            shape=Maybe(Text()), in_result=lambda late: late and late_text(late)),
-    Option("--strict", None, "count [warnings](#warnings) about the recording", JUDGED,
+    Option("--strict", None, "treat [warnings](#warnings) about the recording as faults", JUDGED,
            "they change nothing", field="is_strict", default=False, shape=Flag()),
     Option("--from", "TIME", "judge only subtitles with a TCI at TIME or later", MEASURED, "all",
            field="from_time", read=time_text, of_check=None, shape=Maybe(TIME)),
@@ -231,8 +232,8 @@ OPTIONS: tuple[Option, ...] = (
            "(#the-pace); `none`: do not check that", PAIRS, "measured", field="pace_word",
            read=pace_or_none, of_check=None, in_profile=True,
            shape=Maybe(Text(r"(none|[1-9][0-9]{0,6})")), note=IN_PART),
-    Option("--profile", "FILE", "read [options, one a line](#a-profile), from FILE; those of the "
-           "call replace them", JUDGED, "none", field="profile",
+    Option("--profile", "FILE", "read options from FILE, [one per line](#a-profile); options on "
+           "the command line override them", JUDGED, "none", field="profile",
            write=lambda profile: str(profile.name), shape=Maybe(PROFILE),
            note="The other keys have its options."),
 )
