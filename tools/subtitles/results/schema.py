@@ -330,7 +330,7 @@ LISTS = (
     Member("parts", Listed(JUDGED_PART, MOST_LISTED), "Each is judged by itself, with its "
            "own clock. Frames between parts are not judged.",
            lambda known: (PartOf(part, known.verdict.is_kept) for part in known.verdict.parts)),
-    Member("losses", Listed(LOSS, MOST_LISTED), "Where the recording is incomplete.",
+    Member("losses", Listed(LOSS, MOST_LISTED), "Losses in the recording.",
            lambda known: known.verdict.gaps),
     Member("notes", Listed(Text(), MOST_LISTED),
            "As printed.",
