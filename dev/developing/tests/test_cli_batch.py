@@ -62,7 +62,7 @@ class Lists(Case):
                 f"{self.path('folder')} is a folder",
                 f"{self.path('none.stl')}: No such file or directory",
                 f"{self.path('pipe')} is a pipe",
-                f"{self.path('list')}, line 11: a list can't have -", "/dev/null is a device",
+                f"{self.path('list')}, line 11: a list can't have ", "/dev/null is a device",
                 f"{self.path('socket')} is a socket", "caf\udce9.stl: No such file")):
             self.must(words, reason.startswith(words), reason)
         self.must("reasons", len(reasons) == 9, reasons)
@@ -92,8 +92,8 @@ class Lists(Case):
             self.must(f"{number}", item == whole[name] and {
                 "one.stl", "one.ts", "x.stl", "two.stl", "none.ts", '"'} <= {*words}, (item, words))
         for wrong in (4, 5, 10, 99):
-            self.assertRaisesRegex(Stop, "there is no pair", at_line, path, wrong, defaults())
-        self.assertRaisesRegex(Stop, "is no list", at_line, self.folder, 1, defaults())
+            self.assertRaisesRegex(Stop, "has no pair", at_line, path, wrong, defaults())
+        self.assertRaisesRegex(Stop, "is not a list", at_line, self.folder, 1, defaults())
         with mock.patch("subtitles.request.lines.no_file", return_value=None) as looked:
             at_line(path, 8, defaults())
         self.must("files of one pair", [call[0][0] for call in looked.call_args_list] == [

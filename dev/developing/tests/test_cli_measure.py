@@ -221,7 +221,7 @@ class Profiles(Case):
         made = [Programme(self, 10 * seed + number, inserter)
                 for number in range(chance.choice((1, 2)))]
         lines, paths = self.profile(*made)
-        refused = [line for line in lines if " is not accepted. " in line]
+        refused = [line for line in lines if " is not accepted: " in line]
         name = f"{seed}, {inserter.name}"
         self.check(f"{name}: last line", lines[-1] == ACCEPTED, not refused)
         for one, path in zip(made, paths):
@@ -240,8 +240,8 @@ class Profiles(Case):
         done = self.tool("qc", "--measure", single.stl, self.write("one.pes", joined(sent)),
                          "--origin", "0", "-p", self.bench.program)
         self.check("one alone", [line.partition(" PTS ")[2] for line in done.out.decode(
-            ).splitlines() if line.startswith("# within: of ")],
-            ["1 are off their frames, which this refuses (61)"])
+            ).splitlines() if line.startswith("# within: 1 of ")],
+            ["are off their frames, which --within 0 refuses (61)"])
 
     def test_names_an_unusual_delay_and_refuses_it(self) -> None:
         made = Programme(self, 7, Inserter("usual", begins=(0, 0, 1)), 40)
@@ -251,9 +251,9 @@ class Profiles(Case):
         name = f"subtitle {made.fault.place + 1} at "
         self.check("within", [line for line in lines if line.startswith("--within")],
                    ["--within 1"])
-        self.check("named", [name in line for line in lines if "later than is usual" in line],
+        self.check("named", [name in line for line in lines if "later than usual" in line],
                    [True])
-        self.check("refused", "is not accepted. Refused: at " in lines[-1] and name[:-4] in
+        self.check("refused", "is not accepted: Refused: subtitle " in lines[-1] and name[:-4] in
                    lines[-1], True)
 
     def test_decodes_by_the_option_that_it_proposes(self) -> None:

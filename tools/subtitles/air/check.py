@@ -52,7 +52,7 @@ class Outcome(NamedTuple):
 
     @property
     def is_final(self) -> bool:
-        """Whether nothing else that is recorded can change it."""
+        """Return whether no later segment can change the result."""
         if self.result is None:
             return False
         is_file_refused = self.verdict == REFUSED and self.result["inputs"]["recording"] is None

@@ -163,9 +163,9 @@ def is_usual(before: Sequence[int], after: Sequence[int]) -> bool:
 
 
 def stretches_in(segments: Iterable[Segment], longest_pause: float) -> Iterator[Unbroken]:
-    """Divide segments where something may be missing: where a name says so, and where the next one
-    begins more than so many seconds after the last byte, unless the TS packets go on; and where
-    they do not. If only they show it the first segment was cut, so it is left out."""
+    """Divide segments at places where something may be missing: a name says so, the next segment
+    begins more than some seconds after the last byte though the TS packets do not continue, or the
+    TS packets do not continue. In the last case the first segment was cut, so it is omitted."""
     stretch = list[Segment]()
     for one in segments:
         is_next = is_continued(stretch[-1], one) if stretch else None

@@ -41,8 +41,9 @@ FILES = "/proc/self/fd"  # those that this process has open
 
 
 def judge_forked_pair(request: Request, call: PairOptions) -> int:
-    """Judge a pair in a process of its own; return its status. If that ends early, its object says
-    why. A pipe that has come in the place of a file meanwhile would be waited for."""
+    """Judge a pair in a process of its own, and return its status. If that ends early, write the
+    reason to its JSON result. A pipe that has replaced a file is refused: reading could wait
+    forever."""
     def judge(_: Sequence[str]) -> int:
         try:
             if reason := no_file(request.stl) or no_file(request.recording or ""):
@@ -78,29 +79,30 @@ class ForkedProcess:
             os.close(alive)
 
     def fileno(self) -> int:
-        """What can be waited for: it has come to its end when this has."""
+        """Return the pipe that ends when the process ends, for `select`."""
         return self.alive_pipe
 
     def stop(self) -> None:
-        """Asks it to end."""
+        """Stop with SIGTERM."""
         with contextlib.suppress(ProcessLookupError):
             os.kill(self.pid, signal.SIGTERM)
 
     def kill(self) -> None:
-        """Ends it, and all that it called."""
+        """Kill the process and its children."""
         for kill in (os.killpg, os.kill):  # it may have no group of its own yet
             with contextlib.suppress(ProcessLookupError):
                 kill(self.pid, signal.SIGKILL)
 
     def cpu_seconds(self) -> float:
-        """The seconds of the processor that it has taken, and what it calls."""
+        """Return the CPU time in seconds of the process and its children."""
         with contextlib.suppress(OSError):
             with open(f"/proc/{self.pid}/task/{self.pid}/children", encoding="ascii") as file:
                 return sum(map(cpu_seconds_of, [str(self.pid), *file.read().split()]))
         return cpu_seconds_of(str(self.pid))
 
     def wait(self) -> tuple[int, list[str]]:
-        """Its status, below 0 where a signal ended it, and what it told, once it has ended."""
+        """Wait for the end of the process; return its status, negative for a signal, and its lines
+        on standard error."""
         _, status = os.waitpid(self.pid, 0)
         os.close(self.alive_pipe)
         with self.errors:
@@ -110,8 +112,8 @@ class ForkedProcess:
 
 
 def cpu_seconds_of(process: str) -> float:
-    """The seconds of the processor that a process has taken, with those of its own that have ended;
-    none of one that is gone."""
+    """Return the CPU time in seconds of a process and of its children that have ended; 0 if it is
+    gone."""
     try:
         with open(f"/proc/{process}/stat", encoding="utf-8", errors="replace") as file:
             times = file.read().rpartition(")")[2].split()[11:15]  # behind its name, in brackets
@@ -122,7 +124,7 @@ def cpu_seconds_of(process: str) -> float:
 
 @contextlib.contextmanager
 def hold_signals() -> Iterator[None]:
-    """Signals come later that end this call: what is done here is done as a whole."""
+    """Delay signals that end this call until the block is complete."""
     before = signal.pthread_sigmask(signal.SIG_BLOCK, SIGNALS)
     try:
         yield
@@ -131,8 +133,8 @@ def hold_signals() -> Iterator[None]:
 
 
 def run_and_exit(does: Callable[[], int], told: int, alive: int) -> NoReturn:
-    """Makes this process, which was forked, one of its own, and ends it: nothing that its parent
-    has to do at an end is done here."""
+    """Make this forked process independent, run the function and exit, without the parent's
+    cleanup."""
     status = 2
     try:
         try:
@@ -149,8 +151,8 @@ def run_and_exit(does: Callable[[], int], told: int, alive: int) -> NoReturn:
 
 
 def redirect_files(told: int, alive: int) -> None:
-    """Leaves open what a call has: nothing to read, what it tells, and what says that it goes on.
-    All else is the parent's, locks too."""
+    """Close all files of the parent, locks too, but standard error and the pipe that shows that
+    this process lives; read from /dev/null."""
     told, alive = (fcntl.fcntl(one, fcntl.F_DUPFD_CLOEXEC, ERRORS + 1) for one in (told, alive))
     nothing = os.open(os.devnull, os.O_RDWR)
     for file, place in ((nothing, INPUT), (nothing, OUTPUT), (told, ERRORS)):
@@ -162,7 +164,7 @@ def redirect_files(told: int, alive: int) -> None:
 
 
 def wait_for_any(calls: Collection[ForkedProcess], seconds: float) -> list[ForkedProcess]:
-    """Those that have ended, once one has, or after some seconds."""
+    """Wait until a process ends, or some seconds; return those that have ended."""
     by_file, poll = {call.fileno(): call for call in calls}, select.poll()
     for file in by_file:
         poll.register(file, select.POLLIN)
@@ -178,7 +180,8 @@ GRACE_SECONDS = 10  # seconds in which it may write then what is known
 
 
 def default_limit(files: Mapping[str, Any]) -> int:
-    """The seconds of a pair, by its files. RLIMIT_CPU would not say which limit ended a program."""
+    """Return the CPU time limit of a pair in seconds, by the sizes of its files. RLIMIT_CPU would
+    not say which limit ended a program."""
     size: int = sum(about["size"] for about in files.values() if about)
     return LEAST_SECONDS + size // BYTES_PER_SECOND
 
@@ -212,12 +215,12 @@ class PairRunner:
         about_program(typed.program_path)  # whose sum is then known to each of them
 
     def result_path(self, item: Item) -> str:
-        """The file of a pair's object."""
+        """Return the path of a pair's JSON result."""
         return os.path.join(self.out or self.folder, item.name + ENDING)
 
     def start(self, item: Item) -> Row | None:
-        """Begins to judge a pair; its row, where that is known at once. Where its files are inputs,
-        or no results, or another call writes them, nothing is done."""
+        """Start judging a pair; return its row if that is known at once. Do nothing if its results
+        would replace inputs or foreign files, or if another call writes them."""
         self.unwritten_results.pop(item.name, None)
         self.in_use.discard(item.name)
         claim = contextlib.ExitStack()
@@ -235,7 +238,7 @@ class PairRunner:
             claim.close()  # unless it goes on with the call
 
     def start_claimed(self, item: Item, claim: contextlib.ExitStack) -> Row | None:
-        """Begins to judge a pair whose files no other call writes now."""
+        """Start judging a pair whose files no other call can write now."""
         if self.out is not None:
             remove_results(self.out, item.name, self.parts)
         if item.asked is None:
@@ -254,7 +257,8 @@ class PairRunner:
         return None
 
     def finished_rows(self, seconds: float) -> Iterator[Row]:
-        """The rows of pairs that are judged by now, or once one is, after some seconds at most."""
+        """Return the rows of pairs that have ended, after waiting some seconds at most for the
+        first."""
         for call in wait_for_any(self.running, seconds):
             yield self.finish(call)
         for call, begun in self.running.items():
@@ -264,7 +268,7 @@ class PairRunner:
                 (call.kill if more >= GRACE_SECONDS else call.stop)()
 
     def finish(self, call: ForkedProcess) -> Row:
-        """Ends a call that is over; the row of its pair."""
+        """Take the result of a call that has ended; return the row of its pair."""
         item, limit, claim = self.running.pop(call)
         is_over = call in self.over_limit
         self.over_limit.discard(call)
@@ -281,7 +285,7 @@ class PairRunner:
             claim.close()
 
     def record_unjudged(self, item: Item, reason: str) -> Row:
-        """The row and the object of what is not judged; that may stand in no file."""
+        """Write the JSON result of a pair that was not judged, if possible, and return its row."""
         known = unjudged(item.name, reason)
         try:
             if not self.is_stopped:
@@ -292,7 +296,7 @@ class PairRunner:
         return row_of_object(known, item.name)
 
     def stop(self) -> None:
-        """Ends the calls that run; their pairs have no object."""
+        """Stop all running calls; their pairs have no result."""
         self.is_stopped = True
         for call in self.running:
             call.stop()
@@ -304,7 +308,7 @@ class PairRunner:
 
 
 def judge_batch(args: argparse.Namespace, program_name: str) -> int:
-    """Judges all pairs; answers the status."""
+    """Judge all pairs; return the exit status."""
     typed = CommandWords(program_name, args.program)
     if args.is_resumed and args.out is None:
         raise Stop("--resume needs -o, the folder with the results of an earlier call")
@@ -333,7 +337,7 @@ def judge_batch(args: argparse.Namespace, program_name: str) -> int:
 
 
 def resumed_rows(calls: PairRunner, items: list[Item]) -> dict[str, Row]:
-    """The rows of pairs that an earlier call has judged as they would be judged now."""
+    """Return the rows of pairs whose earlier results are still valid."""
     program, rows = about_program(calls.typed.program_path), {}
     for item in items:
         path = calls.result_path(item)
@@ -344,15 +348,15 @@ def resumed_rows(calls: PairRunner, items: list[Item]) -> dict[str, Row]:
 
 
 def is_reusable(known: dict[str, Any] | None, item: Item, program: MadeWith) -> bool:
-    """Whether what an earlier call has judged of a pair would be judged so now."""
+    """Return whether an earlier result of a pair would be the same now."""
     return known is not None and item.asked is not None and known["verdict"] != NOT_JUDGED \
         and is_current(known, item.asked, program)
 
 
 def judge_all(calls: PairRunner, items: list[Item], kept: dict[str, Row], jobs: int,
              take: Callable[[Row], None] = lambda row: None) -> dict[str, Row]:
-    """The rows of all pairs, with a line of progress, each `taken` once it is known; where a signal
-    ends it, of those that were judged before."""
+    """Return the rows of all pairs, and show progress. `taken` is called with each row once it is
+    known. A signal ends it with the rows known by then."""
     progress, began, rows = Progress(), time.monotonic(), dict(kept)
     waiting = collections.deque(item for item in items if item.name not in kept)
     try:
@@ -376,8 +380,8 @@ def judge_all(calls: PairRunner, items: list[Item], kept: dict[str, Row], jobs: 
 
 
 def judge_next(calls: PairRunner, waiting: collections.deque[Item], jobs: int) -> Iterator[Row]:
-    """Begins with pairs that are waited for, so many at a time; the rows of those that are judged
-    by then, or after a while."""
+    """Start waiting pairs, up to `jobs` at a time, and return the rows of those that have ended by
+    then or soon after."""
     while waiting and len(calls.running) < jobs:
         row = calls.start(waiting.popleft())
         if row:
@@ -409,7 +413,7 @@ class FolderWatch:
         self.handled: dict[str, object] = {}
 
     def ready_items(self, items: Iterable[Item]) -> list[Item]:
-        """The pairs that are whole, and new or changed; what is no pair is told, once."""
+        """Yield the complete pairs that are new or changed; report once what is no pair."""
         now, ready = time.monotonic(), []
         for item in items:
             file_state = found(item.asked) if item.asked else item.reason
@@ -424,8 +428,8 @@ class FolderWatch:
         return ready
 
     def is_complete(self, name: str, file_state: object, now: float) -> bool:
-        """Whether the files of a pair are whole: somebody says so, or they have not changed from
-        when they were seen first to when this look began."""
+        """Return whether the files of a pair are complete: something marks them so, or they have
+        not changed between the first look and this one."""
         if os.path.exists(os.path.join(self.folder, name + DONE_SUFFIX)):
             return True
         seen = self.seen.get(name)
@@ -436,7 +440,7 @@ class FolderWatch:
 
 
 def refuse_folders(args: argparse.Namespace) -> None:
-    """Both folders have to be there, and be two."""
+    """Raise `Stop` unless both folders exist and are different."""
     if args.out is None:
         raise Stop("--watch needs -o, the folder for results and reports")
     if not os.path.isdir(args.watch):
@@ -448,8 +452,8 @@ def refuse_folders(args: argparse.Namespace) -> None:
 
 
 def watch(args: argparse.Namespace, program_name: str) -> int:
-    """Judges what comes, until a signal ends that; answers the status 2. Pairs that are judged then
-    have no result, and are judged after a new start."""
+    """Judge pairs as they arrive, until a signal ends that; return status 2. Pairs that were being
+    judged then have no result, and are judged after a restart."""
     refuse_folders(args)
     typed = CommandWords(program_name, args.program)
     calls = PairRunner(typed, args.out, args.out, args.is_kept, args.limit)

@@ -64,7 +64,7 @@ MOST_CAUSES = 6
 
 
 def index_page(folder: str, rows: Sequence[Row], date: str) -> bytes:
-    """The page."""
+    """Return the HTML page over all pairs of a folder."""
     verdicts = collections.Counter(row.verdict for row in rows)
     counts = ", ".join(f"{verdicts[one]} {one}" for one in sorted(verdicts))
     title = f"{counted(len(rows), 'pair')}: {counts}"
@@ -91,7 +91,7 @@ def index_page(folder: str, rows: Sequence[Row], date: str) -> bytes:
 
 
 def cause_totals(rows: Sequence[Row]) -> Markup:
-    """How many subtitles, or faults, of how many pairs have which cause."""
+    """Return how many subtitles or faults of how many pairs have each cause."""
     causes, pairs = collections.Counter[str](), collections.Counter[str]()
     for row in rows:
         causes.update(row.causes)
@@ -109,7 +109,7 @@ def sort_key(row: Row) -> tuple[int, str]:
 
 
 def pair_row(folder: str, row: Row) -> Markup:
-    """The line of a pair."""
+    """Return the table row of a pair."""
     causes = list(row.causes.items())
     told = [markup("<b>{}</b>", counted(row.faults, "fault"))] if row.faults else []
     told += [markup("<small>{} &times; {}</small>", count, cause)
@@ -130,7 +130,7 @@ def pair_row(folder: str, row: Row) -> Markup:
 
 
 def file_links(folder: str, name: str) -> Markup:
-    """Links to what there is of a pair beside its report."""
+    """Return links to the list and the JSON result of a pair."""
     found = []
     for ending, word in ((".txt", "list"), (ENDING, "JSON")):
         if os.path.isfile(os.path.join(folder, name + ending)):
@@ -145,7 +145,7 @@ TABLE_HEADS = ("pair", "verdict", "faults", "worst fault")
 
 
 def collect(args: argparse.Namespace) -> int:
-    """Makes all there is to make of the objects in a folder; answers the status."""
+    """Combine the JSON results in a folder into a page and files; return the exit status."""
     folder = args.collect
     refuse_output_names(args)
     if not os.path.isdir(folder):
@@ -166,9 +166,9 @@ def collect(args: argparse.Namespace) -> int:
 
 def write_collection(args: argparse.Namespace, rows: Sequence[Row], places: Sequence[ResultSource],
                      is_stopped: bool = False, folder: str | None = None) -> int:
-    """Writes the page over a folder, and the files for machines, by the objects, and prints the
-    table; answers the status, which is 2 where others were to be judged too, or a file could not be
-    written. The object comes last, and knows of that."""
+    """Write the page over a folder and the output files, and print the table; return the exit
+    status, which is 2 if pairs are missing or a file could not be written. The JSON file comes last
+    and has that status."""
     date, failed = now(), list[str]()
 
     def status() -> int:
@@ -227,8 +227,8 @@ class FolderRows:
         self.write_page()
 
     def write_page(self, is_last: bool = False) -> None:
-        """Write the page over all pairs, if there is a new verdict. Unless it is the last time, a
-        second has to pass for each thousand pairs: the page takes longer, the more they are."""
+        """Write the page over all pairs if there is a new verdict; except for the last time, at
+        most once a second for each thousand pairs, since it takes longer with more pairs."""
         if not self.is_page_old or not is_last and time.monotonic() < self.next_page:
             return
         try:
@@ -241,8 +241,8 @@ class FolderRows:
 
 def refuse_output_names(args: argparse.Namespace, inputs: Inputs = NOTHING,
                  folder: str | None = None) -> None:
-    """Names under which nothing can be written, and those of inputs, are refused before anything is
-    done; also those of the files over all pairs of a folder."""
+    """Raise `Stop` if an output can't be written or is an input, before any work; check the files
+    over all pairs of a folder, too."""
     for path in (args.json, args.csv, args.junit):
         if path is not None:
             refuse_name(path)
@@ -252,7 +252,7 @@ def refuse_output_names(args: argparse.Namespace, inputs: Inputs = NOTHING,
 
 
 def write_index(folder: str | None, rows: Sequence[Row]) -> None:
-    """The page over all pairs of a folder, where there is one."""
+    """Write the page over all pairs of a folder, if there is a folder."""
     if folder is None:
         return
     with result_file(index_in(folder)) as file:
@@ -260,8 +260,8 @@ def write_index(folder: str | None, rows: Sequence[Row]) -> None:
 
 
 def summary_table(rows: Sequence[Row], why: str = "") -> Iterator[str]:
-    """The table, and a line of how many there are of which verdict; where more than these decides
-    the status, it says so."""
+    """Yield the lines of a table of pairs, and a line with the number of each verdict; `why`
+    explains the status if the verdicts do not."""
     lines = [TABLE_HEADS, *((row.name, row.verdict, str(row.faults) if row.is_judged else "",
                             worst_fault(row)) for row in rows)]
     widths = [max(len(line[column]) for line in lines) for column in range(3)]
@@ -274,7 +274,7 @@ def summary_table(rows: Sequence[Row], why: str = "") -> Iterator[str]:
 
 
 def progress_line(rows: dict[str, Row], count: int, kept: int, began: float) -> str:
-    """How many pairs have a verdict, of which kind, and how long the others will take."""
+    """Return how many pairs have each kind of verdict, and the estimated time left."""
     verdicts = [row.verdict for row in rows.values()]
     good = [f"{verdicts.count(word)} {word}, " for word in (ACCEPTED, WAIVED, RELATIVE)
             if word in verdicts or word == ACCEPTED]
@@ -290,8 +290,8 @@ def progress_line(rows: dict[str, Row], count: int, kept: int, began: float) -> 
 
 
 def worst_fault(row: Row) -> str:
-    """The place of the worst fault, with what to know of it, or why the pair was not judged, as far
-    as one line has it."""
+    """Return the worst fault of a pair with its hint, or why the pair was not judged, in one line.
+    """
     if row.verdict == ACCEPTED or not row.line:
         return ""
     if row.verdict == RELATIVE and not row.faults:
@@ -302,7 +302,7 @@ def worst_fault(row: Row) -> str:
 
 
 def json_chunks(places: Sequence[ResultSource], status: int, date: str) -> Iterator[bytes]:
-    """One object with those of all pairs."""
+    """Yield the JSON results of all pairs as one JSON object."""
     head = {"format": FORMAT, "status": status, "date": date}
     yield json.dumps(head, indent=1).removesuffix("\n}").encode() + b',\n "pairs": ['
     before = b"\n"
@@ -313,7 +313,7 @@ def json_chunks(places: Sequence[ResultSource], status: int, date: str) -> Itera
 
 
 def load_result(place: ResultSource) -> dict[str, Any]:
-    """The object of a pair, wherever it stands; its file may be gone by now."""
+    """Return the JSON result of a pair; its file may have been deleted."""
     if isinstance(place, dict):
         return place
     name = os.path.basename(place).removesuffix(ENDING)
@@ -321,7 +321,7 @@ def load_result(place: ResultSource) -> dict[str, Any]:
 
 
 def load_for_csv(place: ResultSource) -> dict[str, Any]:
-    """An object; that some of its faults are left out is told."""
+    """Return the JSON result of a pair; report faults that it omits."""
     known = load_result(place)
     left_out = known["omitted"]["faults"] if "request" in known else 0
     if left_out:
@@ -330,7 +330,7 @@ def load_for_csv(place: ResultSource) -> dict[str, Any]:
 
 
 def junit_chunks(rows: Sequence[Row], date: str) -> Iterator[bytes]:
-    """A testcase for each pair."""
+    """Yield a JUnit file with a test case for each pair."""
     yield junit_file([
         TestCase(row.title, row.verdict, row.status, row.line, row.lines, row.seconds,
                         row.counts, row.sentence) for row in rows], date)

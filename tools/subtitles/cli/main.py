@@ -23,7 +23,7 @@ OUTPUT_MODES = (PAIR, ALONE, BATCH, COLLECT)
 
 
 def number_reader(what: str, least: int, most: int) -> Callable[[str], int]:
-    """What reads a number of something, in bounds."""
+    """Return a parser for a number within bounds."""
 
     def read(text: str) -> int:
         is_number = text.isascii() and text.isdecimal() and len(text) <= len(str(most))
@@ -75,7 +75,7 @@ OPTION_MODES = {one.name: one.modes for one in (*OPTIONS, *CALL_OPTIONS)}
 
 
 def find_mode(args: argparse.Namespace) -> Mode:
-    """What is asked for; `Stop` where that is two things."""
+    """Return the mode of a call; raise `Stop` if it has two."""
     asked = {BATCH: args.batch, COLLECT: args.collect, WATCH: args.watch,
              MEASURE: args.measure}
     given = [mode for mode, value in asked.items() if value is not None]
@@ -88,7 +88,7 @@ def find_mode(args: argparse.Namespace) -> Mode:
 
 
 def given_options(parser: Words, line: Sequence[str]) -> list[str]:
-    """The options that a command line gives, as `OPTION_MODES` names them and in its order."""
+    """Return the options on a command line, named and ordered as in `OPTION_MODES`."""
     names, left_out = parser.fields, object()
     values = parser.parse_args([*line], argparse.Namespace(**dict.fromkeys(
         names.values(), left_out)))
@@ -100,7 +100,7 @@ def given_options(parser: Words, line: Sequence[str]) -> list[str]:
 
 
 def refuse_options(parser: Words, line: Sequence[str], mode: Mode) -> None:
-    """`Stop` with the first option that does not go with what is asked for."""
+    """Raise `Stop` with the first option that the mode does not take."""
     for name in given_options(parser, line):
         if mode not in OPTION_MODES[name]:
             raise Stop(goes_with(name, OPTION_MODES[name], mode))
@@ -121,8 +121,8 @@ def make_parser(text: str) -> Words:
 
 
 def main(text: str, program_name: str, line: list[str]) -> int:
-    """Does what the words ask; answers the status. Where that ends early, what is asked for by
-    --json, --csv and --junit says why, as nothing else may."""
+    """Run a command line and return its exit status. If that fails early, write the reason to the
+    files of --json, --csv and --junit."""
     try:
         status = dispatch(text, program_name, line)
         sys.stdout.flush()
@@ -135,7 +135,7 @@ def main(text: str, program_name: str, line: list[str]) -> int:
 
 
 def write_unjudged(name: str, paths: dict[str, str | None], reason: str) -> None:
-    """Writes the files that are asked for, each with one entry that is not judged."""
+    """Write each requested file with one entry that is not judged."""
     known = files.unjudged(name, reason)
     for option, path in paths.items():
         with contextlib.suppress(Stop, OSError):
@@ -144,7 +144,7 @@ def write_unjudged(name: str, paths: dict[str, str | None], reason: str) -> None
 
 
 def testcase(known: dict[str, Any]) -> list[bytes]:
-    """The file for a CI of a pair that is not judged."""
+    """Return the JUnit file of a pair that was not judged."""
     case = files.TestCase(known["name"], known["verdict"], known["status"], known["reason"], [],
                           0.0)
     return [files.junit_file([case], single.now())]
@@ -159,8 +159,7 @@ FIRST_BYTES = {"--json": b"{", "--csv": b"stl,recording,", "--junit": b"<?xml ve
 
 
 def output_path_in(line: Sequence[str], option: str) -> str | None:
-    """The file of an option in the words of a command line, whatever else is wrong with them: a
-    parser that knows that option alone finds it."""
+    """Return the file of an output option on a command line, even if other arguments are wrong."""
     parser = Words(None)
     parser.add_argument(option, dest="file")
     try:
@@ -170,14 +169,14 @@ def output_path_in(line: Sequence[str], option: str) -> str | None:
 
 
 def pair_name_in(line: Sequence[str]) -> str:
-    """The name of the pair of a command line, by its subtitle file, which its ending tells, as the
-    other words may be wrong; none where there is no such word."""
+    """Return the pair's name by the first argument that ends in .stl, or an empty name: other
+    arguments may be wrong."""
     stl = next((word for word in line if word.lower().endswith(".stl")), "")
     return os.path.splitext(os.path.basename(stl))[0]
 
 
 def dispatch(text: str, program_name: str, line: list[str]) -> int:
-    """Does what the words ask; answers the status."""
+    """Run a command line and return its exit status."""
     refuse_options(make_parser(text), line, find_mode(make_parser(text).parse_args(line)))
     args = read_options(make_parser(text), line, {}, {}, is_typed=True)
     if args.is_kept and args.out is None:

@@ -51,7 +51,7 @@ class Finding(NamedTuple):
     lines: Sequence[str]
 
     def all(self) -> Iterator[str]:
-        """It in lines of a profile."""
+        """Yield the lines of a finding for a profile."""
         yield from (f"# {line}" for line in self.lines)
         if self.words:
             yield self.words
@@ -66,7 +66,7 @@ class Sending(NamedTuple):
 
     @property
     def name(self) -> str:
-        """It by its file, its place and its time."""
+        """Return the subtitle's file, position and time."""
         subtitle = self.subtitle
         return f"{self.stl}, {subtitle.name} at {time_of(subtitle.begin)}"
 
@@ -75,7 +75,7 @@ class Sending(NamedTuple):
 
 
 def every_of(several: Sequence[Repeats]) -> Finding:
-    """The repeat bound: the most frames from a header to the next one, of all recordings."""
+    """Propose --every: the maximum distance between two headers of the page in all recordings."""
     if not several:
         return Finding("", ["every: there are too few headers of the page"])
     worst = max(several, key=lambda one: one.longest)
@@ -100,7 +100,7 @@ WHY_NONE = {
 
 
 def pace_found(paces: Sequence[Pace]) -> Finding:
-    """The pace that holds in all recordings."""
+    """Propose a maximum PES interval (--pace) for all recordings."""
     frames = [one.frames for one in paces]
     known = [one for one in frames if one is not None]
     if not known or len(known) < len(frames):
@@ -128,8 +128,8 @@ class Delays(NamedTuple):
 
 def delays_of(stl: str, subtitles: Sequence[Subtitle], held: Timeline, option: NationalOption) \
         -> Delays:
-    """Those of the subtitles of a file, by the letters that are held. Where two adjoin the end of
-    one is the begin of the other."""
+    """Measure the delays of a file's cues by the decoded text. If two subtitles adjoin, the end of
+    one is the begin of the next."""
     late = list[tuple[int, str]]()
     delays = Delays(collections.Counter(), collections.Counter(), [], [], late)
     rows = [(one, letters_of_text(one.text, option)) for one in subtitles]
@@ -157,7 +157,7 @@ def delays_of(stl: str, subtitles: Sequence[Subtitle], held: Timeline, option: N
 
 def take(counts: collections.Counter[int], early: list[str], late: list[tuple[int, str]],
          delay: int, name: str) -> None:
-    """Takes a delay; one below 0 is early."""
+    """Count a delay; a negative one is early."""
     if delay < 0:
         early.append(f"{name} {counted(-delay, 'frame')} early")
         return
@@ -178,15 +178,16 @@ def usual_in(delays: collections.Counter[int]) -> collections.Counter[int]:
 
 
 def begun(held: Timeline, subtitle: Subtitle, letters: bytes, earlier: int) -> int | None:
-    """The first frame at whose end the letters of a subtitle are held, from so many before its TCI
-    on."""
+    """Return the first frame with the text of a subtitle, from `earlier` frames before its TCI on.
+    """
     numbers = held.numbers(max(subtitle.begin - earlier, 0), subtitle.end)
     return next((held.stretch(number).first for number in numbers
                  if letters_on(held.pages[number]) == letters), None)
 
 
 def ended(held: Timeline, subtitle: Subtitle, letters: bytes, first: int, limit: int) -> int:
-    """The last such frame, from the first one up to some behind its TCO."""
+    """Return the last frame with the text of a subtitle, from `first` up to some frames after its
+    TCO."""
     end = min(subtitle.end + MOST_WITHIN + 1, limit)
     numbers = held.numbers(first, max(end, subtitle.end))
     return max(held.stretch(number).last for number in numbers
@@ -195,9 +196,9 @@ def ended(held: Timeline, subtitle: Subtitle, letters: bytes, first: int, limit:
 
 def late_found(several: Sequence[Delays], without: Sequence[str],
                off_frame: tuple[int, int] = (0, 0)) -> Iterator[Finding]:
-    """The bound, and the shares of each delay, of the recordings whose clock is given; `without`
-    are the others. `off_frame`: how many PTS are off their frames, and how many there are: if that
-    is usual, the bound is one frame at least."""
+    """Propose --within and --late from the recordings whose clock was given; `without` are the
+    others. `off_frame` are the PTS that are off their frames, and all PTS: if many are off,
+    --within is 1 at least."""
     off, count = off_frame
     least = int(off * UNUSUAL >= count > 0)
     lines = [f"within: {off} of {count} PTS are off their frames, which "
@@ -233,12 +234,12 @@ def late_found(several: Sequence[Delays], without: Sequence[str],
 
 
 def counts_text(counts: collections.Counter[int]) -> str:
-    """`0:31, 1:40`; `none` of none."""
+    """Return delays and their counts as `0:31, 1:40`, or `none`."""
     return ", ".join(f"{delay}:{count}" for delay, count in sorted(counts.items())) or "none"
 
 
 def named_lines(what: str, names: Sequence[str]) -> list[str]:
-    """The first names of something, and how many there are."""
+    """Return a line with the first names of a list, and how many more there are."""
     if not names:
         return []
     more = f", and {len(names) - NAMED} more" if len(names) > NAMED else ""
@@ -249,7 +250,8 @@ def named_lines(what: str, names: Sequence[str]) -> list[str]:
 
 
 def keeping_of(headers: int, keeping: int, is_alone: bool) -> Finding:
-    """How many headers keep the page, of so many; with nothing else wrong in any."""
+    """Propose --keeping if many of the headers keep the page; `is_alone`: no header has another
+    fault."""
     lines = [f"keeping: C4 (erase page) is clear in {keeping} of {counted(headers, 'header')}"]
     is_habit = keeping > 0 and keeping * UNUSUAL >= headers
     if keeping and not is_habit:
@@ -260,7 +262,7 @@ def keeping_of(headers: int, keeping: int, is_alone: bool) -> Finding:
 
 
 def option_of(options: Iterable[str], judged: str) -> Finding:
-    """The national option of all headers."""
+    """Propose the national option that all headers have."""
     sent = sorted(options)
     lines = [f"option: {' and '.join(sent) or 'unknown'} by C12 to C14 of the headers; the text "
              f"was read as {judged}"]
@@ -274,8 +276,8 @@ SPACE_IN_BOX = re.compile(rb"^[\x00-\x1f]*\x0b[\x00-\x1f]* | [\x00-\x1f]*\x0a[\x
 
 
 def layout_found(sendings: Sequence[Sending], option: NationalOption) -> Finding:
-    """The layout that draws nearly all as they were sent, with those that speak against it; or why
-    there is none, with the nearest."""
+    """Propose the layout that draws nearly all subtitles as sent, with counterexamples; otherwise
+    say why there is none, with the nearest."""
     closest, choice = choices_of([sending.sent for sending in sendings], option)
     if closest.total < FEWEST:
         return Finding("", [f"layout: {counted(closest.total, 'subtitle')} found with their text, "
@@ -292,14 +294,14 @@ def layout_found(sendings: Sequence[Sending], option: NationalOption) -> Finding
 
 
 def left_lines(choice: Choice) -> list[str]:
-    """Which items are not proposed that would draw more, and why."""
+    """Return which items would draw more subtitles as sent but are not proposed, and why."""
     return [f"{left.text} would draw {left.more} more of {choice.total}: {never_words(left.whole)}"
             for left in choice.left]
 
 
 def against_lines(choice: Choice, sendings: Sequence[Sending], option: NationalOption) \
         -> Iterator[str]:
-    """The subtitles that a layout draws otherwise than they were sent."""
+    """Yield the subtitles that a layout draws differently than they were sent."""
     others = [one for one in sendings if not draws(choice.layout, one.sent, option)]
     for sending in others[:NAMED]:
         yield f"against it: {sending.name}: sent {format_cells(sending.sent.rows)}; drawn " \
@@ -309,7 +311,7 @@ def against_lines(choice: Choice, sendings: Sequence[Sending], option: NationalO
 
 
 def page_text(choice: Choice, sent: Sent, option: NationalOption) -> str:
-    """What a layout draws of a subtitle."""
+    """Return what a layout draws of a subtitle."""
     lines = drawn(sent.text, sent.row, sent.justify, choice.layout, option)
     return f"nothing: refused {lines.number}" if isinstance(lines, Refused) else \
         format_cells(page_rows(lines))
@@ -317,7 +319,7 @@ def page_text(choice: Choice, sent: Sent, option: NationalOption) -> str:
 
 def no_layout(nearest: Choice, sendings: Sequence[Sending], option: NationalOption) \
         -> Iterator[str]:
-    """Why no layout is proposed: what of the drawings none of them says, and the nearest."""
+    """Yield why no layout is proposed: the nearest one, and what no layout can do."""
     others = [sending.sent for sending in sendings
               if not draws(nearest.layout, sending.sent, option)]
     text = layout_text(nearest.layout)
@@ -331,12 +333,13 @@ def no_layout(nearest: Choice, sendings: Sequence[Sending], option: NationalOpti
 
 
 def is_spaced(sent: Sent, _: Choice, option: NationalOption) -> bool:
-    """Whether spaces stand in a box at an end of a line, where its letters have none."""
+    """Return whether a line has spaces at an end within its box."""
     return any(SPACE_IN_BOX.search(row.strip(b" ")) for row in sent.rows)
 
 
 def is_block(sample: Sent, nearest: Choice, option: NationalOption) -> bool:
-    """Whether lines begin in one column that a layout draws each in its own."""
+    """Return whether all lines begin in the same column, though the layout draws them in different
+    ones."""
     lines = drawn(sample.text, sample.row, sample.justify, nearest.layout, option)
     if isinstance(lines, Refused):
         return False
@@ -350,13 +353,14 @@ KINDS: Sequence[tuple[str, Callable[[Sent, Choice, NationalOption], bool]]] = (
 
 def sendings_of(stl: str, subtitles: Iterable[Subtitle], held: Timeline, option: NationalOption) \
         -> list[Sending]:
-    """The subtitles of a file at whose frames a page with their letters was held."""
+    """Return the subtitles of a file whose text was decoded at their time, with the decoded page.
+    """
     return [Sending(stl, subtitle, sent) for subtitle in subtitles
             for sent in sent_in([subtitle], held, option)]
 
 
 def never_words(text: str) -> str:
-    """Why a layout that draws more is not proposed."""
+    """Return why a layout that draws more subtitles is not proposed."""
     layout = layout_of(text) or PLAIN
     brought, taken = layout.before + layout.behind, taken_from(layout)
     if FLASH in brought:
@@ -370,7 +374,7 @@ def never_words(text: str) -> str:
 
 
 def counts_words(choice: Choice) -> str:
-    """How many subtitles are drawn as they were sent."""
+    """Return how many subtitles are drawn as they were sent."""
     return f"{choice.drawn} of {counted(choice.total, 'subtitle')} as they were sent"
 
 
@@ -411,7 +415,7 @@ class Measured(NamedTuple):
 
 
 def measure(words: argparse.Namespace, called: str) -> int:
-    """Prints the profile of the pairs of a call; answers the status."""
+    """Print the profile of the pairs of a call; return the exit status."""
     typed, requests = CommandWords(called, words.program), requests_of(words)
     with temporary_folder("subttx-qc-") as folder:
         recordings = [measured(request, typed, os.path.join(folder, str(number)))
@@ -430,7 +434,7 @@ def measure(words: argparse.Namespace, called: str) -> int:
 
 
 def requests_of(words: argparse.Namespace) -> list[Request]:
-    """The pairs of a call: a subtitle file and its recording, one after another."""
+    """Return the pairs of a call, given as arguments or in a list."""
     names = words.measure
     if len(names) == 1 and not is_stl(names[0]):
         return requests_in(names[0], words)
@@ -459,7 +463,7 @@ def requests_in(path: str, words: argparse.Namespace) -> list[Request]:
 
 
 def measured(request: Request, typed: CommandWords, folder: str) -> Measured:
-    """What a recording tells; `Stop` where it can't be measured."""
+    """Measure a recording; raise `Stop` if that fails."""
     os.mkdir(folder)
     try:
         refuse_files(request)
@@ -502,7 +506,7 @@ def judged_lines(requests: Sequence[Request], typed: CommandWords, folder: str) 
 
 
 def of_pair(pair: PairJudge) -> Measured:
-    """The same of a pair that is read."""
+    """Measure the recording of a pair."""
     request, option = pair.request, BY_WORD[pair.request.option]
     recording, clocks, subtitles = pair.located_recording
     parts = [cut_of_part(clocks.search, part) for part in pair.parts_in(
@@ -529,7 +533,7 @@ def of_pair(pair: PairJudge) -> Measured:
 
 
 def cut_of_part(programme: PartSearch, part: Part) -> Part:
-    """A part with the PES packets of its time."""
+    """Return a part with the PES packets of its time."""
     pes = cut_packets(programme, *part.judged_recording, programme.request.within).range
     if pes is None:
         raise Unclear("the recording has nothing of the page at the time of the subtitles")
@@ -537,20 +541,20 @@ def cut_of_part(programme: PartSearch, part: Part) -> Part:
 
 
 def held_near(part: Part) -> Timeline:
-    """What is held around the frames of a part."""
+    """Return the pages decoded around the frames of a part."""
     recording, frames = part.judged_recording
     return timeline_near(recording.packets, part.request.page, frames.origin, 1,
                          Span(frames.begin, frames.end), part.request.every, frames.packets)
 
 
 def subtitles_of(part: Part, subtitles: Iterable[Subtitle]) -> list[Subtitle]:
-    """The subtitles that come in the frames of a part."""
+    """Return the subtitles that begin in the frames of a part."""
     return [one for one in subtitles if part.request.between.has(one.begin)]
 
 
 def pid_of(pair: PairJudge) -> tuple[str | None, list[str]]:
-    """The PID with the page, and in lines what it rests on and what the PMT says; none of PES
-    packets, and of several PIDs."""
+    """Return the PID with the page, and lines with the evidence and the announcement in the PMT; no
+    PID for a file of PES packets."""
     recording, name = pair.located_recording.recording, pair.request.page_name
     lines = [one.line for one in pair.listener.selections if one.what == PID_CHOICE]
     if not recording.is_stream:
@@ -567,7 +571,7 @@ def pid_of(pair: PairJudge) -> tuple[str | None, list[str]]:
 # What is printed.
 
 def profile_lines(requests: Sequence[Request], recordings: Sequence[Measured]) -> Iterator[str]:
-    """The profile, which `--profile` reads."""
+    """Yield the lines of the profile, which `--profile` reads."""
     first = requests[0]
     files = " ".join(quoted(name) for request in requests
                      for name in (request.stl, request.recording or ""))
@@ -597,7 +601,7 @@ def profile_lines(requests: Sequence[Request], recordings: Sequence[Measured]) -
 
 
 def pid_found(recordings: Sequence[Measured]) -> Finding:
-    """The PID, where it is the same in all recordings."""
+    """Propose the PID if it is the same in all recordings."""
     pids = {one.pid for one in recordings}
     lines = [f"pid: {line}"
              for line in dict.fromkeys(line for one in recordings for line in one.said)]

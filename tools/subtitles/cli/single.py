@@ -49,21 +49,22 @@ class FilesInUse(Stop):
 
 def refuse_pair_files(folder: str, name: str, inputs: Inputs, parts: PartFiles | None = None
                     ) -> None:
-    """`Stop` where a call for a pair would write over an input, or over what no call has written,
-    or take that away: nothing is done yet."""
+    """Raise `Stop` if the results of a pair would replace an input or a file that these tools did
+    not write."""
     for path in [*files_in(folder, name, parts), lock_of(folder, name)]:
         refuse_file(path, inputs)
 
 
 def refuse_folder_files(folder: str, inputs: Inputs) -> None:
-    """The same of the files over all pairs of a folder."""
+    """Raise `Stop` if the files over all pairs of a folder would replace an input or a foreign
+    file."""
     for path in (index_in(folder), lock_of(folder, "")):
         refuse_file(path, inputs)
 
 
 def is_own_file(path: str) -> bool:
-    """Whether these tools have written a file, by its first bytes: a page by all that stands before
-    its title, a list by the line of a fault or of a verdict. Those of a recording tell nothing."""
+    """Return whether these tools wrote a file, by its first bytes. For a recording that is not
+    possible: see `is_kept_recording`."""
     begin, ending = os.path.splitext(path)
     if ending in (".pes", ".ts"):
         return is_kept_recording(path, f"{os.path.splitext(begin)[0]}.json")
@@ -77,16 +78,16 @@ def is_own_file(path: str) -> bool:
 
 
 def is_kept_recording(path: str, result: str) -> bool:
-    """Whether a recording is kept beside a result: it was written just before that. What somebody
-    has put there was written at another time."""
+    """Return whether a recording was kept with a result: it was written just before that. A foreign
+    file was written at another time."""
     if not os.path.isfile(result) or not is_own_file(result):
         return False
     return 0 <= os.stat(result).st_mtime_ns - os.stat(path).st_mtime_ns < KEPT_SECONDS * 10**9
 
 
 def refuse_file(path: str, inputs: Inputs) -> None:
-    """`Stop` where a file of a folder is an input, or nothing that these tools have written; a link
-    is taken away, and not what it leads to."""
+    """Raise `Stop` if a file is an input or was not written by these tools. A link may be replaced,
+    without its target."""
     inputs.refuse(path, False)
     with contextlib.suppress(FileNotFoundError, NotADirectoryError):
         about = os.lstat(path)
@@ -96,26 +97,26 @@ def refuse_file(path: str, inputs: Inputs) -> None:
 
 
 def remove_results(folder: str, name: str, parts: PartFiles | None = None) -> None:
-    """Takes away what an earlier call left of a pair."""
+    """Remove the results of an earlier call for a pair."""
     for path in files_in(folder, name, parts):
         if os.path.lexists(path):
             os.unlink(path)
 
 
 def claim_pair(folder: str | None, name: str) -> contextlib.AbstractContextManager[None]:
-    """Makes a folder, and keeps other calls from writing the files of a pair in it."""
+    """Make a folder, and keep other calls from writing the results of a pair there."""
     return hold_lock(folder, name, f"another call is writing the files of {name} in ")
 
 
 def claim_folder(folder: str | None) -> contextlib.AbstractContextManager[None]:
-    """Makes a folder, and keeps other batches from judging into it."""
+    """Make a folder, and keep other batches from judging into it."""
     return hold_lock(folder, "", "another batch is judging into ")
 
 
 @contextlib.contextmanager
 def hold_lock(folder: str | None, name: str, refusal: str) -> Iterator[None]:
-    """Makes a folder, if there is to be one, and holds a lock in it; `FilesInUse` if
-    another call holds it, with the text `refusal`."""
+    """Make a folder, if one is given, and hold a lock in it; raise `FilesInUse` with the text
+    `refusal` if another call holds it."""
     if folder is None:
         yield
         return
@@ -135,8 +136,8 @@ def hold_lock(folder: str | None, name: str, refusal: str) -> Iterator[None]:
 
 
 def open_locked(path: str) -> int | None:
-    """An open file that nobody else has locked; `None` where somebody has. A link in its place is
-    taken away."""
+    """Return a file that is open and locked, or `None` if another process has locked it. Replace a
+    link in its place."""
     while True:
         if os.path.islink(path):
             os.unlink(path)
@@ -155,7 +156,7 @@ def open_locked(path: str) -> int | None:
 
 
 def is_file_at(handle: int, path: str) -> bool:
-    """Whether an open file is the one that has this name."""
+    """Return whether an open file still has this name."""
     try:
         return os.path.samestat(os.fstat(handle), os.lstat(path))
     except FileNotFoundError:
@@ -170,7 +171,7 @@ SUMMARY_LINES = 100  # lines of a list in a summary, and in a file for a CI
 
 
 def now(seconds: float | None = None) -> str:
-    """The time, in UTC; or that of some seconds of the epoch."""
+    """Return the time in UTC, or that of some seconds since the epoch."""
     return time.strftime("%Y-%m-%dT%H:%M:%SZ", time.gmtime(seconds))
 
 
@@ -194,14 +195,14 @@ class PairOptions(NamedTuple):
 
 
 def judge_command(args: argparse.Namespace, program_name: str) -> int:
-    """Judges the pair of a command line; answers its status."""
+    """Judge the pair of a command line; return the exit status."""
     return judge_and_report(request_of(args), PairOptions(
         args.program, args.out or None, args.is_kept, args.json, args.csv, args.junit,
         is_quiet=args.is_quiet), program_name).status
 
 
 def judge_and_report(request: Request, call: PairOptions, program_name: str) -> Verdict:
-    """Judges a pair; answers its verdict, which is said and written by then."""
+    """Judge a pair, print the verdict and write its files; return the verdict."""
     out, staging_folder = call.out, call.staging_folder or call.out
     is_output_taken = any(path in OWN_OUTPUT for path in (call.json, call.csv, call.junit))
     speech = Speech(Progress(), is_output_taken)
@@ -238,14 +239,13 @@ def stamp_inputs(request: Request) -> dict[str, Stamp | None]:
 
 
 def new_verdict(request: Request, listener: Listener) -> Verdict:
-    """A verdict of which nothing is known yet; it has what the listener hears."""
+    """Return an empty verdict, which shares the notes, commands and choices of the listener."""
     return Verdict(request, Severity(request.severity, request.is_loss_allowed), now(),
                    notes=listener.notes, commands=listener.commands, selections=listener.selections)
 
 
 def refuse_outputs(call: PairOptions, request: Request, out: str | None, name: str) -> None:
-    """`Stop` where a file that is asked for can't be written, or is an input; nothing is done yet.
-    """
+    """Raise `Stop` if an output can't be written or is an input, before any work."""
     inputs = Inputs(request.stl, request.recording, *request.others)
     for path in (call.json, call.csv, call.junit):
         if path:
@@ -256,7 +256,7 @@ def refuse_outputs(call: PairOptions, request: Request, out: str | None, name: s
 
 
 def judge_pair(pair: PairJudge, files: OutputFiles) -> None:
-    """Judges a pair and writes the files; what is not clear stands in the verdict."""
+    """Judge a pair and write its files; the verdict has the reason if it is not judged."""
     verdict, began = pair.verdict, time.monotonic()
     try:
         pair.judge()
@@ -280,7 +280,7 @@ def judge_pair(pair: PairJudge, files: OutputFiles) -> None:
 
 
 def report_pair(verdict: Verdict, speech: Speech, files: OutputFiles) -> None:
-    """Says the verdict; where that fails it is not judged, in all files too."""
+    """Print the verdict; if that fails, make it not judged in all files too."""
     try:
         print_verdict(verdict, speech, files.page)
     except KeyboardInterrupt as reason:
@@ -296,20 +296,20 @@ def report_pair(verdict: Verdict, speech: Speech, files: OutputFiles) -> None:
 
 
 def handle_signals() -> None:
-    """Lets signals end this call, but those that are ignored: nohup lets a hang-up pass."""
+    """Let signals interrupt this call, except those that are ignored, as under nohup."""
     for one in SIGNALS:
         if signal.getsignal(one) != signal.SIG_IGN:
             signal.signal(one, signal.default_int_handler)
 
 
 def ignore_signals() -> None:
-    """Takes no signal any more that would end this call."""
+    """Ignore all further signals that would interrupt this call."""
     for one in SIGNALS:
         signal.signal(one, signal.SIG_IGN)
 
 
 def print_verdict(verdict: Verdict, speech: Speech, page: str | None = None) -> None:
-    """Says the verdict, after what was lost and what is not clear; `page` is that of its report."""
+    """Print the verdict, after gaps, notes and warnings; `page` is the path of its report."""
     causes = [part.causes for part in verdict.parts if part.causes]
     if causes:
         speech.say(format_cause_counts(causes))
@@ -345,8 +345,8 @@ def print_verdict(verdict: Verdict, speech: Speech, page: str | None = None) -> 
 
 
 def reference_text(verdict: Verdict, page: str | None) -> str:
-    """Return where to look if something is refused: the report, or else what the manual says of the
-    number that is said first."""
+    """Return where to read more about a refusal: the report, or the manual on the number reported
+    first."""
     if verdict.word == ACCEPTED or verdict.word == RELATIVE and not verdict.fault_count:
         return ""
     if page:
@@ -370,7 +370,7 @@ class Output(NamedTuple):
 
     @property
     def is_replaced(self) -> bool:
-        """Whether it can be written once more."""
+        """Return whether an output can be written once more."""
         return self.is_result or is_replaced(self.path)
 
 
@@ -385,17 +385,17 @@ class OutputFiles:
 
     @property
     def page(self) -> str | None:
-        """The page of the report as it is typed."""
+        """Return the path of the report as the user would type it."""
         return self.names.typed("html") if self.names.out else None
 
     def needs_sums(self) -> bool:
-        """Whether something is written that has the sums of the inputs."""
+        """Return whether an output has the checksums of the inputs."""
         return bool(self.call.out or self.call.json or self.call.csv)
 
     def write(self, recording: Recording | None = None) -> None:
-        """Writes what is asked for. What could not be written stands in the verdict: so what was
-        written before is written once more, where that can be. The object in the folder comes
-        last, when all else is there, but for what can't be written once more."""
+        """Write all outputs. If one fails, the verdict is not judged, and outputs written before
+        are written once more if possible. The JSON result in the folder comes last, except for
+        outputs that can't be written twice."""
         for output in sorted(self.outputs(recording), key=lambda one: not one.is_replaced):
             self.find_changes()
             if self.try_to_put(output):
@@ -405,8 +405,8 @@ class OutputFiles:
         self.find_changes()
 
     def find_changes(self) -> None:
-        """Take the verdict back if a file is no more what it was: it was read several times, and
-        nobody knows which bytes were judged."""
+        """Withdraw the verdict if a file has changed: it was read several times, so it is unknown
+        which bytes were judged."""
         changed = [name for name, stamp in self.stamps.items() if stamp_of(name) != stamp]
         if changed:
             self.stamps = {}  # it is reported once
@@ -416,13 +416,13 @@ class OutputFiles:
             self.write_again()
 
     def write_again(self) -> None:
-        """Writes once more what was written, with what failed since then."""
+        """Write the outputs once more, with the later failures."""
         for output in self.written:
             if output.is_replaced and not output.is_raw:
                 self.try_to_put(output)
 
     def try_to_put(self, output: Output) -> bool:
-        """Writes a file; whether that was done. Else why not stands in the verdict."""
+        """Write an output; return whether that succeeded. If not, the verdict has the reason."""
         try:
             self.put(output)
         except Exception as reason:
@@ -434,7 +434,7 @@ class OutputFiles:
         return True
 
     def outputs(self, recording: Recording | None) -> list[Output]:
-        """What is asked for."""
+        """Yield the outputs that were requested."""
         call, verdict, names = self.call, self.verdict, self.names
         wanted = [Output(call.csv, lambda: results.subtitle_lines(verdict))] if call.csv else []
         wanted += [Output(call.junit, self.testcase)] if call.junit else []
@@ -456,7 +456,7 @@ class OutputFiles:
         return wanted
 
     def raw_outputs(self, recording: Recording | None) -> list[Output]:
-        """The list of each part as `check` told it, and what was recorded, where that is kept."""
+        """Yield the lists of all parts as `check` printed them, and the kept recording."""
         lists = [Output(part.names.placed("txt"), part.check_output.read_bytes, True, is_raw=True)
                  for part in self.verdict.parts]
         ending = recording and recording.packets.count and recording.kept_ending
@@ -465,7 +465,7 @@ class OutputFiles:
         return lists
 
     def testcase(self) -> Iterator[bytes]:
-        """The file for a CI."""
+        """Return the JUnit file."""
         verdict = self.verdict
         case = results.TestCase(pair_title(verdict.request), verdict.word, verdict.status,
                                verdict.worst_line or verdict.unjudged_reason or "", self.lines(),
@@ -475,25 +475,25 @@ class OutputFiles:
         yield results.junit_file([case], verdict.date)
 
     def lines(self) -> list[str]:
-        """The first lines of the lists of all parts."""
+        """Return the first lines of the lists of all parts."""
         lines = (line for part in self.verdict.parts for line in part.check_output.read_lines()
                  if part.check_output.fault_count)
         return list(itertools.islice(lines, SUMMARY_LINES))
 
     @staticmethod
     def put(output: Output) -> None:
-        """Writes a file whole, or not at all."""
+        """Write a file completely or not at all."""
         with result_file(output.path) if output.is_result else whole_file(output.path) as file:
             for piece in output.pieces():
                 file.write(piece)
 
 
 def encode_text(text: str) -> bytes:
-    """The text of an object; of a name that is not UTF-8 the bytes are escaped, which all other
-    texts have done."""
+    """Return the text of a JSON result as bytes. Bytes of a name that are not UTF-8 are escaped, as
+    all other texts have them already."""
     return ESCAPED.sub(lambda found: "\\" + escaped(found[0]), text).encode()
 
 
 def pair_title(request: Request) -> str:
-    """A pair as a line of a table names it."""
+    """Return the title of a pair in tables."""
     return " ".join([request.stl, *([request.recording] if request.recording else [])])

@@ -36,12 +36,12 @@ class Notice(NamedTuple):
     time: str | None = None
 
     def warning_text(self) -> str:
-        """The line as it is said."""
+        """Return the line of the warning."""
         return f"warning: {self.line}"
 
 
 def timing_notices(packets: Packets, origin: int) -> Iterator[Notice]:
-    """Where PTS and PCR do not go together."""
+    """Yield warnings about PTS that do not agree with the PCR."""
     for strange in strange_of(packets):
         time = time_in(strange.pts, origin)
         where = f"from {time} on" if time else f"from PTS {strange.pts} on"
@@ -51,7 +51,7 @@ def timing_notices(packets: Packets, origin: int) -> Iterator[Notice]:
 
 
 def jump_notices(packets: Packets, origin: int, first: int, last: int) -> Iterator[Notice]:
-    """Where the clock goes on elsewhere, and no packet is missing, from a frame to another one."""
+    """Yield warnings about jumps of the clock without a missing packet, between two frames."""
     for jump in jumps_of(packets):
         frame = FRAMES_OF_A_DAY if jump.before is None else frame_in(jump.before, origin)
         if first <= frame <= last:
@@ -62,7 +62,7 @@ def jump_notices(packets: Packets, origin: int, first: int, last: int) -> Iterat
 
 
 def duration_text(ticks: int) -> str:
-    """Hours, minutes and seconds, as `2:24:01`; of less than a minute seconds alone."""
+    """Return ticks as hours, minutes and seconds, as `2:24:01`, or as seconds below a minute."""
     seconds = round(ticks / SECOND)
     if seconds < 60:
         return f"{ticks / SECOND:.2f} s"
@@ -70,7 +70,7 @@ def duration_text(ticks: int) -> str:
 
 
 def pmt_notices(survey: Survey, pid: int, request: Request) -> Iterator[Notice]:
-    """Where the PMT announces something else than was asked for."""
+    """Yield warnings about a PMT that announces something else than the requested page."""
     programmes = survey.programmes_of(pid)
     if not programmes:
         return
@@ -87,7 +87,7 @@ def pmt_notices(survey: Survey, pid: int, request: Request) -> Iterator[Notice]:
 
 
 def page_notices(own: list[Announced], request: Request) -> Iterator[Notice]:
-    """The same of what is announced of the page."""
+    """Yield warnings about the type, language and option that a PMT announces for the page."""
     name = request.page_name
     if not any(announced.kind in SUBTITLE_KINDS for announced in own):
         kinds = " and ".join(dict.fromkeys(KINDS.get(announced.kind, "of an unknown kind")
@@ -104,8 +104,8 @@ def page_notices(own: list[Announced], request: Request) -> Iterator[Notice]:
 
 
 def option_notices(languages: list[str], request: Request) -> Iterator[Notice]:
-    """Where no language that a PMT has for the page may be of the national option: receivers may
-    take the letters of that language."""
+    """Yield a warning if no language that a PMT announces for the page can use the national option:
+    receivers may choose characters by that language."""
     options = [of_track(one) for one in languages]
     is_other = [bool(option and option.word != request.option) or language in OTHER_REGIONS
                 for language, option in zip(languages, options)]
@@ -119,7 +119,8 @@ def option_notices(languages: list[str], request: Request) -> Iterator[Notice]:
 
 
 def character_set_notices(packets: Packets, request: Request) -> Iterator[Notice]:
-    """Where packets name another character set than that of the national option."""
+    """Yield warnings about packets that name another character set than that of the national
+    option."""
     for number, designation, region, option in packets.sets:
         if region is None or option is None:
             named = "an unreadable character set"
@@ -132,18 +133,19 @@ def character_set_notices(packets: Packets, request: Request) -> Iterator[Notice
 
 
 def page_list(announced: list[Announced]) -> str:
-    """Some pages, as words."""
+    """Return announced pages as text."""
     return ", ".join(dict.fromkeys(one.line() for one in announced))
 
 
 def language_code(stl: str) -> str:
-    """The LC of a subtitle file."""
+    """Return the LC of a subtitle file."""
     return first_bytes(stl, LC.stop)[LC].decode("latin-1")
 
 
 def count_notices(subtitles: SubtitleFile) -> Iterator[Notice]:
-    """Where the GSI block counts other blocks or subtitles than there are, as in a file that was
-    cut at the end of a block. A count that is no number tells nothing; comments may be counted."""
+    """Yield warnings if the GSI block counts other blocks or subtitles than the file has, as after
+    a cut at the end of a block. Comments may be counted; a count that is not a number is ignored.
+    """
     expected = read_count(subtitles.data[TNB])
     there = subtitles.count()
     if expected is not None and expected != there:
@@ -156,17 +158,17 @@ def count_notices(subtitles: SubtitleFile) -> Iterator[Notice]:
 
 
 def read_count(digits: bytes) -> int | None:
-    """A count of a GSI block, `None` where there is none."""
+    """Return a count of a GSI block, or `None` if it is not a number."""
     return int(digits) if digits.isdigit() else None
 
 
 def count_text(count: int) -> str:
-    """How many there are."""
+    """Return `there are N`."""
     return "there is 1" if count == 1 else f"there are {count:,}"
 
 
 def pause_notices(pts: Sequence[int], request: Request, origin: int) -> Iterator[Notice]:
-    """Where no PES packet came for some frames, of what else sends one in each frame but few."""
+    """Yield warnings about frames without a PES packet, if nearly all other frames have one."""
     frames = array.array("i", (frame for frame in frames_at(pts, origin, request.within)
                                if frame != NO_FRAME))
     pauses = [(first + 1, second) for first, second in zip(
@@ -179,7 +181,8 @@ def pause_notices(pts: Sequence[int], request: Request, origin: int) -> Iterator
 
 def repeat_notices(headers: Sequence[int], request: Request, origin: int,
                    times: list[tuple[int, int]]) -> Iterator[Notice]:
-    """Where the page is repeated so often that `--every` would not see a repeat that is missing."""
+    """Yield a warning if the page is repeated so often that `--every` would not notice a missing
+    repeat."""
     every = repeat_distance((frame_in(pts, origin, request.within) for pts in headers),
                             edges_of(times))
     if every is not None and every * 2 < request.every:
@@ -211,7 +214,7 @@ class Announcement(NamedTuple):
     end: int | None
 
     def is_in(self, begin: int, end: int) -> bool:
-        """Whether it holds between two PTS, clearly."""
+        """Return whether the announcement certainly holds between two PTS."""
         return (self.begin is None or ticks_between(self.begin, end) > NEAR) and (
             self.end is None or ticks_between(begin, self.end) > NEAR)
 
@@ -223,7 +226,7 @@ def announcing_pids(program_map: ProgramMap, page: Page) -> set[int]:
 
 
 def find_announcements(records: Sequence[ProgramMap], page: Page) -> Iterator[Announcement]:
-    """Those of a page in the PMT of all programmes, one after another."""
+    """Return the announcements of a page in the PMTs of all programmes, in their order."""
     ends: dict[int, int | None] = {}  # the PCR before the next PMT of a programme, by its number
     several: list[Announcement] = []
     for record in reversed(records):
@@ -236,8 +239,8 @@ def find_announcements(records: Sequence[ProgramMap], page: Page) -> Iterator[An
 
 def find_unsent(announced: Sequence[Announcement], carriers: Collection[int], begin: int,
               end: int) -> Announcement | None:
-    """The first announcement between two PTS of a programme whose page comes elsewhere alone, on
-    some PIDs: of the programme that carries it, or of any where no programme announces these."""
+    """Return the first announcement between two PTS whose page is sent on other PIDs only: of the
+    programme that carries it, or of any programme if none announces those PIDs."""
     own = {announcement.number for announcement in announced if announcement.pids & {*carriers}}
     return next((announcement for announcement in announced
                  if carriers and not announcement.pids & {*carriers}
@@ -246,7 +249,7 @@ def find_unsent(announced: Sequence[Announcement], carriers: Collection[int], be
 
 
 def silent_pids(announced: Sequence[Announcement], carriers: Collection[int]) -> set[int]:
-    """The PIDs on which other programmes alone announce a page than those that send it."""
+    """Return the PIDs on which only programmes without the page announce it."""
     own = {announcement.number for announcement in announced if announcement.pids & {*carriers}}
     others = {pid for announcement in announced if announcement.number not in own
               for pid in announcement.pids}
@@ -255,8 +258,8 @@ def silent_pids(announced: Sequence[Announcement], carriers: Collection[int]) ->
 
 def is_page_expected(clock: tuple[int, int] | None, times: Sequence[tuple[int, int]],
               origin: int | None) -> bool:
-    """Whether a page is due in the time between two PCR: by an origin all of a subtitle's time is
-    in it, and without one it is as long as from the first TCI to the last TCO."""
+    """Return whether a page is expected between two PCR: the whole time of a subtitle by the
+    origin, or without one as much time as from the first TCI to the last TCO."""
     if clock is None or not times:
         return False
     length = wrapped(clock[1] - clock[0])
@@ -267,15 +270,15 @@ def is_page_expected(clock: tuple[int, int] | None, times: Sequence[tuple[int, i
 
 
 def has_unreadable(survey: Survey, pids: Collection[int]) -> bool:
-    """Whether one of some PIDs has TS packets of which nothing is given, as where they are
-    scrambled: what they carry is not known."""
+    """Return whether one of some PIDs has TS packets but no readable PES packet, as if scrambled.
+    """
     packets = [survey.by_pid[pid] for pid in pids if pid in survey.by_pid]
     return any(not one.count and one.packets and why_refused(one) for one in packets)
 
 
 def never_sent_text(survey: Survey, page: Page, pids: Collection[int],
                 carriers: Collection[int] = ()) -> str:
-    """What is wrong: where the page is announced, and which PID has it."""
+    """Return where the page is announced, and which PIDs have it."""
     names = " and ".join(map(pid_name, sorted(pids)))
     words = f"page {page_name(*page)} is announced on {names}, but never sent"
     none = [pid for pid in sorted(pids)
@@ -288,8 +291,8 @@ def never_sent_text(survey: Survey, page: Page, pids: Collection[int],
 
 
 def refuse_unsent(request: Request, survey: Survey, times: Sequence[tuple[int, int]]) -> None:
-    """`NeverSent` where the page is announced, on the PID that is asked for where there is one,
-    comes nowhere there, and something of it is due in the recording."""
+    """Raise `NeverSent` if the page is announced, on --pid if that is given, but never sent there
+    though a subtitle is expected."""
     announced = find_announcements(survey.programmes, request.page)
     named = {pid for announcement in announced for pid in announcement.pids
              if request.pid in (None, pid)}
@@ -300,7 +303,7 @@ def refuse_unsent(request: Request, survey: Survey, times: Sequence[tuple[int, i
 
 
 def find_origin(request: Request, survey: Survey, pid: int) -> int | None:
-    """The origin that is given, or that the first picture of a PID's programme tells."""
+    """Return the given origin, or that of the first picture of a PID's programme."""
     if request.start is not None:
         with contextlib.suppress(NoFirst, Unclear):
             return wrapped(first_picture(survey, pid).pts - TICKS * start_frame(request))
@@ -351,8 +354,8 @@ def time_of_recording(survey: Survey, packets: Packets) -> tuple[int, int] | Non
 
 
 def refuse_other_pid(request: Request, survey: Survey, begin: int, end: int) -> None:
-    """`NeverSent` where the PMT announces the page, between two PTS, on a PID where it never comes;
-    one that is asked for is judged."""
+    """Raise `NeverSent` if the PMT announces the page between two PTS on a PID where it is never
+    sent. A PID given by --pid is judged."""
     carriers = {pid for pid, packets in survey.by_pid.items() if packets.has_page}
     announced = [*find_announcements(survey.programmes, request.page)]
     announcement = find_unsent(announced, carriers, begin, end) if request.pid is None else None

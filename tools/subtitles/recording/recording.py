@@ -31,7 +31,7 @@ MOST_PIPED = 32_000_000_000  # bytes: two hours of 35 Mbit/s
 
 
 def copy_piped(name: str, path: str, speech: Speech) -> SummedFile:
-    """Copies what comes through a pipe to a file, up to its end; what was copied."""
+    """Copy all bytes from a pipe to a file, and return its size and checksum."""
     source = "standard input" if name == STANDARD else name
     digest, count = hashlib.sha256(), 0
     with open(path, "wb") as file:
@@ -58,7 +58,7 @@ LENGTH_AT, FIXED, TELETEXT = 8, 9, 0x24
 
 
 def read_pes_header(program: str, path: str, pid: int, size: int) -> bytes:
-    """The first bytes of what `extract` gives of a PID."""
+    """Return the first bytes that `extract` prints of a PID."""
     words = [program, "extract", *stream_words(pid, size), "--", path, OUTPUT]
     with subprocess.Popen(words, stdin=subprocess.DEVNULL, stdout=subprocess.PIPE,
                           stderr=subprocess.DEVNULL) as call:
@@ -69,8 +69,8 @@ def read_pes_header(program: str, path: str, pid: int, size: int) -> bytes:
 
 
 def pes_header_problem(begun: bytes, pid: int) -> str:
-    """What is wrong with the PES header of a PID whose first PES packet begins so; nothing where it
-    is one of Teletext, or none."""
+    """Return what is wrong with the first PES header of a PID; nothing if it is a Teletext header
+    or there is none."""
     if not begun.startswith(START[:3]) or begun[LENGTH_AT:FIXED] in (b"", bytes([TELETEXT])):
         return ""
     length, whose = begun[LENGTH_AT], f" of {pid_name(pid)}" if pid != PES else ""
@@ -81,15 +81,15 @@ def pes_header_problem(begun: bytes, pid: int) -> str:
 # A recording: what `subttx survey` tells of it, and how the program reads it once more.
 
 def is_recording(path: str) -> bool:
-    """Whether a file that should be a subtitle file begins as a recording does."""
+    """Return whether a file begins as a recording does."""
     head = first_bytes(path, 209)
     return head.startswith(START) or any(
         head[at:at + size + 1:size] == b"GG" for at in (0, 4) for size in PACKET_SIZES)
 
 
 def refuse_files(request: Request) -> None:
-    """Files that are not there, or stand in the place of each other, are told before anything is
-    judged."""
+    """Raise `Unclear` if a file is missing, or subtitle file and recording are exchanged, before
+    anything is judged."""
     if not os.path.isfile(request.stl_path):
         name = request.stl.removeprefix("./") if request.stl.startswith("./-") else request.stl
         raise Unclear(f"{name or 'an empty name'} does not exist or is not a file")
@@ -100,7 +100,7 @@ def refuse_files(request: Request) -> None:
 
 
 def refuse_stream(survey: Survey, name: str) -> None:
-    """What is no recording of Teletext is told so."""
+    """Raise `Stop` or `Unclear` if a file is not a recording of Teletext."""
     head = survey.head
     if not head:
         raise Stop(f"{name} is empty")
@@ -114,7 +114,7 @@ def refuse_stream(survey: Survey, name: str) -> None:
 
 
 def unreadable_packets(survey: Survey) -> list[Packets]:
-    """The PIDs of which nothing is given though there are TS packets of them, in their order."""
+    """Return the PIDs with TS packets but without readable PES packets, in order."""
     return [packets for _, packets in sorted(survey.by_pid.items())
             if not packets.count and packets.packets]
 
@@ -135,7 +135,7 @@ class Recording:
         self.file: SummedFile | None = None
 
     def read(self, is_summed: bool) -> None:
-        """Reads it to its end, and takes all that is told of it."""
+        """Read the recording to its end, and survey it."""
         if self.is_piped:
             self.file = copy_piped(self.name, self.path, self.listener.speech)
         summed = BackgroundSum(self.name) if is_summed and not self.is_piped else None
@@ -147,11 +147,11 @@ class Recording:
         self.print_losses()
 
     def show(self) -> None:
-        """What is read, on a terminal."""
+        """Show on a terminal how much was read."""
         self.listener.speech.show(lambda: self.name)
 
     def chosen(self) -> Packets:
-        """The only PID that carries the page, or the one that was asked for."""
+        """Return the requested PID, or the only one that carries the page."""
         page, by_pid = self.request.page_name, self.survey.by_pid
         if self.survey.size == PES:
             return by_pid.setdefault(PES, Packets(PES))
@@ -178,8 +178,8 @@ class Recording:
                       *(self.again("--pid", f"0x{one.pid:X}") for one in pids))
 
     def refuse_silent(self, carriers: Collection[int]) -> None:
-        """`Unclear` where several programmes announce the page, and some of them never send it:
-        nobody but the house knows which one is meant."""
+        """Raise `Unclear` if several programmes announce the page but some never send it: only the
+        broadcaster knows which one is meant."""
         announced = [*find_announcements(self.survey.programmes, self.request.page)]
         silent = silent_pids(announced, carriers)
         if silent and self.request.pes is None:
@@ -190,7 +190,7 @@ class Recording:
                 *(self.again("--pid", f"0x{pid:X}") for pid in sorted({*carriers} | silent)))
 
     def print_choice(self, packets: Packets, why: str) -> None:
-        """Says which PID is chosen, and by what."""
+        """Report which PID was chosen, with the evidence."""
         begun = sum(run.length for run in packets.timed() if HEADER in run.does)
         line = f"{pid_name(packets.pid)}: page {self.request.page_name} has a header in {begun} " \
             f"of {counted(packets.count, 'PES packet')}, {why}"
@@ -198,13 +198,12 @@ class Recording:
                                        packets.count))
 
     def unreadable_reasons(self) -> list[str]:
-        """Why nothing is given of each PID that should carry Teletext: scrambled, or not as it is.
-        """
+        """Return why PIDs that should carry Teletext can't be read, as scrambled ones."""
         return [words for packets in unreadable_packets(self.survey)
                 for words in (why_refused(packets), self.header_problem(packets)) if words]
 
     def header_problem(self, packets: Packets) -> str:
-        """What is wrong with the PES header of a PID."""
+        """Return what is wrong with the PES header of a PID."""
         if packets.pid != PES and not packets.packets:
             return ""
         begun = self.survey.head if packets.pid == PES else read_pes_header(
@@ -212,7 +211,7 @@ class Recording:
         return pes_header_problem(begun, packets.pid)
 
     def print_losses(self) -> None:
-        """Says what was read, and where something is missing."""
+        """Report what was read, and the places where something is missing."""
         packets = self.packets
         if packets.damage:
             self.listener.said(f"{self.name}: {packets.damage}; it was read up to there")
@@ -231,35 +230,35 @@ class Recording:
 
     @property
     def is_stream(self) -> bool:
-        """Whether it is a transport stream."""
+        """Return whether the recording is a transport stream."""
         return bool(self.survey.size)
 
     def stream(self) -> tuple[int, int] | None:
-        """The PID, and the bytes from a TS packet to the next one, of a transport stream."""
+        """Return the PID and the TS packet size in bytes of a transport stream."""
         return (self.packets.pid, self.survey.size or 0) if self.is_stream else None
 
     def words(self) -> list[str]:
-        """The options by which the program reads what is judged."""
+        """Return the options with which the program reads the recording."""
         stream = self.stream()
         return stream_words(*stream) if stream else []
 
     @property
     def shown(self) -> str:
-        """The file that is judged, as it is typed."""
+        """Return the name of the recording as it was typed."""
         if not self.is_piped:
             return self.name
         return self.names.typed(KEPT_STREAM if self.is_stream else KEPT)
 
     @property
     def kept_ending(self) -> str | None:
-        """How a file ends in which it is kept: all that came through a pipe, or the PES packets of
-        a transport stream; `None` of a file of PES packets, which is there."""
+        """Return the ending of the kept recording: everything from a pipe, or the PES packets of a
+        transport stream; `None` for a file of PES packets, which exists already."""
         if self.is_piped and self.is_stream:
             return KEPT_STREAM
         return KEPT if self.is_piped or self.is_stream else None
 
     def kept(self) -> Iterator[bytes]:
-        """What is kept of it."""
+        """Yield the bytes of the recording to keep."""
         if self.is_piped:
             yield from pieces_of(self.path)
             return
@@ -272,15 +271,16 @@ class Recording:
         yield from pieces_of(own)
 
     def places(self, jumps: Iterable[PTSPair] = ()) -> list[Place]:
-        """Where something is missing, also where a jump that is announced hides it."""
+        """Return the places where packets are missing, including those that announced jumps of the
+        counter hide."""
         return places_of(self.packets, jumps)
 
     def reach(self) -> tuple[int, int] | None:
-        """From which PTS to which all is there that was sent, by the PCR."""
+        """Return the PTS between which the PCR shows that everything was recorded."""
         return reach_of(self.survey, self.packets)
 
     def last(self) -> int | None:
-        """The last PTS, or the last PCR where that is later."""
+        """Return the last PTS, or the last PCR if it is later."""
         clock, pts = self.survey.clock_of(self.packets.pid), self.packets.begun
         known = [one for one in (pts, clock and clock[1]) if one is not None]
         return max(known, default=None, key=functools.partial(ticks_between, known[0])) \
@@ -301,14 +301,14 @@ class Recording:
     # What is said.
 
     def other_pids(self) -> list[str]:
-        """What to type in the place of a PID that is wrong."""
+        """Return the calls with other PIDs to type instead."""
         known = [f"0x{pid:X}" for pid, packets in sorted(self.survey.by_pid.items())
                  if self.request.page_name in packets.sent]
         return [self.again("--pid", word)
                 for word in known or ["PID"] * bool(self.survey.by_pid)]
 
     def has_picture(self) -> bool:
-        """Return whether `--start` can tell its clock."""
+        """Return whether `--start` can give its clock."""
         return self.is_stream and has_first_picture(self.survey, self.packets.pid)
 
     def no_picture_error(self, reason: NoFirst) -> Unclear:
@@ -327,7 +327,7 @@ class Recording:
         return (self.again("--page", name) for name, _ in counts.most_common(MOST_PAGES))
 
     def said(self, reason: str) -> str:
-        """A reason, and what there is."""
+        """Return a reason, followed by what the recording has."""
         if self.request.pid is not None:
             self.survey = survey(self.typed.program_path, self.path, self.request.page)
         return "\n".join([reason, *(self.survey.lines() or ["no PID has Teletext"])])

@@ -150,7 +150,7 @@ class CueList:
 
     @functools.cached_property
     def kinds(self) -> list[Kind]:
-        """The kinds of fault of a part, the worst first."""
+        """Return the kinds of faults of a part, worst first."""
         is_waived = self.judge.is_cause_waived
         names = {cause.name for cause in self.causes.list_causes()} if self.causes else set[str]()
         ranked = [(CAUSE_RANKS[name], Kind(cause_class(name), name, is_waived)) for name in names]

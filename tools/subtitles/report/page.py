@@ -103,7 +103,7 @@ def clock_words(verdict: Verdict) -> Markup:
 
 
 def clock_source(clock: Clock) -> str:
-    """Return where a clock that was not estimated is from."""
+    """Return the source of a clock that was not estimated."""
     source = "from the first picture (--start), 00:00:00:00 at PTS" \
         if clock.source in (START, TCP) else "given: --origin"
     return f"Clock {source} {clock.origin}."
@@ -266,7 +266,7 @@ def scope_section(verdict: Verdict) -> Markup:
 
 
 def not_checked(verdict: Verdict) -> Iterator[str]:
-    """Yield what nobody looked at."""
+    """Yield what was not checked."""
     request = verdict.request
     if request.recording is None:
         yield "the transmission: no recording was given"

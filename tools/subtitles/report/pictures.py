@@ -55,19 +55,19 @@ ground_of: Callable[[CellStyle], Ground] = operator.attrgetter("paper", "boxed")
 
 @functools.lru_cache(maxsize=None)
 def letter_table(option: int, is_mosaic: bool) -> Any:
-    """The letter of each byte: a text, which `codecs` takes, though mypy does not know it."""
+    """Return the character of each byte, as a string for `codecs`, which mypy does not accept."""
     table = letters(option)
     return "".join("\u2592" if is_mosaic and byte & 0x20 and byte & 0x7F != SPACE
                    else table[byte & 0x7F] for byte in range(256))
 
 
 def drawn_letters(cells: bytes, option: int, is_mosaic: bool = False) -> str:
-    """The letters of some cells."""
+    """Return the characters of some cells."""
     return codecs.charmap_decode(cells, "strict", letter_table(option, is_mosaic))[0]
 
 
 def styled_spans(row: bytes, number: int, option: int, is_boxed_page: bool) -> list[CellStyle]:
-    """The look of the cells of a row, by the spacing attributes before them."""
+    """Return the style of each cell of a row, by the spacing attributes before it."""
     ink, paper, flash, boxed, double, mosaic = 7, 0, False, not is_boxed_page, False, False
     spans: list[CellStyle] = []
     last = SPACE
@@ -103,7 +103,7 @@ def styled_spans(row: bytes, number: int, option: int, is_boxed_page: bool) -> l
 
 def group_cells(spans: Iterable[CellStyle], key: Callable[[CellStyle], Key]) \
         -> Iterator[tuple[Key, int, str]]:
-    """Neighbours with the same key, as the first column and the letters."""
+    """Yield groups of neighbouring cells with the same key, with their first column and text."""
     column = 0
     for value, several in itertools.groupby(spans, key):
         letters_ = "".join(map(letters_of, several))
@@ -112,7 +112,7 @@ def group_cells(spans: Iterable[CellStyle], key: Callable[[CellStyle], Key]) \
 
 
 def text_markup(look: Look, column: int, letters_: str) -> Markup:
-    """The letters of neighbours with one look; nothing where they are spaces."""
+    """Return the text of neighbouring cells with the same style; nothing for spaces."""
     column += len(letters_) - len(letters_.lstrip(" "))
     letters_ = letters_.strip(" ")
     if not letters_:
@@ -127,7 +127,7 @@ def text_markup(look: Look, column: int, letters_: str) -> Markup:
 
 @functools.lru_cache(maxsize=4096)
 def draw_row(row: bytes, number: int, option: int, is_boxed_page: bool) -> tuple[Markup, bool]:
-    """A row as SVG, and whether it hides the row below: where a cell of it has double height."""
+    """Draw a row as SVG; return also whether it hides the row below, by double height."""
     spans = styled_spans(row, number, option, is_boxed_page)
     is_tall = any(one.double for one in spans)
     height = HEIGHT * (2 if is_tall else 1)
@@ -147,7 +147,7 @@ def draw_row(row: bytes, number: int, option: int, is_boxed_page: bool) -> tuple
 
 
 def frames_of(different: Iterable[Place], tall: set[int]) -> Markup:
-    """Frames around cells that differ: one for neighbours in a row, and in rows that are alike."""
+    """Yield frames around cells that differ, joining neighbours."""
     boxes: dict[tuple[int, int, int], int] = {}
     for row, group in itertools.groupby(sorted(different), lambda cell: cell[0]):
         columns = [column for _, column in group]
@@ -168,7 +168,7 @@ def frame(column: int, width: int, first: int, end: int) -> Markup:
 
 
 def is_boxed(header: bytes) -> bool:
-    """Whether a receiver shows the boxes of the page alone."""
+    """Return whether a receiver shows only the boxes of the page."""
     return has_bit(header, NEWSFLASH) or has_bit(header, SUBTITLE)
 
 
@@ -181,7 +181,8 @@ def rows_to_draw(pages: Iterable[Rows]) -> Cut:
 
 
 def picture_start(kind: str, cut: Cut) -> Markup:
-    """The begin of a picture of these rows, with its ground, and room for row numbers."""
+    """Return the beginning of a picture of these rows, with its background and room for row
+    numbers."""
     top, height = (cut[0] - 1) * HEIGHT, (cut[1] - cut[0] + 1) * HEIGHT
     return markup('<svg class="{}" viewBox="{} {} {} {}" {} xml:space="preserve"><rect class="v" '
                   'y="{}" width="480" height="{}"/>', kind, -NUMBERS, top - 1, 482 + NUMBERS,
@@ -204,14 +205,14 @@ def picture(rows: Rows, header: bytes, cut: Cut, different: Iterable[Place] = ()
 
 
 def empty_picture(words: str, cut: Cut) -> Markup:
-    """The place of a picture where there is no page, with the reason."""
+    """Return a picture without a page, with the reason."""
     middle = (cut[0] + cut[1] - 1) * HEIGHT // 2 + 7
     return markup('{}<text class="w" x="240" y="{}">{}</text></svg>',
                   picture_start("page none", cut), middle, words)
 
 
 def differences(due: Rows, held: Rows) -> list[Place]:
-    """The cells, as row and column, whose codes differ."""
+    """Return the cells whose codes differ, as rows and columns."""
     if due == held:
         return []
     return [(number, column)
