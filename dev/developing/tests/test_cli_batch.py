@@ -331,6 +331,16 @@ class ForkedPairs(Case):
         self.must("all is gone", until(
             lambda: not os.path.exists(f"/proc/{int(self.read('its'))}/fd/0")))
 
+    def test_kills_a_pair_ten_seconds_after_it_was_stopped(self) -> None:
+        for seconds, ended in ((59.9, []), (60, ["stop"]), (69.9, ["stop"]), (70, ["kill"])):
+            call = mock.Mock()
+            call.cpu_seconds.return_value = seconds
+            with mock.patch.object(self.calls, "running", {call: mock.Mock(limit=60)}), \
+                    mock.patch.object(batch, "wait_for_any", return_value=[]):
+                self.must("no row", not [*self.calls.finished_rows(0)])
+            self.check(f"{seconds} seconds", [
+                one for one in ("stop", "kill") if getattr(call, one).called], ended)
+
     def test_limits_the_time_by_the_size_of_the_files(self) -> None:
         for sizes, wanted in (((None, None), 60), ((0, 9_999_999), 60), ((1, 9_999_999), 61),
                               ((0, 4_000_000_000), 460)):

@@ -13,7 +13,7 @@ from collections import Counter
 
 from developing.pes import packet
 from subtitles.cli.measure import (
-    Delays, NAMED, delays_of, keeping_of, late_found, measured, named_lines, usual_in)
+    Delays, NAMED, delays_of, keeping_of, late_found, measured, named_lines, option_of, usual_in)
 from subtitles.common.command_line import MOST_WITHIN
 from subtitles.common.times import TICKS
 from subtitles.formats.stl import Subtitle
@@ -151,6 +151,11 @@ class Cues(Case):
             "", "later than usual, which --within then refuses: x begins late"))
         late = late._replace(begins=Counter({0: 19, 5: 1}))
         self.check("one of 20", next(late_found([late], [])).lines[1:], [])
+
+    def test_proposes_the_option_of_all_headers(self) -> None:
+        self.check_each(lambda *sent: option_of(sent, "english").words, {
+            "none": ((), ""), "one": (("german",), "--option german"),
+            "two": (("german", "english"), "")})
 
     def test_a_lost_repeat_is_an_exception(self) -> None:
         for name, frames, longest, exceptions in (
