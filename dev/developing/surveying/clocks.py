@@ -31,15 +31,9 @@ class Seconds:
 
 
 class Jump(NamedTuple):
-    """A jump of the PCR:
+    """A jump of the PCR: fields of its line, and the places of both PCRs."""
 
-    ticks and TS packets since the previous PCR, the usual ones, and both places.
-    """
-
-    ticks: int
-    packets: int
-    usual: int
-    usual_packets: int
+    fields: str
     first: int
     last: int
 
@@ -77,10 +71,11 @@ class Clock:
         return self.last is not None and place - self.place < max(NEAR, 4 * self.usual()[1])
 
     def jump(self, ticks: int, place: int) -> Jump | None:
+        """Compare with the PCR before; return the jump, if it is one."""
         packets, (usual, usual_packets) = place - self.place, self.usual()
         is_late = len(self.distances) >= FEWEST and ticks > max(TENTH, 3 * usual)
         if ticks < 0 or is_late:
-            return Jump(ticks, packets, usual, usual_packets, self.place, place)
+            return Jump(f"{ticks} {packets} {usual} {usual_packets}", self.place, place)
         self.distances = (self.distances + [(ticks, packets)])[-MEDIANS:]
         return None
 

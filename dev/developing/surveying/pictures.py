@@ -4,6 +4,7 @@ from __future__ import annotations
 from typing import Callable
 
 from developing.every_place.recordings import Stretch
+from developing.pes import pts_in
 from subtitles.common.times import ticks_between
 from .clocks import Say, number
 from .packets import Packet
@@ -19,12 +20,6 @@ START = b"\0\0\1"
 def is_video(data: bytes) -> bool:
     """Return whether a PES packet of video begins, as far as its bytes are known."""
     return data[:3] == START[:len(data)] and (len(data) < 4 or data[3] & 0xF0 == VIDEO)
-
-
-def time_in(data: bytes) -> int:
-    """Return the ticks of a PTS or DTS."""
-    return ((data[0] >> 1 & 7) << 30 | data[1] << 22 | data[2] >> 1 << 15 | data[3] << 7
-            | data[4] >> 1)
 
 
 def form_of(kind: int | None, data: bytes) -> str | None:
@@ -118,10 +113,9 @@ class Video:
         if len(data) < {2: 14, 3: 19}.get(flags, 9):
             return
         has_times = flags >= 2 and data[6] != 0xFF
-        pts = time_in(data[9:14]) if has_times else None
+        pts = pts_in(data) if has_times else None
         self.header = None
-        is_first = self.begin(pts, time_in(data[14:19]) if has_times and flags == 3 else pts)
-        if is_first:
+        if self.begin(pts, pts_in(data[5:]) if has_times and flags == 3 else pts):  # the DTS
             self.first, self.kind = b"", self.kind_of(self.pid)
             self.read_first(data[9 + data[8]:])
 

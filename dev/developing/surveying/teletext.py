@@ -229,8 +229,8 @@ class Teletext:
 
     def print_jump(self) -> None:
         jump, before, after = self.waiting.pop(0)
-        self.say(f"clock {self.pid} {number(before)} {number(after)} {jump.ticks} {jump.packets} "
-                 f"{jump.usual} {jump.usual_packets} {self.counters.word(jump, self.pid)}")
+        self.say(f"clock {self.pid} {number(before)} {number(after)} {jump.fields} "
+                 f"{self.counters.word(jump, self.pid)}")
 
     def end(self) -> None:
         self.has_gap |= self.is_wrong_last and self.stretch.before is not None
