@@ -142,7 +142,7 @@ class Case(unittest.TestCase):
 
         Python tools run in a fork with all modules loaded, unless `env` or `user` is given.
         """
-        does = loaded(command) if env is None and user is None else None
+        does = forked_tool(command) if env is None and user is None else None
         done = subprocess.run(command, cwd=os.path.join(self.folder, folder), check=False,
                               stdout=subprocess.PIPE, stderr=subprocess.PIPE, timeout=SECONDS,
                               input=data or b"", env=env, user=user, preexec_fn=does)
@@ -186,14 +186,14 @@ def is_python(path: str) -> bool:
         return file.readline().endswith(b"python3\n")
 
 
-def loaded(command: Sequence[str]) -> Callable[[], NoReturn] | None:
+def forked_tool(command: Sequence[str]) -> Callable[[], NoReturn] | None:
     """Return a function that replaces a forked process by a Python tool; `None` for other commands.
     """
     sys.__stdout__.flush()
-    return functools.partial(become, command) if is_python(command[0]) else None
+    return functools.partial(run_forked, command) if is_python(command[0]) else None
 
 
-def become(command: Sequence[str]) -> NoReturn:
+def run_forked(command: Sequence[str]) -> NoReturn:
     """Run a Python tool in this forked process."""
     status: object = 1
     try:
@@ -221,7 +221,7 @@ def become(command: Sequence[str]) -> NoReturn:
         os._exit(status if isinstance(status, int) else 1)
 
 
-def script(name: str) -> Any:
+def import_script(name: str) -> Any:
     """Import a tool as a module."""
     loader = importlib.machinery.SourceFileLoader(name, tool_path(name))
     spec = importlib.util.spec_from_loader(name, loader)

@@ -20,20 +20,20 @@ from subtitles.request.lines import read_options
 from subtitles.request.request import request_of
 from subtitles.results.files import found, object_of
 from .bench import Case
-from .streams import Packet, stream
-from .transmissions import Sent, joined, packets, programme, sendings, times
+from .streams import Packet, stream_bytes
+from .transmissions import Sent, pes_file, packets, write_programme, schedule_pages, subtitle_times
 
 FEW = "are too few to measure their interval"  # the end of a note
 
 
-class Heard(Unprinted):
+class LineRecorder(Unprinted):
     """Record the printed lines; those for standard error begin with `! `."""
 
     def tell(self, line: str) -> None:
         self.lines.append(f"! {line}")
 
 
-class Judged(NamedTuple):
+class JudgedPair(NamedTuple):
     """A judged pair:
 
     its verdict, printed lines, JSON result, the fault lists of its parts, and the files that
@@ -53,9 +53,9 @@ class Judged(NamedTuple):
 
     def is_timed(self) -> bool:
         """Return whether `accepted`, `waived` and status 0 occur only if a clock was given."""
-        request, said = self.verdict.request, (
+        request, printed = self.verdict.request, (
             self.verdict.word, self.result["verdict"], self.said[-1].split(" ")[0])
-        return request.has_clock or not {"accepted", "waived", "waived:"} & {*said} and (
+        return request.has_clock or not {"accepted", "waived", "waived:"} & {*printed} and (
             request.is_relative_allowed or 0 not in (self.verdict.status, self.result["status"]))
 
     @property
@@ -72,49 +72,50 @@ class Judged(NamedTuple):
         return [tuple(part[name] for name in names) for part in self.result["parts"]]
 
 
-def judged(case: Case, *words: str, by: str | None = None, heard: Heard | None = None) -> Judged:
+def judge_files(case: Case, *words: str, by: str | None = None,
+                recorder: LineRecorder | None = None) -> JudgedPair:
     """Judge a pair by the arguments of a command line.
 
     Check that printed commands name only its files.
     """
-    found = judged_by(by or case.bench.program, *words, heard=heard)
+    found = judge_files_with(by or case.bench.program, *words, recorder=recorder)
     case.must("a clock", found.is_timed(), found.said)
     for line in found.verdict.commands:
         case.must(line, set(shown_files(line)) <= found.files, found.files)
     return found
 
 
-def judged_by(program: str, *words: str, heard: Heard | None = None) -> Judged:
+def judge_files_with(program: str, *words: str, recorder: LineRecorder | None = None) -> JudgedPair:
     """Judge a pair by the arguments of a command line, with a program."""
-    heard = heard or Heard()
+    recorder = recorder or LineRecorder()
     known = read_options(make_parser(""), ["-p", program, *words], {}, {})
-    asked, typed = request_of(known), CommandWords("tools/qc", program)
-    listener = Listener(heard)
-    stamps = stamp_inputs(asked)
-    verdict = new_verdict(asked, listener)
+    request, typed = request_of(known), CommandWords("tools/qc", program)
+    listener = Listener(recorder)
+    stamps = stamp_inputs(request)
+    verdict = new_verdict(request, listener)
     with tempfile.TemporaryDirectory() as folder, claim_pair(known.out, "one"):
         names = Names("one", folder, known.out)
-        names.give(asked.stl)
+        names.give(request.stl)
         files = OutputFiles(PairOptions(program, known.out, known.is_kept, known.json, known.csv,
                                known.junit), verdict, typed, names, stamps)
-        verdict.files_at_start = found(asked)
+        verdict.files_at_start = found(request)
         pair = PairJudge(verdict, typed, names, listener, True)
         judge_pair(pair, files)
-        report_pair(verdict, heard, files)
+        report_pair(verdict, recorder, files)
         result = json.loads("".join(object_of(verdict, MadeWith("1", "0" * 64, None))))
         listed = [line for part in verdict.parts for line in part.check_output.read_lines()]
         # For a pipe, the stored copy is the recording.
-        known_files = {asked.stl, asked.recording, os.devnull}
+        known_files = {request.stl, request.recording, os.devnull}
         if pair.recording:
             known_files.add(pair.recording.shown)
-    return Judged(verdict, heard.lines, result, listed, known_files)
+    return JudgedPair(verdict, recorder.lines, result, listed, known_files)
 
 
-class OfProgramme(Case):
+class ProgrammeCase(Case):
     """Tests with a subtitle file (`stl`) of the frames `due`, its transmission `transmissions` and
     its PES packets `pes`. `words` are the arguments of each call."""
 
-    due: Sequence[tuple[int, int]] = times(10)
+    due: Sequence[tuple[int, int]] = subtitle_times(10)
     words: Sequence[str] = ("--origin", "0")
     # text of each line, lines of a subtitle, first subtitle number
     text, lines, first = b"Number %d", 1, 1
@@ -122,18 +123,19 @@ class OfProgramme(Case):
 
     def setUp(self) -> None:
         super().setUp()
-        self.stl = programme(self, self.due, self.lines, self.text, self.first)
-        self.sent = sendings(self, self.stl, origin=self.origin, every=self.every)
-        self.pes = packets(joined(self.sent))
+        self.stl = write_programme(self, self.due, self.lines, self.text, self.first)
+        self.sent = schedule_pages(self, self.stl, origin=self.origin, every=self.every)
+        self.pes = packets(pes_file(self.sent))
 
-    def judge(self, sent: Sent, *words: str) -> Judged:
+    def judge(self, sent: Sent, *words: str) -> JudgedPair:
         """Judge a transmission as a file of PES packets."""
-        return judged(self, self.stl, self.write("one.pes", joined(sent)), *self.words, *words)
+        return judge_files(self, self.stl, self.write("one.pes", pes_file(sent)), *self.words,
+                           *words)
 
-    def judge_stream(self, made: bytes | Iterable[Packet], *words: str) -> Judged:
+    def judge_stream(self, made: bytes | Iterable[Packet], *words: str) -> JudgedPair:
         """Judge a transport stream."""
-        data = made if isinstance(made, bytes) else stream(made)
-        return judged(self, self.stl, self.write("one.ts", data), *self.words, *words)
+        data = made if isinstance(made, bytes) else stream_bytes(made)
+        return judge_files(self, self.stl, self.write("one.ts", data), *self.words, *words)
 
 
 def shown_files(line: str) -> list[str]:

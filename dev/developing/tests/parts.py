@@ -31,12 +31,12 @@ MEANINGS = {number: Meaning("", f"it means `{number}`", f"do {number}") for numb
 
 def fault_of(line: str) -> FaultLine:
     """Parse a fault line of `check --all`."""
-    told = fault_of_line(line)
-    assert told, line
-    return told
+    reported = fault_of_line(line)
+    assert reported, line
+    return reported
 
 
-def answer(lines: Sequence[str] = ("accepted 10 frames 2 transmissions",),
+def make_answer(lines: Sequence[str] = ("accepted 10 frames 2 transmissions",),
            status: int | None = None, path: str = os.devnull) -> CheckOutput:
     """Return what `check --all` answered, from its lines.
 
@@ -49,8 +49,8 @@ def answer(lines: Sequence[str] = ("accepted 10 frames 2 transmissions",),
     return made
 
 
-def part_with(begin: int | None, end: int | None, origin: int | None,
-              said: CheckOutput | None = None, number: int = 1, source: str = GIVEN,
+def make_part(begin: int | None, end: int | None, origin: int | None,
+              printed: CheckOutput | None = None, number: int = 1, source: str = GIVEN,
               packets: Packets | None = None, places: Sequence[Place] = (), **more: Any) -> Part:
     """Return a part of some frames, with the PES packets and the losses of its recording."""
     alignment = None if begin is None or end is None or origin is None else \
@@ -62,15 +62,15 @@ def part_with(begin: int | None, end: int | None, origin: int | None,
                                             has_picture=lambda: False,
                                             places=lambda jumps: [*places])
     known: dict[str, Any] = {
-        "request": asked_for("a.stl", "a.pes"), "names": names, "alignment": alignment,
+        "request": request_for("a.stl", "a.pes"), "names": names, "alignment": alignment,
         "is_recording_read": True, **more}
     if packets is not None and alignment and "pes" in more:
-        held = Timeline(packets, known["request"].page, alignment.origin, 0, more["pes"])
-        known["timeline"] = lambda: held
-    return Part(number, check_output=said or answer(), **known)
+        decoded = Timeline(packets, known["request"].page, alignment.origin, 0, more["pes"])
+        known["timeline"] = lambda: decoded
+    return Part(number, check_output=printed or make_answer(), **known)
 
 
-def surveyed(*lines: str) -> Survey:
+def read_survey(*lines: str) -> Survey:
     """Parse lines of `survey`."""
     survey = Survey()
     for line in lines:
@@ -78,46 +78,46 @@ def surveyed(*lines: str) -> Survey:
     return survey
 
 
-def asked_for(stl: str, recording: str | None, *words: str) -> Request:
+def request_for(stl: str, recording: str | None, *words: str) -> Request:
     """Return the request of a command line with two files."""
-    return request_with(stl, recording, defaults(*words))
+    return request_with(stl, recording, default_options(*words))
 
 
-def defaults(*words: str) -> argparse.Namespace:
+def default_options(*words: str) -> argparse.Namespace:
     """Return the parsed options of a command line."""
     parser = Words("")
     add_options(parser)
     return read_options(parser, words, {}, {})
 
 
-def call_words(asked: Request) -> list[str]:
+def call_arguments(request: Request) -> list[str]:
     """Return a request as arguments of a command line."""
-    return [*itertools.chain(*option_words(asked)), "--", asked.stl,
-            *([asked.recording] if asked.recording else [])]
+    return [*itertools.chain(*option_words(request)), "--", request.stl,
+            *([request.recording] if request.recording else [])]
 
 
-def qc(words: Sequence[str]) -> int:
+def run_qc(words: Sequence[str]) -> int:
     """Run tools/qc in this process; return its status."""
     return ended(lambda line: main("", os.path.join(TOP, "tools", "qc"), line), words)
 
 
-def packets_told(case: Case, data: bytes, page: Page = PAGE) -> Packets:
+def survey_packets(case: Case, data: bytes, page: Page = PAGE) -> Packets:
     """Run `survey` on PES packets; return the packets of the page."""
     return survey(case.bench.program, case.write("held.pes", data), page).by_pid.get(0, Packets(0))
 
 
-def timeline_of(case: Case, data: bytes, origin: int = 0, within: int = 0) -> Timeline:
+def decode_packets(case: Case, data: bytes, origin: int = 0, within: int = 0) -> Timeline:
     """Return the decoded pages of PES packets."""
-    return Timeline(packets_told(case, data), PAGE, origin, within)
+    return Timeline(survey_packets(case, data), PAGE, origin, within)
 
 
-def in_page(*values: Value) -> str:
+def markup_text(*values: Value) -> str:
     """Return values as the HTML text of a page."""
     return joined(values).source
 
 
-def script(lines: list[str], status: int) -> str:
+def shell_script(lines: list[str], status: int) -> str:
     """Return a shell command that prints lines, then ends with a status, or by a signal if it is
     negative."""
-    said = "".join(f"echo '{line}'; " for line in lines)
-    return said + (f"exit {status}" if status >= 0 else f"kill {status} $$")
+    printed = "".join(f"echo '{line}'; " for line in lines)
+    return printed + (f"exit {status}" if status >= 0 else f"kill {status} $$")

@@ -10,12 +10,12 @@ from developing.pes import address_of, odd, packet
 from subtitles.common.times import TICKS, time_of
 from subtitles.formats.stl import NEW_LINE
 from .bench import Case
-from .transmissions import CLOSING, HEADER, PAGE, Sent, sendings, subtitle_file
+from .transmissions import CLOSING, HEADER, PAGE, Sent, schedule_pages, write_subtitle_file
 from .test_judging_reasons import KEEPING_HEADER
 from .test_correct_recordings import SHARES
 
 FIRST = 900_000  # the earliest frame of the first TCI
-QUIET = 80  # frames before the first and after the last subtitle with only blank pages
+BLANK_FRAMES = 80  # frames before the first and after the last subtitle with only blank pages
 WORDS = "boats harbour light mother never often quiet river stairs storm turns under window".split()
 Page = Optional[Sequence[bytes]]  # row packets; `None` for a blank page
 Times = Sequence[tuple[int, int]]
@@ -24,7 +24,7 @@ EARLY, LATE, MISSING, EXCHANGED = "early", "late", "missing", "exchanged"
 CHARACTER, ROW, COLOUR = "wrong character", "wrong row", "wrong colour"
 STAYS, ERASED = "not erased", "erased too soon"
 # What the sentence says of each fault after the subtitle's text.
-SAID = {
+SENTENCES = {
     EARLY: r"appeared \d+ frames? early", LATE: r"appeared \d+ frames? late", MISSING: "was never "
                                                                                        "sent",
     CHARACTER: "has the wrong text", ROW: "is in the wrong place",
@@ -89,15 +89,15 @@ class Programme:
     def __init__(self, case: Case, number: int, inserter: Inserter, count: int = 0) -> None:
         self.case, self.inserter, self.number = case, inserter, number
         self.chance = random.Random(f"{number} {inserter.name}")
-        self.times = self.some_times(count or self.chance.randrange(10, 16))
-        self.texts = [self.some_text(at) for at in range(len(self.times))]
-        self.stl = subtitle_file(case, [(begin, end, text) for (begin, end), text in zip(
+        self.times = self.random_times(count or self.chance.randrange(10, 16))
+        self.texts = [self.random_text(at) for at in range(len(self.times))]
+        self.stl = write_subtitle_file(case, [(begin, end, text) for (begin, end), text in zip(
             self.times, self.texts)], f"{number}.stl", row=20)
-        known = dict(sendings(case, self.stl, every=1500))
+        known = dict(schedule_pages(case, self.stl, every=1500))
         self.pages = [known[begin * TICKS][1:-1] for begin, _ in self.times]
         self.fault: Fault | None = None
 
-    def some_times(self, count: int) -> list[tuple[int, int]]:
+    def random_times(self, count: int) -> list[tuple[int, int]]:
         """Return the frames of the subtitles; some adjoin."""
         frame, times = FIRST + self.chance.randrange(5000), list[tuple[int, int]]()
         for _ in range(count):
@@ -106,7 +106,7 @@ class Programme:
             frame = end + self.chance.choice((0, 0, 12, 30, 70, 130))
         return times
 
-    def some_text(self, at: int) -> bytes:
+    def random_text(self, at: int) -> bytes:
         """Return one or two lines of words, usually with a unique number."""
         lines = [" ".join(self.chance.sample(WORDS, self.chance.randrange(1, 4)))
                  for _ in range(self.chance.choice((1, 1, 2)))]
@@ -126,8 +126,8 @@ class Programme:
     def fault_at(self, kind: str, place: int) -> Fault | None:
         """Return a fault of one subtitle if there is room for it."""
         least, (begin, end) = self.inserter.within + 1, self.times[place]
-        before = self.times[place - 1][0] if place else begin - QUIET
-        after = self.times[place + 1][0] if place + 1 < len(self.times) else end + QUIET
+        before = self.times[place - 1][0] if place else begin - BLANK_FRAMES
+        after = self.times[place + 1][0] if place + 1 < len(self.times) else end + BLANK_FRAMES
         most = {EARLY: begin - before - 2 - self.inserter.within, LATE: end - begin - 2 - least,
                 STAYS: after - end, ERASED: end - begin - 2 - least}
         if kind == EXCHANGED:
@@ -178,7 +178,8 @@ class Programme:
     def sent(self) -> Sent:
         """Return the page transmissions with their repeats, and the PES packets between them."""
         changes, inserter, chance = self.changes(), self.inserter, self.chance
-        begin, end = self.times[0][0] - QUIET, max(max(changes), self.times[-1][1]) + QUIET
+        begin, end = self.times[0][0] - BLANK_FRAMES, max(max(changes),
+                                                          self.times[-1][1]) + BLANK_FRAMES
         sent, page, repeated = Sent(), None, begin
         for frame in range(begin, end):
             is_change = frame in changes
@@ -204,7 +205,7 @@ class Programme:
             return f"2 of {len(self.times)} subtitles have other subtitles' texts (first at " \
                 f"{self.time(place)}, last at {self.time(other)})" in sentence
         return bool(re.match(rf'Refused: subtitle {fault.place + 1} at {self.time(fault.place)}'
-                             rf'(, ".*",)? {SAID[fault.kind]}\b', sentence))
+                             rf'(, ".*",)? {SENTENCES[fault.kind]}\b', sentence))
 
     def time(self, place: int) -> str:
         """Return the TCI of a subtitle."""
@@ -237,10 +238,10 @@ def with_colour(page: Sequence[bytes]) -> list[bytes]:
 
 CHANGES: dict[str, Callable[[Sequence[bytes]], list[bytes]]] = {
     CHARACTER: with_character, ROW: with_row, COLOUR: with_colour}
-KINDS = (*SAID, EXCHANGED)
+KINDS = (*SENTENCES, EXCHANGED)
 
 
-def planted(case: Case, number: int) -> Programme:
+def plant_fault(case: Case, number: int) -> Programme:
     """Return the programme of a seed, with one fault."""
     chance = random.Random(number)
     made = Programme(case, number, chance.choice(INSERTERS))

@@ -32,14 +32,14 @@ def make_programme(case: Case, name: str, first: int, words: str, pts: int) -> b
     return case.read(f"{name}.pes")
 
 
-def blank(data: bytes, pts: int, count: int, step: int = SECOND) -> bytes:
+def repeat_last_page(data: bytes, pts: int, count: int, step: int = SECOND) -> bytes:
     """Repeat the last page transmission `count` times from a PTS on."""
     last = packets(data)[-1]
     return b"".join(last[:9] + pts_bytes((pts + step * at) % CLOCK) + last[14:]
                     for at in range(count))
 
 
-def until(holds: Callable[[], object]) -> bool:
+def wait_until(holds: Callable[[], object]) -> bool:
     """Wait for a condition; return whether it became true in time."""
     end = time.monotonic() + SECONDS
     while not holds() and time.monotonic() < end:

@@ -7,14 +7,11 @@ from __future__ import annotations
 
 import contextlib
 import functools
-import importlib.machinery
-import importlib.util
 import io
 import json
 import os
 import re
 import shutil
-import subprocess
 import sys
 import tempfile
 from typing import Any, Callable, Iterator, NamedTuple, Sequence
@@ -27,7 +24,7 @@ from subtitles.judging import faults, subtitles
 from subtitles.report import page as report
 from .bench import example
 from .parts import MEANINGS
-from .results import schema, wrong_by_schema, wrong_choices, wrong_in
+from .results import schema, all_violations, choice_errors, violations
 from .scenario import Scenario
 from .wide_scenario import Wider
 
@@ -40,7 +37,7 @@ FILES = ("one.json", "one.csv", "one.xml", "out/one.html", "out/one.txt", "out/o
          "out/one.2.html", "out/one.json", "out/index.html")
 
 
-class Said(NamedTuple):
+class CallOutput(NamedTuple):
     """The arguments, status, printed lines and files of a call, and its JSON result."""
 
     words: list[str]
@@ -50,35 +47,21 @@ class Said(NamedTuple):
     result: str
 
 
-def tool_here(command: Sequence[str], **options: Any) -> Any:
-    """Run a Python tool in this process, and any other command as usual."""
-    if command[0] != sys.executable:
-        return subprocess.run(command, **options)
-    name = os.path.basename(command[1])
-    loader = importlib.machinery.SourceFileLoader(name, command[1])
-    spec = importlib.util.spec_from_loader(name, loader)
-    assert spec
-    module = importlib.util.module_from_spec(spec)
-    loader.exec_module(module)
-    status, out, told = in_process(module.main, list(command))
-    return subprocess.CompletedProcess(command, status, out, told)
-
-
 def in_process(entry: Any, words: list[str]) -> tuple[int, str, str]:
     """Run `main` of a tool; return its status and output."""
     before, sys.argv = sys.argv, words[-len(words) + 1:] if words[0] == sys.executable else words
     with contextlib.redirect_stdout(io.StringIO()) as out, \
-            contextlib.redirect_stderr(io.StringIO()) as told:
+            contextlib.redirect_stderr(io.StringIO()) as errors:
         try:
             run(entry)
         except SystemExit as ended:
             status = int(ended.code or 0)
     sys.argv = before
-    return status, out.getvalue(), told.getvalue()
+    return status, out.getvalue(), errors.getvalue()
 
 
 @functools.lru_cache(maxsize=4)  # several files may have the same text
-def plain(text: str, program: str) -> str:
+def without_volatile(text: str, program: str) -> str:
     """Replace what differs between calls or programs."""
     if text.startswith("{"):
         known = json.loads(text)
@@ -91,23 +74,23 @@ def plain(text: str, program: str) -> str:
     return text
 
 
-def said_of(number: int, program: str) -> Said:
+def run_random_call(number: int, program: str) -> CallOutput:
     """Run the random call of a seed in a temporary folder; return its output."""
     with in_folder():
         scenario = (Scenario if number < WIDER else Wider)(number, program)
         words = scenario.call()
-        said = called(words, program, wrong=by_one_reader)
+        printed = run_call(words, program, wrong=schema_violations)
         # a pipe can be read only once
         if number >= WIDER and number % 3 == 0 and not scenario.is_feed:
-            said.files["measured"] = plain(measured(words[1], program), program)
-        return said
+            printed.files["measured"] = without_volatile(measure_pair(words[1], program), program)
+        return printed
 
 
-def measured(recording: str, program: str) -> str:
+def measure_pair(recording: str, program: str) -> str:
     """Return the output of `--measure` for the same pair."""
     words = ["tools/qc", "--measure", "one.stl", recording, "-p", program]
-    status, out, told = in_process(lambda line: main("", "tools/qc", line), words)
-    return f"measured {status}\n{out}{told}"
+    status, out, reported = in_process(lambda line: main("", "tools/qc", line), words)
+    return f"measured {status}\n{out}{reported}"
 
 
 # Named calls on pairs in the folder `in`. In `claimed` another process writes a pair's files.
@@ -136,7 +119,7 @@ NAMED = {
     "a PID with nothing": "in/d.stl in/d.ts --pid 0x1234 --json one.json"}
 
 
-def said_of_name(name: str, program: str) -> Said:
+def run_named_call(name: str, program: str) -> CallOutput:
     """Run a named call; return its output."""
     with in_folder(), contextlib.ExitStack() as stack:
         os.mkdir("in")
@@ -149,8 +132,8 @@ def said_of_name(name: str, program: str) -> Said:
                 one.write(text)
         if name == "claimed":
             stack.enter_context(claim_pair("out", "b"))
-        said = called(NAMED[name].split(), program)
-    return said
+        printed = run_call(NAMED[name].split(), program)
+    return printed
 
 
 @contextlib.contextmanager
@@ -165,13 +148,13 @@ def in_folder() -> Iterator[None]:
             os.chdir(back)
 
 
-def by_one_reader(known: Any) -> list[str]:
+def schema_violations(known: Any) -> list[str]:
     """Return the schema violations that the first validator finds."""
-    return [*wrong_in(known, schema())]
+    return [*violations(known, schema())]
 
 
-def called(words: list[str], program: str, more: Sequence[str] = ("-p", "PROGRAM"),
-           wrong: Callable[[Any], list[str]] = wrong_by_schema) -> Said:
+def run_call(words: list[str], program: str, more: Sequence[str] = ("-p", "PROGRAM"),
+           wrong: Callable[[Any], list[str]] = all_violations) -> CallOutput:
     """Run qc; return its output without times, and with fixed texts instead of the manual's.
 
     `wrong` returns the schema violations of a result.
@@ -181,7 +164,7 @@ def called(words: list[str], program: str, more: Sequence[str] = ("-p", "PROGRAM
     with contextlib.ExitStack() as stack:
         for module, name, other in others:
             stack.enter_context(mock.patch.object(module, name, other))
-        status, out, told = in_process(lambda line: main("", "tools/qc", line), [
+        status, out, reported = in_process(lambda line: main("", "tools/qc", line), [
             "tools/qc", *words, *(program if one == "PROGRAM" else one for one in more)])
     files = {}
     for name in filter(os.path.exists, FILES):
@@ -191,15 +174,16 @@ def called(words: list[str], program: str, more: Sequence[str] = ("-p", "PROGRAM
         misfits = wrong(json.loads(text))
         assert not misfits, (words, misfits)
     known = json.loads(files.get("one.json", "{}"))
-    unsaid = [*wrong_choices(known, (out + told).splitlines())] if "choices" in known \
+    unsaid = [*choice_errors(known, (out + reported).splitlines())] if "choices" in known \
         and "--quiet" not in words else []
     assert not unsaid, (words, unsaid)
-    return Said(words, status, [plain(line, program) for line in (out + told).splitlines()],
-                {name: plain(text, program) for name, text in files.items()},
+    return CallOutput(words, status,
+                      [without_volatile(line, program) for line in (out + reported).splitlines()],
+                {name: without_volatile(text, program) for name, text in files.items()},
                 files.get("one.json", ""))
 
 
 if __name__ == "__main__":
     PROGRAM, NUMBER = sys.argv[1:]
-    SAID = said_of(int(NUMBER), os.path.realpath(PROGRAM))
+    SAID = run_random_call(int(NUMBER), os.path.realpath(PROGRAM))
     print("\n".join([*SAID.words, *SAID.lines, *SAID.files.values()]))

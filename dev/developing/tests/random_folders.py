@@ -15,7 +15,7 @@ import sys
 from typing import Callable, Iterator
 
 from subtitles.common.program import TOP
-from .random_calls import Said, called, in_folder, plain
+from .random_calls import CallOutput, run_call, in_folder, without_volatile
 from .bench import example
 
 NAMES = ("a", "b", "B", "c 1", "d.x", "e~2", "-f", "g.recording", "h\u00e4")
@@ -123,7 +123,7 @@ class Folder:
 
     # ---- calls
 
-    def call(self) -> Said:
+    def call(self) -> CallOutput:
         """Make one more call; return its output, and the files that are new or changed."""
         chance, out = self.chance, ["-o", "out"] * (self.chance.randrange(5) > 0)
         wanted = [word for option, name in (("--json", "one.json"), ("--csv", "one.csv"),
@@ -144,10 +144,11 @@ class Folder:
             words = [*more, "--", f"in/{chance.choice(there)}", f"in/{chance.choice(there)}"]
         else:
             words = ["--collect", "out", *wanted]
-        said = called(words, self.program, [] if words[0] == "--collect" else ["-p", self.program])
+        printed = run_call(words, self.program,
+                        [] if words[0] == "--collect" else ["-p", self.program])
         before, self.before = self.before, dict(self.files())
-        return said._replace(
-            lines=[line.replace(TOP, "HERE") for line in said.lines],
+        return printed._replace(
+            lines=[line.replace(TOP, "HERE") for line in printed.lines],
             files={name: text for name, text in self.before.items() if before.get(name) != text})
 
     def files(self) -> Iterator[tuple[str, str]]:
@@ -165,13 +166,13 @@ class Folder:
     def plainly(self, text: str) -> str:
         """Replace what differs between calls."""
         try:
-            text = plain(text, self.program)
+            text = without_volatile(text, self.program)
         except (ValueError, TypeError, AttributeError):
             return "half a result"
         return text.replace(TOP, "HERE").encode("utf-8", "replace").decode()
 
 
-def calls_in(number: int, program: str) -> list[Said]:
+def calls_in(number: int, program: str) -> list[CallOutput]:
     """Return the outputs of all calls in the folder of a seed."""
     found = []
     with in_folder():

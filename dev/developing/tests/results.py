@@ -40,7 +40,7 @@ FAULT = {**dict.fromkeys((
     "file": "pes", "meaning": "", "remedy": ""}
 
 
-def result(verdict: str = "refused", **more: Any) -> dict[str, Any]:
+def make_result(verdict: str = "refused", **more: Any) -> dict[str, Any]:
     """Return the JSON result of a pair, with some members replaced."""
     is_judged = verdict != NOT_JUDGED
     return {
@@ -66,25 +66,25 @@ def schema() -> dict[str, Any]:
     return known
 
 
-def wrong_in(value: Any, known: dict[str, Any], at: str = "") -> Iterator[str]:
+def violations(value: Any, known: dict[str, Any], at: str = "") -> Iterator[str]:
     """Return how a value violates a schema that uses only the keywords above."""
     assert known.keys() <= WORDS, known.keys() - WORDS
     if "$ref" in known:
-        yield from wrong_in(value, schema()["definitions"][known["$ref"].rpartition("/")[2]], at)
+        yield from violations(value, schema()["definitions"][known["$ref"].rpartition("/")[2]], at)
     if "type" in known and not is_of_kind(value, known["type"]):
         yield f"{at}: no {known['type']}"
         return
     values = known.get("enum", [known["const"]] if "const" in known else None)
     if values is not None and not any(type(one) is type(value) and one == value for one in values):
         yield f"{at}: none of {values}"
-    if "anyOf" in known and all(any(wrong_in(value, one)) for one in known["anyOf"]):
+    if "anyOf" in known and all(any(violations(value, one)) for one in known["anyOf"]):
         yield f"{at}: anyOf"
-    if "oneOf" in known and sum(not any(wrong_in(value, one)) for one in known["oneOf"]) != 1:
+    if "oneOf" in known and sum(not any(violations(value, one)) for one in known["oneOf"]) != 1:
         yield f"{at}: oneOf"
     for one in known.get("allOf", ()):
-        yield from wrong_in(value, one, at)
+        yield from violations(value, one, at)
     if isinstance(value, (dict, list)):
-        yield from wrong_inside(value, known, at)
+        yield from inner_violations(value, known, at)
     ends = ENDS.get(type(value))
     if ends and not known.keys().isdisjoint(ends):
         size = len(value) if isinstance(value, (str, list)) else value
@@ -94,19 +94,19 @@ def wrong_in(value: Any, known: dict[str, Any], at: str = "") -> Iterator[str]:
         yield f"{at}: {known['pattern']}"
 
 
-def wrong_inside(value: Any, known: dict[str, Any], at: str) -> Iterator[str]:
+def inner_violations(value: Any, known: dict[str, Any], at: str) -> Iterator[str]:
     """Return how the members of an object or the items of a list violate a schema."""
     if isinstance(value, dict):
         members, is_closed = known.get("properties", {}), known.get("additionalProperties") is False
         yield from (f"{at}: no {name}" for name in known.get("required", ()) if name not in value)
         for name, one in value.items():
             if name in members:
-                yield from wrong_in(one, members[name], f"{at}.{name}")
+                yield from violations(one, members[name], f"{at}.{name}")
             elif is_closed:
                 yield f"{at}: {name}"
     elif "items" in known:
         for number, one in enumerate(value):
-            yield from wrong_in(one, known["items"], f"{at}[{number}]")
+            yield from violations(one, known["items"], f"{at}[{number}]")
 
 
 def is_of_kind(value: Any, kind: str) -> bool:
@@ -115,29 +115,29 @@ def is_of_kind(value: Any, kind: str) -> bool:
     return isinstance(value, KINDS[kind]) and is_bool == (kind == "boolean")
 
 
-def wrong_choices(known: dict[str, Any], lines: Sequence[str]) -> Iterator[object]:
+def choice_errors(known: dict[str, Any], lines: Sequence[str]) -> Iterator[object]:
     """Return choices that were not printed, and values that were used without a choice."""
     printed = {line.removeprefix("qc: ").removeprefix("! ") for line in lines}
     chosen = {(one["option"], one["value"]) for one in known["choices"]}
     own = {(one["option"], one["value"], one["part"]) for one in known["choices"]}
     yield from (one["line"] for one in known["choices"] if one["line"] not in printed)
-    asked = known["request"]
+    request = known["request"]
     for part in known["parts"] if known["scope"] == "transmission" else ():
         clock, number = part["clock"], part["part"]
-        if part["pid"] is not None and asked["pid"] is None:
+        if part["pid"] is not None and request["pid"] is None:
             yield from {("pid", f"0x{part['pid']:X}")} - chosen
         origin = {("origin", f"{clock['origin']}", number)} if clock else set[Any]()
         yield from origin - own if clock and clock["source"] == "recording" else origin & own
         if part["pes"] is not None:
             yield from {("pes", part["pes"], number)} - own
-        if part["pace"] is not None and asked["pace"] is None:
+        if part["pace"] is not None and request["pace"] is None:
             yield from {("pace", f"{part['pace']}", number)} - own
-    typed = {name for name in ("pid", "pace") if asked[name] is not None}
+    typed = {name for name in ("pid", "pace") if request[name] is not None}
     yield from (one["option"] for one in known["choices"] if one["option"] in typed)
 
 
 @functools.lru_cache(maxsize=None)
-def second_reader() -> Any:
+def second_validator() -> Any:
     """Return the validator of python3-jsonschema, or `None` if it is not installed."""
     try:
         jsonschema = importlib.import_module("jsonschema")  # without type stubs
@@ -147,32 +147,32 @@ def second_reader() -> Any:
     return jsonschema.Draft7Validator(schema())
 
 
-def wrong_by_schema(value: Any) -> list[str]:
+def all_violations(value: Any) -> list[str]:
     """Return all violations that both validators find in a result; the slow second one reads a
     sample of long lists."""
-    reader = second_reader()
-    others = [error.message for error in reader.iter_errors(some_of(value))] if reader else []
-    return [*wrong_in(value, schema()), *others]
+    reader = second_validator()
+    others = [error.message for error in reader.iter_errors(sample_of(value))] if reader else []
+    return [*violations(value, schema()), *others]
 
 
-def some_of(value: dict[str, Any]) -> dict[str, Any]:
+def sample_of(value: dict[str, Any]) -> dict[str, Any]:
     """Return a result with a sample of its long lists."""
     lists = {one.name: [*value[one.name][:SOME], *value[one.name][SOME::50]]
              for one in LISTS if one.name in value}
-    return {**value, **lists, **({"pairs": list(map(some_of, value["pairs"]))}
+    return {**value, **lists, **({"pairs": list(map(sample_of, value["pairs"]))}
                                  if "pairs" in value else {})}
 
 
 def row(name: str, verdict: str, line: str = "", hint: str = "", faults: int = 0) -> Row:
     """Return a table row."""
-    made = row_of_object(result(verdict, fault_count=faults), name)
+    made = row_of_object(make_result(verdict, fault_count=faults), name)
     return made._replace(line=line, hint=hint)
 
 
-def agrees(case: Case, verdict: Any, name: str = "the schema") -> None:
+def check_schema(case: Case, verdict: Any, name: str = "the schema") -> None:
     """Check an object against the schema by both validators."""
     over = "a second reader of docs/verdict.schema.json, since there is no python3-jsonschema"
-    if second_reader() is None and over not in case.bench.over:
+    if second_validator() is None and over not in case.bench.over:
         case.bench.over.append(over)
-    wrong = wrong_by_schema(verdict)
+    wrong = all_violations(verdict)
     case.must(name, not wrong, wrong)

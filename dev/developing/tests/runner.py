@@ -21,7 +21,7 @@ FOLDER = os.path.dirname(os.path.realpath(__file__))
 PATTERN = "test_*.py"
 # Start the longest tests first, so that none of them runs alone at the end.
 LONG = ("test_dev_layers.Hints", "test_snapshots", "test_cli_install",
-        "test_clock_delays.OfFfprobe", "test_dev_clones", "test_dev_gate.Gate",
+        "test_clock_delays.FfmpegStreams", "test_dev_clones", "test_dev_gate.JobScripts",
         "test_stream_layouts", "test_cli_folders")
 Error = Union[Tuple[Type[BaseException], BaseException, TracebackType], Tuple[None, None, None]]
 Several = Sequence[unittest.TestCase]
@@ -43,11 +43,11 @@ class Counts(unittest.TestResult):
         self.passed += error is None
         self.failed += error is not None
         if error is not None:
-            told = str(error[1]) if isinstance(error[1], Mismatch) else \
+            reported = str(error[1]) if isinstance(error[1], Mismatch) else \
                 self._exc_info_to_string(error, test)  # type: ignore[attr-defined]
             whole = test.test_case if isinstance(error[1], Mismatch) and hasattr(
                 test, "test_case") else test  # the message names the subtest
-            print(f"FAILED: {name_of(whole)}: {told}", file=self.out, flush=True)
+            print(f"FAILED: {name_of(whole)}: {reported}", file=self.out, flush=True)
         elif self.is_verbose:
             print(f"passed: {name_of(test)}", file=self.out, flush=True)
 
@@ -84,7 +84,7 @@ def flattened(tests: unittest.TestSuite) -> Iterator[unittest.TestCase]:
             yield one
 
 
-def found(names: Sequence[str]) -> list[unittest.TestCase]:
+def find_tests(names: Sequence[str]) -> list[unittest.TestCase]:
     """Select tests by names, or return all.
 
     Each name is part of a test's name, or a module or script of the tools. Raises `Stop` if a name
@@ -105,7 +105,7 @@ def has_fixture(kind: Type[unittest.TestCase]) -> bool:
     return "setUpClass" in kind.__dict__
 
 
-def in_units(tests: Several) -> Iterator[Several]:
+def group_tests(tests: Several) -> Iterator[Several]:
     """Group tests that must run in one process: the tests of a class with a shared fixture."""
     for kind, several in itertools.groupby(tests, type):
         if has_fixture(kind):
@@ -114,24 +114,24 @@ def in_units(tests: Several) -> Iterator[Several]:
             yield from ([one] for one in several)
 
 
-class Apart:
+class TestProcess:
     """Tests in a forked process of their own, so that patches, output and crashes affect no other
     test."""
 
     def __init__(self, several: Several, is_verbose: bool) -> None:
         self.name = name_of(several[0])
         sys.stdout.flush()
-        self.said, said = os.pipe()
+        self.said, printed = os.pipe()
         self.process = os.fork()
         if not self.process:
             try:
                 counts = Counts(is_verbose)
                 unittest.TestSuite(several).run(counts)
                 counts.over += BENCH.over
-                os.write(said, json.dumps((counts.passed, counts.failed, counts.over)).encode())
+                os.write(printed, json.dumps((counts.passed, counts.failed, counts.over)).encode())
             finally:
                 os._exit(0)
-        os.close(said)
+        os.close(printed)
 
     def fileno(self) -> int:
         """Return the file descriptor that becomes readable when the process ends."""
@@ -139,25 +139,25 @@ class Apart:
 
     def add_to(self, whole: Counts) -> None:
         """Add the results of the process; a crash counts as a failure."""
-        said = os.read(self.said, 1 << 16)
+        printed = os.read(self.said, 1 << 16)
         os.close(self.said)
         _, status = os.waitpid(self.process, 0)
-        if not said:
+        if not printed:
             print(f"FAILED: {self.name}: its process ended by {status}", flush=True)
-        passed, failed, over = json.loads(said or b"[0, 1, []]")
+        passed, failed, over = json.loads(printed or b"[0, 1, []]")
         whole.passed, whole.failed = whole.passed + passed, whole.failed + failed
         whole.over += over
 
 
 def run_all(tests: Several, at_once: int, is_verbose: bool) -> Counts:
     """Run tests, `at_once` of them in parallel."""
-    whole, running = Counts(is_verbose), list[Apart]()
-    waiting = sorted(in_units(tests), key=lambda one: name_of(one[0]).startswith(LONG))
+    whole, running = Counts(is_verbose), list[TestProcess]()
+    waiting = sorted(group_tests(tests), key=lambda one: name_of(one[0]).startswith(LONG))
     BENCH.make_top()
     gc.freeze()  # keep garbage collection in the forked processes off objects that all share
     while running or waiting:
         while waiting and len(running) < at_once:
-            running.append(Apart(waiting.pop(), is_verbose))
+            running.append(TestProcess(waiting.pop(), is_verbose))
         for one in select.select(running, [], [])[0]:
             running.remove(one)
             one.add_to(whole)

@@ -15,9 +15,10 @@ from developing.stl import boxed, gsi_block, subtitle_blocks
 from subtitles.common.times import CLOCK, FRAMES_OF_A_DAY, TICKS, ticks_between, time_of
 from subtitles.formats.stl import NEW_LINE
 from .streams import (
-    AHEAD, MPEG_2, PRIVATE, TELETEXT_PID, VIDEO_PID, Maker, filler, mpeg_2_picture, spaced,
+    AHEAD, MPEG_2, PRIVATE, TELETEXT_PID, VIDEO_PID, Maker, filler, mpeg_2_picture,
+    with_packet_size,
     teletext_descriptor, video_packet)
-from .transmissions import feed
+from .transmissions import start_feed
 
 SECOND_PID = 0x102
 TEXTS = [b"Good evening.", b"Here is the news.", b"It costs \xa35, or \xa47.",
@@ -51,16 +52,17 @@ class Scenario:
         self.words: list[str] = []
         self.every = self.chance.choice((1, 25, 25, 50, 50, 250, 250))
         self.origin = self.chance.choice((0, 90_000, CLOCK - 900_000 * TICKS, CLOCK - 5))
-        self.has_break = self.some(18)
-        self.times = self.some_times()
-        self.subtitles = self.some_subtitles()
+        self.has_break = self.has_chance(18)
+        self.times = self.random_times()
+        self.subtitles = self.random_subtitles()
         self.write("one.stl", self.subtitles)
-        self.write("sent.stl", self.others() if self.some(45) else self.subtitles)
+        self.write("sent.stl",
+                   self.transmitted_subtitles() if self.has_chance(45) else self.subtitles)
 
-    def some(self, percent: int) -> bool:
+    def has_chance(self, percent: int) -> bool:
         return self.chance.randrange(100) < percent
 
-    def some_times(self) -> list[tuple[int, int]]:
+    def random_times(self) -> list[tuple[int, int]]:
         """Return the frames of the subtitles; some adjoin."""
         frame = self.chance.choice((100, 900_000, 900_000, FRAMES_OF_A_DAY - 2500))
         found = []
@@ -70,29 +72,29 @@ class Scenario:
             frame = end + self.chance.choice((0, 0, 5, 40, 120))
         return found
 
-    def a_line(self) -> bytes:
+    def random_line(self) -> bytes:
         return boxed(self.chance.choice(TEXTS), self.chance.choice((b"", b"", b"\x03")))
 
-    def some_subtitles(self) -> list[Written]:
+    def random_subtitles(self) -> list[Written]:
         """Return the subtitles; rarely with an unsupported character, or with the TCI as TCO."""
         chance, found = self.chance, list[Written]()
         # a number that usually is no subtitle
         of_none, empty = (chance.randrange(200) for _ in range(2))
         for number, (begin, end) in enumerate(self.times, chance.choice((1, 1, 7))):
-            lines = [self.a_line() for _ in range(chance.choice((1, 1, 2)))]
+            lines = [self.random_line() for _ in range(chance.choice((1, 1, 2)))]
             lines[0] += b" \xf9" * (number == of_none)
             found.append(Written(number, begin, begin if number == empty else end,
                                  23 - 2 * len(lines), chance.choice((1, 2, 2, 3)), tuple(lines)))
         return found
 
-    def others(self) -> list[Written]:
+    def transmitted_subtitles(self) -> list[Written]:
         """Return the subtitles with one or two of them changed, for the transmission."""
         chance, found = self.chance, list(self.subtitles)
         for _ in range(chance.choice((1, 1, 2))):
             at = chance.randrange(len(found))
             one, by, kind = found[at], chance.choice((1, 2, 4, 6, 12, 30)), chance.randrange(11)
             last = found[-1]
-            found[at:at + 1] = [[one._replace(lines=(self.a_line(), *one.lines[1:]))],
+            found[at:at + 1] = [[one._replace(lines=(self.random_line(), *one.lines[1:]))],
                                 [one._replace(lines=chance.choice(found).lines)],
                                 [one._replace(lines=one.lines[:1])],
                                 [one._replace(row=one.row - 2)],
@@ -107,7 +109,7 @@ class Scenario:
                                 [one]][kind]
             if kind == 10:
                 found.append(last._replace(number=last.number + 1, begin=last.end + by - 1,
-                                           end=last.end + by + 50, lines=(self.a_line(),)))
+                                           end=last.end + by + 50, lines=(self.random_line(),)))
         for at, (one, other) in enumerate(zip(found, found[1:])):  # no two at once
             found[at] = one._replace(end=min(one.end, max(other.begin, one.begin + 1)))
         return found
@@ -115,7 +117,7 @@ class Scenario:
     def write(self, name: str, subtitles: list[Written]) -> None:
         """Write a subtitle file."""
         blocks = b"".join(one.blocks() for one in subtitles)
-        data = gsi_block(b"At random", len(blocks) // 128 + self.some(5), len(subtitles), 0,
+        data = gsi_block(b"At random", len(blocks) // 128 + self.has_chance(5), len(subtitles), 0,
                          self.chance.choice((b"09", b"09", b"08")))
         code = time_of(self.times[0][0] - 40).replace(":", "").encode()
         with open(name, "wb") as file:
@@ -133,7 +135,7 @@ class Scenario:
         with open(name, "rb") as file:
             return [(pts_in(one), one) for one in pes_packets(file)]
 
-    def wrong(self, sent: Sent) -> Sent:
+    def add_fault(self, sent: Sent) -> Sent:
         """Return the transmission with one more fault."""
         chance = self.chance
         first = chance.randrange(len(sent))
@@ -184,15 +186,15 @@ class Scenario:
                 found.append((pts, one))
         return found
 
-    def broken(self, sent: Sent) -> Sent:
+    def add_break(self, sent: Sent) -> Sent:
         """Insert a break before a subtitle in the middle."""
         middle = self.origin + TICKS * (self.times[12][0] - 2)
         later = self.chance.choice((300, 700, 700, -5000)) * TICKS
-        self.words += ["--breaks", "1"] if self.some(90) else []
+        self.words += ["--breaks", "1"] if self.has_chance(90) else []
         return [(pts + later * (ticks_between(middle % CLOCK, pts % CLOCK) >= 0), one)
                 for pts, one in sent]
 
-    def recorded(self, sent: Sent, second: Sent) -> bytes:
+    def make_stream(self, sent: Sent, second: Sent) -> bytes:
         """Return a transport stream with video, PCR and one or two Teletext PIDs, with some packets
         lost."""
         chance = self.chance
@@ -218,36 +220,36 @@ class Scenario:
         for _ in range(chance.choice((0, 0, 1, 2))):
             lost = chance.randrange(len(data) // 188) * 188
             data = data[:lost] + data[lost + 188 * chance.choice((1, 16, 40, 400)):]
-        return spaced(data, 192) if self.some(15) else data
+        return with_packet_size(data, 192) if self.has_chance(15) else data
 
-    def record(self) -> str:
+    def write_recording(self) -> str:
         """Write the recording; return its name."""
         sent = self.scheduled("sent.pes")
-        sent = self.broken(sent) if self.has_break else sent
+        sent = self.add_break(sent) if self.has_break else sent
         several = (0, 0, 1) if self.has_break else (0, 1, 1, 1, 2)
         for _ in range(self.chance.choice(several) if sent else 0):
-            sent = self.wrong(sent) or sent
+            sent = self.add_fault(sent) or sent
         sent = [(pts % CLOCK, one[:9] + pts_bytes(pts % CLOCK) + one[14:]) for pts, one in sent]
-        if self.some(45):
+        if self.has_chance(45):
             data, name = b"".join(one for _, one in sent), "one.pes"
-            data = data[:len(data) - self.chance.randrange(1, 99)] if self.some(5) else data
+            data = data[:len(data) - self.chance.randrange(1, 99)] if self.has_chance(5) else data
         elif not sent:
             data, name = b"", "one.ts"
         else:
-            second = self.scheduled("second.pes", "--page", "150") if self.some(30) else []
-            data, name = self.recorded(sent, second), "one.ts"
+            second = self.scheduled("second.pes", "--page", "150") if self.has_chance(30) else []
+            data, name = self.make_stream(sent, second), "one.ts"
         if not self.is_feed:
             with open(name, "wb") as file:
                 file.write(data)
             return name
-        feed(os.path.abspath("feed"), data)
+        start_feed(os.path.abspath("feed"), data)
         return "feed"
 
     # The options.
 
     def call(self) -> list[str]:
         """Return the arguments of the call."""
-        recording = self.record()
+        recording = self.write_recording()
         chance, words = self.chance, ["one.stl", recording, "--every", str(self.every), *self.words]
         clock = chance.randrange(100)
         if clock < 35:
@@ -261,10 +263,10 @@ class Scenario:
                               (4, ["--page", "150"]), (3, ["--pes", "0-99999"]),
                               (30, ["--csv", "one.csv"]), (20, ["--junit", "one.xml"]),
                               (20, ["-o", "out"]), (8, ["--keep", "-o", "out"])):
-            words += more if self.some(percent) else []
-        if self.some(15) and recording == "one.ts":
+            words += more if self.has_chance(percent) else []
+        if self.has_chance(15) and recording == "one.ts":
             words += ["--pid", chance.choice(("0x101", "0x101", "0x102", "0x103"))]
-        if self.some(20):
+        if self.has_chance(20):
             with open("severity", "w", encoding="utf-8") as file:
                 file.write(chance.choice(("72 warning\n", "others warning\n72 error\n",
                                           "others warning\n", "45 warning\n61 warning\n")))

@@ -84,12 +84,12 @@ def file_text(name: str, text: str, printed: str, head: int) -> list[str]:
     return shortened(text.splitlines(), head)
 
 
-def call_text(said: random_calls.Said, head: int = HEAD) -> list[str]:
+def call_text(output: random_calls.CallOutput, head: int = HEAD) -> list[str]:
     """Return the stored form of one call of qc."""
-    printed = "\n".join(said.lines)
-    lines = [f"$ qc {' '.join(said.words)}", f"status {said.status}", *shortened(said.lines)]
+    printed = "\n".join(output.lines)
+    lines = [f"$ qc {' '.join(output.words)}", f"status {output.status}", *shortened(output.lines)]
     before: dict[str, str] = {}
-    for name, text in said.files.items():
+    for name, text in output.files.items():
         if text and text not in before:
             before[text] = name
             lines += [f"--- {name}", *file_text(name, text, printed, head)]
@@ -100,15 +100,15 @@ def call_text(said: random_calls.Said, head: int = HEAD) -> list[str]:
 
 def folder_text(number: int) -> list[str]:
     """Return the stored form of the calls in a folder, with the files that each call changed."""
-    return [line for said in random_folders.calls_in(number, BENCH.program)
-            for line in call_text(said, OF_FOLDER)]
+    return [line for printed in random_folders.calls_in(number, BENCH.program)
+            for line in call_text(printed, OF_FOLDER)]
 
 
 def report_text(number: int) -> list[str]:
     """Return the verdict of a random pair, and the text of its report."""
     with tempfile.TemporaryDirectory() as folder:
         found, page = reports.report_made(number, folder)
-    page = random_calls.plain(page, BENCH.program).replace(folder, "FOLDER")
+    page = random_calls.without_volatile(page, BENCH.program).replace(folder, "FOLDER")
     return [found.verdict.word, *page_text(page)]
 
 
@@ -117,9 +117,9 @@ def text_of(name: str) -> list[str]:
     form."""
     kind, _, rest = name.partition(" ")
     if kind == "call":
-        return call_text(random_calls.said_of(int(rest), BENCH.program))
+        return call_text(random_calls.run_random_call(int(rest), BENCH.program))
     if kind == "named":
-        return call_text(random_calls.said_of_name(rest, BENCH.program))
+        return call_text(random_calls.run_named_call(rest, BENCH.program))
     return folder_text(int(rest)) if kind == "many" else report_text(int(rest))
 
 

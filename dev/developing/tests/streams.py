@@ -182,7 +182,7 @@ class Programme(NamedTuple):
     later: Sequence[tuple[int, int]] = ()
 
 
-def shown(programmes: Sequence[Programme], frames: int) -> Maker:
+def multiplex_programmes(programmes: Sequence[Programme], frames: int) -> Maker:
     """Make a stream of several programmes:
 
     for each frame a PCR, a picture, and the PES packets of Teletext up to that time.
@@ -208,7 +208,7 @@ def shown(programmes: Sequence[Programme], frames: int) -> Maker:
     return maker
 
 
-def in_frames(pes: list[bytes], begin: int, count: int, rounds: int = 66,
+def multiplex_frames(pes: list[bytes], begin: int, count: int, rounds: int = 66,
               page: int = 0x88) -> Iterator[bytes]:
     """Yield a multiplex frame by frame:
 
@@ -230,7 +230,7 @@ def in_frames(pes: list[bytes], begin: int, count: int, rounds: int = 66,
         yield b"".join([*maker.taken(), filler])
 
 
-def spaced(data: bytes, size: int) -> bytes:
+def with_packet_size(data: bytes, size: int) -> bytes:
     """Extend TS packets of 188 bytes to 192 or 204 bytes."""
     before, behind = (b"time", b"") if size == 192 else (b"", b"\xa5" * (size - PACKET))
     return b"".join(before + data[at:at + PACKET] + behind
@@ -299,7 +299,7 @@ class Shape(NamedTuple):
     is_announced: bool = False
 
 
-def multiplexed(pes: list[bytes], shape: Shape) -> list[Packet]:
+def make_multiplex(pes: list[bytes], shape: Shape) -> list[Packet]:
     """Make a multiplex of PES packets, video with the PCR, and audio."""
     maker = Maker(components())
     maker.put_tables()
@@ -316,7 +316,7 @@ def multiplexed(pes: list[bytes], shape: Shape) -> list[Packet]:
                 maker.put_pcr(now - AHEAD + later)
                 made += maker.taken_of(VIDEO_PID)
                 if later and shape.is_announced:
-                    made[-1] = Packet(VIDEO_PID, announced(made[-1].data))
+                    made[-1] = Packet(VIDEO_PID, announce_jump(made[-1].data))
         if waiting and pts_in(waiting[0]) <= now:
             maker.put(TELETEXT_PID, waiting.pop(0))
             made += maker.taken_of(TELETEXT_PID)
@@ -326,17 +326,17 @@ def multiplexed(pes: list[bytes], shape: Shape) -> list[Packet]:
     return made
 
 
-def stream(made: Iterable[Packet]) -> bytes:
+def stream_bytes(made: Iterable[Packet]) -> bytes:
     """Return the bytes of a multiplex."""
     return b"".join(one.data for one in made)
 
 
-def announced(data: bytes) -> bytes:
+def announce_jump(data: bytes) -> bytes:
     """Set the discontinuity_indicator of a TS packet."""
     return data[:5] + bytes([data[5] | 0x80]) + data[6:]
 
 
-def of_teletext(made: Sequence[Packet], pts: int) -> list[int]:
+def teletext_places(made: Sequence[Packet], pts: int) -> list[int]:
     """Return the places of the Teletext packets from the PES packet with a PTS on."""
     begin = pts_bytes(pts)
     first = next(at for at, one in enumerate(made)
@@ -348,14 +348,14 @@ def with_loss(made: Sequence[Packet], pts: int, count: int, is_announced: bool =
               ) -> list[Packet]:
     """Delete some Teletext packets from a PTS on; a packet without a payload may announce the
     counter jump."""
-    gone = of_teletext(made, pts)[:count]
+    missing = teletext_places(made, pts)[:count]
     field = bytes([PACKET - 5, 0x80]).ljust(PACKET - 4, b"\xff")
     says = Packet(TELETEXT_PID, head(TELETEXT_PID, 0, ADAPTATION_ALONE) + field)
-    return [says if at in gone else one for at, one in enumerate(made)
-            if at not in gone or is_announced and at == gone[-1]]
+    return [says if at in missing else one for at, one in enumerate(made)
+            if at not in missing or is_announced and at == missing[-1]]
 
 
-def without(made: list[Packet], first: int, count: int) -> list[Packet]:
+def delete_between(made: list[Packet], first: int, count: int) -> list[Packet]:
     """Delete everything from one Teletext packet up to a later one."""
     own = [at for at, one in enumerate(made) if one.pid == TELETEXT_PID]
     return made[:own[first]] + made[own[first + count]:]
@@ -363,12 +363,13 @@ def without(made: list[Packet], first: int, count: int) -> list[Packet]:
 
 # PES packets with only PCRs, on the PID that the PMT names or on others.
 
-OLD, NEW, THIRD = TELETEXT_PID, 0x111, 0x121
+OLD, NEW = TELETEXT_PID, 0x111
 # The PES packets, with PIDs, that replace a PES packet.
 Carried = Callable[[int], Sequence[tuple[int, bytes]]]
 
 
-def in_turn(pes: Sequence[bytes], plan: Sequence[tuple[int, int]], carried: Carried | None = None,
+def stream_by_plan(pes: Sequence[bytes], plan: Sequence[tuple[int, int]],
+                   carried: Carried | None = None,
             descriptor: bytes = teletext_descriptor(), ahead: int | None = AHEAD) -> bytes:
     """Make a stream whose PMT names another PID from given PES packets on.
 
@@ -389,13 +390,13 @@ def in_turn(pes: Sequence[bytes], plan: Sequence[tuple[int, int]], carried: Carr
     return maker.data
 
 
-def beside_video(pes: bytes, descriptor: bytes = teletext_descriptor(),
+def stream_with_video(pes: bytes, descriptor: bytes = teletext_descriptor(),
                  ahead: int = AHEAD) -> bytes:
     """Make a stream of PES packets on one PID, with the PCR on a video PID."""
-    return in_turn(packets(pes), [(0, TELETEXT_PID)], None, descriptor, ahead)
+    return stream_by_plan(packets(pes), [(0, TELETEXT_PID)], None, descriptor, ahead)
 
 
-def in_stream(*of_pids: tuple[int, bytes]) -> bytes:
+def stream_of_pids(*of_pids: tuple[int, bytes]) -> bytes:
     """Make a stream of PES packets in the order of their PTS; each PID announces page 888."""
     maker = Maker([(VIDEO_PID, MPEG_2, b""), *(
         (pid, PRIVATE, teletext_descriptor()) for pid, _ in of_pids)])

@@ -17,9 +17,9 @@ from subtitles.air.segments import Unbroken, segment_name, segments_between, str
 from subtitles.cli.single import hold_lock
 from .air import Air, DAY
 from .bench import SECONDS, tool_path
-from .streams import in_frames
-from .programmes import BEGIN, LASTS, SECOND, blank, make_programme, until
-from .transmissions import packets, subtitle_file
+from .streams import multiplex_frames
+from .programmes import BEGIN, LASTS, SECOND, repeat_last_page, make_programme, wait_until
+from .transmissions import packets, write_subtitle_file
 
 LEAD, TAIL = 4, 6  # seconds of the feed before and after the programme
 ALL = LEAD + LASTS + TAIL
@@ -63,10 +63,10 @@ class Feeds(Air):
         """Return the frames of a feed, without two PES packets if it should be wrong."""
         made = make_programme(self, "one", 1_000_000, "Alpha Beta Gamma Delta",
                               BEGIN + SECOND * LEAD)
-        pes = packets(made + blank(made, BEGIN + SECOND * (LEAD + LASTS), TAIL))
+        pes = packets(made + repeat_last_page(made, BEGIN + SECOND * (LEAD + LASTS), TAIL))
         if is_wrong:
             del pes[4:6]
-        return [*in_frames(pes, BEGIN, ALL * 25, 1)]
+        return [*multiplex_frames(pes, BEGIN, ALL * 25, 1)]
 
 
 class Checks(Feeds):
@@ -106,7 +106,7 @@ class Checks(Feeds):
 
     def test_refuses_an_invalid_subtitle_file_for_any_transmission(self) -> None:
         frames = self.feed()
-        subtitle_file(self, [(100, 100, b"Never")])
+        write_subtitle_file(self, [(100, 100, b"Never")])
         found = self.judged(frames[:50])
         self.check("it", (found.verdict, found.is_final), ("refused", True))
 
@@ -182,7 +182,7 @@ class Calls(Feeds):
         recorder = self.start(subprocess.PIPE, "record", self.path("segments"), "--length", "2",
                               "--free", "0")
         assert recorder.stdin
-        until(lambda: os.path.exists(self.path("segments/.recorder.lock")))
+        wait_until(lambda: os.path.exists(self.path("segments/.recorder.lock")))
         begin = time.time() + 2
         self.put_on_air(begin + LEAD - 1)
         judge = self.start_judge()
@@ -193,7 +193,7 @@ class Calls(Feeds):
                 judge.kill()
                 judge.wait()
                 judge = self.start_judge()
-        until(lambda: self.verdicts())
+        wait_until(lambda: self.verdicts())
         recorder.stdin.close()
         self.check("the recorder ends with the feed", recorder.wait(SECONDS), 0)
         judge.terminate()

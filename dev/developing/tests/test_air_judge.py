@@ -15,7 +15,7 @@ from subtitles.air.state import Monitor
 from subtitles.common.files import result_file
 from .air import Air, DAY, FakeChecker, MARGIN, Sent, outcome
 from .bench import example_bytes
-from .transmissions import subtitle_file
+from .transmissions import write_subtitle_file
 
 NAME = "20261201T081000Z-one"  # on air from second 600 on, for 60 seconds
 BEGIN, END = 600, 660
@@ -78,8 +78,8 @@ class Judged(Air):
 
     def setUp(self) -> None:
         super().setUp()
-        subtitle_file(self, [(0, 1500, b"One")])
-        subtitle_file(self, [(0, 1500, b"Two")], "two.stl")
+        write_subtitle_file(self, [(0, 1500, b"One")])
+        write_subtitle_file(self, [(0, 1500, b"Two")], "two.stl")
         self.write_schedule("2026-12-01T08:10:00Z one.stl")
 
     def run_judge(self, checker: FakeChecker, end: int, begin: int = BEGIN, *more: str

@@ -10,7 +10,7 @@ from typing import NamedTuple, Sequence
 
 from subtitles.air.segments import segment_name
 from .air import Air, DAY, FakeChecker, LENGTH, MARGIN, Sent
-from .transmissions import subtitle_file
+from .transmissions import write_subtitle_file
 
 SECONDS = 60  # length of a programme
 GAP = re.compile(r"(\S+Z) to (\S+Z)")
@@ -79,7 +79,7 @@ class Days(Air):
 
     def test_each_programme_gets_one_correct_result_that_never_changes(self) -> None:
         for number in range(5):
-            subtitle_file(self, [(0, SECONDS * 25, b"One")], f"p{number}.stl")
+            write_subtitle_file(self, [(0, SECONDS * 25, b"One")], f"p{number}.stl")
         for seed in self.SEEDS:
             self.delete_all("segments", "out")
             self.judge_day(random.Random(seed), seed)

@@ -63,8 +63,8 @@ class Lines(Air):
     def read_lines(self, text: str) -> list[str]:
         """Return the programmes of a schedule, then its faults."""
         schedule = read_schedule(self.write("schedule", text.encode()), self.args())
-        said = [f"{one.name} {shown(one.begin)} {shown(one.end)}" for one in schedule.programmes]
-        return said + [*schedule.faults]
+        printed = [f"{one.name} {shown(one.begin)} {shown(one.end)}" for one in schedule.programmes]
+        return printed + [*schedule.faults]
 
     def test_reads_each_line(self) -> None:
         for name, (line, expected) in LINES.items():

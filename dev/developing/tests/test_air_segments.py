@@ -12,7 +12,7 @@ from subtitles.air.recorder import Limits, Recorder
 from subtitles.air.segments import (
     Segment, Unbroken, begin_in, names_in, segment_name, segments_between, stretches_in)
 from .air import Air, DAY
-from .streams import in_frames, spaced
+from .streams import multiplex_frames, with_packet_size
 from .programmes import BEGIN
 
 NAMES = {
@@ -86,13 +86,13 @@ class Segments(Air):
 
     @mock.patch.object(segments, "BLOCK", 100_000)
     def test_detects_losses_by_counters_between_segments(self) -> None:
-        feed = b"".join(in_frames([], BEGIN, 110, 1))
+        feed = b"".join(multiplex_frames([], BEGIN, 110, 1))
         packets = [feed[at:at + 188] for at in range(0, len(feed), 188)]
         feeds = {"PCR": b"".join(one for one in packets if one[3] & 0x10), "tables": b"".join(
             one[:3] + b"\x10" + one[4:] if one[1] in (0x40, 0x41) else one for one in packets)}
         for name, (end, begin, text, expected) in JOINTS.items():
             for size in (188, 192, 204):
-                data = spaced(feeds.get(name.split()[-1], feed), size)
+                data = with_packet_size(feeds.get(name.split()[-1], feed), size)
                 parts = data[:int(end * size)], data[int(begin * size):]
                 found = self.stretches_of(text, 5, *[b""] * text.count(" ", 5), *parts)
                 self.check(f"{name}, {size} bytes a packet", found, expected)

@@ -29,9 +29,9 @@ from subtitles.request.request import Request
 from subtitles.results.files import Row, found, object_at, put_object, unjudged
 from subtitles.results.schema import PROGRAM, REQUEST
 from .bench import Case, SECONDS
-from .programmes import until
-from .parts import asked_for, call_words, defaults, qc
-from .results import result, row
+from .programmes import wait_until
+from .parts import request_for, call_arguments, default_options, run_qc
+from .results import make_result, row
 
 
 class Lists(Case):
@@ -50,7 +50,7 @@ class Lists(Case):
                  "{0}/x.stl /dev/null --within 2\n{0}/x.stl {0}/socket\n").format(self.folder)
         with socket.socket(socket.AF_UNIX) as made:
             made.bind(self.path("socket"))
-        items = pairs_at(self.write("list", lines.encode() + b"caf\xe9.stl x.ts"), defaults())
+        items = pairs_at(self.write("list", lines.encode() + b"caf\xe9.stl x.ts"), default_options())
         self.must("names", [item.name for item in items] == [
             "one", "two", "one~2", "line 6", "line 7", "one~3", "none", "one~4", "line 11", "x",
             "x~2", "caf%E9"],
@@ -70,11 +70,11 @@ class Lists(Case):
         self.must("no name of one", "null" in (no_file("a\0") or ""))
         for path in (self.write("empty", b"# none\n"), self.path("folder")):
             with self.assertRaises(Stop):
-                pairs_at(path, defaults())
+                pairs_at(path, default_options())
 
     def test_protects_the_inputs_of_an_invalid_line(self) -> None:
         path = self.write("list", b"one.stl one.ts --bogus\none.stl one.ts --pace=two.stl\n")
-        for item in pairs_at(path, defaults()):
+        for item in pairs_at(path, default_options()):
             self.must(item.name, item.asked is None and {"one.stl", self.path("one.ts")} <=
                       {*item.files} and ("two.stl" in item.files) == (item.name == "line 2"),
                       item.files)
@@ -85,17 +85,17 @@ class Lists(Case):
         lines = [f"one.stl one.ts --within {number}" for number in range(3)] + [
             "", "# none", '"', "x.stl", "two.stl one.ts", "one.stl none.ts --origin 5"]
         path = self.write("list", "\n".join(lines).encode())
-        whole = {item.name: item for item in pairs_at(path, defaults())}
+        whole = {item.name: item for item in pairs_at(path, default_options())}
         for number, name in ((1, "one"), (2, "one~2"), (3, "one~3"), (6, "line 6"), (7, "line 7"),
                              (8, "two"), (9, "one~4")):
-            item, words = at_line(path, number, defaults())
+            item, words = at_line(path, number, default_options())
             self.must(f"{number}", item == whole[name] and {
                 "one.stl", "one.ts", "x.stl", "two.stl", "none.ts", '"'} <= {*words}, (item, words))
         for wrong in (4, 5, 10, 99):
-            self.assertRaisesRegex(Stop, "has no pair", at_line, path, wrong, defaults())
-        self.assertRaisesRegex(Stop, "is not a list", at_line, self.folder, 1, defaults())
+            self.assertRaisesRegex(Stop, "has no pair", at_line, path, wrong, default_options())
+        self.assertRaisesRegex(Stop, "is not a list", at_line, self.folder, 1, default_options())
         with mock.patch("subtitles.request.lines.no_file", return_value=None) as looked:
-            at_line(path, 8, defaults())
+            at_line(path, 8, default_options())
         self.must("files of one pair", [call[0][0] for call in looked.call_args_list] == [
             "two.stl", "one.ts"], looked.call_args_list)
         with mock.patch.object(files, "identities", side_effect=files.identities) as looked:
@@ -109,7 +109,7 @@ class Lists(Case):
         for name in ("B.STL", "b.TS", "c.stl", "c.ts", "c.pes", "d.m2t", "e.stl", "e.txt", "F.pes",
                      "f.stl", "f.trp", "G.stl", "g.MTS", "g.stl", "h\x1b.m2ts", "h\x1b.stl"):
             self.write(f"folder/{name}", b"")
-        items = pairs_at(self.path("folder"), defaults())
+        items = pairs_at(self.path("folder"), default_options())
         at = self.path("folder")
         self.must("items", [(item.name, item.reason) for item in items] == [
             ("B", None),
@@ -135,7 +135,7 @@ class CompleteBatches(Case):
 
         `unwritten` has results that are stored in no file.
         """
-        words = argparse.Namespace(**{**vars(defaults()), "batch": self.write("list", "".join(
+        words = argparse.Namespace(**{**vars(default_options()), "batch": self.write("list", "".join(
             f"{self.path(name)}.stl {self.path('one.ts')}\n" for name in ("one", "two", "three")
         ).encode()), "out": None, "program": self.path("program"), "is_kept": False, "jobs": None,
             "limit": 7, "is_resumed": False, "line": None, "json": None, "csv": None,
@@ -150,7 +150,7 @@ class CompleteBatches(Case):
             rows = {}
             for item, verdict in reversed(list(zip(items, judged.split(", ")))):
                 with open(calls.result_path(item), "w", encoding="ascii") as file:
-                    json.dump(result(verdict, **{
+                    json.dump(make_result(verdict, **{
                         "reason" if verdict == "not judged" else "worst_fault": item.name}), file)
                 rows[item.name] = row(item.name, verdict, item.name)
             calls.is_stopped, calls.unwritten_results = is_stopped, unwritten
@@ -240,13 +240,13 @@ class ForkedPairs(Case):
         super().setUp()
         path = self.write_program("call", CALL.replace("SECONDS", f"{SECONDS}"))
         for verdict in ("accepted", "refused", "not judged"):
-            self.write(verdict, json.dumps(result(verdict, notes=["WORDS"])).encode())
+            self.write(verdict, json.dumps(make_result(verdict, notes=["WORDS"])).encode())
         self.typed = CommandWords("tools/qc", self.bench.program)
 
         def execute(asked: Request, call: PairOptions) -> int:
             kept = ["-o", call.out] if call.out else ["--json", call.json or ""]
             words = [f"--name={call.name}", *["--claimed"] * call.is_claimed, *kept,
-                     *["--keep"] * call.is_kept, "-p", call.program or "", *call_words(asked)]
+                     *["--keep"] * call.is_kept, "-p", call.program or "", *call_arguments(asked)]
             # inherited files keep the process visible to its parent
             for file in os.listdir("/proc/self/fd"):
                 with contextlib.suppress(OSError):
@@ -265,7 +265,7 @@ class ForkedPairs(Case):
     def item(self, kind: str, name: str = "one", *words: str) -> Item:
         """Return a pair whose call ends in a given way."""
         stl = self.write(f"{name}.stl", kind.encode())
-        return Item(name, asked_for(stl, self.path("one.ts"), *words), None)
+        return Item(name, request_for(stl, self.path("one.ts"), *words), None)
 
     def judge_one(self, calls: PairRunner, item: Item) -> Row:
         """Judge one pair; return its row."""
@@ -294,7 +294,7 @@ class ForkedPairs(Case):
                 ("other", "not judged", "told last")):
             self.write("one.ts", b"1")
             item = self.item(kind, "one", "--severity", self.write("levels", b"72 error\n"))
-            self.write("out/one.json", json.dumps(result("accepted")).encode())
+            self.write("out/one.json", json.dumps(make_result("accepted")).encode())
             found_row = self.judge_one(self.calls, item)
             self.must(kind, (found_row.name, found_row.verdict, found_row.line) == (
                 "one", verdict, line), found_row)
@@ -328,7 +328,7 @@ class ForkedPairs(Case):
                 and rows["one"].verdict == "accepted" and not calls.over_limit, rows)
             have = object_at(calls.result_path(self.item(kind, "long")))
             self.must("its object", have is not None and have["reason"] == rows["long"].line, have)
-        self.must("all is gone", until(
+        self.must("all is gone", wait_until(
             lambda: not os.path.exists(f"/proc/{int(self.read('its'))}/fd/0")))
 
     def test_kills_a_pair_ten_seconds_after_it_was_stopped(self) -> None:
@@ -353,11 +353,11 @@ class ForkedPairs(Case):
         ends: dict[str, Callable[[], object]] = {
             "killed": lambda: signal.raise_signal(signal.SIGKILL), "no memory": os.abort,
             "a signal": lambda: signal.raise_signal(signal.SIGTERM), "an error": lambda: 1 // 0,
-            "no words": lambda: qc(["--none"])}
+            "no words": lambda: run_qc(["--none"])}
         for (name, end), is_written in itertools.product(ends.items(), (False, True)):
             def judge(*_: object) -> object:
                 if is_written:
-                    put_object(self.path("out/dies.json"), result("accepted"))
+                    put_object(self.path("out/dies.json"), make_result("accepted"))
                 return end()
 
             with mock.patch.object(batch, "judge_forked_pair", judge):
@@ -436,7 +436,7 @@ class ForkedPairs(Case):
                 not running or len(wait_for_any(running, SECONDS)) == len(running))
 
         def stopped(*_: object) -> None:
-            until(are_over)
+            wait_until(are_over)
             raise KeyboardInterrupt
 
         with mock.patch("subtitles.request.commands.Progress.show", stopped), \
@@ -456,11 +456,11 @@ class ForkedPairs(Case):
         verdicts = ("refused", "not judged", "accepted", "waived", *["accepted"] * 3)
         for item, verdict, more in zip(items, verdicts, mores):
             assert item.asked
-            have = {**result(verdict), "request": REQUEST.made(item.asked),
+            have = {**make_result(verdict), "request": REQUEST.made(item.asked),
                     "files_at_start": found(item.asked),
                     "program": PROGRAM.made(program), **more}
             self.write(f"out/{item.name}.json", json.dumps(have).encode())
-        self.write("out/five.json", json.dumps(result()).encode())
+        self.write("out/five.json", json.dumps(make_result()).encode())
         for text in (b"", b"{", b"[]"):
             self.write("out/eight.json", text)
             rows = resumed_rows(self.calls, items)

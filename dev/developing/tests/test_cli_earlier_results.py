@@ -27,8 +27,8 @@ from subtitles.results.files import (
 from subtitles.results import schema
 from subtitles.results.schema import FORMAT, REQUEST
 from .bench import Case, example, example_bytes
-from .parts import asked_for, defaults
-from .results import FAULT, result, row
+from .parts import request_for, default_options
+from .results import FAULT, make_result, row
 
 PROGRAM = MadeWith("1", "ab" * 32, None)
 # For each option a value that differs from that of the earlier call.
@@ -46,23 +46,24 @@ class CurrentResults(Case):
         paths = [self.write(name, data) for name, data in (
             ("one.stl", example_bytes("story.stl")), ("one.pes", example_bytes("story.pes")),
             ("severity", b"72 warning\n"))]
-        asked = dataclasses.replace(asked_for(*paths[:2]), severity=paths[2])
-        return asked, result("accepted", request=REQUEST.made(asked), files_at_start=found(asked),
+        request = dataclasses.replace(request_for(*paths[:2]), severity=paths[2])
+        return request, make_result("accepted", request=REQUEST.made(request),
+                                  files_at_start=found(request),
                              program=PROGRAM._asdict())
 
     def test_a_result_is_current_only_for_the_same_options(self) -> None:
-        asked, accepted_pair = self.accepted_pair()
-        self.must("the same", is_current(accepted_pair, asked, PROGRAM))
+        request, accepted_pair = self.accepted_pair()
+        self.must("the same", is_current(accepted_pair, request, PROGRAM))
         for name, value in OTHERS.items():
-            other = dataclasses.replace(asked, **{name: value})
+            other = dataclasses.replace(request, **{name: value})
             self.must(name, not is_current(accepted_pair, other, PROGRAM))
         for name in ("stl", "recording", "severity"):
             path = self.write(f"other.{name}", b"other")
-            other = dataclasses.replace(asked, **{name: path})
+            other = dataclasses.replace(request, **{name: path})
             self.must(f"another {name}", not is_current(accepted_pair, other, PROGRAM))
-        none = dataclasses.replace(asked, severity=None)
+        none = dataclasses.replace(request, severity=None)
         self.must("no severity", not is_current(accepted_pair, none, PROGRAM))
-        names = {field.name for field in dataclasses.fields(asked)}
+        names = {field.name for field in dataclasses.fields(request)}
         self.must("all words", names == {*OTHERS, "stl", "recording", "severity", "from_time",
                                              "to_time", "layout", "is_open", "may_keep",
                                              "pace_word", "kept_stl", "language"},
@@ -79,13 +80,13 @@ class CurrentResults(Case):
                 status, left), sorted(os.listdir(self.path("out"))))
 
     def test_a_result_is_current_only_for_the_same_program(self) -> None:
-        asked, accepted_pair = self.accepted_pair()
+        request, accepted_pair = self.accepted_pair()
         for name in ("version", "sha256"):
             other = PROGRAM._replace(**{name: "0" * 64})
-            self.must(name, not is_current(accepted_pair, asked, other))
+            self.must(name, not is_current(accepted_pair, request, other))
         self.must("the prover's line is no matter",
-                  is_current(accepted_pair, asked, PROGRAM._replace(proved="logic=proved")))
-        self.must("none", not is_current(unjudged("one", "why"), asked, PROGRAM))
+                  is_current(accepted_pair, request, PROGRAM._replace(proved="logic=proved")))
+        self.must("none", not is_current(unjudged("one", "why"), request, PROGRAM))
         sums = set()
         for data in (b"one", b"two"):  # same size and time
             os.utime(self.write("program", data), (0, 0))
@@ -95,8 +96,8 @@ class CurrentResults(Case):
     def test_a_result_is_current_only_for_unchanged_files(self) -> None:
         for name in ("one.stl", "one.pes", "severity"):
             for what in ("longer", "later", "gone"):
-                asked, accepted_pair = self.accepted_pair()
-                self.must(f"{name} as it was", is_current(accepted_pair, asked, PROGRAM))
+                request, accepted_pair = self.accepted_pair()
+                self.must(f"{name} as it was", is_current(accepted_pair, request, PROGRAM))
                 path, about = self.path(name), os.stat(self.path(name))
                 if what == "gone":
                     os.unlink(path)
@@ -106,7 +107,7 @@ class CurrentResults(Case):
                     with open(path, "ab") as file:
                         file.write(b" ")
                     os.utime(path, ns=(about.st_atime_ns, about.st_mtime_ns))
-                self.must(f"{name} {what}", not is_current(accepted_pair, asked, PROGRAM))
+                self.must(f"{name} {what}", not is_current(accepted_pair, request, PROGRAM))
 
 
 class StoredResults(Case):
@@ -128,7 +129,7 @@ class StoredResults(Case):
         faults = [{**FAULT, "line": f"refused {number}", "number": 5, "name": "X"}
                   for number in range(120)]
         causes = {"late": 2, "early": 1}
-        found_row = row_of_object(result(faults=faults, fault_count=7, seconds=1.5,
+        found_row = row_of_object(make_result(faults=faults, fault_count=7, seconds=1.5,
                                          cause_counts={**causes, "never": 0}, hints=["72: a hint"]),
                                   "name")
         self.must("all", found_row == Row(
@@ -141,10 +142,11 @@ class StoredResults(Case):
         none: dict[str, Any] = {"format": FORMAT, "verdict": "not judged", "status": 2, "name": "a",
                                 "reason": "why"}
         self.must("not judged", unjudged("a", "why") == none)
-        self.must("reason", row_of_object(result("not judged"), "x").line == "why")
-        self.must("the lead", row_of_object(result(line="refused 10 A", worst_fault="refused 72 B"),
+        self.must("reason", row_of_object(make_result("not judged"), "x").line == "why")
+        self.must("the lead",
+                  row_of_object(make_result(line="refused 10 A", worst_fault="refused 72 B"),
                                             "x").line == "refused 72 B")
-        self.must("judged", row_of_object(result(), "x").is_judged and not row_of_object(
+        self.must("judged", row_of_object(make_result(), "x").is_judged and not row_of_object(
             unjudged("x", "why"), "x").is_judged)
 
     def test_refuses_results_of_another_format_or_shape(self) -> None:
@@ -163,15 +165,16 @@ class StoredResults(Case):
             ({"more": 1}, ".more"), ({"date": "2026-01-02T03:04:05Z\n"}, ".date"),
             ({"verdict": "not judged", "status": 2}, ".verdict")]
         for change, where in changes:
-            self.write("one.json", json.dumps({**result(), **change}).encode())
-            told = f"does not match docs/verdict.schema.json at {where}: judge it again" \
+            self.write("one.json", json.dumps({**make_result(), **change}).encode())
+            judged = f"does not match docs/verdict.schema.json at {where}: judge it again" \
                 if where else "has format 3, and this version reads 7: judge it again"
-            self.must(f"{change}", object_at(path) == unjudged("one", f"its JSON result {told}"),
+            self.must(f"{change}", object_at(path) == unjudged("one", f"its JSON result {judged}"),
                       object_at(path))
         goods: list[dict[str, Any]] = [{}, {"faults": [FAULT, FAULT]}, {"seconds": 5},
-                                       result("not judged"), result("waived"), result("lost")]
+                                       make_result("not judged"), make_result("waived"),
+                                       make_result("lost")]
         for change in goods:
-            accepted_pair = {**result(), **change}
+            accepted_pair = {**make_result(), **change}
             self.write("one.json", json.dumps(accepted_pair).encode())
             self.must(f"{change}", object_at(path) == accepted_pair)
         for text, is_one in ((b"[]", False), (b"{}", False), (b"{", True), (b"\xff", True)):
@@ -193,7 +196,7 @@ class StoredResults(Case):
 
     def test_reads_only_visible_json_files_in_order(self) -> None:
         for name in ("b.json", "a.json", ".c.json", "d.txt", "e.jsonl"):
-            self.write(name, json.dumps(result()).encode())
+            self.write(name, json.dumps(make_result()).encode())
         os.mkdir(self.path("f.json"))
         names = [os.path.basename(path) for path, _ in objects_in(self.folder)]
         self.must("names", names == ["a.json", "b.json"], names)
@@ -203,7 +206,7 @@ class StoredResults(Case):
         for verdict, ended, is_its in (("refused", 1, True), ("refused", 0, False),
                                        ("accepted", 0, True), ("accepted", 2, False),
                                        ("waived", 0, True), ("accepted", -9, False)):
-            self.write("one.json", json.dumps(result(verdict)).encode())
+            self.write("one.json", json.dumps(make_result(verdict)).encode())
             got = left_by_call(path, "one", ended, ["qc: first", "qc: last: more"])
             self.must(f"{verdict} {ended}", (got["verdict"] == verdict) == is_its, got)
             if not is_its:
@@ -227,7 +230,7 @@ class StoredResults(Case):
 class WatchedFolders(Case):
     def arguments(self, **more: Any) -> argparse.Namespace:
         """Return the arguments of `--watch`."""
-        arguments = argparse.Namespace(**vars(defaults()))
+        arguments = argparse.Namespace(**vars(default_options()))
         vars(arguments).update({"watch": self.path("in"), "out": self.path("out"), "settled": 0,
                             "is_kept": True, "jobs": 3, "limit": 7, "every": 99,
                             **more})
@@ -257,7 +260,7 @@ class WatchedFolders(Case):
         for name in ("in", "out"):
             os.mkdir(self.path(name))
         for name in ("old", "older"):
-            self.write(f"out/{name}.json", json.dumps(result("accepted")).encode())
+            self.write(f"out/{name}.json", json.dumps(make_result("accepted")).encode())
         self.write("out/x.json", b"[]")
         results = collection.FolderRows(self.path("out"))
         self.must("rows", list(results.rows) == ["old", "older"])
@@ -274,11 +277,11 @@ class WatchedFolders(Case):
             results.add(row("b", "not judged", "why"))
         results.write_page(is_last=True)
         results.next_page = 0.0
-        with contextlib.redirect_stdout(out), contextlib.redirect_stderr(io.StringIO()) as told, \
+        with contextlib.redirect_stdout(out), contextlib.redirect_stderr(io.StringIO()) as errors, \
                 mock.patch.object(collection, "result_file", side_effect=OSError(28, "full")):
             # it continues if the page can't be written
             results.add(row("c", "accepted", "accepted 5"))
-        self.must("told", "full" in told.getvalue() and "c  accepted" in out.getvalue())
+        self.must("told", "full" in errors.getvalue() and "c  accepted" in out.getvalue())
         self.must("once more", "4 pairs: 2 accepted, 1 not judged, 1 refused" in self.read(
             "out/index.html").decode())
 
@@ -334,10 +337,11 @@ class WatchedFolders(Case):
             os.mkdir(self.path(name))
         program = about_program(self.bench.program)
         for name in ("a", "b", "c"):
-            asked = asked_for(self.write(f"in/{name}.stl", b"1"), self.write(f"in/{name}.ts", b"1"),
+            request = request_for(self.write(f"in/{name}.stl", b"1"),
+                                self.write(f"in/{name}.ts", b"1"),
                               "--every", "99")
-            files = {**found(asked), **({"stl": None} if name == "b" else {})}
-            have = result(request=REQUEST.made(asked), files_at_start=files,
+            files = {**found(request), **({"stl": None} if name == "b" else {})}
+            have = make_result(request=REQUEST.made(request), files_at_start=files,
                           program=schema.PROGRAM.made(program))
             self.write(f"out/{name}.json", json.dumps(have).encode())
         reads = []
@@ -398,10 +402,10 @@ class WatchedFolders(Case):
     def test_judges_a_pair_again_when_it_changes_back(self) -> None:
         self.write_pair()
         os.mkdir(self.path("out"))
-        asked, path = asked_for(self.path("in/a.stl"), self.path("in/a.ts"), "--every", "99"), \
+        request, path = request_for(self.path("in/a.stl"), self.path("in/a.ts"), "--every", "99"), \
             self.path("in/a.ts")
-        self.write("out/a.json", json.dumps(result(
-            request=REQUEST.made(asked), files_at_start=found(asked),
+        self.write("out/a.json", json.dumps(make_result(
+            request=REQUEST.made(request), files_at_start=found(request),
             program=schema.PROGRAM.made(about_program(self.bench.program)))).encode())
         before = os.stat(path).st_mtime_ns
 
@@ -415,9 +419,9 @@ class WatchedFolders(Case):
 
     def test_reports_each_reason_of_an_incomplete_pair_once(self) -> None:
         os.mkdir(self.path("in"))
-        watch, told = FolderWatch(self.path("in"), 0), io.StringIO()
-        with contextlib.redirect_stderr(told):
+        watch, errors = FolderWatch(self.path("in"), 0), io.StringIO()
+        with contextlib.redirect_stderr(errors):
             for reason in ("first", "first", "second", "second", "first", "first"):
                 self.must(reason, watch.ready_items([Item("a", None, reason)]) == [])
-        lines = [line.partition(": ")[2] for line in told.getvalue().splitlines()]
+        lines = [line.partition(": ")[2] for line in errors.getvalue().splitlines()]
         self.must("told", lines == ["first", "second", "first"], lines)

@@ -92,12 +92,12 @@ class CallCase(Case):
     def qc(self, *words: str) -> Ended:
         """Run qc; return its output."""
         before = os.getcwd()
-        heard = [(one, signal.getsignal(one)) for one in SIGNALS]
+        received = [(one, signal.getsignal(one)) for one in SIGNALS]
         os.chdir(self.folder)
         try:
             with open("out.txt", "w", encoding="utf-8") as printed, \
-                    open("told.txt", "w", encoding="utf-8") as told, \
-                    mock.patch.multiple(sys, stdout=printed, stderr=told, argv=[QC, *words]):
+                    open("told.txt", "w", encoding="utf-8") as reported, \
+                    mock.patch.multiple(sys, stdout=printed, stderr=reported, argv=[QC, *words]):
                 try:
                     run(lambda line: main("", QC, line))
                 except SystemExit as ended:
@@ -105,11 +105,11 @@ class CallCase(Case):
                 except Exception as reason:
                     raise AssertionError(f"it ended by {reason!r}") from reason
             lines = self.text("out.txt").splitlines()
-            said = self.text("told.txt").splitlines()
-            return Ended(status, lines, [line for line in said if not line.endswith(FEW)])
+            output = self.text("told.txt").splitlines()
+            return Ended(status, lines, [line for line in output if not line.endswith(FEW)])
         finally:
             os.chdir(before)
-            for one, handler in heard:  # a finished call ignores signals
+            for one, handler in received:  # a finished call ignores signals
                 signal.signal(one, handler)
 
     def judge(self, program: str, *words: str) -> Ended:
@@ -216,10 +216,10 @@ class UsageErrors(CallCase):
                       ("none.stl",), (*HELLO, "more"), (*HELLO, "-p", "none"), ("--page", "8ff"),
                       (*HELLO, "--severity", "none"), ("--batch", "none"), ("--collect", "none"),
                       ("--watch", "none"), (*HELLO, "--jobs", "2"), (*HELLO, "--csv", "none/one")):
-            for asked in (("--json", "one.json"), ("--json=one.json",)):
-                with self.subTest(words=words, asked=asked):
+            for request in (("--json", "one.json"), ("--json=one.json",)):
+                with self.subTest(words=words, asked=request):
                     self.write("one.json", b'{"format": 2, "verdict": "accepted", "status": 0}')
-                    done = self.qc(*asked, *words)
+                    done = self.qc(*request, *words)
                     known = self.object()
                     self.assertEqual((done.status, len(done.told)), (2, 1), done)
                     self.assertEqual((known["verdict"], known["status"]), ("not judged", 2))

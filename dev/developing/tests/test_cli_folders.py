@@ -13,8 +13,8 @@ from unittest import mock
 from subtitles.cli.single import claim_folder, claim_pair
 from subtitles.common.command_line import Stop
 from .bench import Case, Done, example, example_bytes, tool_path
-from .streams import beside_video, teletext_descriptor
-from .transmissions import in_two_parts
+from .streams import stream_with_video, teletext_descriptor
+from .transmissions import make_two_parts
 from .test_cli_pairs import RECORDING, RELATIVE, STORY, lines_of, qc
 
 
@@ -87,7 +87,7 @@ class HostileNames(Case):
 
     def test_writes_into_a_folder_with_a_hostile_name(self) -> None:
         os.mkdir(self.path("in"))
-        stl, pes = in_two_parts(self)
+        stl, pes = make_two_parts(self)
         two = self.write("in/two.pes", pes)
         os.rename(stl, self.path("in/two.stl"))
         for what in ("an escape", "a dash", "not UTF-8", "a quote"):
@@ -115,11 +115,11 @@ class HostileNames(Case):
                       and "index.html" in os.listdir(out), done)
 
     def test_escapes_the_language_of_a_pmt(self) -> None:
-        data = beside_video(example_bytes("story.pes"), teletext_descriptor(b"\x1b[2"))
+        data = stream_with_video(example_bytes("story.pes"), teletext_descriptor(b"\x1b[2"))
         done = qc(self, STORY, self.write("one.ts", data), "--page", "801")
-        told = "\n".join(done.told)
-        self.must("not clear", done.status == 2 and "888 \\x1b[2 subtitles" in told and
-                  not control_bytes(told.replace("\n", "").encode()), done)
+        reported = "\n".join(done.told)
+        self.must("not clear", done.status == 2 and "888 \\x1b[2 subtitles" in reported and
+                  not control_bytes(reported.replace("\n", "").encode()), done)
 
     def test_reports_a_folder_that_is_in_use(self) -> None:
         with claim_pair(self.path("out"), "story"):
@@ -199,6 +199,6 @@ class Claims(Case):
             os.unlink(f"{folder}/.one.lock")
             self.write("claimed/here/.one.lock", b"another one's")
         self.must("another one's file stays", os.listdir(folder) == [".one.lock"])
-        with self.assertRaises(OSError) as told, claim_folder(self.write("file", b"")):
+        with self.assertRaises(OSError) as reported, claim_folder(self.write("file", b"")):
             self.must("never", False)
-        self.must("its name", told.exception.filename == self.path("file"))
+        self.must("its name", reported.exception.filename == self.path("file"))

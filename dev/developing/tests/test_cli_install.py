@@ -20,7 +20,7 @@ from subtitles.common.program import PAGES, TOP, chosen, documents, read, withou
 from ..compiled import plain_environment
 from ..proved import lacking, parsed
 from .bench import Case, Done, SECONDS, example, example_bytes, tool_path
-from .programmes import until
+from .programmes import wait_until
 
 
 COMPLETE = '''source "$1"
@@ -96,9 +96,10 @@ class Installation(Case):
     def test_removes_only_what_was_installed(self) -> None:
         tool = ("install", "--remove")
         done = self.tool("install", "-p", self.bench.program, "own/prefix")
-        told = done.out.decode().splitlines()
+        reported = done.out.decode().splitlines()
         done = self.tool(*tool, "own/prefix")
-        self.must("what is told", done.status == 0 and {*told} <= {*done.out.decode().splitlines()},
+        self.must("what is told",
+                  done.status == 0 and {*reported} <= {*done.out.decode().splitlines()},
                   done)
         self.must("its folder", not os.path.exists(self.path("own/prefix"))
                   and os.path.isdir(self.path("own")))
@@ -279,7 +280,7 @@ def count_judged(case: Case) -> int:
 def reaches_pair(case: Case, folder: str, count: int) -> bool:
     """Wait for `count` results in a folder and the check of the next pair; return whether they
     came."""
-    return until(lambda: os.path.isdir(case.path(folder)) and count_judged(case) == count + 1
+    return wait_until(lambda: os.path.isdir(case.path(folder)) and count_judged(case) == count + 1
                  and len(results_in(case, folder)) == count)
 
 
@@ -315,9 +316,9 @@ def rename_example(case: Case, name: str, of: str) -> None:
 def check_watch(case: Case, process: subprocess.Popen[bytes]) -> None:
     """Check how a watching call judges slow files, complete files and changed files."""
     def lines() -> list[str]:
-        told = [line.partition("  ")[2] for line in case.read("log").decode().splitlines()
+        reported = [line.partition("  ")[2] for line in case.read("log").decode().splitlines()
                 if line[:1].isdecimal()]
-        return [line for line in told if line.partition("  ")[0] not in too_slow]
+        return [line for line in reported if line.partition("  ")[0] not in too_slow]
 
     too_slow = set[str]()
     case.write("in/lone.stl", example_bytes("story.stl"))
@@ -327,16 +328,16 @@ def check_watch(case: Case, process: subprocess.Popen[bytes]) -> None:
         too_slow.add(name)
     whole = [f"{name}  relative: no clock was given"]
     case.must("not before it is whole", lines() in ([], whole), lines())
-    case.must("when it is whole", until(lambda: lines() == whole), lines())
-    case.must("a file without a partner, once", until(
+    case.must("when it is whole", wait_until(lambda: lines() == whole), lines())
+    case.must("a file without a partner, once", wait_until(
         lambda: case.read("log").count(b"lone.stl: no recording") == 1), case.read("log"))
     rename_example(case, "in/now.stl", "hello.stl")
     rename_example(case, "in/now.pes", "no-erase.pes")
     case.write("in/now.done", b"")
-    case.must("at once", until(lambda: any(line.startswith("now  refused: 67 Control ")
+    case.must("at once", wait_until(lambda: any(line.startswith("now  refused: 67 Control ")
                                            for line in lines())), lines())
     rename_example(case, "in/now.pes", "hello.pes")
-    case.must("again", until(
+    case.must("again", wait_until(
         lambda: "now  relative: no clock was given" in lines()), lines())
     process.send_signal(signal.SIGTERM)
     case.must("it ends", process.wait(SECONDS) == 2)
@@ -354,7 +355,7 @@ class StoppedCalls(Case):
             came = reaches_pair(self, "out", 1)
             process.kill()
         self.write("goes on", b"")
-        self.must("both are judged", came and until(lambda: len(results_in(self, "out")) == 2))
+        self.must("both are judged", came and wait_until(lambda: len(results_in(self, "out")) == 2))
         kept = set(results_in(self, "out"))
         for again in (2, 0):
             before = count_judged(self)
@@ -374,14 +375,14 @@ class StoppedCalls(Case):
                                   stderr=subprocess.PIPE) as process:
                 came = reaches_pair(self, out, 2)
                 process.send_signal(one)
-                lines, told = (text.decode().splitlines() for text in process.communicate())
+                lines, errors = (text.decode().splitlines() for text in process.communicate())
             known = json.loads(self.read("all.json"))
             count = len(known["pairs"])
             self.must(f"{name}: status", came and (process.returncode, known["status"]) == (2, 2),
-                      (lines, told))
-            self.must(f"{name}: is said", count == 2 and told == [
+                      (lines, errors))
+            self.must(f"{name}: is said", count == 2 and errors == [
                 f"qc: stopped when {count} of 6 pairs were judged; --resume judges the others"],
-                      told)
+                      errors)
             self.must(f"{name}: the table", len(lines) == count + 2
                       and lines[-1].startswith(f"{count} pair"), lines)
             self.must(f"{name}: the page", self.read(f"{out}/index.html").count(
@@ -431,24 +432,12 @@ class StoppedCalls(Case):
         for program, wanted, words_in in ((slow, "begun", b""),
                                           (self.bench.program, "said", b"relative")):
             words = [tool_path("qc"), "--watch", "in", "-o", "out", "-p", program]
-            with open(self.path("said"), "wb") as said, \
-                    subprocess.Popen(words, cwd=self.folder, stdout=said) as process:
-                until(lambda: os.path.exists(self.path(wanted)) and
+            with open(self.path("said"), "wb") as printed, \
+                    subprocess.Popen(words, cwd=self.folder, stdout=printed) as process:
+                wait_until(lambda: os.path.exists(self.path(wanted)) and
                       words_in in self.read(wanted))
                 process.send_signal(signal.SIGTERM)
                 self.must(f"{wanted}: it ends", process.wait(SECONDS) == 2)
             self.must(f"{wanted}: its result", os.path.exists(self.path("out/one.json")) ==
                       (program != slow), os.listdir(self.path("out")))
         self.must("judged", json.loads(self.read("out/one.json"))["verdict"] == "relative")
-
-    def test_has_units(self) -> None:
-        if not shutil.which("systemd-analyze"):
-            self.skipTest("the units, since there is no systemd-analyze")
-        for name in ("watch",):
-            unit = f"subttx-{name}.service"
-            with open(os.path.join(TOP, "docs", "manual", unit), encoding="utf-8") as file:
-                text = file.read()
-            path = self.write(unit, text.replace("/usr/bin/subttx-qc", tool_path("qc")).replace(
-                "User=subtitles", "User=root").encode())
-            done = self.call(["systemd-analyze", "verify", path])
-            self.must(unit, done.status == 0 and not any(unit in line for line in done.told), done)

@@ -23,10 +23,11 @@ from subtitles.stream.repeats import repeats_in
 from subtitles.stream.packets import Packets
 from subtitles.stream.receiver import BLANK_PAGE, Timeline
 from .bench import BENCH, Case
-from .judged import judged
-from .parts import asked_for
-from .planted import INSERTERS, LATE, QUIET, Inserter, Programme
-from .transmissions import ORIGIN, PAGE, apart, joined, programme, sendings, times
+from .judged import judge_files
+from .parts import request_for
+from .planted import INSERTERS, LATE, BLANK_FRAMES, Inserter, Programme
+from .transmissions import (
+    ORIGIN, PAGE, with_pauses, pes_file, write_programme, schedule_pages, subtitle_times)
 from .test_judging_reasons import KEEPING_HEADER
 
 ENGLISH = BY_WORD["english"]
@@ -77,22 +78,22 @@ ROWS: list[tuple[list[Shown], dict[int, str], tuple[int, int], list[int], list[i
 
 def timeline_with(pages: dict[int, str], first: int, last: int) -> Timeline:
     """Return a timeline with one character, or a blank page, from given frames on."""
-    held = Timeline(Packets(0), PAGE, 0)
-    held.first, held.last = first, last
-    held.change(first, BLANK_PAGE)
+    decoded = Timeline(Packets(0), PAGE, 0)
+    decoded.first, decoded.last = first, last
+    decoded.change(first, BLANK_PAGE)
     for frame, text in pages.items():
-        held.change(frame, (text.encode().ljust(40), *BLANK_PAGE[1:]))
-    return held
+        decoded.change(frame, (text.encode().ljust(40), *BLANK_PAGE[1:]))
+    return decoded
 
 
 class Cues(Case):
     def test_measures_the_delay_of_each_cue(self) -> None:
-        for shown, pages, heard, begins, ends, words in ROWS:
+        for shown, pages, received, begins, ends, words in ROWS:
             subtitles = [Subtitle(at, at, begin, end, 20, 2, text.encode())
                          for at, (begin, end, text) in enumerate(shown, 1)]
-            found = delays_of("x.stl", subtitles, timeline_with(pages, *heard), ENGLISH)
+            found = delays_of("x.stl", subtitles, timeline_with(pages, *received), ENGLISH)
             early = [word for word in words if " " in word]
-            self.must(f"{shown} {pages} {heard}", (found.begins, found.ends) == (
+            self.must(f"{shown} {pages} {received}", (found.begins, found.ends) == (
                 Counter(begins), Counter(ends)) and [
                     line.partition(" 00:00:")[2][6:] for line in found.early] == [
                         f"{word} early" for word in early] and [
@@ -169,8 +170,8 @@ class Cues(Case):
 
 class Parts(Case):
     def test_measures_each_part_of_a_recording(self) -> None:
-        stl = programme(self, times(24))
-        sent = sendings(self, stl)
+        stl = write_programme(self, subtitle_times(24))
+        sent = schedule_pages(self, stl)
         places = [next(at for at, (pts, _) in enumerate(sent) if pts == frame * TICKS)
                   for frame in (425, 1225)]  # a repeat in each part
         typed = CommandWords("tools/qc", self.bench.program)
@@ -183,8 +184,9 @@ class Parts(Case):
             else:
                 for at in (places[part], places[part] + 1):
                     changed[at] = (sent[at][0], [KINDS[what], *sent[at][1][1:]])
-            path = self.write("one.pes", joined(apart(changed, 130)))
-            found = measured(asked_for(stl, path, "--breaks", "1", "--origin", f"{ORIGIN}"), typed,
+            path = self.write("one.pes", pes_file(with_pauses(changed, 130)))
+            found = measured(request_for(stl, path, "--breaks", "1", "--origin", f"{ORIGIN}"),
+                             typed,
                              self.path(f"{number}"))
             self.must(f"{what} in {part}", ([(one.longest, len(one.exceptions))
                                              for one in found.repeats], found.headers,
@@ -206,7 +208,7 @@ class Profiles(Case):
     def profile(self, *made: Programme) -> tuple[list[str], list[str]]:
         """Return the lines of the profile of programmes, each with its clock, and their recordings.
         """
-        paths = [self.write(f"{one.number}.pes", joined(one.sent())) for one in made]
+        paths = [self.write(f"{one.number}.pes", pes_file(one.sent())) for one in made]
         lines = [f"{one.stl} {path} --origin 0" for one, path in zip(made, paths)]
         listed = self.write("list", "\n".join(lines).encode())
         done = self.tool("qc", "--measure", listed, "-p", self.bench.program)
@@ -230,7 +232,8 @@ class Profiles(Case):
         name = f"{seed}, {inserter.name}"
         self.check(f"{name}: last line", lines[-1] == ACCEPTED, not refused)
         for one, path in zip(made, paths):
-            found = judged(self, one.stl, path, "--profile", self.path("profile"), "--origin", "0")
+            found = judge_files(self, one.stl, path, "--profile", self.path("profile"), "--origin",
+                                "0")
             self.check(f"{name}: {found.verdict.sentence}", found.word == "accepted",
                        not any(path in line for line in refused))
         return not refused
@@ -241,8 +244,8 @@ class Profiles(Case):
         self.check("accepted", ("--within 1" in lines, lines[-1]), (True, ACCEPTED))
         single = Programme(self, 2, Inserter("one a frame"))
         sent = single.sent()
-        sent[QUIET] = (sent[QUIET][0] + 7, sent[QUIET][1])
-        done = self.tool("qc", "--measure", single.stl, self.write("one.pes", joined(sent)),
+        sent[BLANK_FRAMES] = (sent[BLANK_FRAMES][0] + 7, sent[BLANK_FRAMES][1])
+        done = self.tool("qc", "--measure", single.stl, self.write("one.pes", pes_file(sent)),
                          "--origin", "0", "-p", self.bench.program)
         self.check("one alone", [line.partition(" PTS ")[2] for line in done.out.decode(
             ).splitlines() if line.startswith("# within: 1 of ")],
@@ -262,10 +265,10 @@ class Profiles(Case):
                    lines[-1], True)
 
     def test_decodes_by_the_option_that_it_proposes(self) -> None:
-        stl = programme(self, times(12))
+        stl = write_programme(self, subtitle_times(12))
         sent = [(pts, [GERMAN_KEEPING if pts // TICKS % 100 in (25, 50) else GERMAN_HEADER,
-                       *some[1:]]) for pts, some in sendings(self, stl)]
-        done = self.tool("qc", "--measure", stl, self.write("one.pes", joined(sent)), "-p",
+                       *some[1:]]) for pts, some in schedule_pages(self, stl)]
+        done = self.tool("qc", "--measure", stl, self.write("one.pes", pes_file(sent)), "-p",
                          self.bench.program)
         lines = done.out.decode().splitlines()
         self.check("profile", [line in lines for line in ("--option german", "--keeping")],
@@ -276,7 +279,7 @@ class Profiles(Case):
 def main(program: str, first: int, last: int) -> None:
     """Measure programmes; print how many profiles accept all of their recordings."""
     BENCH.chosen = program
-    case = Profiles("test_accepts_what_it_was_measured_on")
+    case = Profiles("test_accepts_its_own_recordings_or_says_which_not")
     case.setUp()
     good = sum(case.measure(seed) for seed in range(first, last))
     print(f"{good} of {last - first} profiles refuse none of what they were measured on")

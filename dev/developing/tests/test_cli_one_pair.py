@@ -30,8 +30,8 @@ from subtitles.request.request import Request, Unclear, Unsaid
 from subtitles.results.files import Row, found
 from subtitles.stream.gaps import Place
 from .bench import Case, example
-from .judged import Heard
-from .parts import answer, asked_for, in_page, part_with
+from .judged import LineRecorder
+from .parts import make_answer, request_for, markup_text, make_part
 from .test_formats_files import refusal
 
 REFUSED = ["refused 72 Content frame 00:00:01:00 row 1 column 2", "refused 68 Parity frame "
@@ -46,7 +46,7 @@ def gap(is_judged: bool, mark: int | None = None) -> Gap:
 
 class LastLines(Case):
     def verdict(self, parts: Sequence[Part], *words: str, **more: Any) -> Verdict:
-        made = Verdict(asked_for("one.stl", "one.pes", "--origin", "0", *words), Severity(
+        made = Verdict(request_for("one.stl", "one.pes", "--origin", "0", *words), Severity(
             None, "--allow-lost" in words), "now", subtitle_count=3)
         made.parts = list(parts)
         for name, value in more.items():
@@ -55,19 +55,19 @@ class LastLines(Case):
 
     def said(self, verdict: Verdict) -> list[str]:
         """Return the lines printed for a verdict."""
-        heard = Heard()
+        heard = LineRecorder()
         print_verdict(verdict, heard)
         return heard.lines
 
     def test_prints_notes_then_the_sentence_then_the_line(self) -> None:
-        said = self.said(self.verdict([part_with(0, 9, 0)], notes=["a note"], hints=["a hint"],
+        said = self.said(self.verdict([make_part(0, 9, 0)], notes=["a note"], hints=["a hint"],
                                       warnings=[Notice("kind", "strange")]))
         self.must("lines", said == [
             "! a note", said[1], "a hint",
             "Accepted: all 3 subtitles have the right text from the first frame to the last.",
             "accepted 10 frames 2 transmissions"] and
             "strange" in said[1] and said[1].startswith("! "), said)
-        said = self.said(self.verdict([part_with(0, 9, 0), part_with(
+        said = self.said(self.verdict([make_part(0, 9, 0), make_part(
             10, 19, 0, number=2, source=RECORDING)]))
         self.must("parts", said[:2] == [
             "part 1, from 00:00:00:00 to 00:00:00:09: accepted 10 frames 2 transmissions",
@@ -78,51 +78,51 @@ class LastLines(Case):
             (["accepted 10 frames 2 transmissions"], "relative 10 frames 2 transmissions", False),
             (REFUSED, REFUSED[0], True)]
         for lines, last, is_said in rows:
-            said = self.said(self.verdict([part_with(0, 9, 0, answer(
+            said = self.said(self.verdict([make_part(0, 9, 0, make_answer(
                 lines, path=self.path("list")), source=RECORDING)]))
             self.must("without a clock", said[-1] == last and any(
                 one.startswith(FITTED) for one in said) == is_said, said)
         causes: list[Any] = ["first", None, "third"]
         with mock.patch.object(single, "format_cause_counts", lambda some: f"{some}"):
-            said = self.said(self.verdict([part_with(0, 9, 0, causes=one) for one in causes]))
+            said = self.said(self.verdict([make_part(0, 9, 0, causes=one) for one in causes]))
         self.must("causes of all parts", said[0] == "['first', 'third']", said)
 
     def test_names_at_most_twenty_losses(self) -> None:
         for count, more in ((1, None), (20, None), (21, "! and at 1 more place"),
                             (23, "! and at 3 more places")):
-            said = self.said(self.verdict([part_with(0, 99, 0)], gaps=[gap(True)] * count))
+            said = self.said(self.verdict([make_part(0, 99, 0)], gaps=[gap(True)] * count))
             place = "! between 00:00:01:00 and 00:00:02:00: 3 TS packets lost"
             self.must(f"{count}", said.count(place) == min(count, 20) and
                       (more in said if more else not any("more place" in one for one in said[:-2])),
                       said)
             self.must("not recorded", "! record that part again: what is missing was not "
                                       "checked" in said, said)
-        said = self.said(self.verdict([part_with(0, 99, 0)], gaps=[gap(False)]))
+        said = self.said(self.verdict([make_part(0, 99, 0)], gaps=[gap(False)]))
         self.must("outside", said[0].endswith("3 TS packets lost, outside the judged range") and
                   not any("record that part" in one for one in said), said)
-        said = self.said(self.verdict([part_with(0, 99, 0)], "--allow-lost", gaps=[gap(True)]))
+        said = self.said(self.verdict([make_part(0, 99, 0)], "--allow-lost", gaps=[gap(True)]))
         self.must("allowed", not any("record that part" in one for one in said) and
                   said[-1].startswith("accepted"), said)
-        said = self.said(self.verdict([part_with(0, 99, 0, answer(REFUSED))], gaps=[gap(True)]))
+        said = self.said(self.verdict([make_part(0, 99, 0, make_answer(REFUSED))], gaps=[gap(True)]))
         self.must("refused too", "! record that part again: what is missing was not "
                                  "checked" in said, said)
 
     def test_prints_the_line_of_the_first_refused_part(self) -> None:
-        parts = [part_with(0, 9, 0), part_with(10, 19, 0, answer(REFUSED), 2)]
+        parts = [make_part(0, 9, 0), make_part(10, 19, 0, make_answer(REFUSED), 2)]
         said = self.said(self.verdict(parts))
         self.must("line", said[-2].startswith("Refused: ") and said[-1] == REFUSED[0] and
                   "part 2, from 00:00:00:10 to 00:00:00:19: " + REFUSED[0] in said, said)
         rows: list[tuple[Sequence[int], int, bool]] = [
             ((0, 3), 1, True), ((), 1, False), ((0, 3), 0, False)]
         for delays, within, is_said in rows:
-            one = part_with(0, 9, 0, delays=delays)
+            one = make_part(0, 9, 0, delays=delays)
             said = self.said(self.verdict([one], *(["--within", str(within)] if within else [])))
             self.must(f"{delays} {within}", len(said) == 2 + is_said, said)
-        accepted = [part_with(0, 9, 0)]
+        accepted = [make_part(0, 9, 0)]
         for some, page, where in (
                 (parts, None, ". See refusals.md#n72."), (accepted, "a.html", "."),
                 (parts, "out/one.html", ". See out/one.html."), (accepted, None, ".")):
-            heard = Heard()
+            heard = LineRecorder()
             print_verdict(self.verdict(some), heard, page)
             self.must(f"{page}: where to look", heard.lines[-2] ==
                       self.verdict(some).sentence.removesuffix(".") + where, heard.lines)
@@ -134,7 +134,7 @@ class LastLines(Case):
                   said)
         rows: list[tuple[list[Part], str]] = [
             ([], "nothing was judged so far"),
-            ([part_with(0, 9, 0, answer(REFUSED))], "2 faults so far")]
+            ([make_part(0, 9, 0, make_answer(REFUSED))], "2 faults so far")]
         for parts, words in rows:
             said = self.said(self.verdict(parts, unjudged=Unjudged(
                 "stopped at x", is_stopped=True)))
@@ -145,7 +145,7 @@ class LastLines(Case):
             ("accepted 5 frames 2 transmissions", ["not judged"]), ("3 faults", ["not judged"]),
             ("+ a command", []), ("", [])]
         for last, wanted in rows:
-            heard = Heard()
+            heard = LineRecorder()
             heard.last = last
             print_verdict(self.verdict([], unjudged=Unjudged("why")), heard)
             self.must(last, heard.lines == [*wanted, "! why"], heard.lines)
@@ -170,10 +170,10 @@ class OutputFilesOfPair(Case):
         said.finish(1)
         names = Names("a", self.folder, self.folder)
         names.given = example("story.stl")
-        return part_with(0, 9, 0, said, number, names=names)
+        return make_part(0, 9, 0, said, number, names=names)
 
     def verdict(self, lines: Sequence[str] = REFUSED) -> Verdict:
-        made = Verdict(asked_for(example("story.stl"), self.path("one.pes")), Severity(None), now())
+        made = Verdict(request_for(example("story.stl"), self.path("one.pes")), Severity(None), now())
         made.files_at_start = found(made.request)
         made.parts = [self.part(1, lines)]
         return made
@@ -333,15 +333,15 @@ class OutputFilesOfPair(Case):
     def test_writes_the_first_hundred_faults_of_all_parts(self) -> None:
         many = [f"refused 68 Parity frame 00:00:01:00 packet {at}" for at in range(70)]
         verdict = self.verdict([*many, "70 faults"])
-        verdict.parts += [part_with(0, 9, 0), self.part(2, [*many, "70 faults"])]
+        verdict.parts += [make_part(0, 9, 0), self.part(2, [*many, "70 faults"])]
         lines = self.files(verdict).lines()
         self.must("lines", lines == [*many, "70 faults", *many[:29]], lines[65:75])
-        self.must("name", pair_title(asked_for("a.stl", None)) == "a.stl" and
-                  pair_title(asked_for("a.stl", "b.ts")) == "a.stl b.ts")
+        self.must("name", pair_title(request_for("a.stl", None)) == "a.stl" and
+                  pair_title(request_for("a.stl", "b.ts")) == "a.stl b.ts")
 
     def test_is_not_judged_if_the_verdict_cannot_be_printed(self) -> None:
         for reason in (OSError(28, "No space left on device"), KeyboardInterrupt()):
-            verdict, heard = self.verdict(), Heard()
+            verdict, heard = self.verdict(), LineRecorder()
             files = self.files(verdict, json=self.path("one.json"))
             files.write()
             self.must("before", json.loads(self.read("one.json"))["status"] == 1)
@@ -374,7 +374,7 @@ class OutputFilesOfPair(Case):
         self.must("an output", not verdict.is_final)
 
     def test_a_bug_in_a_forked_call_leaves_a_result(self) -> None:
-        asked = asked_for(example("hello.stl"), example("hello.pes"))
+        asked = request_for(example("hello.stl"), example("hello.pes"))
         with mock.patch.object(batch, "judge_and_report", side_effect=ZeroDivisionError("one")), \
                 contextlib.redirect_stderr(io.StringIO()):
             status = batch.judge_forked_pair(asked, PairOptions(
@@ -387,10 +387,10 @@ class OutputFilesOfPair(Case):
 class Pages(Case):
     def several(self) -> Verdict:
         """Return a verdict on three parts."""
-        verdict = Verdict(asked_for(example("story.stl"), "one.pes"), Severity(None),
+        verdict = Verdict(request_for(example("story.stl"), "one.pes"), Severity(None),
                           "2026-01-02T03:04:05Z")
-        verdict.parts = [part_with(0, 9, 7), part_with(50, 99, 9, answer(REFUSED), 2),
-                         part_with(120, 149, 7, number=3)]
+        verdict.parts = [make_part(0, 9, 7), make_part(50, 99, 9, make_answer(REFUSED), 2),
+                         make_part(120, 149, 7, number=3)]
         for part in verdict.parts:
             part.names.given = example("story.stl")
         return verdict
@@ -400,28 +400,28 @@ class Pages(Case):
         for delay, words in ((0, "Clock given: --origin 7."),
                              (2, "Clock given: --origin 7. All 2 frames late."),
                              (-1, "Clock given: --origin 7. All 1 frame early.")):
-            part = part_with(0, 9, 7, alignment=TimedPart(0, 9, Clock(7, GIVEN, delay)))
-            table = in_page(report_page.parts_table([part]))
+            part = make_part(0, 9, 7, alignment=TimedPart(0, 9, Clock(7, GIVEN, delay)))
+            table = markup_text(report_page.parts_table([part]))
             self.must(words, f'<td data-name="Clock">{words}</td>' in table, table)
-        table = in_page(report_page.parts_table(verdict.parts))
+        table = markup_text(report_page.parts_table(verdict.parts))
         for number in (1, 2, 3):
             self.must(f"part {number}", table.count(
                 f'<a href="#part{number}">part {number}</a>') == 1, table)
         self.must("faults", '<td data-name="Faults">2</td>' in table and
                   table.count('<td data-name="Faults">0</td>') == 2, table)
         verdict.gaps, verdict.warnings = [gap(True), gap(False)], [Notice("kind", "strange")]
-        box = in_page(report_page.verdict_box(verdict))
+        box = markup_text(report_page.verdict_box(verdict))
         self.must("box", box.startswith('<div class="verdict refused">') and verdict.sentence in
                   box and box.count("3 TS packets lost") == 1 and "strange" in box, box)
-        scope = in_page(report_page.scope_section(verdict))
+        scope = markup_text(report_page.scope_section(verdict))
         self.must("scope", "00:00:00:00 to 00:00:05:24, " in scope, scope)
-        verdict.request = asked_for("piped.stl", "one.pes")  # a pipe is stored under another name
+        verdict.request = request_for("piped.stl", "one.pes")  # a pipe is stored under another name
         verdict.request.kept_stl = example("story.stl")
         self.must("a pipe", "Programme" in scope and "piped.stl" in
-                  in_page(report_page.scope_section(verdict)), scope)
+                  markup_text(report_page.scope_section(verdict)), scope)
 
     def test_has_unique_anchors_for_all_parts(self) -> None:
-        page = in_page(report_page.report_page(self.several(), CommandWords(
+        page = markup_text(report_page.report_page(self.several(), CommandWords(
             "tools/qc", self.bench.program)))
         self.must("its date", page.count("2026-01-02 03:04:05 UTC") == 1)
         self.must("parts", re.findall(r'<section class="part" id="part(\d)"><h2>Part (\d),', page)
@@ -437,7 +437,7 @@ class Pages(Case):
         verdict = self.several()
         verdict.unjudged = Unjudged("no clock <\nnone", ("tools/qc a b --origin T",))
         verdict.notes, verdict.warnings = ["a note"], [Notice("kind", "strange")]
-        page = in_page(report_page.report_page(verdict, CommandWords(
+        page = markup_text(report_page.report_page(verdict, CommandWords(
             "tools/qc", self.bench.program)))
         for words in ("Not judged: no clock &lt;", "<p>none</p>", "a note", "strange",
                       'Type <code class="long">tools/qc a b --origin T</code>',

@@ -28,8 +28,8 @@ from subtitles.results.files import (
 from subtitles.results.schema import JUDGED_PART, LOSS, PartOf
 from subtitles.stream.gaps import Place
 from .bench import Case
-from .parts import part_with
-from .results import FAULT, REQUEST as PLAIN, result
+from .parts import make_part
+from .results import FAULT, REQUEST as PLAIN, make_result
 
 NO_CELL = {"code": "00", "character": ""}
 
@@ -46,11 +46,12 @@ def subtitle(number: int, begin: str, end: str) -> dict[str, object]:
 CAUSE = {"name": "late", "frames": 3, "subtitle": subtitle(9, "3", "4"), "expected_text": "due",
          "decoded_text": "other", "line": "late by 3"}
 OBJECTS: list[dict[str, Any]] = [
-    result("refused", line="refused 72", faults=[
+    make_result("refused", line="refused 72", faults=[
         fault(72, subtitle=subtitle(7, "1", "2"), cause=CAUSE,
               expected={"code": "41", "character": "A"}, decoded=NO_CELL), fault(38, pes=5)]),
     unjudged("two", "no file\nat all"),
-    result("accepted", request={**PLAIN, "stl": "three.stl", "recording": None}, line="accepted")]
+    make_result("accepted", request={**PLAIN, "stl": "three.stl", "recording": None},
+                line="accepted")]
 
 
 class Tables(unittest.TestCase):
@@ -71,7 +72,8 @@ class Tables(unittest.TestCase):
 
     def test_has_subtitle_counts_in_each_row(self) -> None:
         for counts, wanted in (({"judged": 9, "refused": 2}, ("9", "2")), (None, ("", ""))):
-            rows = self.rows([result("refused", subtitle_counts=counts, faults=[fault(38)] * 150)])
+            rows = self.rows([make_result("refused", subtitle_counts=counts,
+                                          faults=[fault(38)] * 150)])
             names = ("subtitle_counts_judged", "subtitle_counts_refused")
             self.assertEqual([tuple(row[name] for name in names) for row in rows], [wanted] * 151,
                              counts)
@@ -124,9 +126,10 @@ class Testcases(unittest.TestCase):
                              ("2026T10:00", "0"), (verdict, status, tag))
             self.assertEqual(suites[0][0].attrib, {"classname": "subttx", "name": "a\\x1bb",
                                                    "time": "1.250"}, (verdict, status, tag))
-            told = [(one.tag, one.text, one.attrib) for one in suites[0][0]]
+            reported = [(one.tag, one.text, one.attrib) for one in suites[0][0]]
             words = {"message": "a\\ufffe\nline", "type": verdict} if status else {}
-            self.assertEqual(told, [(tag, "a\\ufffe\nline\none\ntwo", words)] * (tag is not None),
+            self.assertEqual(reported,
+                             [(tag, "a\\ufffe\nline\none\ntwo", words)] * (tag is not None),
                              (verdict, status, tag))
 
 
@@ -177,7 +180,7 @@ class Members(unittest.TestCase):
                     "judged": is_judged})
 
     def test_writes_the_judged_range_clock_and_file(self) -> None:
-        part = part_with(25, 49, 7, number=2)
+        part = make_part(25, 49, 7, number=2)
         bare = JUDGED_PART.made(PartOf(part, False))
         self.assertEqual([bare[name] for name in (
             "part", "origin", "from", "to", "verdict", "frames", "transmissions", "fault_count",
@@ -211,7 +214,7 @@ class Members(unittest.TestCase):
         for end, number, wanted in ((1, None, first), (2, None, nothing), (2, 1, first),
                                     (2, 2, second), (2, 3, nothing), (0, None, nothing)):
             self.assertEqual(part_columns(parts[:end], number), wanted, (end, number))
-        known = result(parts=parts, faults=[{**FAULT, "part": number} for number in (1, 2, 1)])
+        known = make_result(parts=parts, faults=[{**FAULT, "part": number} for number in (1, 2, 1)])
         self.assertEqual([{name: row.get(name) for name in first} for row in column_rows(known)],
                          [dict.fromkeys(first), first, second, first])
         for code, letter, words in (("41", "A", "41 A"), ("00", "", "00")):

@@ -14,9 +14,9 @@ from subtitles.common.program import TOP
 from subtitles.formats.stl import MOST_STL
 from subtitles.recording import recording
 from .bench import Case, Done, SECONDS, example, example_bytes, tool_path
-from .programmes import until
-from .judged import judged
-from .transmissions import in_pipe
+from .programmes import wait_until
+from .judged import judge_files
+from .transmissions import write_pipe
 
 
 STORY, RECORDING = example("story.stl"), example("recording.ts")
@@ -54,8 +54,8 @@ class Pairs(Case):
         kept = sorted(os.listdir(self.path("out")))
         self.must("its files", kept == ["story.html", "story.json", "story.txt"], kept)
         again = self.call(["sh", "-c", commands[0]])
-        said = lines[lines.index("+ " + commands[0]) + 1:][:1]
-        self.must("typed again", (again.status, again.out.decode().splitlines()) == (0, said),
+        printed = lines[lines.index("+ " + commands[0]) + 1:][:1]
+        self.must("typed again", (again.status, again.out.decode().splitlines()) == (0, printed),
                   again)
 
     def test_judges_files_and_standard_input_the_same(self) -> None:
@@ -114,7 +114,7 @@ class Piped(Case):
         pes = example_bytes("story.pes")
         for most, word in ((len(pes), "accepted"), (len(pes) - 1, "not judged")):
             with mock.patch.object(recording, "MOST_PIPED", most):
-                found = judged(self, STORY, in_pipe(self, pes), "--origin", "0")
+                found = judge_files(self, STORY, write_pipe(self, pes), "--origin", "0")
             self.must(f"{most}", found.word == word, found.said)
         self.must("what to type", found.told[-1].endswith(
             f" has not ended after {most:,} bytes: judge an endless feed with "
@@ -140,14 +140,15 @@ class Ended(Case):
                 assert process.stdin and process.stderr
                 process.stdin.write(example_bytes("story.pes"))
                 process.stdin.flush()
-                is_there = until(lambda: any("story.recording" in files for _, _, files in os.walk(
+                is_there = wait_until(lambda: any("story.recording" in files for _, _,
+                                                  files in os.walk(
                     self.path("temporary"))))
                 process.send_signal(one if is_there else signal.SIGKILL)
-                told = process.stderr.read().decode().splitlines()
+                errors = process.stderr.read().decode().splitlines()
             known = json.loads(self.read("one.json"))
-            self.must(f"{one}", process.returncode == 2 and known["status"] == 2 and told ==
+            self.must(f"{one}", process.returncode == 2 and known["status"] == 2 and errors ==
                       [f"qc: not judged: {known['reason']}"] and not known["faults"] and
-                      known["reason"].startswith("stopped at "), told)
+                      known["reason"].startswith("stopped at "), errors)
             self.must(f"{one}: nothing is left", os.listdir(self.path("temporary")) == [] and
                       sorted(os.listdir(self.path("out"))) == [
                           "story.html", "story.json"], os.listdir(self.path("out")))
@@ -168,14 +169,14 @@ class Ended(Case):
                     if line.startswith(b"+ ./program check"):
                         break
                 came = [process.stdout.readline() for _ in range(count)]
-                until(lambda: os.path.exists(begun))
+                wait_until(lambda: os.path.exists(begun))
                 process.send_signal(signal.SIGTERM)
-                lines, told = (text.decode().splitlines() for text in process.communicate())
+                lines, errors = (text.decode().splitlines() for text in process.communicate())
             known = json.loads(self.read("out/story.json"))
-            self.must(f"{count}: status", process.returncode == 2 and known["status"] == 2, told)
+            self.must(f"{count}: status", process.returncode == 2 and known["status"] == 2, errors)
             self.must(f"{count}: how much", f"{counted(faults, 'fault')} so far" in lines, lines)
-            self.must(f"{count}: how far", told[-1:] == [f"qc: not judged: {known['reason']}"]
-                      and known["reason"].endswith(f"Z, when check had reported {up_to}"), told)
+            self.must(f"{count}: how far", errors[-1:] == [f"qc: not judged: {known['reason']}"]
+                      and known["reason"].endswith(f"Z, when check had reported {up_to}"), errors)
             self.must(f"{count}: the object", len(known["faults"]) == faults
                       and known["parts"][0]["verdict"] == "not judged", known)
             self.must(f"{count}: the list", self.read("out/story.txt") == b"".join(came), came)
@@ -188,9 +189,9 @@ class Ended(Case):
             done = self.call(["bash", "-c", command, "bash", five, tool_path("qc"), STORY,
                               recording,
                               self.bench.program])
-            told = self.read("told").decode()
-            self.must(name, len(done.out.splitlines()) == 3 and "Traceback" not in told
-                      and "Exception" not in told, (done, told))
+            reported = self.read("told").decode()
+            self.must(name, len(done.out.splitlines()) == 3 and "Traceback" not in reported
+                      and "Exception" not in reported, (done, reported))
             self.must(f"{name}: its object", json.loads(self.read("one.json"))["fault_count"] == 5)
 
 
@@ -216,7 +217,7 @@ class SubtitlePipes(Case):
             pipe = self.path("pipe/one.stl")  # the pipe needs the same file name
             shutil.rmtree(os.path.dirname(pipe), ignore_errors=True)
             os.mkdir(os.path.dirname(pipe))
-            in_pipe(self, data, pipe)
+            write_pipe(self, data, pipe)
             of_pipe = self.qc(pipe, *words, "-o", self.path("out"))
             other = json.loads(self.read("x.json"))
             self.must(f"{words}", of_pipe.status == of_file.status and

@@ -163,9 +163,9 @@ class Clocks(Feeds):
             given[one] = Given(clock, bool(common))
             lines.append(" ".join([*self.paths(one), *[f"--origin {origin}"] * clock]))
         self.write("list", "".join(f"{line}\n" for line in lines).encode())
-        status, said = self.qc("--batch", self.path("list"), "-o", self.path("out"), *common)
+        status, printed = self.qc("--batch", self.path("list"), "-o", self.path("out"), *common)
         self.check_status(name, status, given)
-        self.check_lines(f"{name}: lines", said, given)
+        self.check_lines(f"{name}: lines", printed, given)
         self.check_results(name, given)
 
     def watch(self, name: str, chance: random.Random, origins: dict[str, int]) -> None:
@@ -207,7 +207,7 @@ class Clocks(Feeds):
 def main(program: str, first: int, last: int) -> None:
     """Try some seeds."""
     BENCH.chosen = program
-    case = Clocks("test_nothing_is_accepted_without_a_clock")
+    case = Clocks("test_accepts_nothing_without_a_clock")
     case.setUp()
     for seed in range(first, last):
         case.try_seed(seed)

@@ -26,9 +26,9 @@ from subtitles.request.lines import Item
 from subtitles.request.request import keep_stl
 from subtitles.results.files import put_object
 from .bench import Case, SECONDS, example, example_bytes
-from .parts import asked_for, qc
-from .results import result
-from .transmissions import in_pipe
+from .parts import request_for, run_qc
+from .results import make_result
+from .transmissions import write_pipe
 from .test_cli_failures import ACCEPTED, CallCase, HELLO
 
 
@@ -55,16 +55,16 @@ class UnjudgedPairs(Case):
         self.addCleanup(os.chdir, before)
         os.chdir(self.folder)
         for name, recording, words, why in rows:
-            put_object("out/one.json", result("accepted"))
+            put_object("out/one.json", make_result("accepted"))
             self.write("out/one.txt", b"refused 68 Parity frame 00:00:01:00 packet 9\n1 faults\n")
             if name in ("an input", "no result"):
                 self.write("out/one.html", b"67 warning\n")
             self.write("list", f"one.stl {recording or 'one.ts'} {words}\n".encode())
-            held: ContextManager[object] = claim_pair("out", "one") if name == "in use" else \
+            decoded: ContextManager[object] = claim_pair("out", "one") if name == "in use" else \
                 contextlib.nullcontext()
-            with held, contextlib.redirect_stdout(io.StringIO()) as out, \
+            with decoded, contextlib.redirect_stdout(io.StringIO()) as out, \
                     contextlib.redirect_stderr(io.StringIO()):
-                status = qc(["--batch", "list", "-o", "out", "-p", self.bench.program, "--json",
+                status = run_qc(["--batch", "list", "-o", "out", "-p", self.bench.program, "--json",
                              "all.json", "--csv", "all.csv", "--junit", "all.xml"])
             [known] = json.loads(self.read("all.json"))["pairs"]
             self.must(name, status == 2 and known["verdict"] == "not judged" and why in
@@ -78,7 +78,7 @@ class UnjudgedPairs(Case):
                 os.unlink("out/one.html")
 
     def test_locks_the_files_of_a_pair_until_its_call_ends(self) -> None:
-        item, calls = Item("one", asked_for(self.path("one.stl"), self.path("one.ts")), None), \
+        item, calls = Item("one", request_for(self.path("one.stl"), self.path("one.ts")), None), \
             self.runner()
         for does in (signal.pause, time.tzset):  # a call that waits for a signal, and one that ends
             with mock.patch.object(batch, "judge_forked_pair", lambda *_: does() or 2):
@@ -112,12 +112,12 @@ class UnjudgedPairs(Case):
                 min(jobs, count), max(count - jobs, 0), []))
 
     def test_gives_each_pair_its_time_limit(self) -> None:
-        asked = asked_for(self.path("one.stl"), self.path("one.ts"))
+        request = request_for(self.path("one.stl"), self.path("one.ts"))
         for limit, wanted in ((None, LEAST_SECONDS), (5, 5)):
             calls = self.runner()
             calls.limit = limit
             with mock.patch.object(batch, "ForkedProcess"):
-                calls.start(Item("one", asked, None))
+                calls.start(Item("one", request, None))
             [begun] = calls.running.values()
             begun.claim.close()
             self.check(f"{limit}", begun.limit, wanted)
@@ -139,27 +139,27 @@ class UnjudgedPairs(Case):
                            "one.7.txt", "two.1.txt", "three.1.html")])
 
     def test_does_not_list_a_claimed_folder_again(self) -> None:
-        asked = asked_for(example("hello.stl"), example("hello.pes"), "--origin", "0")
+        request = request_for(example("hello.stl"), example("hello.pes"), "--origin", "0")
         call = PairOptions(self.bench.program, self.path("out"), name="one", is_claimed=True)
         with mock.patch("subtitles.request.commands.PartFiles", side_effect=ZeroDivisionError), \
                 mock.patch.object(single, "ignore_signals"), \
                 contextlib.redirect_stdout(io.StringIO()), \
                 contextlib.redirect_stderr(io.StringIO()):
-            verdict = single.judge_and_report(asked, call, "tools/qc")
+            verdict = single.judge_and_report(request, call, "tools/qc")
             self.check("its verdict", verdict.word, "accepted")
 
     def test_refuses_a_pipe_that_replaces_a_file(self) -> None:
         os.mkfifo(self.path("pipe"))
         for pair in (("pipe", "one.ts"), ("one.stl", "pipe")):
-            asked = asked_for(*map(self.path, pair))
+            request = request_for(*map(self.path, pair))
             with mock.patch.object(batch, "judge_and_report", return_value=mock.Mock(status=0)), \
-                    contextlib.redirect_stderr(io.StringIO()) as told:
-                status = batch.judge_forked_pair(asked, PairOptions(None))
-            self.check(f"{pair}", (status, f"{self.path('pipe')} is a pipe" in told.getvalue()),
+                    contextlib.redirect_stderr(io.StringIO()) as errors:
+                status = batch.judge_forked_pair(request, PairOptions(None))
+            self.check(f"{pair}", (status, f"{self.path('pipe')} is a pipe" in errors.getvalue()),
                        (2, True))
 
     def test_takes_a_verdict_only_with_its_own_status(self) -> None:
-        asked = asked_for(self.path("one.stl"), self.path("one.ts"))
+        request = request_for(self.path("one.stl"), self.path("one.ts"))
         rows: list[tuple[str, int, bool]] = [
             ("accepted", 0, True), ("refused", 1, True), ("accepted", 1, False),
             ("refused", 0, False), *((verdict, -number, False) for verdict in (
@@ -167,9 +167,9 @@ class UnjudgedPairs(Case):
         for (verdict, status, counts), is_over in itertools.product(rows, (False, True)):
             calls, call = self.runner(), mock.Mock(**{"wait.return_value": (status, ["qc: why"])})
             calls.running[call] = batch.RunningPair(
-                Item("one", asked, None), 7, contextlib.ExitStack())
+                Item("one", request, None), 7, contextlib.ExitStack())
             calls.over_limit |= {call} if is_over else {mock.Mock()}
-            put_object(self.path("out/one.json"), result(verdict))
+            put_object(self.path("out/one.json"), make_result(verdict))
             row = calls.finish(call)
             self.must(f"{verdict} {status} {is_over}", row.verdict == (
                 verdict if counts else "not judged") and call not in calls.over_limit and (
@@ -181,7 +181,7 @@ class UnjudgedPairs(Case):
         calls.over_limit.add(mock.Mock())
         with mock.patch.object(batch, "judge_forked_pair", lambda *_: 2 * bool(os.write(
                 2, b"qc: first\nqc: caf\xe9: \x1b\n"))):
-            calls.start(Item("one", asked_for(self.path("one.stl"), self.path("one.ts")), None))
+            calls.start(Item("one", request_for(self.path("one.stl"), self.path("one.ts")), None))
         [row] = calls.finished_rows(SECONDS)
         self.must("its line", (row.verdict, row.line) == ("not judged", "caf\ufffd: \x1b"), row)
 
@@ -199,11 +199,11 @@ class UnjudgedPairs(Case):
 
     def test_takes_the_national_option_of_the_judged_file(self) -> None:
         path = self.write("one.stl", example_bytes("story.stl"))
-        asked = asked_for(path, example("story.pes"), "--option", "auto")
-        typed = asked_for(path, example("story.pes"), "--option", "english")
+        request = request_for(path, example("story.pes"), "--option", "auto")
+        typed = request_for(path, example("story.pes"), "--option", "english")
         data = example_bytes("story.stl")
         self.write("one.stl", data[:14] + b"08" + data[16:])
-        for one, option in ((asked, "german"), (typed, "english")):
+        for one, option in ((request, "german"), (typed, "english")):
             keep_stl(one, self.folder)
             self.check("option", one.option, option)
 
@@ -214,7 +214,7 @@ class UnjudgedPairs(Case):
         self.write("list", b"one.stl one.ts\ntwo.stl two.ts --severity levels\n")
 
         def judge(_: object, call: PairOptions) -> int:
-            put_object(os.path.join(call.out or "", f"{call.name}.json"), result("accepted"))
+            put_object(os.path.join(call.out or "", f"{call.name}.json"), make_result("accepted"))
             return 0
 
         self.addCleanup(os.chdir, os.getcwd())
@@ -222,21 +222,21 @@ class UnjudgedPairs(Case):
         words = ["--batch", "list", "--line", "1", "-o", "out", "-p", self.bench.program]
         with mock.patch.object(batch, "judge_forked_pair", judge), claim_folder("out"), \
                 contextlib.redirect_stdout(io.StringIO()), \
-                contextlib.redirect_stderr(io.StringIO()) as told:
-            self.must("judged", qc(words) == 0 and
-                      sorted(os.listdir("out")) == [".lock", "one.json"], told.getvalue())
+                contextlib.redirect_stderr(io.StringIO()) as errors:
+            self.must("judged", run_qc(words) == 0 and
+                      sorted(os.listdir("out")) == [".lock", "one.json"], errors.getvalue())
             for option, name in itertools.product(("--json", "--csv"), (*names, "list", "one.ts")):
                 before = self.read(name)
-                self.must(f"{option} {name}", qc([*words, option, name]) == 2 and
-                          before == self.read(name) and told.getvalue().endswith(
-                              f"{name} is also an input: give another name\n"), told.getvalue())
+                self.must(f"{option} {name}", run_qc([*words, option, name]) == 2 and
+                          before == self.read(name) and errors.getvalue().endswith(
+                              f"{name} is also an input: give another name\n"), errors.getvalue())
 
     def test_reports_omitted_faults_of_a_csv_file(self) -> None:
         for count in range(3):
-            known = {**result(), "omitted": {**result()["omitted"], "faults": count}}
-            with contextlib.redirect_stderr(io.StringIO()) as told:
+            known = {**make_result(), "omitted": {**make_result()["omitted"], "faults": count}}
+            with contextlib.redirect_stderr(io.StringIO()) as errors:
                 self.must("itself", collection.load_for_csv(known) == known)
-            self.must(f"{count}", bool(told.getvalue()) == bool(count), told.getvalue())
+            self.must(f"{count}", bool(errors.getvalue()) == bool(count), errors.getvalue())
 
     def test_refuses_each_name_of_an_input_as_an_output(self) -> None:
         path = self.write("input", b"")
@@ -260,8 +260,8 @@ class OutputsAndSignals(CallCase):
                 ["--json"], ("/dev/stdout", "/dev/fd/1", "/proc/self/fd/1"))):
             for done in (self.judge(program, option, name),
                          self.qc("--collect", self.path("results"), option, name)):
-                told = "\n".join(done.told)
-                self.must(f"{option} {name}", done.status == 0 and "accepted" in told and
+                reported = "\n".join(done.told)
+                self.must(f"{option} {name}", done.status == 0 and "accepted" in reported and
                           done.printed[0].startswith(begins[option]) and not any(
                               line.startswith(("accepted", "pair ", "+ ", "1 pair"))
                               for line in done.printed), done)
@@ -272,16 +272,16 @@ class OutputsAndSignals(CallCase):
                 raise OSError(28, "No space left on device")
 
         os.mkdir(self.path("results"))
-        put_object(self.path("results/one.json"), result("accepted"))
+        put_object(self.path("results/one.json"), make_result("accepted"))
         words = ["--collect", self.path("results"), "--json", self.path("one.json")]
         with mock.patch.object(sys, "stdout", Full()), contextlib.redirect_stderr(
-                io.StringIO()) as told, mock.patch.object(collection, "silence") as silenced:
-            statuses = [qc(words)]
+                io.StringIO()) as errors, mock.patch.object(collection, "silence") as silenced:
+            statuses = [run_qc(words)]
             self.must("not as for a reader that leaves", not silenced.called)
             with mock.patch("subtitles.cli.main.dispatch", return_value=0):
-                statuses += [ended(lambda _: 0, []), qc(["--json", self.path("two.json")])]
-        self.must("told", statuses == [2] * 3 and told.getvalue().count(
-            ": the output: No space left on device\n") == 3, told.getvalue())
+                statuses += [ended(lambda _: 0, []), run_qc(["--json", self.path("two.json")])]
+        self.must("told", statuses == [2] * 3 and errors.getvalue().count(
+            ": the output: No space left on device\n") == 3, errors.getvalue())
         self.must("its file", [self.object(name)["verdict"] for name in (
             "one.json", "two.json")] == ["not judged"] * 2)
         for count in (1, 2) if os.path.exists("/dev/full") else ():
@@ -306,12 +306,13 @@ class OutputsAndSignals(CallCase):
         done = self.judge(program, *words, "--profile", "house")
         self.must("profile", done.printed[0].endswith("house: --every 99"), done)
         for is_kept in (False, True):
-            asked = asked_for(HELLO[0], in_pipe(self, example_bytes("hello.pes")), "--origin", "0")
+            request = request_for(HELLO[0], write_pipe(self, example_bytes("hello.pes")),
+                                  "--origin", "0")
             with mock.patch("subtitles.cli.single.list_hints", return_value=["a", "b", "a"]), \
                     mock.patch.object(single, "ignore_signals"), \
                     contextlib.redirect_stdout(io.StringIO()), \
                     contextlib.redirect_stderr(io.StringIO()):
-                verdict = single.judge_and_report(asked, PairOptions(
+                verdict = single.judge_and_report(request, PairOptions(
                     program, self.path("out"), is_kept, name="own"), "tools/qc")
             [part] = self.object("out/own.json")["parts"]
             kept = part["judged_file"]["name"]

@@ -19,7 +19,7 @@ from subtitles.cli.collection import index_page
 from subtitles.common.markup import POLICY
 from subtitles.results.files import Row
 from .bench import Case, Done, example, example_bytes, tool_path
-from .transmissions import in_pipe
+from .transmissions import write_pipe
 
 TAGS = {"html", "head", "meta", "title", "style", "body", "h1", "p", "small", "table", "thead",
         "tbody", "tr", "th", "td", "br", "a", "main", "caption", "fieldset", "legend", "label",
@@ -74,7 +74,7 @@ class ListLines(Case):
         self.write("marked", b"\xef\xbb\xbf--page 888\n")
         self.write("long", b"#" * 65_537)
         pair = f"{example('hello.stl')} {example('hello.pes')} --origin 0"
-        pipe = in_pipe(self, b"--page 888\n")
+        pipe = write_pipe(self, b"--page 888\n")
         rows = {
             f"--profile {pipe}": f"{pipe} is a pipe: give a file",
             "--profile /dev/stdin": "/dev/stdin is a pipe: give a file",
@@ -183,8 +183,8 @@ class UntrustedResults(Case):
                           "--allow-file-access-from-files", f"--user-data-dir={profile}",
                           "--enable-logging=stderr", "--virtual-time-budget=10000", "--dump-dom",
                           f"file://{all_of_them}"])
-        told = re.search('<pre id="told">(.*)</pre>', done.out.decode(), re.S)
-        texts = json.loads(html.unescape(told[1])) if told else []
+        reported = re.search('<pre id="told">(.*)</pre>', done.out.decode(), re.S)
+        texts = json.loads(html.unescape(reported[1])) if reported else []
         self.must("each", len(texts) == len(names), done)
         for name, text in zip(names, texts):
             is_wrong = name == "wrong.html"
@@ -203,11 +203,12 @@ class EarlySignals(Case):
                         stdout=subprocess.PIPE, stderr=subprocess.PIPE) as process:
                     time.sleep(after / 1000)
                     process.send_signal(number)
-                    out, told = process.communicate()
+                    out, errors = process.communicate()
                 last = out.decode().splitlines()[-1:]
                 is_verdict = bool(last) and last[0].startswith("accepted")
                 is_right = process.returncode == 2 and not is_verdict or \
                     process.returncode == 0 and is_verdict or \
                     process.returncode == -number and not out
-                self.must(f"{number.name} after {after}", is_right and b"Traceback" not in told and
-                          len(told.splitlines()) <= 2, (process.returncode, out, told))
+                self.must(f"{number.name} after {after}",
+                          is_right and b"Traceback" not in errors and
+                          len(errors.splitlines()) <= 2, (process.returncode, out, errors))

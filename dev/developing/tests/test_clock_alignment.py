@@ -23,9 +23,9 @@ from subtitles.judging.part import belongs_to_part, find_lost_spans, find_record
 from subtitles.stream.gaps import Place
 from subtitles.stream.packets import Change
 from .bench import Case
-from .judged import Judged, judged
-from .parts import part_with
-from .transmissions import joined, late, programme, sendings
+from .judged import JudgedPair, judge_files
+from .parts import make_part
+from .transmissions import pes_file, delayed, write_programme, schedule_pages
 from .test_clock_delays import FIRST, evenly_spaced
 from .test_clock_properties import find_origin, packets_of, page_changes, random_programme
 
@@ -272,33 +272,33 @@ class RepeatedProgrammes(unittest.TestCase):
 class JudgedPairs(Case):
     def test_refuses_or_reports_as_unclear_an_early_subtitle(self) -> None:
         for count, word in ((6, "not judged"), (40, "refused")):
-            stl = programme(self, evenly_spaced(count), name=f"{count}.stl")
-            sends = sendings(self, stl)
+            stl = write_programme(self, evenly_spaced(count), name=f"{count}.stl")
+            sends = schedule_pages(self, stl)
             at = evenly_spaced(count)[3][0] * TICKS
-            path = self.write("one.pes", joined(sorted(late(-2, at, at)(sends))))
+            path = self.write("one.pes", pes_file(sorted(delayed(-2, at, at)(sends))))
             words = [stl, path, "--every", "25", "--no-complete", "--within", "3"]
             rows: list[tuple[list[str], str]] = [
                 ([], word), (["--origin", "0"], "refused"), (["--late", "0:1/0:1"], "refused")]
             for more, wanted in rows:
-                one = judged(self, *words, *more)
+                one = judge_files(self, *words, *more)
                 self.must(f"{count} {more}", one.word == wanted, one.said)
                 self.must(f"{count} {more}: named", wanted != "refused" or "subtitle 4" in
                           one.verdict.sentence and "2 frames early" in one.verdict.sentence,
                           one.verdict.sentence)
                 self.must(f"{count} {more}: not all", not any(
                     line.startswith("all subtitles are") for line in one.told), one.told)
-            one = judged(self, stl, self.write("two.pes", joined(late(2, at, at)(sends))),
+            one = judge_files(self, stl, self.write("two.pes", pes_file(delayed(2, at, at)(sends))),
                          *words[2:])
             self.must(f"{count}: late", one.word == "accepted", one.said)
 
-    def judge_drift(self, frames: int) -> Judged:
+    def judge_drift(self, frames: int) -> JudgedPair:
         """Judge twenty subtitles, the last of which is late by some frames."""
-        stl = programme(self, evenly_spaced(20))
+        stl = write_programme(self, evenly_spaced(20))
         begin, end = evenly_spaced(20)[0][0], evenly_spaced(20)[-1][1]
-        path = self.write("one.pes", joined([
+        path = self.write("one.pes", pes_file([
             (pts + TICKS * ((pts // TICKS - begin) * frames // (end - begin)), some)
-            for pts, some in sendings(self, stl)]))
-        return judged(self, stl, path, "--every", "30", "--no-complete", "--within", str(
+            for pts, some in schedule_pages(self, stl)]))
+        return judge_files(self, stl, path, "--every", "30", "--no-complete", "--within", str(
             frames if frames < 5 else 0), "--pace", "none")
 
     def test_reports_a_drift_in_its_own_sentence(self) -> None:
@@ -313,10 +313,11 @@ class JudgedPairs(Case):
     def test_judges_no_run_if_one_has_wrong_texts(self) -> None:
         times = [(FIRST + at * at * 7 + 90 * at, FIRST + at * at * 7 + 90 * at + 60 + at)
                  for at in range(20)]
-        stl, hour = programme(self, times), 3600 * 25 * TICKS
-        right = sendings(self, stl)
-        other = sendings(self, programme(self, times, text=b"Other words %d", name="other.stl"))
-        few = [one for at in (0, 8, 16) for one in sendings(self, programme(
+        stl, hour = write_programme(self, times), 3600 * 25 * TICKS
+        right = schedule_pages(self, stl)
+        other = schedule_pages(self, write_programme(self, times, text=b"Other words %d",
+                                                     name="other.stl"))
+        few = [one for at in (0, 8, 16) for one in schedule_pages(self, write_programme(
             self, times[at:at + 3], first=at + 1, name="few.stl"))]
         rows: list[tuple[str, list[tuple[int, list[bytes]]], list[str], str]] = [
             ("wrong texts", other, [], "not judged"),
@@ -325,7 +326,7 @@ class JudgedPairs(Case):
             ("few, a clock", few, ["--origin", "0"], "not judged"), ("none", [], [], "accepted")]
         for name, second, words, word in rows:
             both = [*right, *((pts + hour, some) for pts, some in second)]
-            one = judged(self, stl, self.write("one.pes", joined(both)), "--every", "25",
+            one = judge_files(self, stl, self.write("one.pes", pes_file(both)), "--every", "25",
                          "--no-complete", *words)
             self.must(name, one.word == word and (word == "accepted" or one.told[0] ==
                                                   "the programme is in the recording 2 "
@@ -367,12 +368,12 @@ class LossesInParts(unittest.TestCase):
                    for one in (before, after)]
             place = Place(pts[0], pts[1], lost=1)
             with self.subTest(shift=shift, before=before, after=after):
-                self.assertEqual(belongs_to_part(place, part_with(100, 200, shift)), wanted)
+                self.assertEqual(belongs_to_part(place, make_part(100, 200, shift)), wanted)
 
     def test_finds_losses_in_a_part_of_many_hours(self) -> None:
         hour = 90_000
         for hours, shift in itertools.product((1, 12, 14, 20, 23, 24), SHIFTS):
-            part = part_with(0, hours * hour, shift)
+            part = make_part(0, hours * hour, shift)
             for at, wanted in ((-hour // 2, False), (1, True), (hours * hour // 2, True),
                                (hours * hour - hour // 2, True), (hours * hour - 2, True),
                                (hours * hour + hour // 2, False)):
@@ -387,7 +388,7 @@ class LossesInParts(unittest.TestCase):
             self.assertEqual(seen, Span(*ends), hours)
 
     def test_assigns_a_gap_marker_by_its_pes_packet(self) -> None:
-        part = part_with(100, 200, 0, pes=(7, 19))
+        part = make_part(100, 200, 0, pes=(7, 19))
         for mark, wanted in ((0, False), (6, False), (7, True), (12, True), (19, True),
                              (20, False)):
             for place in (Place(None, None, mark=mark), Place(TICKS * 150, TICKS * 151, mark=mark),

@@ -7,9 +7,10 @@ import subprocess
 from developing.stl import boxed
 from subtitles.common.times import CLOCK, TICKS, time_of
 from .bench import Case, example, example_bytes
-from .judged import Judged, OfProgramme, judged
+from .judged import JudgedPair, ProgrammeCase, judge_files
 from .streams import H_264, HEVC, MPEG_2, SLICES, mpeg_2_picture, with_pictures
-from .transmissions import Sent, in_pipe, in_two_parts, joined, late, moved, programme, sendings
+from .transmissions import (
+    Sent, write_pipe, make_two_parts, pes_file, delayed, with_new_pts, write_programme, schedule_pages)
 from .test_cli_pairs import TS, lines_of, qc
 
 # frames: the first subtitle, from one to the next, length of one
@@ -26,33 +27,33 @@ def evenly_spaced(count: int) -> list[tuple[int, int]]:
     return [(FIRST + EACH * at, FIRST + EACH * at + LASTS) for at in range(count)]
 
 
-class Delays(OfProgramme):
+class Delays(ProgrammeCase):
     due, words = evenly_spaced(20), WORDS
 
     def test_is_relative_without_a_clock_and_refused_with_one(self) -> None:
         clock = "clock", "delay_frames"
         for by, words in ((250, "250 frames late"), (2, "2 frames late"), (-1, "1 frame early"),
                           (0, "")):
-            sent = late(by)(self.sent)
+            sent = delayed(by)(self.sent)
             found = self.judge(sent)
             self.must(f"{by}", (found.verdict.word, found.verdict.status) == ("relative", 3) and
                       found.parts("origin", "clock") == [(by * TICKS % CLOCK, {
                           "origin": by * TICKS % CLOCK, "source": "recording",
                           "delay_frames": None})], found.said)
             found = self.judge(sent, "--origin", "0")
-            told = [line for line in found.told if line.startswith("all subtitles")]
+            reported = [line for line in found.told if line.startswith("all subtitles")]
             if by:
                 self.must(f"{by}: the sentence", found.verdict.sentence.startswith(
                     f"Refused: all 20 subtitles appeared {words}"), found.verdict.sentence)
             self.must(f"{by}: given", (found.word == "refused") == bool(by) and
-                      told == [f"all subtitles are {words}"][:bool(by)] and
+                      reported == [f"all subtitles are {words}"][:bool(by)] and
                       found.result["parts"][0][clock[0]][clock[1]] == by, found.said)
 
     def test_does_not_report_a_delay_if_all_received_cues_agree(self) -> None:
         every = self.write("all.pes", b"")
         done = self.call([self.bench.program, "schedule", STORY, every, "--every", "25"])
         self.must("made", done.status == 0, done)
-        found = judged(self, STORY, self.write("cut.pes", self.read("all.pes")[1288:2024]),
+        found = judge_files(self, STORY, self.write("cut.pes", self.read("all.pes")[1288:2024]),
                        "--origin", "0")
         self.must("not late", "clock: it is --origin 0" in found.said and not any(
             "late" in line for line in found.said if not line.startswith("refused 74 Late")) and
@@ -64,7 +65,7 @@ class Delays(OfProgramme):
         for by, words in ((250, "10.00 s (250 frames) late"), (130, "5.20 s (130 frames) late"),
                           (100, "4.00 s (100 frames) late"), (1, "0.04 s (1 frame) late")):
             for origin in (0, 5000)[by < 250:]:
-                sent = [(pts + origin, some) for pts, some in late(by, at)(self.sent)]
+                sent = [(pts + origin, some) for pts, some in delayed(by, at)(self.sent)]
                 given = ["--origin", "5000"] * (origin > 0)
                 found = self.judge(sent, *given)
                 self.must(f"{by} {origin}", found.word == "refused" and
@@ -74,68 +75,69 @@ class Delays(OfProgramme):
                     found.word == "accepted" and found.said[-1].endswith(" in 2 parts")
                     if by >= 125 else found.word == "not judged" and found.told[0] ==
                     "no break found, but --breaks is 1"), found.said)
-        feed = in_pipe(self, joined(late(1, at)(self.sent)))
-        found = judged(self, self.stl, feed, *WORDS, "--origin", "0")
+        feed = write_pipe(self, pes_file(delayed(1, at)(self.sent)))
+        found = judge_files(self, self.stl, feed, *WORDS, "--origin", "0")
         self.must("a feed", found.word == "refused" and
                   found.told[0].startswith(f"{line}0.04 s (1 frame) late"), found.said)
-        both = late(50, at, self.due[15][0] * TICKS - 1)(self.sent)
+        both = delayed(50, at, self.due[15][0] * TICKS - 1)(self.sent)
         self.must("on time again", self.judge(both).told == [
             line + "2.00 s (50 frames) late",
             f"from {time_of(self.due[15][0])} on subtitles are on time"])
-        found = judged(self, self.stl, in_pipe(self, joined(self.sent)), *WORDS, "--origin", "7200")
+        found = judge_files(self, self.stl, write_pipe(self, pes_file(self.sent)), *WORDS,
+                            "--origin", "7200")
         self.must("a feed that is early", found.told[0] == "all subtitles are 2 frames early")
 
     def test_judges_short_breaks_by_two_calls(self) -> None:
         middle = time_of(self.due[10][0])
         for by in (124, 25):
-            sent = late(by, self.due[10][0] * TICKS)(self.sent)
+            sent = delayed(by, self.due[10][0] * TICKS)(self.sent)
             for words in (["--to", middle], ["--from", middle], ["--to", middle, "--origin", "0"]):
                 found = self.judge(sent, *words)
                 self.must(f"{by} {words}", found.word == "accepted" and
                           found.verdict.subtitle_count == 10, found.said)
-            wrong = late(1, self.due[15][0] * TICKS)(sent)
+            wrong = delayed(1, self.due[15][0] * TICKS)(sent)
             words = [self.judge(wrong, *way, middle).word for way in (["--to"], ["--from"])]
             self.must(f"{by}: late", words == ["accepted", "refused"], words)
 
     def test_judges_adjoining_parts(self) -> None:
         frames = [*self.due[:9], (self.due[9][0], self.due[10][0]), *self.due[10:]]
-        stl = programme(self, frames)
+        stl = write_programme(self, frames)
         for first, second in ((0, 4500 * TICKS), (3_000_000_000, 77_000)):
             sent = [(pts + origin, some) for some_frames, number, origin in (
-                (frames[:10], 1, first), (frames[10:], 11, second)) for pts, some in sendings(
-                    self, programme(self, some_frames, first=number, name="sent.stl"))]
-            path = self.write("one.pes", joined(sent))
+                (frames[:10], 1, first), (frames[10:], 11, second)) for pts, some in schedule_pages(
+                    self, write_programme(self, some_frames, first=number, name="sent.stl"))]
+            path = self.write("one.pes", pes_file(sent))
             for given in (False, True):
                 words = ["--origin", str(first)] * given
                 sources = ["given" if given else "recording", "recording"]
-                found = judged(self, stl, path, *WORDS, "--breaks", "1", *words)
+                found = judge_files(self, stl, path, *WORDS, "--breaks", "1", *words)
                 self.must(f"{second} {words}", found.parts("from", "to", "origin", "verdict") == [
                     (time_of(frames[0][0]), time_of(frames[9][1]), first, "accepted"),
                     (time_of(frames[10][0]), time_of(frames[19][1]), second, "accepted")],
                     found.said)
                 self.must(f"{second} {words}: clocks", [part["clock"]["source"] for part in
                                                         found.result["parts"]] == sources)
-            found = judged(self, stl, path, *WORDS)
+            found = judge_files(self, stl, path, *WORDS)
             self.must(f"{second}: none is said", found.word == "refused" and
                       ("where PTS go back" in found.told[0]) == (second < first), found.told)
 
     def test_each_printed_command_prints_the_same_answer(self) -> None:
         sent = [(pts + 3_000_000_000 * (pts < self.due[10][0] * TICKS), some)
                 for pts, some in self.sent]
-        done = qc(self, self.stl, self.write("sent.pes", joined(sent)), *WORDS, "--breaks", "1",
+        done = qc(self, self.stl, self.write("sent.pes", pes_file(sent)), *WORDS, "--breaks", "1",
                   "-o", "out")
         lines = lines_of(done)
         calls = [line[2:] for line in lines if line.startswith("+ ") and " check " in line]
         self.must("two parts", done.status == 3 and len(calls) == 2, done)
         for line in calls:
             again = self.call(["sh", "-c", line])
-            said = again.out.decode().splitlines()
+            printed = again.out.decode().splitlines()
             at = lines.index(f"+ {line}") + 1
-            self.must(line, said == lines[at:at + len(said)], again)
+            self.must(line, printed == lines[at:at + len(printed)], again)
 
     def test_judges_a_repeated_programme_only_if_one_run_is_named(self) -> None:
         hour = 3600 * 25 * TICKS
-        wrong = late(10, self.due[15][0] * TICKS)(self.sent)
+        wrong = delayed(10, self.due[15][0] * TICKS)(self.sent)
         for name, origin, second in (("later", hour, self.sent), ("the same PTS", 0, self.sent),
                                      ("wrong", hour, wrong)):
             both = [*self.sent, *((pts + origin, some) for pts, some in second)]
@@ -153,13 +155,13 @@ class Delays(OfProgramme):
 
     def test_reports_errors_of_the_first_and_last_cue(self) -> None:
         begin, end = (self.due[at][at] for at in (0, -1))
-        around = programme(self, [(begin - 1000, begin - 900), *self.due, (end + 3000, end
+        around = write_programme(self, [(begin - 1000, begin - 900), *self.due, (end + 3000, end
                                                                               + 3100)], first=0,
                            name="sent.stl")
-        data = sendings(self, around)
+        data = schedule_pages(self, around)
 
         def at(frame: int, by: int) -> Sent:
-            return sorted(late(by, frame * TICKS, frame * TICKS)(data), key=lambda one: one[0])
+            return sorted(delayed(by, frame * TICKS, frame * TICKS)(data), key=lambda one: one[0])
 
         def of(low: int, high: int) -> Sent:
             return [one for one in data if low <= one[0] // TICKS <= high]
@@ -178,13 +180,13 @@ class Delays(OfProgramme):
 
 
 class FirstPictures(Case):
-    def judge(self, data: bytes, *words: str, stl: str = STORY) -> Judged:
-        return judged(self, stl, self.write("one.ts", data), *words)
+    def judge(self, data: bytes, *words: str, stl: str = STORY) -> JudgedPair:
+        return judge_files(self, stl, self.write("one.ts", data), *words)
 
     def test_takes_the_clock_of_the_first_picture(self) -> None:
         for kind in (MPEG_2, H_264, HEVC):
             for shift in (0, CLOCK - (BEGIN - 40) * TICKS):
-                pes = moved(example_bytes("story.pes"), lambda _, pts: pts + shift)
+                pes = with_new_pts(example_bytes("story.pes"), lambda _, pts: pts + shift)
                 first = (FIRST_PTS + shift) % CLOCK
                 data = with_pictures(pes, first, kind, leading=0 if kind == H_264 else 2).data
                 found = self.judge(data, "--start", STARTED)
@@ -202,7 +204,7 @@ class FirstPictures(Case):
         data = with_pictures(example_bytes("story.pes"), FIRST_PTS).data
         ends = f"the beginning of the recording by its subtitles, {STARTED}. TIME is on the " \
             "subtitle file's own clock, not the time of day"
-        for words, told in (
+        for words, reported in (
                 (("--start", "10:00:00:00"), "--start 10:00:00:00 is 10 h 14 min 59 s earlier than "
                  f"{ends}"),
                 (("--start", "00:00:00:01"), "--start 00:00:00:01 is 20 h 14 min 58 s 24 frames "
@@ -212,13 +214,14 @@ class FirstPictures(Case):
                 (("--origin", f"{90_000 * 3600}"), "by --origin 324000000 all subtitles are 1 h "
                  "early: none is in the recording at its time")):
             found = self.judge(data, *words)
-            self.must(f"{words}", found.word == "not judged" and found.told == [told], found.told)
+            self.must(f"{words}", found.word == "not judged" and found.told == [reported],
+                      found.told)
 
     def test_takes_the_first_picture_of_a_pipe(self) -> None:
         data = with_pictures(example_bytes("story.pes"), FIRST_PTS).data
-        found = judged(self, STORY, in_pipe(self, data), "--start", STARTED)
+        found = judge_files(self, STORY, write_pipe(self, data), "--start", STARTED)
         self.must("a feed", found.word == "accepted", found.said)
-        stl, pes = in_two_parts(self)
+        stl, pes = make_two_parts(self)
         data = with_pictures(pes, 1000 + (900_000 - EARLIER) * TICKS).data
         found = self.judge(data, "--start", time_of(900_000 - EARLIER), "--breaks", "1", stl=stl)
         self.must("a break", found.word == "accepted" and [
@@ -227,16 +230,16 @@ class FirstPictures(Case):
 
     def test_is_not_judged_without_usable_pictures(self) -> None:
         pes = example_bytes("story.pes")
-        half = with_pictures(moved(pes, lambda _, pts: pts + 1800), FIRST_PTS).data
+        half = with_pictures(with_new_pts(pes, lambda _, pts: pts + 1800), FIRST_PTS).data
         for path, words, is_typed in (
                 (self.write("half.ts", half), "half a frame", False),
                 (example("story.pes"), "has no pictures", True)):
-            found = judged(self, STORY, path, "--start", STARTED)
+            found = judge_files(self, STORY, path, "--start", STARTED)
             self.must(words, found.word == "not judged" and words in found.told[0] and
                       ("--origin T" in found.told[-1]) == is_typed and
                       "--start" not in found.told[-1], found.told)
         for ticks, way in ((12, "forward"), (-12, "back"), (1799, "forward"), (-1799, "back")):
-            data = with_pictures(moved(pes, lambda _, pts: pts + ticks), FIRST_PTS).data
+            data = with_pictures(with_new_pts(pes, lambda _, pts: pts + ticks), FIRST_PTS).data
             found = self.judge(data, "--start", STARTED)
             self.must(f"{ticks}", found.word == "accepted" and any(line.endswith(
                 f"moved by {abs(ticks)} ticks {way} to the PTS of the Teletext")
@@ -326,7 +329,7 @@ class FfmpegStreams(Case):
     def test_agrees_with_ffprobe(self) -> None:
         if not (shutil.which("ffmpeg") and shutil.which("ffprobe")):
             self.skipTest("streams of MPEG-2, H.264 and HEVC, since there is no ffmpeg")
-        stl = programme(self, [(begin, begin + 30) for begin in range(60, 161, 50)],
+        stl = write_programme(self, [(begin, begin + 30) for begin in range(60, 161, 50)],
                         text=boxed(b"Number %d"), name="own.stl")
         self.schedule(stl, "own.pes", "--every", "25")
         self.write("own.ts", self.tool("pes2ts", self.path("own.pes"), "0x101").out)

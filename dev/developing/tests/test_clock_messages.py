@@ -19,10 +19,10 @@ from subtitles.request.request import ORIGIN_CHOICE, Selection, Unclear
 from subtitles.stream.packets import Change, Mark, Packets, Run
 from subtitles.stream.receiver import national_option
 from subtitles.stream.survey import Survey
-from .judged import OfProgramme
+from .judged import ProgrammeCase
 from .streams import HEVC, H_264, MPEG_2
-from .parts import asked_for
-from .transmissions import Sent, late, programme, sendings
+from .parts import request_for
+from .transmissions import Sent, delayed, write_programme, schedule_pages
 
 
 # The lines about an origin: agreement of a part, delays, breaks.
@@ -98,21 +98,21 @@ class OriginLines(unittest.TestCase):
                              (part, count, lines))
 
     def test_needs_one_part_more_than_breaks(self) -> None:
-        for count, said in itertools.product(range(5), (1, 2, 3)):
+        for count, printed in itertools.product(range(5), (1, 2, 3)):
             parts = [self.part(20, 20, 20) for _ in range(count)]
             for one in parts:
                 one.begin, one.end, one.base, one.over, one.origin = 0, 50, 0, [], 9
             found, breaks = Origin(), max(count - 1, 0)
-            take_parts(found, Sought("a", "b", breaks=said), [], parts)
+            take_parts(found, Sought("a", "b", breaks=printed), [], parts)
             words = {0: "no break", 1: "1 break"}.get(breaks, f"{breaks} breaks")
-            if count == said + 1:
+            if count == printed + 1:
                 self.assertEqual((found.status, len(found.parts), found.breaks), (0, count, None),
-                                 (count, said))
+                                 (count, printed))
             else:
                 self.assertEqual((found.status, found.parts, found.breaks), (1, [], breaks),
-                                 (count, said))
-                self.assertEqual(found.lines, [f"{words} found, but --breaks is {said}",
-                                               *break_lines(parts)], (count, said))
+                                 (count, printed))
+                self.assertEqual(found.lines, [f"{words} found, but --breaks is {printed}",
+                                               *break_lines(parts)], (count, printed))
 
     def test_describes_each_part(self) -> None:
         over = [SimpleNamespace(begin=25 * at, end=25 * at + 50) for at in range(3)]
@@ -182,12 +182,12 @@ class OriginLines(unittest.TestCase):
                     "here: check refuses them as 34"]),
                 (runs[:1], [], "", [], ["one has no header of page 888; other subtitle pages: 777, "
                                         "150"])]
-        for several, some, damage, changes, said in rows:
+        for several, some, damage, changes, printed in rows:
             lines, packets = list[str](), Packets(0, several)
             packets.marks, packets.changes = some, changes
             packets.damage, packets.sent = damage, {"888": 9, "150": 1, "777": 2}
             self.assertEqual((is_sent(packets, Sought("a", "one"), lines), lines),
-                             (bool(changes), said), (several, some, damage))
+                             (bool(changes), printed), (several, some, damage))
 
     def test_reports_the_length_of_each_break(self) -> None:
         parts = [part_at(0), part_at(25, 100), part_at(-50, 200), part_at(0, 300, 1)]
@@ -209,18 +209,20 @@ class OriginLines(unittest.TestCase):
                            ORIGIN)
 
     def test_reports_from_which_time_subtitles_are_late(self) -> None:
-        said = "on subtitles are"
-        self.assertEqual(self.shifts(0, 25), [f"from 00:01:00:00 {said} 1.00 s (25 frames) late"])
+        printed = "on subtitles are"
+        self.assertEqual(self.shifts(0, 25),
+                         [f"from 00:01:00:00 {printed} 1.00 s (25 frames) late"])
         self.assertEqual(self.shifts(0, 26, 0), [
-            f"from 00:01:00:00 {said} 1.04 s (26 frames) late", f"from 00:02:00:00 {said} on time"])
+            f"from 00:01:00:00 {printed} 1.04 s (26 frames) late",
+            f"from 00:02:00:00 {printed} on time"])
         self.assertEqual(self.shifts(0, -1500), [
-            f"from 00:01:00:00 {said} 60.00 s (1500 frames) early"])
+            f"from 00:01:00:00 {printed} 60.00 s (1500 frames) early"])
         self.assertEqual(self.shifts(0, -1500, -3000), [
-            f"from 00:01:00:00 {said} 60.00 s (1500 frames) early",
-            f"from 00:02:00:00 {said} 120.00 s (3000 frames) early"])
+            f"from 00:01:00:00 {printed} 60.00 s (1500 frames) early",
+            f"from 00:02:00:00 {printed} 120.00 s (3000 frames) early"])
         self.assertEqual(self.shifts(0, 5, 1, bases=(0, 1, 1)), [
             "from 00:01:00:00 on, where PTS go back, subtitles are 0.20 s (5 frames) late",
-            f"from 00:02:00:00 {said} 0.04 s (1 frame) late"])
+            f"from 00:02:00:00 {printed} 0.04 s (1 frame) late"])
         for count, left in ((20, 0), (21, 1), (25, 5)):
             found = self.shifts(*((at * 7) % 5 * 30 for at in range(count + 1)))
             words = f"and {left} more change{'s' * (left != 1)}"
@@ -295,19 +297,20 @@ class FirstPictures(unittest.TestCase):
                      f"picture {VIDEO} {shift}"]
             packets = Packets(TELETEXT, [Run(at, 1, (shift + TICKS * (7 + at) + after) % CLOCK, 0,
                                              "h", "") for at, after in enumerate(several)])
-            asked = asked_for("a.stl", "a.ts", "--start", "00:00:00:02", "--within", str(within))
+            request = request_for("a.stl", "a.ts", "--start", "00:00:00:02", "--within",
+                                  str(within))
             if moved is None:
                 with self.assertRaises(Unclear):
-                    began(asked, surveyed(lines), packets)
+                    began(request, surveyed(lines), packets)
                 continue
-            found = began(asked, surveyed(lines), packets)
+            found = began(request, surveyed(lines), packets)
             origin = (shift - 2 * TICKS + moved) % CLOCK
             self.assertEqual((found.clock, found.frame), (Clock(origin, START), 2),
                              (shift, several, within))
             self.assertIn(words, found.lines[1], (shift, several, within))
         lines = [*programme_with((VIDEO, MPEG_2)), f"video {VIDEO} 0", f"picture {VIDEO} {TICKS}",
                  f"picture {VIDEO} 0", f"group {VIDEO} 0 0 open"]
-        self.assertEqual(began(asked, surveyed(lines), packets).clock.away, -1)
+        self.assertEqual(began(request, surveyed(lines), packets).clock.away, -1)
         self.assertEqual(off_words(180), "PTS are up to 180 ticks (2.00 ms) off their frames")
         for source, evidence in itertools.product((RECORDING, GIVEN, START, TCP), (
                 None, Selection(ORIGIN_CHOICE, "8", "words"))):
@@ -341,8 +344,8 @@ class FirstPictures(unittest.TestCase):
                 (-2, -2, "is the time code from the GOP header?"), (-2, 2, ""), (-2, -1, ""),
                 (-2, 0, ""), (-2, None, ""), (0, 0, ""), (0, None, ""), (2, -2, ""),
                 (2, 2, "is the time code that of the picture with the random_access_indicator?")):
-            said = Clock(0, START, delay, away=away).question()
-            self.assertTrue(said.startswith(words) and bool(said) == bool(words), said)
+            printed = Clock(0, START, delay, away=away).question()
+            self.assertTrue(printed.startswith(words) and bool(printed) == bool(words), printed)
 
     def test_reports_why_there_is_no_first_picture(self) -> None:
         two = programme_with((VIDEO, MPEG_2), (0x201, H_264))
@@ -392,18 +395,18 @@ NEXT = "unknown: the page sent at the last TCO is the next programme's"
 OTHER = packet(0, 0, [9, 8, 0, 8, 0, 8, 1, 0], b" " * 32)  # a header of page 889
 
 
-class LastPages(OfProgramme):
+class LastPages(ProgrammeCase):
     due = OWN
 
     def planned(self, times: list[tuple[int, int]], first: int = 1) -> Sent:
-        return sendings(self, programme(self, times, first=first, name="sent.stl"))
+        return schedule_pages(self, write_programme(self, times, first=first, name="sent.stl"))
 
     def test_names_the_page_at_the_last_tco(self) -> None:
         stays = [*OWN[:-1], (OWN[-1][0], LAST + 30)]
         again = self.planned([(LAST, LAST + 30)], 1)
         before = [one for one in self.sent if one[0] < LAST * TICKS]
         following = self.planned(OTHERS, 50)
-        after = late(30)(following)
+        after = delayed(30)(following)
         for name, sent, words in (
                 ("next", before + following, NEXT),
                 ("stays", self.planned(stays), "not erased at "),
@@ -429,8 +432,9 @@ class LastPages(OfProgramme):
                 ": its rows came while page 888 was not open") for line in causes), causes)
 
     def test_names_a_subtitle_that_stays_until_the_next(self) -> None:
-        programme(self, OWN, text=b"The same")
-        sent = sendings(self, programme(self, [*OWN[:2], (OWN[2][0], OWN[3][1]), *OWN[4:]],
+        write_programme(self, OWN, text=b"The same")
+        sent = schedule_pages(self,
+                              write_programme(self, [*OWN[:2], (OWN[2][0], OWN[3][1]), *OWN[4:]],
                                         text=b"The same", name="sent.stl"))
         causes = self.judge(sent).lines("cause: ")
         self.must("its cause", len(causes) == 1 and causes[0].startswith("subtitle 3 at ") and

@@ -16,9 +16,10 @@ from subtitles.common.command_line import Stop
 from subtitles.common.times import ALL_DAY, Between, CLOCK, TICKS, time_of
 from subtitles.stream.packets import Change
 from .bench import Case, example, example_bytes
-from .parts import asked_for, packets_told
+from .parts import request_for, survey_packets
 from .transmissions import (
-    CLOSING, HEADER, Shown, moved, random_subtitles, row, scheduled, subtitle_file)
+    CLOSING, HEADER, Shown, with_new_pts, random_subtitles, row_packet, schedule_pes,
+    write_subtitle_file)
 from .test_clock_properties import packets_of
 
 FIRST, COUNT = 1_000_000, 12  # the frame of the first subtitle; number of subtitles
@@ -34,14 +35,16 @@ def evenly_spaced(count: int, step: int, lasts: int, text: bytes = b"Number %d",
 class Origins(Case):
     def stl(self, times: Sequence[Shown], name: str = "one.stl") -> str:
         """Write a subtitle file."""
-        return subtitle_file(self, [(begin, end, boxed(text)) for begin, end, text in times],
+        return write_subtitle_file(self, [(begin, end, boxed(text)) for begin, end, text in times],
                              name, 0, 20)
 
     def find(self, stl: str, pes: Sequence[bytes], *words: str) -> Origin:
         """Find the origin of PES packets."""
-        asked = asked_for(stl, "one.pes", *words)
-        return find(Sought(stl, "one.pes", asked.page, asked.option, asked.origin, asked.within,
-                           asked.breaks, asked.pes), packets_told(self, b"".join(pes), asked.page))
+        request = request_for(stl, "one.pes", *words)
+        return find(Sought(stl, "one.pes", request.page, request.option, request.origin,
+                           request.within,
+                           request.breaks, request.pes),
+                           survey_packets(self, b"".join(pes), request.page))
 
     def test_selects_subtitles_by_time_and_number(self) -> None:
         stl = self.stl([(0, 50, b"a"), (60, 60, b"b"), (100, 150, b"c"), (200, 300, b"d")])
@@ -49,12 +52,13 @@ class Origins(Case):
             (ALL_DAY, (), [0, 100, 200]), (Between(0, 100), (), [0]), (ALL_DAY, (1,), [100, 200]),
             (Between(100, 201), (), [100, 200]), (Between(1, 200), (), [100]),
             (ALL_DAY, (3, 4), [0])]
-        for between, gone, wanted in rows:
-            found = [one.begin for one in subtitles_between(stl, "english", between, gone)]
-            self.must(f"{between} {gone}", found == wanted, found)
+        for between, missing, wanted in rows:
+            found = [one.begin for one in subtitles_between(stl, "english", between, missing)]
+            self.must(f"{between} {missing}", found == wanted, found)
         looks = [one[2:] for row, justify, text in (
             (20, 2, b"a"), (22, 2, b"a"), (20, 1, b"a"), (20, 2, b"b"), (20, 2, b"a"))
-            for one in subtitles_between(subtitle_file(self, [(0, 9, boxed(text))], "look.stl", 0,
+            for one in subtitles_between(write_subtitle_file(self, [(0, 9, boxed(text))],
+                                                             "look.stl", 0,
                                                        row, justify), "english", ALL_DAY, ())]
         self.must("looks", len({*looks}) == 4 and looks[0] == looks[4] and [
             letters for _, letters in looks] == [b"a", b"a", b"a", b"b", b"a"], looks)
@@ -83,7 +87,7 @@ class Origins(Case):
     def test_finds_any_origin_of_the_examples(self) -> None:
         for name, *words in (["hello"], ["story"], ["german", "--option", "german"]):
             for given in (0, 2029060592, CLOCK - 1, 813_000_017):
-                data = moved(example_bytes(name + ".pes"), lambda _, pts: pts + given)
+                data = with_new_pts(example_bytes(name + ".pes"), lambda _, pts: pts + given)
                 found = self.find(example(name + ".stl"), [data], *words)
                 self.must(f"{name} {given}", (found.status, found.printed) == (
                     0, [f"--origin {given}"]), found)
@@ -96,10 +100,11 @@ class Origins(Case):
             given = chance.choice([chance.randrange(CLOCK),
                                    -TICKS * edges[len(edges) // 2] % CLOCK])
             page = chance.choice(["888", "12A", "701"])
-            pes = scheduled(self, stl, "--page", page, "--origin", str(given), "--every",
+            pes = schedule_pes(self, stl, "--page", page, "--origin", str(given), "--every",
                                str(chance.randrange(5, 500)))
             lost = [one for one in pes if chance.random() < 0.67]
-            shaken = [moved(one, lambda _, pts: pts + chance.randrange(-250, 251)) for one in pes]
+            shaken = [with_new_pts(one, lambda _, pts: pts + chance.randrange(-250, 251))
+                      for one in pes]
             for name, some in (("all", pes), ("a third", pes[len(pes) // 3:2 * len(pes) // 3]),
                                ("lost", lost), ("shaken", shaken)):
                 found = self.find(stl, some, "--page", page)
@@ -111,7 +116,7 @@ class Origins(Case):
         for count in (1, 2, 3, 20):
             stl = self.stl(evenly_spaced(count, 100, 60))
             made = []
-            for one in scheduled(self, stl, "--every", "1500"):
+            for one in schedule_pes(self, stl, "--every", "1500"):
                 header, *rest = teletext_packets(data_field(one))
                 made.append(pes_packet(pts_in(one), [header]))
                 made += [pes_packet(pts_in(one) + TICKS, rest)] * (len(rest) > 1)
@@ -127,13 +132,13 @@ class Origins(Case):
             ([b"Other"], 0), ([b"Other", b"Another"], None), ([b"Own", b"Other"], 0),
             ([b"Other", b"Own"], 200 * TICKS), ([b"Own", b"Own"], None)]
         for texts, wanted in rows:
-            pes = scheduled(self, self.stl([(200 * at + 100, 200 * at + 150, text)
+            pes = schedule_pes(self, self.stl([(200 * at + 100, 200 * at + 150, text)
                                          for at, text in enumerate(texts)], "sent.stl"))
             found = self.find(one, pes)
             is_told = any("ambiguous" in line for line in found.lines)
             self.must(f"{texts}", ([part.origin for part in found.parts], is_told) == (
                 [wanted][:wanted is not None], wanted is None), found)
-        pes = scheduled(self, self.stl([(100, 150, b"Other"), (300, 350, b"Own")], "sent.stl"))
+        pes = schedule_pes(self, self.stl([(100, 150, b"Other"), (300, 350, b"Own")], "sent.stl"))
         for some, printed in ((pes[2:3], [f"--origin {200 * TICKS}"]), (pes[1:2], [])):
             found = self.find(one, some)
             self.must("one sending", found.printed == printed, found)
@@ -141,7 +146,7 @@ class Origins(Case):
         found = self.find(one, pes, "--page", "100")
         self.must(line, (found.status, found.lines, found.parts) == (1, [line], []), found)
         alike = self.stl(evenly_spaced(30, 100, 50, b"Again"))
-        pes = scheduled(self, alike)
+        pes = schedule_pes(self, alike)
         for some, printed in ((pes, ["--origin 0"]), (pes[10:20], [])):
             self.must("alike", self.find(alike, some).printed == printed)
 
@@ -153,7 +158,7 @@ class Origins(Case):
             (own[6:], 0, own[:6], 2000, [], "as good as --origin 7200000 are --origin 0"),
             (own[6:], 1000, own[:6], 950, ["--pes 12-23 --origin 3420000"], "12 of 12 cues")]
         for some, by, later, by_too, printed, line in rows:
-            pes = [pes for times, frames in ((some, by), (later, by_too)) for pes in scheduled(
+            pes = [pes for times, frames in ((some, by), (later, by_too)) for pes in schedule_pes(
                 self, self.stl(times, "sent.stl"), "--origin", str(TICKS * frames))]
             found = self.find(self.stl(sorted([*some, *later])), pes)
             self.must(line, found.printed == printed and line in "".join(found.lines), found)
@@ -163,7 +168,7 @@ class Origins(Case):
             times = [*evenly_spaced(2 * count, 100, 60, begin=FIRST)]
             times[count - 1] = (*times[count - 1][:1], times[count][0], b"Last")
             stl, parts = self.stl(times), [times[:count], times[count:]]
-            pes = [one for at, part in enumerate(parts) for one in scheduled(self, 
+            pes = [one for at, part in enumerate(parts) for one in schedule_pes(self, 
                 self.stl(part, "sent.stl"), "--origin", str(77_000 + at * frames * TICKS))]
             found = self.find(stl, pes, "--breaks", "1")
             self.must(f"{count} {frames}", found.printed == [
@@ -172,7 +177,7 @@ class Origins(Case):
                       not any("reaches into" in line for line in found.lines) and
                       found.lines[0] == f"2 parts: {4 * count} of {4 * count} cues match", found)
         times = [*evenly_spaced(20, 70, 40), (1500, 1520, b"One"), (1600, 1650, b"Two")]
-        pes = scheduled(self, self.stl(times[:20], "sent.stl")) + scheduled(self, 
+        pes = schedule_pes(self, self.stl(times[:20], "sent.stl")) + schedule_pes(self, 
             self.stl(times[20:], "sent.stl"), "--origin", str(900 * TICKS))
         found = self.find(self.stl(times), pes)
         self.must("two", found.printed == ["--origin 0"] and not found.shifts, found)
@@ -180,7 +185,7 @@ class Origins(Case):
     def transmission(self, begin: int, late: Sequence[int] = (0,) * COUNT) -> list[bytes]:
         """Return the PES packets of a programme, some of them delayed."""
         return [pes_packet((begin + TICKS * (70 * number + frame + by)) % CLOCK, [
-            HEADER, *[row(20, b"Number %d" % number)] * (not frame), CLOSING])
+            HEADER, *[row_packet(20, b"Number %d" % number)] * (not frame), CLOSING])
             for number, by in enumerate(late) for frame in (0, 40)]
 
     def own_stl(self) -> str:
@@ -233,14 +238,14 @@ class Origins(Case):
         for late, are_all in (([3] * COUNT, True), ([3] * 6 + [9] * 6, False),
                               ([3] * (COUNT - 1) + [9], False)):
             pes = [pes_packet(TICKS * (70 * number + frame), [
-                HEADER, *[row(20, b"Number %d" % number)] * (not frame), CLOSING])
+                HEADER, *[row_packet(20, b"Number %d" % number)] * (not frame), CLOSING])
                 for number, by in enumerate(late) for frame in (0, 40 + by)]
             found = self.find(self.own_stl(), pes)
             self.must(f"{late}", found.are_all == are_all, found)
 
     def test_counts_cues_that_agree(self) -> None:
         pes, count = self.transmission(5000), 2 * COUNT
-        pes[6] = pes_packet(5000 + TICKS * 210, [HEADER, row(20, b"Another"), CLOSING])
+        pes[6] = pes_packet(5000 + TICKS * 210, [HEADER, row_packet(20, b"Another"), CLOSING])
         for some, agree, among, letters in ((pes, count, count, count - 1),
                                             (pes[:-3], count - 3, count - 3, count - 4),
                                             (pes[:10] + pes[11:], count - 2, count, count - 3),
@@ -258,7 +263,7 @@ class Origins(Case):
         good = self.transmission(0)[:3]
         bare = good[0][:7] + b"\0" + good[0][8:]
         other = [pes_packet(number, [packet(0, 0, [7, 8, 0, 8, 0, 8, 1, 0], b" " * 32), CLOSING,
-                                     *[row(1, b"%d" % number)]]) for number in range(2)]
+                                     *[row_packet(1, b"%d" % number)]]) for number in range(2)]
         rows: list[tuple[str, list[bytes], bool, list[str]]] = [
                 ("good", good, True, []),
                 ("bare", [bare, bare], False, ["none of 2 PES packets in a.pes has a PTS: "]),
@@ -268,17 +273,18 @@ class Origins(Case):
                 ("another page", other, False, ["a.pes has no header of page 888; other subtitle "
                                                 "pages: 887"]),
                 ("other pages", [pes_packet(number, [packet(0, 0, [
-                    one, 8, 0, 8, 0, 8, 1, 0], b" " * 32), CLOSING, row(1, b"%d" % number)])
+                    one, 8, 0, 8, 0, 8, 1, 0], b" " * 32), CLOSING, row_packet(1, b"%d" % number)])
                     for number, one in enumerate((1, 2, 3, 3, 2, 2, 4, 5, 4, 6))], False, [
                         "a.pes has no header of page 888; other subtitle pages: 882, 883, 884, "
                         "881, 885"]),
                 ("no page", [pes_packet(0, [CLOSING])], False, [
                     "a.pes has no header of page 888; other subtitle pages: none"])]
-        for name, pes, is_page, told in rows:
+        for name, pes, is_page, reported in rows:
             found = self.find(self.own_stl(), pes)
             lines = [line.replace("one.pes", "a.pes") for line in found.lines]
-            self.must(name, all(line.startswith(begin) for line, begin in zip(lines, told)) and
-                      len(lines) >= len(told) and (len(lines) > len(told)) == is_page, lines)
+            self.must(name, all(line.startswith(begin) for line, begin in zip(lines, reported)) and
+                      len(lines) >= len(reported) and (len(lines) > len(reported)) == is_page,
+                      lines)
 
 
 class Tracks(unittest.TestCase):
@@ -415,8 +421,8 @@ class Delays(unittest.TestCase):
             Counter({2: 3, 0: 1, 1: 1}), Counter({0: 3, 1: 1, 2: 1})))
 
     def test_computes_a_part_without_cached_results_of_the_programme(self) -> None:
-        asked, other = self.base_of_delays(), self.base_of_delays()
-        whole = asked.fits
-        found = asked.limited(self.EDGES[4:8], 150, 400).fits
+        request, other = self.base_of_delays(), self.base_of_delays()
+        whole = request.fits
+        found = request.limited(self.EDGES[4:8], 150, 400).fits
         self.assertEqual(found, other.limited(self.EDGES[4:8], 150, 400).fits)
         self.assertNotEqual(found, whole)

@@ -56,7 +56,7 @@ def packets_of(sendings: Sequence[Sending], every: int = 0, chance: random.Rando
 def find_origin(shown: Sequence[Shown], packets: Packets, within: int = 0, known: int | None = None,
           breaks: int = 0, run: int | None = None, late: Lateness | None = None) -> Origin:
     """Find the origin of subtitles in PES packets."""
-    asked = Sought("", "", origin=known, breaks=breaks)
+    request = Sought("", "", origin=known, breaks=breaks)
     origin, bases = Origin(), bases_of(shown, packets, within)
     runs = runs_of(bases)
     if len(runs) > 1:
@@ -65,9 +65,9 @@ def find_origin(shown: Sequence[Shown], packets: Packets, within: int = 0, known
         bases = bases_of(shown, packets, within, origin.runs[run - 1])
     row = find_row(bases)
     if breaks:
-        take_parts(origin, asked, bases, parts_of(shown, bases, by_breaks(row), late))
+        take_parts(origin, request, bases, parts_of(shown, bases, by_breaks(row), late))
     else:
-        take_one(origin, asked, bases, row, parts_of(shown, bases, row, late))
+        take_one(origin, request, bases, row, parts_of(shown, bases, row, late))
     return origin
 
 

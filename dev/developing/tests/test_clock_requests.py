@@ -10,7 +10,7 @@ from subtitles.clock.origin import Origin, Sought, find, subtitles_between
 from subtitles.common.command_line import Lateness
 from subtitles.common.times import ALL_DAY, Between, TICKS
 from .bench import Case
-from .transmissions import programme
+from .transmissions import write_programme
 from .test_clock_properties import packets_of
 from .test_clock_tables import EACH
 
@@ -20,7 +20,7 @@ class Requests(Case):
 
     def setUp(self) -> None:
         super().setUp()
-        self.stl = programme(self, self.times)
+        self.stl = write_programme(self, self.times)
         self.shown = subtitles_between(self.stl, "english", ALL_DAY, ())
         self.edges = edges_of(self.shown)
 
@@ -41,10 +41,10 @@ class Requests(Case):
             ({"between": Between(0, half), "inside": (0, 23)}, 12, 0, 0),
             ({"between": rest, "inside": (24, 47)}, 12, EACH, 0),
             ({"between": rest, "left_out": (7, 8), "inside": (0, 23)}, 8, 0, 0)]
-        for asked, count, number, runs in rows:
-            found = self.find(twice, **asked)
+        for request, count, number, runs in rows:
+            found = self.find(twice, **request)
             self.assertEqual((len(found.runs), [one.origin for one in found.parts]), (
-                runs, [] if number is None else [TICKS * number]), asked)
+                runs, [] if number is None else [TICKS * number]), request)
             self.assertTrue(runs or found.parts[0].line.startswith(
                 f"{count} of {count} cues match, "), found)
 
@@ -55,10 +55,10 @@ class Requests(Case):
             ({}, many, 1), ({"origin": 0}, many, 0), ({"origin": 7200}, many, 0),
             ({"late": late}, many, 0), ({"breaks": 1}, parts, 1),
             ({"breaks": 1, "late": late}, parts, 0), ({"breaks": 1, "origin": 0}, parts, 1)]
-        for asked, sent, status in rows:
-            found = self.find(self.transmissions(sent), within=2, **asked)
+        for request, sent, status in rows:
+            found = self.find(self.transmissions(sent), within=2, **request)
             self.assertEqual((found.status, len(found.parts)), (
-                status, (1 + ("breaks" in asked)) * (1 - status)), (asked, found))
+                status, (1 + ("breaks" in request)) * (1 - status)), (request, found))
         wrong = [(ticks, text and b"x" + text) for ticks, text in self.transmissions([EACH] * 24)]
         found = self.find(self.transmissions([*[0] * 8, *[50] * 8, *[90] * 8]))
         self.assertEqual((found.shifted_from, len(found.shifts)), (self.edges[8].frame, 2))

@@ -391,14 +391,14 @@ class Runs(unittest.TestCase):
         for within, (count, changes, is_told) in itertools.product((0, 1), (
                 (20, 20, True), (20, 18, True), (20, 17, False), (16, 15, True), (10, 15, True),
                 (10, 14, False), (9, 20, False), (19, 20, True))):
-            told = is_told and count >= 10 * (1 + within)
+            reported = is_told and count >= 10 * (1 + within)
             base = base_with(edges, [(TICKS * (edge.frame + within * at % 2), b"%d" % at)
                                      for at, edge in enumerate(edges[:changes])], 9999, within)
             for bases in ([base], [base.limited(edges, -1, -1), base],
                           [base.limited(edges, -1, 300), base]):
                 wanted = {at: (len(bases) - 1, edge.frame + within * at % 2)
                           for at, edge in enumerate(edges[:changes])}
-                self.assertEqual(by_times(bases, count), wanted if told else {},
+                self.assertEqual(by_times(bases, count), wanted if reported else {},
                                  (within, count, changes))
 
 

@@ -9,11 +9,13 @@ from developing.multiplex import BEGINS, PACKET
 from developing.pes import pts_in
 from subtitles.common.times import CLOCK, TICKS, time_of
 from .bench import Case, example_bytes
-from .judged import judged
+from .judged import judge_files
 from .streams import (
-    OLD, Packet, Shape, TELETEXT_PID, in_frames, in_turn, multiplexed, with_pictures)
+    OLD, Packet, Shape, TELETEXT_PID, multiplex_frames, stream_by_plan, make_multiplex,
+    with_pictures)
 from .transmissions import (
-    EACH, LASTS, ORIGIN, apart, joined, one_late, packets, programme, sendings, times)
+    EACH, LASTS, ORIGIN, with_pauses, pes_file, delay_subtitle, packets, write_programme,
+    schedule_pages, subtitle_times)
 from .test_clock_delays import EARLIER, FIRST_PTS, STARTED, STORY
 from .test_judging_losses import large, lost
 from .test_stream_pace import without_pid, filled
@@ -57,12 +59,12 @@ def shift_clocks(data: bytes, by: int) -> bytes:
 class Wraps(Case):
     def setUp(self) -> None:
         super().setUp()
-        self.stl = programme(self, times(6))
-        self.sent = filled(sendings(self, self.stl))
+        self.stl = write_programme(self, subtitle_times(6))
+        self.sent = filled(schedule_pages(self, self.stl))
 
     def judge(self, stl: str, data: bytes, *words: str) -> tuple[str, str]:
         """Return the verdict, and all output without PTS."""
-        found = judged(self, stl, self.write("one.ts", data), *words)
+        found = judge_files(self, stl, self.write("one.ts", data), *words)
         known: dict[str, Any] = {name: value for name, value in found.result.items()
                                  if name not in OF_FILE}
         return found.word, OF_PTS.sub(r"\1N", json.dumps([known, found.said, found.listed]))
@@ -79,7 +81,7 @@ class Wraps(Case):
 
     def multiplex(self, size: int = 3) -> list[Packet]:
         """Return a multiplex with `size` TS packets for each PES packet."""
-        return multiplexed([large(joined([one]), size) for one in self.sent], Shape(200))
+        return make_multiplex([large(pes_file([one]), size) for one in self.sent], Shape(200))
 
     def test_reports_losses_by_the_counter(self) -> None:
         made, place = self.multiplex(), 3 * EACH + 20 - EACH
@@ -91,8 +93,8 @@ class Wraps(Case):
             self.check_same(name, word, b"".join(one.data for one in some))
 
     def test_reports_losses_by_the_pcr(self) -> None:
-        pes = [joined([one]) for one in self.sent]
-        made = b"".join(in_frames(pes, pts_in(pes[0]), len(pes) + 9, 1))
+        pes = [pes_file([one]) for one in self.sent]
+        made = b"".join(multiplex_frames(pes, pts_in(pes[0]), len(pes) + 9, 1))
         own = [at for at in range(0, len(made), PACKET)
                if int.from_bytes(made[at + 1:at + 3], "big") & 0x1FFF == TELETEXT_PID]
         place = 3 * EACH + 20 - EACH
@@ -108,18 +110,18 @@ class Wraps(Case):
                 FIRST_PTS // TICKS + more for more in (1, 5, EARLIER, EARLIER + 100)])
 
     def test_judges_two_parts(self) -> None:
-        stl = programme(self, times(24), name="many.stl")
-        for change, words, word in ((one_late(10, 0), (), "accepted"),
-                                    (one_late(10, 3), (), "refused"),
-                                    (one_late(10, 3), ("--within", "3"), "accepted")):
-            sent = apart(change(sendings(self, stl)), 1000)
-            self.check_same(f"{words} {word}", word, in_turn(
-                [joined([one]) for one in sent], [(0, OLD)]), "--breaks", "1", *words, stl=stl,
+        stl = write_programme(self, subtitle_times(24), name="many.stl")
+        for change, words, word in ((delay_subtitle(10, 0), (), "accepted"),
+                                    (delay_subtitle(10, 3), (), "refused"),
+                                    (delay_subtitle(10, 3), ("--within", "3"), "accepted")):
+            sent = with_pauses(change(schedule_pages(self, stl)), 1000)
+            self.check_same(f"{words} {word}", word, stream_by_plan(
+                [pes_file([one]) for one in sent], [(0, OLD)]), "--breaks", "1", *words, stl=stl,
                 frames=[ORIGIN // TICKS + more for more in (500, 1200, 2000, 2050)])
 
     def test_reports_late_subtitles(self) -> None:
         self.schedule(self.stl, "one.pes", "--every", "25")
         pes = packets(self.read("one.pes"))
-        moved = [joined([one]) for one in one_late(3, 5)(sendings(self, self.stl))]
+        moved = [pes_file([one]) for one in delay_subtitle(3, 5)(schedule_pages(self, self.stl))]
         for name, word, some in (("late", "refused", moved), ("as it is due", "accepted", pes)):
-            self.check_same(name, word, in_turn(some, [(0, OLD)]))
+            self.check_same(name, word, stream_by_plan(some, [(0, OLD)]))

@@ -124,16 +124,17 @@ class CommandLine(Case):
         with mock.patch.object(command_line, "HOME", self.folder):
             self.assertEqual(command_line.version(), "of an unknown version")
         with mock.patch.object(sys, "stdout", None), mock.patch.object(command_line, "silence"), \
-                contextlib.redirect_stderr(io.StringIO()) as told:
+                contextlib.redirect_stderr(io.StringIO()) as errors:
             self.assertEqual(command_line.ended(lambda words: 0, []), 2)
-        self.assertIn(": standard output is closed\n", told.getvalue())
+        self.assertIn(": standard output is closed\n", errors.getvalue())
         self.assertEqual([is_utf_8(name) for name in ("", "a", "\u00e9", "\udce9")],
                          [True, True, True, False])
 
     def test_names_a_file_as_it_was_given(self) -> None:
-        with self.assertRaises(OSError) as told, naming("typed"):
+        with self.assertRaises(OSError) as reported, naming("typed"):
             raise OSError(2, "No such file", "one", None, "two")
-        self.assertEqual((told.exception.filename, told.exception.filename2), ("typed", None))
+        self.assertEqual((reported.exception.filename, reported.exception.filename2),
+                         ("typed", None))
         came = [None, None, b"some"]
         pipe: Any = SimpleNamespace(read=lambda size: came.pop(0), close=lambda: None)
         with Input(os.devnull) as source, mock.patch("select.select") as waited:
@@ -156,17 +157,18 @@ class CommandLine(Case):
         for name, kind in (("folder", "a folder"), ("pipe", "a pipe"), ("socket", "a socket"),
                            ("/dev/zero", "a device")):
             for may_be_pipe in (False, True)[:1 + (name != "pipe")]:
-                told = refusal(lambda: first_bytes(self.path(name), 5, may_be_pipe))
-                self.must(f"{name} {may_be_pipe}", told.startswith(f"{self.path(name)} is {kind}"),
-                          told)
+                message = refusal(lambda: first_bytes(self.path(name), 5, may_be_pipe))
+                self.must(f"{name} {may_be_pipe}",
+                          message.startswith(f"{self.path(name)} is {kind}"),
+                          message)
         self.must("followed", first_bytes(self.path("link"), 9) == b"12345")
         self.must("a link", refusal(lambda: first_bytes(self.path("link"), 9, is_followed=False))
                   == f"{self.path('link')} is a link")
         for most, wanted in ((4, b""), (5, b"12345"), (6, b"12345")):
-            told = refusal(lambda: bounded_bytes(self.path("file"), most))
-            self.must(f"{most}", bool(told) == (not wanted) and (
-                told or bounded_bytes(self.path("file"), most)) == (
-                    wanted or f"{self.path('file')} has more than 4 bytes"), told)
+            message = refusal(lambda: bounded_bytes(self.path("file"), most))
+            self.must(f"{most}", bool(message) == (not wanted) and (
+                message or bounded_bytes(self.path("file"), most)) == (
+                    wanted or f"{self.path('file')} has more than 4 bytes"), message)
         with File(self.path("file")) as file, mock.patch.object(
                 file, "file", mock.Mock(**{"read.return_value": None})):
             self.check("a file of the system that waits", refusal(lambda: file.read()),
@@ -212,8 +214,8 @@ class CommandLine(Case):
             "the most words": (f"{many}\n" * whole, ""),
             "more words": (f"{many}\n" * (whole + 1), f"line {whole + 1}")}
         for name, (text, place) in rows.items():
-            told = refusal(lambda: [*lines_in(text)])
-            self.check(name, told, place and f"{place} exceeds the limits of a list: 100,000 "
+            message = refusal(lambda: [*lines_in(text)])
+            self.check(name, message, place and f"{place} exceeds the limits of a list: 100,000 "
                        "lines and 1,000,000 words")
         for name, (text, fault) in {
                 "the most words of a line": (many, ""),
@@ -324,13 +326,13 @@ class CommandLine(Case):
             (("path", ""), ""), (("", "damaged"), "damaged"), (("", ""), "no program is built")]
         for chosen, why in rows:
             with mock.patch("subtitles.common.program.chosen", return_value=chosen):
-                told = refusal(lambda: self.assertEqual(built_program(), "path"))
-            self.must(f"{chosen}", told.startswith(why) and bool(told) == bool(why), told)
+                message = refusal(lambda: self.assertEqual(built_program(), "path"))
+            self.must(f"{chosen}", message.startswith(why) and bool(message) == bool(why), message)
         for status in (0, 1, -9):
             done = subprocess.CompletedProcess([], status, b"a sum\n")
             with mock.patch("subprocess.run", return_value=done):
-                told = refusal(lambda: self.assertEqual(sources(), "a sum"))
-            self.must(f"{status}", bool(told) == (status != 0), told)
+                message = refusal(lambda: self.assertEqual(sources(), "a sum"))
+            self.must(f"{status}", bool(message) == (status != 0), message)
 
     def test_recognises_an_input_by_any_name(self) -> None:
         one, other = self.write("one", b"1"), self.write("other", b"2")
@@ -340,8 +342,8 @@ class CommandLine(Case):
         for name, is_followed, wanted in (
                 ("one", False, True), ("hard", False, True), ("link", False, True),
                 ("other", True, False), ("none", True, False)):
-            told = refusal(lambda: inputs.refuse(self.path(name), is_followed))
-            self.must(f"{name}", bool(told) == wanted, told)
+            message = refusal(lambda: inputs.refuse(self.path(name), is_followed))
+            self.must(f"{name}", bool(message) == wanted, message)
         before = os.dup(0)
         for name, wanted in (("one", True), ("pipe", False)):
             standard = os.open(self.path("one"), os.O_RDONLY) if wanted else os.pipe()[0]
@@ -356,10 +358,10 @@ class CommandLine(Case):
         os.rename(self.path("one"), self.path("moved"))
         self.must("it has another name", not refusal(
             lambda: Inputs(other).refuse(self.path("moved"), True)))
-        gone = Inputs(other)
-        self.must("there", refusal(lambda: gone.refuse(other, True)))
+        missing = Inputs(other)
+        self.must("there", refusal(lambda: missing.refuse(other, True)))
         os.rename(other, self.path("kept"))
-        self.must("gone", not refusal(lambda: gone.refuse(self.path("kept"), True)))
+        self.must("gone", not refusal(lambda: missing.refuse(self.path("kept"), True)))
 
 
 class Signals(Case):
@@ -372,14 +374,14 @@ class Signals(Case):
                     os.rename(name, target)
                 raise KeyboardInterrupt
 
-            told: BaseException | None = None
+            reported: BaseException | None = None
             try:
                 with mock.patch("subtitles.common.files.os.replace", replaced), \
                         whole_file(path) as file:
                     file.write(b"new")
             except (KeyboardInterrupt, OSError) as reason:
-                told = reason
-            self.must("the signal", isinstance(told, KeyboardInterrupt), told)
+                reported = reason
+            self.must("the signal", isinstance(reported, KeyboardInterrupt), reported)
             self.must(f"{is_before}", self.read("file") == (b"old" if is_before else b"new"))
             self.must("nothing is left", os.listdir(self.folder) == ["file"],
                       os.listdir(self.folder))

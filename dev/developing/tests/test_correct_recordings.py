@@ -3,7 +3,7 @@
 Inserters with eleven kinds of delays, PES packets at fourteen kinds of intervals, breaks, several
 programmes, repeats. A rule that refuses correct recordings is worse than none, so `LOST` limits how
 many of each kind may be refused or not judged. The gate judges some of each kind; from dev/,
-`python3 -m developing.tests.test_correct_recordings PROGRAM` judges all, and prints each that is not
+`python3 -m developing.tests.test_correct_recordings PROGRAM` judges all; it prints each that is not
 accepted, and the counts.
 """
 from __future__ import annotations
@@ -16,11 +16,11 @@ from typing import Callable, Iterator, NamedTuple, Sequence
 from developing.pes import pes_packet
 from subtitles.common.times import TICKS, time_of
 from .bench import BENCH, Case
-from .judged import Judged, judged
+from .judged import JudgedPair, judge_files
 from .streams import (
     AHEAD, MPEG_2, PMT_PID, PRIVATE, TELETEXT_PID, VIDEO_PID, Maker, program_association,
     program_map, teletext_descriptor)
-from .transmissions import CLOSING, HEADER, Sent, joined, programme, sendings
+from .transmissions import CLOSING, HEADER, Sent, pes_file, write_programme, schedule_pages
 from .test_judging_losses import WRONG, large
 
 FIRST, EACH, LASTS = 900_000, 100, 60  # frames: first TCI, from one to the next, length of each
@@ -39,7 +39,8 @@ class Bound(NamedTuple):
 
 
 # Late inserters without a clock, silences that are no loss, breaks under five seconds, and a page
-# of two programmes. The refused ones can't be distinguished from faulty ones: see `Twins`.
+# of two programmes. The refused ones can't be distinguished from faulty ones: see
+# `IndistinguishableFaults`.
 LOST = {
     INSERTERS: Bound(66, 2, 12), ONE_A_FRAME: Bound(30, 7, 0), TWO_A_FRAME: Bound(28, 6, 0),
     BREAKS: Bound(9, 0, 5), PROGRAMMES: Bound(8, 0, 2), AIRINGS: Bound(11, 0, 0)}
@@ -54,10 +55,10 @@ class Recording(NamedTuple):
     made: Callable[[Case], tuple[str, str]]
     words: Sequence[str]
 
-    def judge(self, case: Case) -> Judged:
+    def judge(self, case: Case) -> JudgedPair:
         """Judge the recording."""
         stl, path = self.made(case)
-        return judged(case, stl, path, *self.words)
+        return judge_files(case, stl, path, *self.words)
 
 
 def evenly(count: int, is_adjoining: bool = False) -> list[tuple[int, int]]:
@@ -87,12 +88,12 @@ def late_inserter(kind: str, count: int, is_adjoining: bool) -> Callable[[Case],
                  for begin, end in evenly(count)]
         delays = {end: chance.choice(ends) for _, end in times}
         delays |= {begin: chance.choice(begins) for begin, _ in times}
-        stl = programme(case, times)
+        stl = write_programme(case, times)
         known = {pts // TICKS + delays.get(pts // TICKS, 0): some
-                 for pts, some in sendings(case, stl)}
+                 for pts, some in schedule_pages(case, stl)}
         known |= {frame: [HEADER, CLOSING] for frame in (
             FIRST - 50, FIRST - 25, times[-1][1] + 25, times[-1][1] + 50)}
-        return stl, case.write("late.pes", joined([
+        return stl, case.write("late.pes", pes_file([
             (frame * TICKS, known.get(frame, [])) for frame in range(min(known), max(known) + 1)]))
 
     return made
@@ -151,8 +152,8 @@ DISTANCES: dict[str, Callable[[random.Random, int], list[int]]] = {
 def paced_sent(case: Case, name: str, count: int, each: int) -> tuple[str, Sent]:
     """Return a programme with `each` PES packets in such frames."""
     chance, times = random.Random(f"{name} {count}"), evenly(count)
-    stl = programme(case, times)
-    known = dict(sendings(case, stl))
+    stl = write_programme(case, times)
+    known = dict(schedule_pages(case, stl))
     frames = {*(pts // TICKS for pts in known), *(FIRST + at for at in DISTANCES[name](
         chance, times[-1][1] - FIRST))} if name in DISTANCES else {
             *(pts // TICKS for pts in known), *(range(FIRST, times[-1][1], 3)
@@ -249,8 +250,8 @@ def services() -> Iterator[Recording]:
     for name, (plan, beside) in plans.items():
         def made(case: Case, plan: Callable[[int], list[tuple[int, Sequence[Service]]]] = plan,
                  beside: list[int] = beside) -> tuple[str, str]:
-            stl = programme(case, evenly(12))
-            sent = sendings(case, stl)
+            stl = write_programme(case, evenly(12))
+            sent = schedule_pages(case, stl)
             return stl, case.write("some.ts", in_stream(sent, plan(len(sent)), beside))
 
         yield Recording(PROGRAMMES, name, made, ["--every", "40", "--no-complete"])
@@ -261,12 +262,12 @@ def services() -> Iterator[Recording]:
 def broken(*lengths: int) -> Callable[[Case], tuple[str, str]]:
     """Return a programme in parts of twenty subtitles, with breaks of some frames."""
     def made(case: Case) -> tuple[str, str]:
-        stl = programme(case, evenly(20 * (len(lengths) + 1)))
+        stl = write_programme(case, evenly(20 * (len(lengths) + 1)))
         sent = []
-        for pts, some in sendings(case, stl):
+        for pts, some in schedule_pages(case, stl):
             part = (pts // TICKS - FIRST) // (20 * EACH)
             sent.append((pts + TICKS * sum(lengths[:part]), some))
-        return stl, case.write("breaks.pes", joined(sent))
+        return stl, case.write("breaks.pes", pes_file(sent))
 
     return made
 
@@ -283,11 +284,11 @@ def with_tail(count: int) -> Callable[[Case], tuple[str, str]]:
     def made(case: Case) -> tuple[str, str]:
         times = [(frame + at * at * 7, end + at * at * 7) for at, (frame, end) in
                  enumerate(evenly(20))]
-        stl = programme(case, times)
-        sent = sendings(case, stl)
+        stl = write_programme(case, times)
+        sent = schedule_pages(case, stl)
         end = times[count - 1][1] * TICKS if count else -1
         later = [(pts + 15_000 * TICKS, some) for pts, some in sent if pts <= end]
-        return stl, case.write("tail.pes", joined([*sent, *later]))
+        return stl, case.write("tail.pes", pes_file([*sent, *later]))
 
     return made
 
@@ -296,11 +297,12 @@ def near_short_subtitles(count: int, is_before: bool) -> Callable[[Case], tuple[
     """Return a few subtitles with six minutes of another programme's short ones before or after."""
     def made(case: Case) -> tuple[str, str]:
         quick = [(FIRST + 20 * at, FIRST + 20 * at + 15) for at in range(450)]
-        others = sendings(case, programme(case, quick, text=b"Others %d", name="quick.stl"))
-        stl = programme(case, evenly(count))
+        others = schedule_pages(case,
+                                write_programme(case, quick, text=b"Others %d", name="quick.stl"))
+        stl = write_programme(case, evenly(count))
         by = TICKS * (10_000 if not is_before else -10_000)
-        return stl, case.write("quick.pes", joined(sorted([
-            *sendings(case, stl), *((pts + by, some) for pts, some in others)])))
+        return stl, case.write("quick.pes", pes_file(sorted([
+            *schedule_pages(case, stl), *((pts + by, some) for pts, some in others)])))
 
     return made
 
@@ -309,11 +311,11 @@ def cut_at(count: int) -> Callable[[Case], tuple[str, str]]:
     """Return a programme with a break between adjoining subtitles, at which the page is erased."""
     def made(case: Case) -> tuple[str, str]:
         times = evenly(20, True)
-        stl = programme(case, times)
-        own = programme(case, times[:count], name="first.stl")
-        rest = [(pts + 500 * TICKS, some) for pts, some in sendings(case, stl)
+        stl = write_programme(case, times)
+        own = write_programme(case, times[:count], name="first.stl")
+        rest = [(pts + 500 * TICKS, some) for pts, some in schedule_pages(case, stl)
                 if pts >= times[count][0] * TICKS]
-        return stl, case.write("cut.pes", joined([*sendings(case, own), *rest]))
+        return stl, case.write("cut.pes", pes_file([*schedule_pages(case, own), *rest]))
 
     return made
 
@@ -337,30 +339,31 @@ def recordings() -> list[Recording]:
     return [*inserters(), *paces(), *breaks(), *services(), *airings()]
 
 
-class Right(Case):
-    def test_tries_as_many_recordings_of_each_kind_as_it_says(self) -> None:
+class CorrectRecordings(Case):
+    def test_has_the_stated_number_of_recordings(self) -> None:
         counts = collections.Counter(one.kind for one in recordings())
         self.must("counts", counts == {kind: one.recordings for kind, one in LOST.items()}, counts)
 
-    def test_accepts_right_recordings_of_each_kind(self) -> None:
+    def test_accepts_correct_recordings_of_each_kind(self) -> None:
         for kind in LOST:
             several = [one for one in recordings() if one.kind == kind][::GATE]
             words = [one.judge(self).word for one in several]
             self.must(kind, is_bounded(kind, words) and "accepted" in words, words)
 
 
-class Twins(Case):
-    def test_a_silence_is_what_a_loss_leaves(self) -> None:
+class IndistinguishableFaults(Case):
+    def test_a_silence_looks_like_a_loss(self) -> None:
         for each, names in ((1, [*SILENT, "1 in 20 left out"]), (2, SILENT)):
             for name in names:
                 _, sent = paced_sent(self, name, 12, each)
                 self.check(f"{name}, {each} a frame", lossy(sent, each) == in_stream(sent), True)
 
-    def test_rare_delays_are_what_early_subtitles_leave(self) -> None:
+    def test_rare_delays_look_like_early_subtitles(self) -> None:
         for one in inserters():
             if one.name in ("rare 80 False", "rare 80 True"):
                 stl, path = one.made(self)
-                self.check(one.name, [judged(self, stl, path, *one.words, "--origin", origin).word
+                self.check(one.name,
+                           [judge_files(self, stl, path, *one.words, "--origin", origin).word
                                       for origin in ("0", f"{TICKS}")], ["accepted", "refused"])
 
 
@@ -403,13 +406,14 @@ def is_bounded(kind: str, words: Sequence[str]) -> bool:
 def main(program: str) -> None:
     """Judge all recordings; print the counts."""
     BENCH.chosen = program
-    case, kinds = Right("test_accepts_right_recordings_of_each_kind"), dict[str, list[str]]()
+    case = CorrectRecordings("test_accepts_correct_recordings_of_each_kind")
+    kinds = dict[str, list[str]]()
     case.setUp()
     for one in recordings():
-        told = one.judge(case)
-        kinds.setdefault(one.kind, []).append(told.word)
-        if told.word != "accepted":
-            print(f"{one.kind}, {one.name}: {told.verdict.sentence}", flush=True)
+        judged = one.judge(case)
+        kinds.setdefault(one.kind, []).append(judged.word)
+        if judged.word != "accepted":
+            print(f"{one.kind}, {one.name}: {judged.verdict.sentence}", flush=True)
     for kind, words in kinds.items():
         print(f"{kind}: {dict(collections.Counter(words))}, "
               f"{'no more' if is_bounded(kind, words) else 'MORE'} than {LOST[kind]}", flush=True)

@@ -267,9 +267,9 @@ class Clones(Case):
         self.must("no dist/ yet", done.status == 0 and done.out.endswith(NEITHER), done)
         done = clone.release()
         self.must("taken", done.status == 0, done)
-        told = parsed(read(clone.path("dist", "PROVED")))
-        self.must("each crate's own line", told.crates == {
-            name: (digest, f"{LINE} of={name}") for name, digest in clone.crates.items()}, told)
+        reported = parsed(read(clone.path("dist", "PROVED")))
+        self.must("each crate's own line", reported.crates == {
+            name: (digest, f"{LINE} of={name}") for name, digest in clone.crates.items()}, reported)
         done = clone.release("--compare")
         self.must("the same bytes", done.status == 0 and done.out.endswith(PASSED), done)
         shutil.rmtree(clone.path("out"))
@@ -282,8 +282,8 @@ class Clones(Case):
         clone.write("log", a_log(clone, kept=clone.crates))
         clone.release("--note", clone.path("log"))
         done = clone.release("--keep")
-        told = parsed(read(clone.path("out", "PROVED"))).crates
-        self.must("all but one", set(clone.crates) - set(told) == {"ttx_packet"}, told)
+        reported = parsed(read(clone.path("out", "PROVED"))).crates
+        self.must("all but one", set(clone.crates) - set(reported) == {"ttx_packet"}, reported)
         done = clone.release("--compare")
         self.must("other sources are told", done.status == 0 and b"other sources" in done.out, done)
 
@@ -356,10 +356,11 @@ class ProvingClones(Case):
     def test_proves_and_runs_the_program(self) -> None:
         clone = Bare(self)
         done = clone.start()
-        told = [TOLD.fullmatch(line) for line in done.told[1:]]
+        reported = [TOLD.fullmatch(line) for line in done.told[1:]]
         self.must("it runs", done.out == self.call([self.bench.program, *PACKET]).out, done)
-        self.must("each crate is told", {it[1] for it in told if it} == set(clone.crates)
-                  and [int(it[2]) for it in told if it] == [*reversed(range(len(clone.crates)))],
+        self.must("each crate is told", {it[1] for it in reported if it} == set(clone.crates)
+                  and [int(it[2]) for it in reported
+                       if it] == [*reversed(range(len(clone.crates)))],
                   done)
         kept = parsed(read(clone.path("out", "PROVED")))
         self.must("what is kept", kept.program == digest_of(self.bench.program)

@@ -20,7 +20,7 @@ from ..definitions import Library
 from ..looks import find_browser
 from ..promises import clauses_in, unknown_clauses
 from ..sizes import KINDS, count_lines, total
-from .bench import Case, script
+from .bench import Case, import_script
 
 
 NAMES = ["*.md", "docs/*.md", "docs/manual/*.md", "examples/*.md"]
@@ -78,9 +78,9 @@ class AllDocuments(Case):
                     count += 1
                     changed = re.search(r"^--- a/(.*)$", block, re.M)
                     old = (read(os.path.join(TOP, changed[1])) if changed else None) or ""
-                    gone = re.findall(r"^-(?!-- )(.*)$", block, re.M)
-                    self.must(where, bool(gone) and all(
-                        old.count(line + "\n") == 1 for line in gone), gone)
+                    missing = re.findall(r"^-(?!-- )(.*)$", block, re.M)
+                    self.must(where, bool(missing) and all(
+                        old.count(line + "\n") == 1 for line in missing), missing)
         self.must("blocks", count > 2, count)
 
     def test_make_picture_detects_an_old_picture(self) -> None:
@@ -261,15 +261,16 @@ class ModuleLists(Case):
                   and len(clauses_in(text)) > 80, len(clauses_in(text)))
 
     def test_a_reading_list_describes_each_crate(self) -> None:
-        about = script("reading-list").first_paragraph
+        about = import_script("reading-list").first_paragraph
         for crate in Library(TOP).crates:
             self.must(crate, about(crate).endswith("."), about(crate))
         self.must("none", about("nowhere") == "")
 
     def test_stated_sizes_are_right_to_a_tenth(self) -> None:
         text = read(os.path.join(TOP, "docs", "ASSURANCE.md")) or ""
-        _, _, told = text.partition("(`dev/sizes`): ")
-        numbers = [int(one.replace(",", "")) for one in re.findall(r"\d+,\d+", told)[:len(KINDS)]]
+        _, _, reported = text.partition("(`dev/sizes`): ")
+        numbers = [int(one.replace(",", ""))
+                   for one in re.findall(r"\d+,\d+", reported)[:len(KINDS)]]
         counts = total(count_lines(TOP))
         self.must("sizes", len(numbers) == len(KINDS) and all(
             abs(number - counts[kind]) * 10 < counts[kind]

@@ -103,15 +103,15 @@ class JobScripts(Case):
 
 class Counts(unittest.TestCase):
     def test_believes_the_last_line_if_the_status_agrees(self) -> None:
-        for said, status, wanted in (
+        for printed, status, wanted in (
                 ("7 passed, 0 failed\n", 0, (7, 0)), ("a\n7 passed, 2 failed\n", 1, (7, 2)),
                 ("7 passed, 2 failed\n", -9, (7, 2)), ("7 passed, 2 failed\n", 0, None),
                 ("7 passed, 0 failed\n", 1, None), ("7 passed, 0 failed\n", -9, None),
                 ("7 passed, 0 failed\nmore\n", 0, None), ("7 passed, 0 failed", 0, None),
                 ("of 7 passed, 0 failed\n", 0, None), ("", 0, None),
                 ("1 passed, 1 failed\n7 passed, 0 failed\n", 0, (7, 0))):
-            with self.subTest(said=said, status=status):
-                self.assertEqual(counts_in(said, status), wanted)
+            with self.subTest(said=printed, status=status):
+                self.assertEqual(counts_in(printed, status), wanted)
 
 
 # The second implementation: the status of a last line, and properties of recordings.

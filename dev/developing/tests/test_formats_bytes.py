@@ -8,7 +8,7 @@ from developing import pes, stl
 from subtitles.common import times
 from subtitles.common.command_line import page_in
 from subtitles.formats import teletext
-from .transmissions import CLOSING, HEADER, row
+from .transmissions import CLOSING, HEADER, row_packet
 
 CLOCK, DAY = 8_589_934_592, 2_160_000
 START = b"\0\0\1\xbd"
@@ -110,7 +110,8 @@ class Codes(unittest.TestCase):
         for at in range(2, 10):
             self.assertIsNone(pes.header_of(made[:at] + NOTHING + made[at + 1:]), at)
         self.assertEqual(pes.page_in(numbers), 0x78)
-        rows = [row(1, b"a"), made, made[:9] + NOTHING + made[10:], NOTHING + made[1:], HEADER,
+        rows = [row_packet(1, b"a"), made, made[:9] + NOTHING + made[10:], NOTHING + made[1:],
+                HEADER,
                 CLOSING]
         self.assertEqual([one[:2] for one in pes.headers_in(rows)],
                          [(1, 0x78), (0, 0x88), (0, 0xFF)])

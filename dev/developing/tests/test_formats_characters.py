@@ -24,8 +24,8 @@ from subtitles.judging.subtitles import advise_on_character
 from subtitles.recording.notices import character_set_notices, option_notices
 from subtitles.request.request import Request
 from .bench import Case, Done, example_bytes
-from .parts import packets_told
-from .results import agrees
+from .parts import survey_packets
+from .results import check_schema
 from .transmissions import packets
 from .test_cli_pairs import STORY, lines_of, qc
 
@@ -159,14 +159,14 @@ def texts(option: NationalOption) -> list[tuple[Text, str]]:
     """Return the longer texts, each with its error message or ""."""
     found = []
     for line in rows_of("vectors.tsv"):
-        cells, told = b"", line["prepared line or refusal"]
+        cells, message = b"", line["prepared line or refusal"]
         if line["kind"] == "drawn":
             cells = bytes.fromhex(line["row of 40 cells"])
-        elif told.startswith("drawn "):
-            drawn = bytes.fromhex(told.split()[1])
+        elif message.startswith("drawn "):
+            drawn = bytes.fromhex(message.split()[1])
             cells = (b" " * ((40 - len(drawn)) // 2) + drawn).ljust(40)
         if line["option"] == option.word:
-            found.append((Text(bytes.fromhex(line["stl"]), 22, 2, cells), "" if cells else told))
+            found.append((Text(bytes.fromhex(line["stl"]), 22, 2, cells), "" if cells else message))
     return found
 
 
@@ -246,8 +246,8 @@ class Transmissions(Case):
             bits = [has_bit(header_of(header) or b"", bit) for bit in NATIONAL]
             self.must(f"{name}: C12 to C14", bits == [
                 bool(option.bits >> at & 1) for at in range(3)], bits)
-            told = [(address_of(row), bytes(byte & 0x7F for byte in row[2:])) for row in rows]
-            self.must(f"{name}: the row", told == [((0, one.row), one.cells)], told)
+            reported = [(address_of(row), bytes(byte & 0x7F for byte in row[2:])) for row in rows]
+            self.must(f"{name}: the row", reported == [((0, one.row), one.cells)], reported)
             before = one.cells
 
     def test_encodes_each_character_as_in_the_table(self) -> None:
@@ -257,12 +257,12 @@ class Transmissions(Case):
     def test_encodes_texts_or_names_the_refused_byte(self) -> None:
         for option in OPTIONS:
             several = texts(option)
-            self.check_cells(option, [one for one, told in several if not told])
-            for one, told in several:
-                if told:
+            self.check_cells(option, [one for one, reported in several if not reported])
+            for one, reported in several:
+                if reported:
                     line = self.schedule_of(option, [one])
                     self.must(f"{option.word} {one.text.hex()}", line ==
-                              "refused {} {} block 1 {} {}".format(*told.split()), line)
+                              "refused {} {} block 1 {} {}".format(*reported.split()), line)
 
     def test_refuses_every_other_byte(self) -> None:
         singles = [bytes([byte]) for byte in range(256) if byte != UNUSED[0]]
@@ -274,8 +274,8 @@ class Transmissions(Case):
             for number, text in enumerate(tried, 1):
                 if text not in known:
                     is_control = text[0] < 0x20 or 0x80 <= text[0] < 0xA0
-                    told = "51 Control" if is_control else "50 Character"
-                    wanted.append(f"refused {told} block {number} at 0")
+                    reported = "51 Control" if is_control else "50 Character"
+                    wanted.append(f"refused {reported} block {number} at 0")
             self.schedule_of(option, [Text(text, 5, 0) for text in tried])
             lines = self.program("check", "a.stl", "/dev/null", "--all", "--option", option.word)[1]
             found = [line for line in lines if " block " in line]
@@ -328,13 +328,13 @@ def check_warnings(case: Case, name: str, done: Done, kinds: list[str]) -> list[
     Return the warnings.
     """
     verdict = json.loads(case.read("one.json"))
-    agrees(case, verdict, f"{name}: the schema")
+    check_schema(case, verdict, f"{name}: the schema")
     found: list[Any] = verdict["warnings"]
     case.must(f"{name}: kinds", [one["kind"] for one in found] == kinds, (found, done))
     lines = [one["line"] for one in found]
-    said = [line.removeprefix("qc: warning: ") for line in done.told
+    printed = [line.removeprefix("qc: warning: ") for line in done.told
             if line.startswith("qc: warning: ")]
-    case.must(f"{name}: said", said == lines, done.told)
+    case.must(f"{name}: said", printed == lines, done.told)
     report = case.read("out/story.html").decode()
     case.must(f"{name}: in the report", all(
         f'<p class="note">warning: {line}</p>' in report for line in lines), lines)
@@ -354,16 +354,16 @@ class Warnings(Case):
             ("the same", character_set_packet(29, 0), []),
             ("another magazine's", character_set_packet(29, 8, magazine=1), [])]
         for name, more, lines in cases:
-            told = packets_told(self, pes_packet(0, [HEADER, ROW, CLOSING, more]))
-            found = list(character_set_notices(told, ASKED))
+            reported = survey_packets(self, pes_packet(0, [HEADER, ROW, CLOSING, more]))
+            found = list(character_set_notices(reported, ASKED))
             self.must(name, [one.line for one in found] == lines, found)
             self.must(f"{name}: kind", {one.kind for one in found} <= {"character_set"}, found)
 
     def test_warns_if_another_option_is_designated(self) -> None:
-        told = packets_told(self, pes_packet(0, [HEADER, character_set_packet(29, 0b100)]))
+        reported = survey_packets(self, pes_packet(0, [HEADER, character_set_packet(29, 0b100)]))
         for option in OPTIONS:
-            asked = dataclasses.replace(ASKED, option=option.word)
-            self.must(option.word, bool([*character_set_notices(told, asked)]) == (
+            request = dataclasses.replace(ASKED, option=option.word)
+            self.must(option.word, bool([*character_set_notices(reported, request)]) == (
                 option != FRENCH))
 
     def test_a_warning_changes_the_verdict_only_with_strict(self) -> None:
@@ -407,7 +407,7 @@ class Languages(unittest.TestCase):
         for row in rows:
             language, word = row["ISO 639-2"], row["option"]
             for option in OPTIONS:
-                asked = dataclasses.replace(ASKED, option=option.word)
-                found = [*option_notices([language], asked)]
+                request = dataclasses.replace(ASKED, option=option.word)
+                found = [*option_notices([language], request)]
                 with self.subTest(language=language, option=option.word):
                     self.assertEqual(bool(found), word != option.word)

@@ -60,9 +60,9 @@ class Blocks(unittest.TestCase):
             data = gsi_block(b"", 0, 0) + b"".join(self.block(*one) for one in row)
             for rest in (b"", b"x" * 127):
                 found: list[stl.StoredSubtitle] = []
-                told = refusal(lambda: found.extend(stl.subtitles_in(data + rest)), Damaged)
+                message = refusal(lambda: found.extend(stl.subtitles_in(data + rest)), Damaged)
                 self.assertEqual([(one.number, one.text) for one in found], wanted, row)
-                self.assertEqual(told, words if words and "no last" not in words or not rest else
+                self.assertEqual(message, words if words and "no last" not in words or not rest else
                                  f"block {len(row) + 1} is cut", rest)
         [one] = stl.subtitles_in(gsi_block(b"", 0, 0) + b"".join(
             tti_block(1, at, at + 2, 20 + at, at, b"x", ebn) for at, ebn in ((0, 0), (1, last))))
@@ -78,8 +78,8 @@ class Blocks(unittest.TestCase):
                             (good[:3] + b"STL24" + good[8:], "not an EBU STL file"),
                             (good[:3] + b"STL30" + good[8:], "30 frames a second"),
                             (good[:3] + b"STL25.02" + good[11:], "")):
-            told = refusal(lambda: list(stl.subtitles_in(data)), Damaged)
-            self.assertTrue(told.startswith(words) and bool(told) == bool(words), told)
+            message = refusal(lambda: list(stl.subtitles_in(data)), Damaged)
+            self.assertTrue(message.startswith(words) and bool(message) == bool(words), message)
 
     def test_reads_subtitles_before_damage(self) -> None:
         good = gsi_block(b"", 0, 0)
@@ -87,11 +87,11 @@ class Blocks(unittest.TestCase):
                                      (good + self.block(1, 255) + b"x", 1, True),
                                      (good + b"x", -1, False), (b"", -1, False)):
             found: list[stl.StoredSubtitle] = []
-            told: list[str] = []
-            with mock.patch.object(stl, "tell", told.append):
+            reported: list[str] = []
+            with mock.patch.object(stl, "tell", reported.append):
                 stopped = refusal(lambda: found.extend(stl.readable("damaged.stl", data)))
             self.assertEqual((-1 if stopped else len(found), any(
-                line.startswith("damaged.stl: ") for line in told)), (count, is_told),
+                line.startswith("damaged.stl: ") for line in reported)), (count, is_told),
                              (data, count, is_told))
         self.assertEqual(stl.letters_on_page(b"A b\x01\xc1!$\x23", "english"), b"Ab!\x24\x5f")
         self.assertEqual(stl.letters_on_page(b" \x20!", "german"), b"!")
@@ -251,7 +251,7 @@ class Lines(unittest.TestCase):
                           line.rpartition(" ")[0], line.replace(" ", "  ", 1), line.upper()):
                 self.assertFalse(listing.is_line(other), other)
 
-    def test_reads_parts_of_a_line_as_the_whole_line(self) -> None:
+    def test_reads_parts_of_a_line_as_the_complete_line(self) -> None:
         places = ("", " block 7", " block 0 at 111", " pes 12", " frame 23:59:59:24",
                   " frame 00:00:01:00 packet 9", " frame 10:00:00:01 row 22 column 39")
         for word, number, place in itertools.product(

@@ -11,9 +11,8 @@ from unittest import mock
 
 from developing.pes import pes_packet
 from developing.stl import gsi_block
-from subtitles.clock.alignment import back_at
 from subtitles.common.command_line import Stop, Words
-from subtitles.common.times import CLOCK, FRAMES_OF_A_DAY, NO_FRAME, Span, TICKS
+from subtitles.common.times import FRAMES_OF_A_DAY, NO_FRAME, Span, TICKS
 from subtitles.formats.listing import fault_of_line
 from subtitles.formats.stl import SubtitleFile
 from subtitles.judging.check import CheckOutput, run_check
@@ -22,13 +21,12 @@ from subtitles.judging.subtitles import AT_MIDNIGHT, advise_on_midnight, falls_a
 from subtitles.report.blocks import readable
 from subtitles.request.lines import request_of_line
 from subtitles.request.request import Unclear, add_options
-from subtitles.stream.packets import Change
-from subtitles.stream.receiver import Timeline, pauses_in, timeline_near
+from subtitles.stream.receiver import pauses_in, timeline_near
 from .bench import Case, example, example_bytes
-from .judged import judged
-from .streams import TELETEXT_PID, in_stream
-from .parts import asked_for, in_page, packets_told, part_with, script
-from .transmissions import CLOSING, HEADER, PAGE, in_pipe, programme, row
+from .judged import judge_files
+from .streams import TELETEXT_PID, stream_of_pids
+from .parts import request_for, markup_text, survey_packets, make_part, shell_script
+from .transmissions import CLOSING, HEADER, PAGE, write_pipe, write_programme
 from .test_judging_verdicts import verdict_of
 
 
@@ -77,9 +75,9 @@ LISTS: list[tuple[list[str], int, str | None]] = [
 class Answers(Case):
     def test_reads_each_answer_or_reports_why_not(self) -> None:
         for lines, status, wanted in LISTS:
-            made, heard, reason = CheckOutput(self.path("list")), list[str](), ""
+            made, received, reason = CheckOutput(self.path("list")), list[str](), ""
             try:
-                run_check(["sh", "-c", script(lines, status)], made, heard.append)
+                run_check(["sh", "-c", shell_script(lines, status)], made, received.append)
             except Unclear as why:
                 reason = why.reason
             last = next((one for one in lines if one in STRANGE), "".join(lines[-1:]))
@@ -89,7 +87,7 @@ class Answers(Case):
                 self.assertEqual((None if reason else made.verdict, reason), (
                     wanted, "" if wanted else "check gave no verdict: "
                     f"{last or 'it printed nothing'}, status {status}"))
-                self.assertEqual(heard, [*itertools.takewhile(GOOD.__ne__, lines),
+                self.assertEqual(received, [*itertools.takewhile(GOOD.__ne__, lines),
                                          *[GOOD] * (wanted == "accepted")])
                 self.assertEqual((made.fault_count, made.fault_numbers, [*made.read_lines()]), (
                     len(faults), {int(one.split()[1]) for one in faults}, lines))
@@ -123,13 +121,13 @@ class Answers(Case):
         verdict, nothing = verdict_of([]), mock.Mock()
         pair = PairJudge(verdict, nothing, nothing, nothing, False)
         self.assertEqual(pair.stop("10:00"), "10:00")
-        for line, told in ((FIRST, "all up to 00:00:05:00"), (SECOND, "nothing yet")):
-            pair.current_part = part_with(0, 9, 0, CheckOutput(self.path("list")))
+        for line, reported in ((FIRST, "all up to 00:00:05:00"), (SECOND, "nothing yet")):
+            pair.current_part = make_part(0, 9, 0, CheckOutput(self.path("list")))
             pair.current_part.check_output.read_line(line)
             # only the first call counts
-            for words in (f"10:00, when check had reported {told}", "10:00"):
+            for words in (f"10:00, when check had reported {reported}", "10:00"):
                 self.assertEqual((pair.stop("10:00"), verdict.parts[-1]),
-                                 (words, pair.current_part), (line, told, words))
+                                 (words, pair.current_part), (line, reported, words))
         self.assertEqual(len(verdict.parts), 2)
         made = CheckOutput(self.path("list"))
         made.read_line(FIRST)
@@ -159,21 +157,22 @@ class Midnight(Case):
     def test_advises_to_cut_a_file_at_midnight(self) -> None:
         day = FRAMES_OF_A_DAY
         times = [(100, 200), (day - 50, 20), (day - 40, day - 20), (10, 60), (5, 70)]
-        subtitles = SubtitleFile(programme(self, times))
+        subtitles = SubtitleFile(write_programme(self, times))
         for line, is_told in (
                 ("refused 21 Times block 1", False), ("refused 21 Times block 2", True),
                 ("refused 21 Times block 3", False), ("refused 56 Order block 4", True),
                 ("refused 56 Order block 5", False), ("refused 56 Order block 3", False),
                 ("refused 56 Order block 1", False), ("refused 20 Other block 2", False),
                 ("refused 57 Other block 4", False), ("refused 21 Times", False)):
-            told = fault_of_line(line)
-            assert told
-            self.assertEqual(advise_on_midnight(told, subtitles), AT_MIDNIGHT if is_told else "",
+            reported = fault_of_line(line)
+            assert reported
+            self.assertEqual(advise_on_midnight(reported, subtitles),
+                             AT_MIDNIGHT if is_told else "",
                              line)
-        told = fault_of_line("refused 56 Order block 2")
+        reported = fault_of_line("refused 56 Order block 2")
         for begin, wanted in ((day - 90_001, ""), (day - 90_000, AT_MIDNIGHT)):
-            subtitles = SubtitleFile(programme(self, [(begin, day - 100), (10, 60)]))
-            self.assertEqual(told and advise_on_midnight(told, subtitles), wanted, begin)
+            subtitles = SubtitleFile(write_programme(self, [(begin, day - 100), (10, 60)]))
+            self.assertEqual(reported and advise_on_midnight(reported, subtitles), wanted, begin)
 
 
 class LineOptions(Case):
@@ -188,12 +187,13 @@ class LineOptions(Case):
                 ("--start tcp --every 50", "--origin 9", (9, None, 50)),
                 ("--start tcp", "--origin=9 --every 25", (9, None, 25)),
                 ("--start tcp", "--every 25", (None, "tcp", 25))):
-            asked = request_of_line(["a.stl", "a.ts", *line.split()],
+            request = request_of_line(["a.stl", "a.ts", *line.split()],
                                     parser.parse_args(call.split()))
-            self.assertEqual((asked.origin, asked.start, asked.every), wanted, (call, line))
+            self.assertEqual((request.origin, request.start, request.every), wanted, (call, line))
         for name, wanted_name in (("-", "-"), ("-a", "./-a"), ("a", "a"), ("", ""), (None, None)):
-            self.assertEqual(asked_for("-a.stl", name).recording, wanted_name, (name, wanted_name))
-            self.assertEqual(asked_for("-a.stl", name).stl, "./-a.stl", (name, wanted_name))
+            self.assertEqual(request_for("-a.stl", name).recording, wanted_name,
+                             (name, wanted_name))
+            self.assertEqual(request_for("-a.stl", name).stl, "./-a.stl", (name, wanted_name))
         for words in (["a.stl", "-"], ["a.stl", "a.ts", "--origin", "1", "--start", "tcp"]):
             self.assertRaises(Stop, request_of_line, words, parser.parse_args([]))
 
@@ -201,11 +201,11 @@ class LineOptions(Case):
         for code, word in ((b"08", "german"), (b"09", "english"), (b"  ", "english"),
                            (b"0F", "french"), (b"ZZ", "english")):
             stl = self.write("one.stl", gsi_block(b"", 0, 0, language=code))
-            self.assertEqual(asked_for(stl, "a.ts", "--option", "auto").option, word, code)
-            self.assertEqual(asked_for(stl, "a.ts", "--option", "czech").option, "czech",
+            self.assertEqual(request_for(stl, "a.ts", "--option", "auto").option, word, code)
+            self.assertEqual(request_for(stl, "a.ts", "--option", "czech").option, "czech",
                              (code, word))
         for path in ("none.stl", self.folder, self.write("two.stl", b"850STL25.01100")):
-            self.assertEqual(asked_for(path, "a.ts", "--option", "auto").option, "english", path)
+            self.assertEqual(request_for(path, "a.ts", "--option", "auto").option, "english", path)
 
 
 # Cases that no other test covers.
@@ -227,7 +227,7 @@ class ChangingFiles(Case):
 
     def test_gives_no_verdict_if_a_file_changed_meanwhile(self) -> None:
         data = {"one.stl": example_bytes("story.stl"), "one.severity": b"79 warning\n",
-                "one.ts": in_stream((TELETEXT_PID, example_bytes("story.pes")))}
+                "one.ts": stream_of_pids((TELETEXT_PID, example_bytes("story.pes")))}
         for (change, does), name, when in itertools.product(
                 self.CHANGES.items(), data, ("survey*one.ts", "check*--pes*--all*")):
             for one, content in data.items():
@@ -236,7 +236,7 @@ class ChangingFiles(Case):
             program = self.program_but(when, f"(cd '{self.folder}'; "
                                        f"{does.replace('FILE', name)})")
             paths = [self.path(one) for one in ("one.stl", "one.ts", "one.severity")]
-            found = judged(self, *paths[:2], "--origin", "0", "--severity", paths[2],
+            found = judge_files(self, *paths[:2], "--origin", "0", "--severity", paths[2],
                            "-o", self.path("out"), by=program)
             word = "accepted" if change == "nothing" else "not judged"
             known = json.loads(self.read("out/one.json"))
@@ -252,12 +252,13 @@ class ChangingFiles(Case):
 class StoredRecordings(Case):
     def test_stores_the_complete_recording_of_an_unjudged_pair(self) -> None:
         pes = example_bytes("story.pes")
-        whole = in_stream((TELETEXT_PID, pes))
+        whole = stream_of_pids((TELETEXT_PID, pes))
         path = self.write("one.ts", whole)
         for origin, word in (("0", "accepted"), ("900000000", "not judged")):
             for recording, name, data in ((path, "one.recording.pes", pes),
-                                          (in_pipe(self, whole), "one.recording.ts", whole)):
-                found = judged(self, STORY, recording, "--origin", origin, "--keep", "-o", "out")
+                                          (write_pipe(self, whole), "one.recording.ts", whole)):
+                found = judge_files(self, STORY, recording, "--origin", origin, "--keep", "-o",
+                                    "out")
                 kept = os.path.join("out", name)
                 self.must(f"{word} {name}", found.word == word and os.path.exists(kept), found.said)
                 with open(kept, "rb") as file:
@@ -273,33 +274,15 @@ class Decisions(Case):
                     Span(11, 899), Span(901, 989)]), (NO_FRAME, [900, 990], [Span(901, 989)])):
             self.must(f"{before} {frames}", [*pauses_in(before, frames)] == wanted)
 
-    def test_starts_with_the_page_decoded_before_the_range(self) -> None:
-        sent = [b"first", b"second", b"second", b"third", b"third"]
-        packets = packets_told(self, b"".join(
-            pes_packet(TICKS * 25 * at, [HEADER, row(20, text), CLOSING])
-            for at, text in enumerate(sent)))
-        for first, text in enumerate(sent):
-            held = Timeline(packets, PAGE, 0, 0, (first, first)).state_after(first).rows[19]
-            self.must(f"{first}", text in held, held)
-
     def test_looks_back_as_far_as_the_repeat_interval(self) -> None:
-        packets = packets_told(self, b"".join(pes_packet(TICKS * at, [HEADER, CLOSING])
+        packets = survey_packets(self, b"".join(pes_packet(TICKS * at, [HEADER, CLOSING])
                                               for at in (0, 600, 1000)))
         for every, wanted in ((25, [1000]), (250, [1000]), (399, [1000]), (400, [600, 1000]),
                               (1000, [0, 600, 1000]), (3000, [0, 600, 1000])):
             near = timeline_near(packets, PAGE, 0, 0, Span(1000, 1001), every)
             self.must(f"{every}", [*near.sendings] == wanted, [*near.sendings])
 
-    def test_finds_a_repeated_page_across_a_pts_wrap(self) -> None:
-        rows = ((20, b"text"),)
-        for erased, sent, wanted in ((10, 20, 2), (10, 36, None), (-10, 5, 2), (-10, 15, 2),
-                                     (-10, 16, None), (-10, 1000, None)):
-            changes = [Change(TICKS * (erased - 5) % CLOCK, b"text", 0, rows),
-                       Change(TICKS * erased % CLOCK, b"", 1),
-                       Change(TICKS * sent % CLOCK, b"text", 2, rows)]
-            self.must(f"{erased} {sent}", back_at(changes, 0, 25) == wanted)
-
-    def test_letters_of_a_page(self) -> None:
+    def test_escapes_characters_of_a_page(self) -> None:
         for byte, wanted in ((ord("<"), "&lt;"), (ord("&"), "&amp;"), (ord(">"), "&gt;"),
                              (ord("A"), "A"), (0x0B, "<i>0B</i>")):
-            self.must(f"{byte:02X}", in_page(readable(byte)) == wanted)
+            self.must(f"{byte:02X}", markup_text(readable(byte)) == wanted)

@@ -20,9 +20,9 @@ from subtitles.judging.verdict import measure_delay
 from subtitles.stream.packets import Packets
 from subtitles.stream.receiver import BLANK_PAGE, Meeting, Rows, Timeline
 from .. import DEV
-from .judged import Judged, OfProgramme
-from .streams import Shape, multiplexed, of_teletext
-from .transmissions import CLOSING, HEADER, PAGE, Sent, row
+from .judged import JudgedPair, ProgrammeCase
+from .streams import Shape, make_multiplex, teletext_places
+from .transmissions import CLOSING, HEADER, PAGE, Sent, row_packet
 
 
 # Faults of the sender: another text in a pause, a header without rows.
@@ -37,78 +37,83 @@ def with_page(sent: Sent, frame: int, *rows: bytes) -> Sent:
     return sorted([*(one for one in sent if one[0] != pts), (pts, [HEADER, *rows, CLOSING])])
 
 
-class SenderFaults(OfProgramme):
+class SenderFaults(ProgrammeCase):
     due = TIMES
 
-    def with_pages(self, *pages: tuple[int, tuple[bytes, ...]]) -> Judged:
+    def with_pages(self, *pages: tuple[int, tuple[bytes, ...]]) -> JudgedPair:
         sent = self.sent
         for frame, rows in pages:
             sent = with_page(sent, BEGIN + frame, *rows)
         return self.judge(sent)
 
-    def causes(self, told: Judged) -> list[tuple[Any, ...]]:
+    def causes(self, told: JudgedPair) -> list[tuple[Any, ...]]:
         return [(one["name"], one["subtitle"]["number"], one["line"])
                 for one in told.result["causes"]]
 
     def test_names_another_text_in_a_pause(self) -> None:
-        wrong = (row(22, b"Others"),)
+        wrong = (row_packet(22, b"Others"),)
         for number, frame, time in ((1, 60, "10:00:02:10"), (3, 270, "10:00:10:20")):
-            told = self.with_pages((frame, wrong))
+            reported = self.with_pages((frame, wrong))
             words = f"another text was sent in a pause, at {time}"
-            self.must(f"{frame}", self.causes(told) == [
+            self.must(f"{frame}", self.causes(reported) == [
                 ("another text in a pause", number, f'{words}, received: "Others"')] and
-                told.verdict.sentence == f'Refused: {words}: "Others".' and
-                told.lines("cause: ") == [f'{words}, received: "Others"'], told.said)
-        told = self.with_pages((60, wrong), (270, wrong))
-        self.must("two", told.verdict.sentence == "Refused: another text was sent in 2 pauses, the "
-                  "first at 10:00:02:10.", told.verdict.sentence)
-        told = self.with_pages((60, wrong), (130, wrong))
-        self.must("a wrong text", told.result["cause_counts"]["another text in a pause"] == 1 and
-                  told.result["cause_counts"]["wrong text"] == 1, told.said)
+                reported.verdict.sentence == f'Refused: {words}: "Others".' and
+                reported.lines("cause: ") == [f'{words}, received: "Others"'], reported.said)
+        reported = self.with_pages((60, wrong), (270, wrong))
+        self.must("two",
+                  reported.verdict.sentence == "Refused: another text was sent in 2 pauses, the "
+                  "first at 10:00:02:10.", reported.verdict.sentence)
+        reported = self.with_pages((60, wrong), (130, wrong))
+        self.must("a wrong text",
+                  reported.result["cause_counts"]["another text in a pause"] == 1 and
+                  reported.result["cause_counts"]["wrong text"] == 1, reported.said)
 
     def test_a_text_of_the_file_is_no_other_text(self) -> None:
-        told = self.with_pages((60, (row(22, b"Number 1"),)))
-        self.must("ours", "another text in a pause" not in [one[0] for one in self.causes(told)],
-                  told.said)
+        reported = self.with_pages((60, (row_packet(22, b"Number 1"),)))
+        self.must("ours",
+                  "another text in a pause" not in [one[0] for one in self.causes(reported)],
+                  reported.said)
 
     def test_names_an_extra_row(self) -> None:
         own = next(some[1] for pts, some in self.sent if pts == TICKS * (BEGIN + 100))
-        for rows, words in (((own, row(11, b"Share prices")), "an additional row: 11"),
-                            ((row(3, b"A"), row(11, b"B"), own), "additional rows: 3 and "
-                             "11"), ((row(11, b"Share prices"), row(22, b"Number 9")), "")):
-            told = self.with_pages((100, rows))
-            found = told.result["causes"][0]
+        for rows, words in (((own, row_packet(11, b"Share prices")), "an additional row: 11"),
+                            ((row_packet(3, b"A"), row_packet(11, b"B"), own),
+                             "additional rows: 3 and "
+                             "11"),
+                             ((row_packet(11, b"Share prices"), row_packet(22, b"Number 9")), "")):
+            reported = self.with_pages((100, rows))
+            found = reported.result["causes"][0]
             self.must(words, found["name"] == "wrong text" and words in found["line"] and
-                      ("additional" in found["line"]) == bool(words), told.said)
+                      ("additional" in found["line"]) == bool(words), reported.said)
             self.must(f"{words}: "
                       "sentence", (f"has the wrong text ({words}): "
                                              "expected " if words else
                                              "has the wrong text: "
-                                             "expected ") in told.verdict.sentence,
-                      told.verdict.sentence)
+                                             "expected ") in reported.verdict.sentence,
+                      reported.verdict.sentence)
 
     def test_names_a_header_without_rows(self) -> None:
         for frame, time in ((10, "10:00:00:10"), (330, "10:00:13:05")):
-            told = self.with_pages((frame, ()))
-            self.must(f"{frame}", self.causes(told) == [(
+            judged = self.with_pages((frame, ()))
+            self.must(f"{frame}", self.causes(judged) == [(
                 "erased", frame // 100 + 1, f"erased: by a header without rows, at {time}")] and
-                "is erased before its TCO (by a header without rows, at" in told.verdict.sentence,
-                told.said)
+                "is erased before its TCO (by a header without rows, at" in judged.verdict.sentence,
+                judged.said)
         sent = self.sent
         at = next(number for number, (pts, _) in enumerate(sent) if pts == (BEGIN + 25) * TICKS)
         pts, packets = sent[at]
         sent[at:at + 1] = [(pts, packets[:1]), (pts + 2 * TICKS, packets[1:])]
-        told = self.judge(sent)
-        self.must("rows later", [one[0] for one in self.causes(told)] == ["unknown"] and
-                  "it disappears at 10:00:01:00" in self.causes(told)[0][2], told.said)
+        judged = self.judge(sent)
+        self.must("rows later", [one[0] for one in self.causes(judged)] == ["unknown"] and
+                  "it disappears at 10:00:01:00" in self.causes(judged)[0][2], judged.said)
 
     def test_names_a_subtitle_whose_transmissions_are_lost(self) -> None:
-        made = multiplexed(self.pes, Shape(100))
+        made = make_multiplex(self.pes, Shape(100))
         for frames, wanted in (((200, 225), [("not received", 3)]), ((225,), [])):
-            gone = {of_teletext(made, (BEGIN + frame) * TICKS)[0] for frame in frames}
-            told = self.judge_stream(one for at, one in enumerate(made) if at not in gone)
-            names = [(one["name"], one["subtitle"]["number"]) for one in told.result["causes"]]
-            self.must(f"{frames}", told.word == "refused" and names == wanted, told.said)
+            missing = {teletext_places(made, (BEGIN + frame) * TICKS)[0] for frame in frames}
+            judged = self.judge_stream(one for at, one in enumerate(made) if at not in missing)
+            names = [(one["name"], one["subtitle"]["number"]) for one in judged.result["causes"]]
+            self.must(f"{frames}", judged.word == "refused" and names == wanted, judged.said)
 
     def test_the_manual_lists_each_cause(self) -> None:
         rows = read(os.path.join(TOP, "docs", "manual", "refusals.md")) or ""
@@ -148,9 +153,9 @@ def empty(within: int = 0) -> Timeline:
     return Timeline(Packets(0), PAGE, 0, within)
 
 
-def steady(held: Timeline) -> None:
+def steady(decoded: Timeline) -> None:
     """Give a timeline 500 PES packets, so that a pause counts."""
-    held.count = 500
+    decoded.count = 500
 
 
 def fake_answer(spans: list[tuple[int, int]], *edges: tuple[int, int]) -> Any:
@@ -210,36 +215,36 @@ class RandomRow:
 
     def decode(self) -> Timeline:
         """Return the decoded pages; in some rows with unreadable frames or pauses."""
-        chance, held = self.chance, empty(self.within)
-        held.first = chance.choice((0, 0, self.programme.begins[0] - 20))
+        chance, decoded = self.chance, empty(self.within)
+        decoded.first = chance.choice((0, 0, self.programme.begins[0] - 20))
         for frame, text in self.sent:
-            held.change(frame, page_of(text))
+            decoded.change(frame, page_of(text))
             for at in (frame, frame + chance.choice((0, 0, 1, 4))) * (text != "-"):
-                held.turn(at)
-        held.last = chance.choice((END, END, self.sent[-1][0] + 10))
+                decoded.turn(at)
+        decoded.last = chance.choice((END, END, self.sent[-1][0] + 10))
         if chance.randrange(4) == 0:
             begin = chance.randrange(600)
-            held.doubts = [Span(begin, begin + chance.choice((5, 100)))]
+            decoded.doubts = [Span(begin, begin + chance.choice((5, 100)))]
         if chance.randrange(4) == 0:
             begin = chance.choice(self.programme.begins) - 5
-            steady(held)
-            held.pauses = [Span(begin, begin + chance.choice((4, 5, 6, 40)))]
+            steady(decoded)
+            decoded.pauses = [Span(begin, begin + chance.choice((4, 5, 6, 40)))]
         if chance.randrange(8) == 0:
             frame = self.programme.begins[-1] + 2
-            held.strays = [(Span(frame, frame), ((19, self.programme.pages[-1][18]),))]
-        return held
+            decoded.strays = [(Span(frame, frame), ((19, self.programme.pages[-1][18]),))]
+        return decoded
 
     def row(self) -> str:
         """Return the row: expected pages, decoded pages, and causes."""
-        held, chance, begin = self.held, self.chance, self.programme.begins[0]
+        decoded, chance, begin = self.held, self.chance, self.programme.begins[0]
         lost = [Span(one, one + 30) for one in (begin - 10, begin + 200)
                 if chance.randrange(5) == 0]
-        reach = Span(begin - chance.choice((2, 3, 4, 300)), held.last + chance.choice((0, 30))) \
+        reach = Span(begin - chance.choice((2, 3, 4, 300)), decoded.last + chance.choice((0, 30))) \
             if chance.randrange(2) else None
-        held.first = chance.choice((held.first, begin, begin + 2))
-        held.lost = Meeting(lost)
-        causes = Causes(self.programme, held, reach)
-        wrong = {frame: None for frame in range(min(held.last, END))
+        decoded.first = chance.choice((decoded.first, begin, begin + 2))
+        decoded.lost = Meeting(lost)
+        causes = Causes(self.programme, decoded, reach)
+        wrong = {frame: None for frame in range(min(decoded.last, END))
                  if not causes.finder.is_expected_page(frame)}
         edges = [(63, begin + 3), (74, self.programme.subtitles[-1].end - 3)] \
             if self.chance.randrange(3) == 0 else []
@@ -248,19 +253,19 @@ class RandomRow:
         causes.classify_all(fake_answer([*zip(begins, ends)], *edges))
         pages = {page: text for text in [*(text for _, text in self.sent), "-"]
                  if (page := page_of(text))}
-        said = [f"{one.subtitle_index} {one.name} {one.frames} {one.other_index} "
+        printed = [f"{one.subtitle_index} {one.name} {one.frames} {one.other_index} "
                 f"{'' if one.sent_page is None else pages.get(one.sent_page, 'due')} "
                 f"{one.final_frame} {one.details}"
                 for one in causes.list_causes()]
         known = [one and one.subtitle_index
                  for one in (causes.find_cause(63, 0), causes.find_cause(74, 0), *(
             causes.find_cause(72, frame) for frame in begins[:3]))]
-        delays = [[measure_delay(one, page, held, is_complete) for one, page in zip(
+        delays = [[measure_delay(one, page, decoded, is_complete) for one, page in zip(
             self.programme.subtitles, self.programme.pages)] for is_complete in (False, True)]
         sent = " ".join(f"{frame}:{text}" for frame, text in self.sent)
-        about = f"{self.within} {held.first} {held.last} {lost} {reach} {known}"
+        about = f"{self.within} {decoded.first} {decoded.last} {lost} {reach} {known}"
         return "\t".join([self.subtitles, sent, about,
-                          "; ".join(said), f"{delays[0]} {delays[1]}"])
+                          "; ".join(printed), f"{delays[0]} {delays[1]}"])
 
 
 class StoredRows(unittest.TestCase):
@@ -362,18 +367,18 @@ class WorkedRows(unittest.TestCase):
             programme = ExpectedPages(
                 [Subtitle(at, at, begin, end, 20, 2, b"") for at, (begin, end) in
                  enumerate(times, 1)], [page_of(one[-1]) for one in subtitles.split(";")])
-            held, pages = empty(), dict[Rows, str]()
+            decoded, pages = empty(), dict[Rows, str]()
             for frame, _, name in (one.partition(":") for one in sent.split() if ":" in one):
-                held.change(int(frame), page_of(name))
+                decoded.change(int(frame), page_of(name))
                 pages[page_of(name)] = name
-            held.first, held.last = 0, 999
-            held.doubts, held.pauses = (
+            decoded.first, decoded.last = 0, 999
+            decoded.doubts, decoded.pauses = (
                 [Span(*map(int, one[1:].split("-"))) for one in sent.split() if one[0] == mark]
                 for mark in "?!")
-            steady(held)
-            held.strays = [(Span(int(one[1:]), int(one[1:])), ((19, programme.pages[0][18]),))
+            steady(decoded)
+            decoded.strays = [(Span(int(one[1:]), int(one[1:])), ((19, programme.pages[0][18]),))
                            for one in sent.split() if one[0] == "@"]
-            causes = Causes(programme, held)
+            causes = Causes(programme, decoded)
             faulty = [frame for frame in range(500) if not causes.finder.is_expected_page(frame)]
             causes.classify_all(fake_answer([(begin, next(last for last in range(begin, 501)
                                            if last + 1 not in faulty))
@@ -390,22 +395,22 @@ class WorkedRows(unittest.TestCase):
     def test_extends_the_recording_by_its_pcr(self) -> None:
         for reach, wanted in ((None, (10, 20)), ((5, 30), (5, 30)), ((12, 18), (10, 20)),
                               ((5, 18), (5, 20)), ((12, 30), (10, 30))):
-            held = empty()
-            held.first, held.last = 10, 20
-            causes = Causes(ExpectedPages([], []), held, reach and Span(*reach))
+            decoded = empty()
+            decoded.first, decoded.last = 10, 20
+            causes = Causes(ExpectedPages([], []), decoded, reach and Span(*reach))
             self.assertEqual(causes.find_covered_span(), wanted, reach)
 
     def test_looks_around_the_first_and_last_frame(self) -> None:
         for held_from, first, last, wanted in (
                 (100, 100, 149, (0, None)), (101, 97, 149, (0, None)), (101, 98, 149, (None, None)),
                 (101, 98, 150, (None, 0)), (101, 98, 151, (None, 0)), (90, 103, 150, (0, 0))):
-            programme, held = ExpectedPages([Subtitle(1, 1, 100, 150, 20, 2, b"")],
+            programme, decoded = ExpectedPages([Subtitle(1, 1, 100, 150, 20, 2, b"")],
                                             [page_of("a")]), \
                 empty()
             for frame, name in ((held_from, "-"), (103, "a"), (155, "-")):
-                held.change(frame, page_of(name))
-            held.first, held.last = 103, 140
-            causes = Causes(programme, held, Span(first, last))
+                decoded.change(frame, page_of(name))
+            decoded.first, decoded.last = 103, 140
+            causes = Causes(programme, decoded, Span(first, last))
             causes.classify_all(fake_answer([], (63, 103), (74, 140)))
             found = tuple(one and one.subtitle_index
                           for one in (causes.find_cause(63, 103), causes.find_cause(74, 140)))
@@ -417,7 +422,7 @@ class WorkedRows(unittest.TestCase):
                                    for at in (1, 2, 3)], pages)
         wording = CauseDescriber(Causes(programme, empty()), "english")
         due, other, strange = (f"Line {name} / and more {name}" for name in "acz")
-        for name, frames, sent, of, words, said in (
+        for name, frames, sent, of, words, printed in (
                 (LATE, 3, "a", None, "", "late by 3 frames"),
                 (EARLY, 1, None, None, "why", "early by 1 frame: why"),
                 (NOT_ERASED, None, "a", None, "", "not erased at 00:00:06:00"),
@@ -432,10 +437,11 @@ class WorkedRows(unittest.TestCase):
                 (known["name"], known["frames"], known["expected_text"], known["decoded_text"],
                  known["other_number"], known["other_position"], known["line"], known["subtitle"]),
                 (name, frames, due, sent and f"Line {sent} / and more {sent}", of and 8, of and 3,
-                 said, {"position": 1, "number": 6, "begin": "00:00:04:00", "end": "00:00:06:00"}),
+                 printed,
+                 {"position": 1, "number": 6, "begin": "00:00:04:00", "end": "00:00:06:00"}),
                              (name, frames, sent))
             self.assertEqual(wording.format_line(one), "cause: subtitle 1 (SN 6) at 00:00:04:00, "
-                             f'"{due}": {said}', (name, frames, sent))
+                             f'"{due}": {printed}', (name, frames, sent))
 
     def test_counts_causes_of_all_parts_by_name(self) -> None:
         chance = random.Random(3)

@@ -18,12 +18,13 @@ from subtitles.request.request import CHOICES, option_line, request_of
 from subtitles.stream.pace import PAUSED, Pace, REGULAR
 from subtitles.stream.repeats import Repeats
 from .bench import Case, example, tool_path
-from .judged import Judged, OfProgramme, judged
-from .streams import OLD, Shape, in_turn, multiplexed, stream
-from .parts import asked_for
-from .results import wrong_choices
+from .judged import JudgedPair, ProgrammeCase, judge_files
+from .streams import OLD, Shape, stream_by_plan, make_multiplex, stream_bytes
+from .parts import request_for
+from .results import choice_errors
 from .transmissions import (
-    ORIGIN, apart, in_pipe, joined, packets, programme, sendings, subtitle_file, times)
+    ORIGIN, with_pauses, write_pipe, pes_file, packets, write_programme, schedule_pages,
+    write_subtitle_file, subtitle_times)
 from .test_judging_reasons import KEEPING_HEADER
 
 
@@ -56,7 +57,7 @@ LANGUAGES = {b"08": ("german", "the language of the file (LC) is 08"),
              None: ("english", "the file names no language (LC)")}
 
 
-def choices_of(found: Judged) -> list[tuple[Any, ...]]:
+def choices_of(found: JudgedPair) -> list[tuple[Any, ...]]:
     """Return the choices in a result, in the order of the options."""
     keys = ("option", "value", "matches", "total", "part", "line")
     return sorted((tuple(choice[key] for key in keys) for choice in found.result["choices"]),
@@ -64,49 +65,49 @@ def choices_of(found: Judged) -> list[tuple[Any, ...]]:
 
 
 class Choices(Case):
-    def check_choices(self, name: str, found: Judged, wanted: list[tuple[Any, ...]]) -> None:
+    def check_choices(self, name: str, found: JudgedPair, wanted: list[tuple[Any, ...]]) -> None:
         """Check the choices in the result, and that each was printed."""
-        wrong = [*wrong_choices(found.result, found.said)]
+        wrong = [*choice_errors(found.result, found.said)]
         self.must(name, choices_of(found) == wanted and not wrong,
                   (choices_of(found), wrong, found.said))
 
     def test_lists_each_choice_with_its_evidence(self) -> None:
         for words, wanted in ROWS:
-            self.check_choices(f"{words}", judged(self, *words), wanted)
+            self.check_choices(f"{words}", judge_files(self, *words), wanted)
 
     def test_chooses_a_clock_and_a_range_for_each_part(self) -> None:
-        stl = programme(self, times(24))
-        path = self.write("one.pes", joined(apart(sendings(self, stl), 130)))
+        stl = write_programme(self, subtitle_times(24))
+        path = self.write("one.pes", pes_file(with_pauses(schedule_pages(self, stl), 130)))
         second = f"{ORIGIN + 130 * TICKS}"
         for words, clocks in (((), [(f"{ORIGIN}", 1), (second, 2)]),
                               (("--origin", f"{ORIGIN}"), [(second, 2)])):
-            found = judged(self, stl, path, "--breaks", "1", "--every", "25", *words)
+            found = judge_files(self, stl, path, "--breaks", "1", "--every", "25", *words)
             self.must("clocks",
                       [(one[1], one[4]) for one in choices_of(found) if one[0] == "origin"]
                       == clocks
                       and [one[4] for one in choices_of(found) if one[0] == "pes"] == [1, 2]
-                      and not [*wrong_choices(found.result, found.said)], found.said)
+                      and not [*choice_errors(found.result, found.said)], found.said)
 
     def test_notes_the_evidence_of_a_pace_or_why_none(self) -> None:
-        stl = programme(self, times(60))
-        sent = sendings(self, stl)
+        stl = write_programme(self, subtitle_times(60))
+        sent = schedule_pages(self, stl)
         every = [(TICKS * frame, dict(sent).get(TICKS * frame, [])) for frame in range(100, 6100)]
-        path = self.write("one.pes", joined(every))
-        found = judged(self, stl, path, "--origin", "0")
+        path = self.write("one.pes", pes_file(every))
+        found = judge_files(self, stl, path, "--origin", "0")
         pace = [one for one in choices_of(found) if one[0] == "pace"]
         self.must("asked", pace == [
             ("pace", "1", pace[0][3], pace[0][3], 1, "pace: at most 1 frame from one PES packet to "
              "the next: --pace 1")] and pace[0][3] > 5_000, found.said)
-        made = multiplexed([pes_packet(pts + TICKS * 250, some) for pts, some in every
+        made = make_multiplex([pes_packet(pts + TICKS * 250, some) for pts, some in every
                         if some or pts // TICKS % 60 < 25], Shape(100))
-        path = self.write("one.ts", stream(made))
+        path = self.write("one.ts", stream_bytes(made))
         for words in ((), ("--pace", "none")):
-            found = judged(self, stl, path, "--origin", f"{TICKS * 250}", *words)
+            found = judge_files(self, stl, path, "--origin", f"{TICKS * 250}", *words)
             pace = [one for one in choices_of(found) if one[0] == "pace"]
             self.must(f"{words}",
                       [one[1:5] for one in pace] == [(None, None, None, 1)] * (not words)
                       and all("not checked for " in one[5] for one in pace)
-                      and not [*wrong_choices(found.result, found.said)], found.said)
+                      and not [*choice_errors(found.result, found.said)], found.said)
 
     def test_chooses_the_option_of_the_language_code(self) -> None:
         with open(TS[0], "rb") as file:
@@ -114,9 +115,10 @@ class Choices(Case):
         for language, (option, why) in LANGUAGES.items():
             path = self.write(
                 "one.stl", b"" if language is None else data[:14] + language + data[16:])
-            asked = request_of(make_parser("").parse_args([path, "--option", "auto"]))
-            self.must(f"{language!r}", asked.option == option and
-                      option_line(asked) == f"option: {option}, since {why}", option_line(asked))
+            request = request_of(make_parser("").parse_args([path, "--option", "auto"]))
+            self.must(f"{language!r}", request.option == option and
+                      option_line(request) == f"option: {option}, since {why}",
+                      option_line(request))
 
     def test_chooses_the_option_of_each_pair_of_a_batch(self) -> None:
         self.write("list", "\n".join([" ".join(PES), f"{' '.join(PES)} --option english"]).encode())
@@ -151,8 +153,8 @@ WORDS = "--origin", "0", "--every", "100"
 
 class Magazines(Case):
     def test_judges_only_the_requested_page(self) -> None:
-        stl = programme(self, times(5))
-        other = programme(self, times(5), text=b"Another %d", name="other.stl")
+        stl = write_programme(self, subtitle_times(5))
+        other = write_programme(self, subtitle_times(5), text=b"Another %d", name="other.stl")
         for magazine in range(1, 9):
             page, wrong = f"{magazine}88", "188" if magazine == 8 else "888"
             for name, first, second in (("right", page, wrong), ("wrong", wrong, page)):
@@ -162,16 +164,16 @@ class Magazines(Case):
                 path = self.write("both.pes", b"".join(pes_packet(pts_in(one), [
                     *teletext_packets(data_field(one)), *teletext_packets(data_field(two))])
                     for one, two in both))
-                found = judged(self, stl, path, "--page", page, *WORDS)
+                found = judge_files(self, stl, path, "--page", page, *WORDS)
                 self.must(f"{page} {name}", found.word == (
                     "accepted" if name == "right" else "refused") and
                     found.result["request"]["page"] == page and
                     (f"--page {page}" in found.lines("+ ")[-1]) == (page != "888"), found.said)
-            found = judged(self, stl, self.path("first.pes"), "--page", page, *WORDS)
+            found = judge_files(self, stl, self.path("first.pes"), "--page", page, *WORDS)
             self.must(f"{page}: not sent", found.word == "not judged", found.said)
 
 
-class ForeignPackets(OfProgramme):
+class ForeignPackets(ProgrammeCase):
     words = WORDS
 
     def setUp(self) -> None:
@@ -188,7 +190,7 @@ class ForeignPackets(OfProgramme):
                     one[:4] + (len(one) + 4).to_bytes(2, "big") + one[6:] + b"\xff" * 10
             return [(OLD, one)]
 
-        return in_turn(self.pes, [(0, OLD)], carried)
+        return stream_by_plan(self.pes, [(0, OLD)], carried)
 
     def test_reports_where_the_teletext_ends(self) -> None:
         for number, word in ((31, "Start"), (32, "Length")):
@@ -200,8 +202,8 @@ class ForeignPackets(OfProgramme):
                 data, end = self.make_stream(first, number), min(first, 49) - 1
                 for recording, words in ((self.write("one.ts", data), ()),
                                          (self.path("one.ts"), ("--pid", "0x101")),
-                                         (in_pipe(self, data), ())):
-                    found = judged(self, self.stl, recording, *WORDS, *words)
+                                         (write_pipe(self, data), ())):
+                    found = judge_files(self, self.stl, recording, *WORDS, *words)
                     why = f"from PES packet {first} on: refused {number} {word} pes {first}"
                     self.must(f"{number} {first} {words}", found.verdict.line == line and
                               (why in found.verdict.sentence) == (first < 49) and
@@ -229,7 +231,7 @@ def text_of(number: int, end: str = "") -> bytes:
 class Profiles(Case):
     def write_stl(self, name: str, end: str = "", justify: int = 2, count: int = 12) -> str:
         """Write a subtitle file; `end` is added at both ends of each line."""
-        return subtitle_file(self, [(begin, begin + LASTS, text_of(number, end))
+        return write_subtitle_file(self, [(begin, begin + LASTS, text_of(number, end))
                                     for number in range(count)
                                     for begin in [FIRST + EACH * number]], name, 0, 20, justify)
 
@@ -262,24 +264,24 @@ class Profiles(Case):
 
     def test_a_measured_profile_accepts_its_recording(self) -> None:
         stl = self.write_stl("one.stl")
-        sent = sendings(self, stl, "--layout", "fit,after=0A")
+        sent = schedule_pages(self, stl, "--layout", "fit,after=0A")
         moved = []
         for pts, some in sent:
             frame = pts // TICKS - FIRST
             is_begin = frame % EACH == 0 and 0 <= frame < 12 * EACH
             moved.append((pts + TICKS * (frame // EACH % 3) * is_begin, some))
-        pes = self.write("one.pes", joined(moved))
+        pes = self.write("one.pes", pes_file(moved))
         words = [stl, pes, "--origin", "0"]
         found = self.proposed(*words)
         self.must("proposed", found == [
             "--page 888", "--option english", "--every 25", "--within 2",
             "--late 0:3,1:4,2:4/0:12", "--layout after=0A"], found)
-        again = judged(self, stl, pes, "--origin", "0", "--profile", self.path("profile"))
+        again = judge_files(self, stl, pes, "--origin", "0", "--profile", self.path("profile"))
         self.must("accepted", again.word == "accepted", again.said)
 
     def test_measures_delays_of_begins_and_ends_by_a_given_clock(self) -> None:
         stl = self.write_stl("one.stl")
-        sent = sendings(self, stl)
+        sent = schedule_pages(self, stl)
         rows: list[tuple[str, dict[int, int], dict[int, int], tuple[str, str, list[str]]]] = [
                 ("none", {}, {}, ("0:11", "0:12", [])),
                 ("begins", {1: 3, 2: 1}, {}, ("0:9, 1:1, 3:1", "0:12", [
@@ -294,7 +296,7 @@ class Profiles(Case):
                 by = begins.get(number, 0) if rest == 0 else ends.get(number, 0) \
                     if rest == LASTS else 0
                 moved.append((pts + by * TICKS, some))
-            pes = self.write(f"{name}.pes", joined(sorted(moved, key=lambda one: one[0])))
+            pes = self.write(f"{name}.pes", pes_file(sorted(moved, key=lambda one: one[0])))
             lines = self.profile(stl, pes, "--origin", "0")
             counts = f"# within, late: in-cues {wanted[0]}; out-cues {wanted[1]} (frames " \
                      "late:how many)"
@@ -318,33 +320,33 @@ class Profiles(Case):
                 ("before=0B", "receivers show a line only after two start boxes"),
                 ("row=-10", "no site moves all by more than 2 rows"), ("row=-1", ""),
                 ("before=0B0B06", ""), ("double,row=-1", ""), ("", "")):
-            pes = self.write("one.pes", joined(sendings(
+            pes = self.write("one.pes", pes_file(schedule_pages(
                 self, stl, *(["--layout", text] if text else []))))
             lines = self.profile(stl, pes)
             found = [line for line in lines if line.startswith("--layout")]
             self.must(text, found == ([f"--layout {text}"] if text and not why else []), lines)
             self.must(f"{text}: why", not why or any(line.endswith(f"more of 12: {why}") for line in
                                                    lines), lines)
-        for name, end, justify, words, said in (
+        for name, end, justify, words, printed in (
                 ("spaces", " ", 2, (), "a space is in the box in 12 of the 12 others"),
                 ("block", "", 1, ("--layout", "left=9"),
                  "lines form a block, aligned left, in ")):
-            pes = self.write("one.pes", joined(sendings(
+            pes = self.write("one.pes", pes_file(schedule_pages(
                 self, self.write_stl(f"{name}.stl", end, justify), *words)))
             lines = self.profile(stl, pes)
             self.must(name, not any(line.startswith("--layout") for line in lines) and
-                      any(said in line for line in lines) and
+                      any(printed in line for line in lines) and
                       any("The nearest, " in line for line in lines) and
                       any(line.startswith(f"# against it: {stl}, subtitle 1 (SN 0) at 10:00:00:00: "
                                           "sent row ") for line in lines), lines)
 
     def test_names_a_subtitle_with_another_layout(self) -> None:
         stl = self.write_stl("one.stl")
-        one, other = sendings(self, stl, "--layout", "after=0A"), sendings(self, stl)
+        one, other = schedule_pages(self, stl, "--layout", "after=0A"), schedule_pages(self, stl)
         frame = (FIRST + 3 * EACH) * TICKS
         mixed = [second if frame <= first[0] < frame + LASTS * TICKS else first
                  for first, second in zip(one, other)]
-        lines = self.profile(stl, self.write("one.pes", joined(mixed)))
+        lines = self.profile(stl, self.write("one.pes", pes_file(mixed)))
         against = [line for line in lines if line.startswith("# against it: ")]
         self.must("one", "--layout after=0A" in lines and len(against) == 1 and
                   f"{stl}, subtitle 4 (SN 3) at 10:00:12:00: sent row 20" in against[0], lines)
@@ -353,9 +355,9 @@ class Profiles(Case):
 
     def test_proposes_keeping_if_nothing_else_is_wrong_in_headers(self) -> None:
         stl = self.write_stl("one.stl")
-        sent = sendings(self, stl)
+        sent = schedule_pages(self, stl)
         for name, changed, is_proposed in (("erase", None, False), ("keep", KEEPING_HEADER, True)):
-            pes = self.write("one.pes", joined([
+            pes = self.write("one.pes", pes_file([
                 (pts, [changed if changed and at == 0 and (pts // TICKS - FIRST) % EACH in (25, 50)
                        else one for at, one in enumerate(some)]) for pts, some in sent]))
             lines = self.profile(stl, pes)
@@ -378,7 +380,7 @@ class Profiles(Case):
     def test_proposes_only_what_all_recordings_show(self) -> None:
         one = Shown("0x101", [], [Repeats(9, 25, 7, 25)], [Pace(REGULAR, 1, 3)], [Delays(
             Counter({0: 3}), Counter({0: 3}), [], [])], (9, 0), True, {"english"}, [])
-        asked = asked_for("a.stl", "a.ts", "--origin", "0")
+        request = request_for("a.stl", "a.ts", "--origin", "0")
         same = ["--page 888", "--pid 0x101", "--option english", "--every 25", "--pace 2"]
         late = Delays(Counter({0: 1, 2: 1}), Counter({1: 4}), [], [])
         rows: list[tuple[dict[str, Any], str, str]] = [
@@ -392,17 +394,17 @@ class Profiles(Case):
             ({"delays": [late]}, "", "--within 2|--late 0:4,2:1/0:3,1:4"),
             ({"headers": (9, 4)}, "", "--keeping"),
             ({"headers": (9, 4), "is_alone": False}, "", ""), ({"is_alone": False}, "", "")]
-        for changes, gone, new in rows:
-            wanted = {*same, *filter(None, new.split("|"))} - {gone}
+        for changes, missing, new in rows:
+            wanted = {*same, *filter(None, new.split("|"))} - {missing}
             for two in itertools.permutations((one, one._replace(**changes))):
-                lines = [*profile_lines([asked, asked], two)]
+                lines = [*profile_lines([request, request], two)]
                 found = [line for line in lines if not line.startswith("#")]
                 self.must(f"{changes}", {*found} == wanted and len(found) == len(wanted), lines)
 
     def test_refuses_wrong_arguments(self) -> None:
         stl = self.write_stl("one.stl")
-        pes = self.write("one.pes", joined(sendings(self, stl)))
-        for words, said in (
+        pes = self.write("one.pes", pes_file(schedule_pages(self, stl)))
+        for words, printed in (
                 ([stl], f"--measure needs pairs, STL RECORDING: {stl} has no recording"),
                 ([stl, pes, stl, pes, "--origin", "0"], "--origin and --start give the clock of "
                  "one recording: for several, give a list"),
@@ -411,8 +413,8 @@ class Profiles(Case):
                 ([stl, pes, "--every", "25"], "--every may be given with a recording"),
                 ([stl, pes, "--batch", "x"], "can't be given together")):
             done = self.tool("qc", "--measure", *words)
-            self.must(said, done.status == 2 and not done.out and len(done.told) == 1 and
-                      said in done.told[0], done)
+            self.must(printed, done.status == 2 and not done.out and len(done.told) == 1 and
+                      printed in done.told[0], done)
         known = read_options(make_parser(""), ["--measure", stl, pes], {}, {})
         self.must("a call", measure(known, "tools/qc") == 0)
 

@@ -28,8 +28,8 @@ from subtitles.stream.packets import Packets
 from subtitles.stream.receiver import BLANK_PAGE, FEW, Rows, Timeline
 from subtitles.stream.survey import Announced
 from .bench import Case
-from .parts import asked_for, call_words, defaults, packets_told, timeline_of
-from .transmissions import CLOSING, HEADER, PAGE, row
+from .parts import request_for, call_arguments, default_options, survey_packets, decode_packets
+from .transmissions import CLOSING, HEADER, PAGE, row_packet
 
 
 class Results(Case):
@@ -59,9 +59,9 @@ class Results(Case):
                    ["--allow-lost"]]
         every = [word for one in options if one[0] != "--start" for word in one]
         for words in [list[str](), *options, every]:
-            asked = asked_for("one.stl", "one.pes", *words)
-            again = request_of_line(call_words(asked), defaults())
-            self.must(f"{words}", REQUEST.made(again) == REQUEST.made(asked), again)
+            request = request_for("one.stl", "one.pes", *words)
+            again = request_of_line(call_arguments(request), default_options())
+            self.must(f"{words}", REQUEST.made(again) == REQUEST.made(request), again)
 
 
 class Folders(Case):
@@ -79,7 +79,7 @@ class Folders(Case):
             os.mkdir(folder)
             for file in files:
                 self.write(f"{name}/{file}", b"")
-            items = of_folder(folder, defaults())
+            items = of_folder(folder, default_options())
             found = [item.name + "?" * (item.asked is None) for item in items]
             self.must(name, [one.lower() if wanted == ["a"] else one for one in found] == wanted,
                       found)
@@ -103,11 +103,11 @@ class Folders(Case):
                     self.write("a file", b"")
                     os.symlink({"to file": self.path("a file"), "to folder": folder}.get(
                         kind, "nowhere"), path)
-            [item] = of_folder(folder, defaults())
+            [item] = of_folder(folder, default_options())
             self.must(f"{first} {second}", (item.asked is not None) == is_pair, item)
-        wrong = defaults("--origin", "5")
+        wrong = default_options("--origin", "5")
         wrong.start = "tcp"
-        for options in (defaults(), wrong):  # inputs in both cases
+        for options in (default_options(), wrong):  # inputs in both cases
             [item] = of_folder(self.path("0"), options)
             self.must("files", ((item.asked is None) == (options is wrong), {*item.files} - {None})
                       == (True, {self.path("0/a.stl"), self.path("0/a.ts")}), item)
@@ -121,7 +121,7 @@ class Folders(Case):
         def due(clock: Callable[[], float]) -> list[str]:
             with mock.patch("time.monotonic", clock):
                 return [item.name for item in watch.ready_items(
-                    of_folder(self.path("in"), defaults()))]
+                    of_folder(self.path("in"), default_options()))]
 
         for now, wanted in ((100, []), (109, []), (110, ["one"]), (111, []), (150, [])):
             self.must(f"at {now}", due(lambda: now) == wanted)
@@ -145,18 +145,18 @@ class Folders(Case):
         os.mkdir(self.path("in"))
         watch = FolderWatch(self.path("in"), 0)
 
-        def told(now: float) -> int:
-            with contextlib.redirect_stderr(io.StringIO()) as told:
+        def errors(now: float) -> int:
+            with contextlib.redirect_stderr(io.StringIO()) as errors:
                 with mock.patch("time.monotonic", lambda: now):
-                    watch.ready_items(of_folder(self.path("in"), defaults()))
-            return len(told.getvalue().splitlines())
+                    watch.ready_items(of_folder(self.path("in"), default_options()))
+            return len(errors.getvalue().splitlines())
 
         self.write("in/one.stl", b"1")
-        self.must("alone", [told(at) for at in range(4)] == [0, 1, 0, 0])
+        self.must("alone", [errors(at) for at in range(4)] == [0, 1, 0, 0])
         self.write("in/one.ts", b"1")
-        self.must("a pair", [told(at) for at in range(4, 7)] == [0, 0, 0])
+        self.must("a pair", [errors(at) for at in range(4, 7)] == [0, 0, 0])
         os.unlink(self.path("in/one.ts"))
-        self.must("alone once more", [told(at) for at in range(7, 11)] == [0, 1, 0, 0])
+        self.must("alone once more", [errors(at) for at in range(7, 11)] == [0, 1, 0, 0])
 
 
 def subtitle(index: int, begin: int) -> Subtitle:
@@ -167,7 +167,7 @@ def subtitle(index: int, begin: int) -> Subtitle:
 class SubtitleFiles(Case):
     def test_warns_unless_subtitles_in_the_language_are_announced(self) -> None:
         stl = self.write("one.stl", gsi_block(b"", 0, 0, language=b"09"))
-        asked = asked_for(stl, "one.ts")
+        request = request_for(stl, "one.ts")
         for kinds, languages, wanted in (
                 ((2,), ("eng",), []), ((1,), ("eng",), ["type"]), ((1, 5), ("eng", "eng"), []),
                 ((5, 1), ("ger", "eng"), []), ((2, 2), ("ger", "fre"), ["language", "option"]),
@@ -176,19 +176,19 @@ class SubtitleFiles(Case):
                 ((2, 2), ("ger", "mul"), []), ((2,), ("GER",), ["language", "option"]),
                 ((2,), ("pol",), ["language", "option"])):
             own = [Announced(PAGE, language, kind) for kind, language in zip(kinds, languages)]
-            found = [warned.kind for warned in page_notices(own, asked)]
+            found = [warned.kind for warned in page_notices(own, request)]
             self.must(f"{kinds} {languages}", found == wanted, found)
 
     def test_warns_of_another_character_set(self) -> None:
         for region, option, more in itertools.product((None, 0, 1), (None, 0, 4), (0, 1)):
             sets = [(28, 0, region, option), *[(29, 4, 0, 1)] * more]
-            packets, asked = Packets(0, sets=sets), asked_for("one.stl", "one.ts")
-            told = ["unreadable" if None in (region, option) else
+            packets, request = Packets(0, sets=sets), request_for("one.stl", "one.ts")
+            reported = ["unreadable" if None in (region, option) else
                     f"{option:03b} of region {region:04b}"] * ((region, option) != (0, 0))
-            told += ["001 of region 0000"] * more
-            found = [one.line for one in character_set_notices(packets, asked)]
-            self.assertEqual(len(found), len(told), found)
-            self.assertTrue(all(map(str.__contains__, found, told)), found)
+            reported += ["001 of region 0000"] * more
+            found = [one.line for one in character_set_notices(packets, request)]
+            self.assertEqual(len(found), len(reported), found)
+            self.assertTrue(all(map(str.__contains__, found, reported)), found)
 
     def test_warns_of_missing_counts_in_the_gsi_block(self) -> None:
         data = gsi_block(b"", 0, 0) + tti_block(1, 25, 45, 20, 2, b"a")
@@ -199,7 +199,7 @@ class SubtitleFiles(Case):
 class EstimatedOrigins(Case):
     def test_rounds_a_delay_to_the_nearest_frame(self) -> None:
         clock = Clock(5, START)
-        for away, status, wanted, said in (
+        for away, status, wanted, printed in (
                 (0, 0, 0, None), (3 * TICKS, 0, 3, "3 frames late"),
                 (-TICKS, 0, -1, "1 frame early"), (TICKS - 1, 0, 1, "3599 ticks late"),
                 (TICKS // 2 - 1, 0, 0, "1799 ticks late"),
@@ -207,7 +207,7 @@ class EstimatedOrigins(Case):
                 (None, 0, None, None)):
             found, lines = add_delay(clock, Origin(status, away=away, printed=["--origin 5"]))
             self.must(f"{away} {status}", found == clock._replace(delay_frames=wanted) and lines ==
-                      ([f"all subtitles are {said}"] if said else []), (found, lines))
+                      ([f"all subtitles are {printed}"] if printed else []), (found, lines))
         for away, is_whole in ((0, True), (2 * TICKS, True), (2 * TICKS + 1, False)):
             found, _ = add_delay(clock, Origin(0, away=away, is_each=True, printed=["--origin 5"]))
             self.check(f"{away}: whole frames", found.is_delay_of_all, is_whole)
@@ -225,8 +225,8 @@ class EstimatedOrigins(Case):
 
     def test_asks_about_a_delay_as_long_as_to_another_picture(self) -> None:
         for away, is_asked in ((TICKS, True), (TICKS + 5, False), (2 * TICKS, False)):
-            said = add_delay(Clock(5, START, away=1), Origin(0, away=away, printed=["one"]))[1]
-            self.must(f"{away}", bool(said[1:]) == is_asked, said)
+            printed = add_delay(Clock(5, START, away=1), Origin(0, away=away, printed=["one"]))[1]
+            self.must(f"{away}", bool(printed[1:]) == is_asked, printed)
 
     def test_prints_no_advice_for_several_runs_or_breaks(self) -> None:
         for runs, breaks, is_alone in ((0, None, False), (2, None, True), (0, 0, True),
@@ -239,30 +239,32 @@ class EstimatedOrigins(Case):
 class DecodedPages(Case):
     def decode(self, data: bytes) -> Timeline:
         """Decode PES packets."""
-        return timeline_of(self, data)
+        return decode_packets(self, data)
 
     def test_a_page_must_be_closed_before_its_tco(self) -> None:
         one = Subtitle(1, 1, 100, 150, 20, 2, b"a")
         for closed, wanted in ((100, 0), (101, 1), (149, 49), (150, None), (170, None)):
-            data = pes_packet(TICKS * 100, [HEADER, row(20, b"a"), *[CLOSING] * (closed == 100)])
+            data = pes_packet(TICKS * 100,
+                              [HEADER, row_packet(20, b"a"), *[CLOSING] * (closed == 100)])
             more = [pes_packet(TICKS * closed, [CLOSING])] * (closed > 100)
-            held = self.decode(pes_packet(0, [CLOSING]) + data + b"".join(more))
+            decoded = self.decode(pes_packet(0, [CLOSING]) + data + b"".join(more))
             for is_complete, frames in ((True, wanted), (False, 0)):
-                found = measure_delay(one, held.page_at(100), held, is_complete)
+                found = measure_delay(one, decoded.page_at(100), decoded, is_complete)
                 self.must(f"{closed} {is_complete}", found == frames, found)
 
     def test_finds_the_first_frame_with_a_closed_page(self) -> None:
         data = b"".join(pes_packet(TICKS * frame, units) for frame, units in (
-            (10, [HEADER, row(20, b"a")]), (20, [CLOSING]), (30, [HEADER]), (40, [CLOSING])))
-        held = self.decode(data)
+            (10, [HEADER, row_packet(20, b"a")]), (20, [CLOSING]), (30, [HEADER]), (40, [CLOSING])))
+        decoded = self.decode(data)
         for frame, wanted in ((5, 5), (9, 9), (10, 20), (15, 20), (20, 20), (25, 25), (30, 40),
                               (39, 40), (40, 40), (99, 99)):
-            self.check(f"from {frame}", held.closed_from(frame), wanted)
-        held = self.decode(data[:len(data) // 2 + 1])
-        self.must("open and closed once", (held.closed_from(15), held.closed_from(20)) == (20, 20))
+            self.check(f"from {frame}", decoded.closed_from(frame), wanted)
+        decoded = self.decode(data[:len(data) // 2 + 1])
+        self.must("open and closed once",
+                  (decoded.closed_from(15), decoded.closed_from(20)) == (20, 20))
 
     def test_shows_a_page_once_a_header_ends_it(self) -> None:
-        old, new = row(20, b"old"), row(20, b"new")
+        old, new = row_packet(20, b"old"), row_packet(20, b"new")
         rows: list[tuple[list[bytes], bytes | None]] = [
             ([], None), ([new], None), ([HEADER], None), ([HEADER, new], None),
             ([CLOSING], b"old"), ([CLOSING, HEADER, new], b"old"), ([new, CLOSING], b"new"),
@@ -273,7 +275,7 @@ class DecodedPages(Case):
                                pes_packet(TICKS * 10, units)).states[-1].screen
             text = screen and screen[0][19].strip(b"\x0b ")
             self.must(f"{units}", text == wanted, text)
-        packets = packets_told(self, pes_packet(0, [HEADER, old]) + pes_packet(
+        packets = survey_packets(self, pes_packet(0, [HEADER, old]) + pes_packet(
             TICKS, [CLOSING, HEADER, new]))
         self.must("tuned in later", Timeline(packets, PAGE, 0, 0, (1, 1)).states[-1].screen is None)
 
@@ -284,21 +286,22 @@ class DecodedPages(Case):
             ((), []), ((3,), [Span(20, 40)]), ((3, 4), [Span(20, 50)]),
             ((3, 7), [Span(20, 40), Span(60, 80)]), ((0,), [Span(0, 10)]), ((9,), [])]
         for numbers, wanted in of_doubts:
-            held = self.decode(b"".join(broken[at] if at in numbers else one
+            decoded = self.decode(b"".join(broken[at] if at in numbers else one
                                       for at, one in enumerate(good)))
-            self.must(f"{numbers}", held.doubts == wanted, held.doubts)
+            self.must(f"{numbers}", decoded.doubts == wanted, decoded.doubts)
             for first, last in ((0, 15), (15, 25), (30, 30), (65, 66), (85, 90)):
                 is_seen = not any(one.first <= last and first <= one.last for one in wanted)
-                self.must(f"{numbers}: {first} to {last}", held.is_seen(first, last) == is_seen)
+                self.must(f"{numbers}: {first} to {last}", decoded.is_seen(first, last) == is_seen)
 
     def test_decodes_only_the_requested_range(self) -> None:
         data = b"".join(pes_packet(TICKS * 10 * at, [
-            HEADER, row(20, b"%d" % at), *[row(22, b"x")] * (at % 3), CLOSING]) for at in range(9))
-        packets = packets_told(self, data)
+            HEADER, row_packet(20, b"%d" % at), *[row_packet(22, b"x")] * (at % 3),
+            CLOSING]) for at in range(9))
+        packets = survey_packets(self, data)
         for first, last in ((0, 8), (0, 3), (2, 5), (8, 8)):
-            held = Timeline(packets, PAGE, 0, 0, (first, last))
-            self.must(f"{first} to {last}", list(held.frames) ==
-                      [*range(10 * first, 10 * last + 1, 10)], held.frames)
+            decoded = Timeline(packets, PAGE, 0, 0, (first, last))
+            self.must(f"{first} to {last}", list(decoded.frames) ==
+                      [*range(10 * first, 10 * last + 1, 10)], decoded.frames)
 
     def test_takes_the_last_page_of_a_frame(self) -> None:
         a, b = (((text.ljust(40),) * 24) for text in (b"a", b"b"))
@@ -308,43 +311,48 @@ class DecodedPages(Case):
             ([(5, a), (10, b), (12, a)], [5, 10, 12], [a, b, a]),
             ([(5, a), (10, b), (10, BLANK_PAGE), (11, b)], [5, 10, 11], [a, BLANK_PAGE, b])]
         for changes, frames, pages in rows:
-            held = Timeline(Packets(0), PAGE, 0)
+            decoded = Timeline(Packets(0), PAGE, 0)
             for frame, page in changes:
-                held.change(frame, page)
-            self.must(f"{frames}", (list(held.frames), held.pages) == (frames, pages), held.frames)
-            self.check(f"{frames}: when", {page: list(some) for page, some in held.when.items()}, {
+                decoded.change(frame, page)
+            self.must(f"{frames}", (list(decoded.frames), decoded.pages) == (frames, pages),
+                      decoded.frames)
+            self.check(f"{frames}: when", {page: list(some) for page, some in decoded.when.items()},
+                       {
                 page: [frame for frame, one in zip(frames, pages) if one == page]
                 for page in pages})
             for begin, end in itertools.combinations(range(4, 14), 2):
                 numbers = [at for at, frame in enumerate(frames) if frame < end and
                            begin < [*frames, 99][at + 1]]
-                self.must(f"{begin} {end}", [*held.numbers(begin, end)] == numbers and
-                          held.page_at(begin) == (BLANK_PAGE if begin < 5 else pages[numbers[0]]))
+                self.must(f"{begin} {end}", [*decoded.numbers(begin, end)] == numbers and
+                          decoded.page_at(begin) == (BLANK_PAGE if begin < 5
+                                                     else pages[numbers[0]]))
 
     def test_finds_pauses_of_a_regular_stream(self) -> None:
         steady = [*range(90), *range(93, 120), *range(124, 200)]
         for frames, wanted in (([*range(50), *range(52, 99)], []), (steady, [Span(90, 92),
                                                                             Span(120, 123)])):
-            held = self.decode(b"".join(pes_packet(TICKS * frame, [HEADER, CLOSING])
+            decoded = self.decode(b"".join(pes_packet(TICKS * frame, [HEADER, CLOSING])
                                       for frame in frames))
-            self.must(f"{wanted}", held.pauses == wanted, held.pauses)
+            self.must(f"{wanted}", decoded.pauses == wanted, decoded.pauses)
         for frame, pause in ((89, None), (90, 0), (92, 0), (93, None), (119, None), (120, 1),
                              (123, 1), (124, None)):
-            self.must(f"{frame}", held.pause_at(frame) == (None if pause is None else
-                                                           held.pauses[pause]))
-        for held.count, is_steady in ((2 * FEW, True), (2 * FEW - 1, False)):
-            self.must(f"{is_steady}", (held.pause_at(91) is not None) == is_steady)
+            self.must(f"{frame}", decoded.pause_at(frame) == (None if pause is None else
+                                                           decoded.pauses[pause]))
+        for decoded.count, is_steady in ((2 * FEW, True), (2 * FEW - 1, False)):
+            self.must(f"{is_steady}", (decoded.pause_at(91) is not None) == is_steady)
 
     def test_forgets_pages_before_a_step_back(self) -> None:
         for frames, pages, is_lost in (
                 ([100, 200, 310, 350], 4, False), ([200, 250, 150, 310, 350], 3, False),
                 ([200, 310, 305, 350], 2, True), ([310, 350, 320], 2, True)):
-            packets = packets_told(self, b"".join(pes_packet(TICKS * frame, [
-                HEADER, row(20, b"%d" % frame), CLOSING]) for frame in frames))
-            held = Timeline(packets, PAGE, 0, begin=300)
-            self.must(f"{frames}", (len(held.pages), held.halt is not None) == (pages, is_lost),
-                      (held.frames, held.halt))
-            self.must(f"{frames}: seen", [held.is_seen(300, held.last + more) for more in (0, 1)]
+            packets = survey_packets(self, b"".join(pes_packet(TICKS * frame, [
+                HEADER, row_packet(20, b"%d" % frame), CLOSING]) for frame in frames))
+            decoded = Timeline(packets, PAGE, 0, begin=300)
+            self.must(f"{frames}",
+                      (len(decoded.pages), decoded.halt is not None) == (pages, is_lost),
+                      (decoded.frames, decoded.halt))
+            self.must(f"{frames}: seen",
+                      [decoded.is_seen(300, decoded.last + more) for more in (0, 1)]
                       == [True, not is_lost])
 
 

@@ -21,8 +21,8 @@ from subtitles.judging.subtitles import AT_MIDNIGHT
 from subtitles.judging.transmissions import ExpectedPages
 from subtitles.stream.receiver import BLANK_PAGE, HIT, OLD
 from .bench import Case
-from .parts import answer, asked_for, fault_of, packets_told, part_with, timeline_of
-from .transmissions import CLOSING, HEADER, ORIGIN, programme, row
+from .parts import make_answer, request_for, fault_of, survey_packets, make_part, decode_packets
+from .transmissions import CLOSING, HEADER, ORIGIN, write_programme, row_packet
 from .test_judging_faults import BEFORE, NO_C4, cause
 from .test_judging_verdicts import verdict_of
 
@@ -41,24 +41,24 @@ class FaultDetails(Case):
         frames = range(25, 151, 25)
         programme = ExpectedPages([Subtitle(at, at, frame, frame + 20, 22, 2, b"") for at, frame in
                                    enumerate(frames, 1)], [(b"[".ljust(40), *BLANK_PAGE[1:])] * 6)
-        causes = Causes(programme, timeline_of(self, b""))
+        causes = Causes(programme, decode_packets(self, b""))
         causes.by_index = {at: cause(at, NEVER) for at in range(len(frames))}
         causes.by_end_fault = {63: number, 74: number + 1}
-        made = part_with(25 * number, 25 * number + 24, 0, answer(lines, path=self.path(
-            f"list{number}")), number, request=asked_for("one.stl", "one.pes", "--from", times[0],
+        made = make_part(25 * number, 25 * number + 24, 0, make_answer(lines, path=self.path(
+            f"list{number}")), number, request=request_for("one.stl", "one.pes", "--from", times[0],
                                                          "--to", times[1]),
                          causes=causes if kind == "r" else None)
         made.names.given = stl
         return made
 
     def test_lists_the_faults_of_each_part_in_order(self) -> None:
-        stl = programme(self, [(25 * at, 25 * at + 20) for at in range(1, 7)])
+        stl = write_programme(self, [(25 * at, 25 * at + 20) for at in range(1, 7)])
         severity = Severity(self.write("severity", b"others warning\nnot shown error\n63 error\n"))
         for kinds in itertools.chain(*(itertools.product("ars", repeat=count) for count in range(
                 1, 4))):
             verdict = verdict_of([self.part(kind, number, stl)
                                   for number, kind in enumerate(kinds, 1)], severity)
-            verdict.request = asked_for("one.stl", "one.pes", "--option", "german")
+            verdict.request = request_for("one.stl", "one.pes", "--option", "german")
             last = len(kinds)
             verdict.named_faults = [NamedFault("never sent", "a", f"00:00:0{last}:07",
                                                "00:00:09:00",
@@ -102,9 +102,9 @@ class FaultDetails(Case):
                                            "its DSC is 0 (open subtitles): --open accepts it"),
             ("72 Content frame 00:00:01:00 row 1 column 1", "", "drawn otherwise"),
             ("68 Parity frame 00:00:01:00 packet 0", "", "")]
-        part = part_with(0, 99, 0, answer([*(f"refused {line}" for line, _, _ in rows),
+        part = make_part(0, 99, 0, make_answer([*(f"refused {line}" for line, _, _ in rows),
                                            f"{len(rows)} faults"], path=self.path("list")),
-                         packets=packets_told(self, pes_packet(25 * TICKS, [NO_C4, CLOSING])),
+                         packets=survey_packets(self, pes_packet(25 * TICKS, [NO_C4, CLOSING])),
                          pes=(0, 0), drawing_differences="drawn otherwise")
         part.names.given = stl
         verdict = verdict_of([part])
@@ -127,28 +127,29 @@ class FaultDetails(Case):
         wanted = [(at, 75 * at) for at in (0, 1, 2, 0, 1, 2)]
         for origin in (0, ORIGIN, BEFORE):
             pts = [(origin + TICKS * frame) % CLOCK for frame in (0, 75, 150)]
-            part = part_with(0, 150, origin, answer(lines, path=self.path("list")), pes=(0, 2),
-                             packets=packets_told(self, b"".join(pes_packet(one, [HEADER, CLOSING])
+            part = make_part(0, 150, origin, make_answer(lines, path=self.path("list")), pes=(0, 2),
+                             packets=survey_packets(self,
+                                                    b"".join(pes_packet(one, [HEADER, CLOSING])
                                                                  for one in pts)))
-            part.names.given = programme(self, [(0, 50)])
+            part.names.given = write_programme(self, [(0, 50)])
             found = [(one["pes"], one["pes_pts"], one["pes_time"], bool(one["subtitle"]))
                      for one in make_faults(verdict_of([part]))]
             self.assertEqual(found, [*((at, pts[at], time_of(frame), place == 3) for place, (
                 at, frame) in enumerate(wanted)), (None, None, None, True)], origin)
 
     def test_gives_the_expected_and_the_decoded_cell(self) -> None:
-        data = pes_packet(25 * TICKS, [HEADER, row(20, b"\x01xyz"), CLOSING])
+        data = pes_packet(25 * TICKS, [HEADER, row_packet(20, b"\x01xyz"), CLOSING])
         due = (*BLANK_PAGE[:19], b"  [b".ljust(40), *BLANK_PAGE[20:])
         lines = [f"refused 72 Content frame 00:00:01:00 row 20 column {at}" for at in (2, 3, 4)]
         for within, (option, letter) in itertools.product((0, 3), (
                 ("english", "\u2190"), ("german", "\u00c4"))):
-            part = part_with(0, 99, 0, answer([*lines, "3 faults"], path=self.path("cells")),
-                             packets=packets_told(self, data), pes=(0, 0),
+            part = make_part(0, 99, 0, make_answer([*lines, "3 faults"], path=self.path("cells")),
+                             packets=survey_packets(self, data), pes=(0, 0),
                              expected_pages=lambda: ExpectedPages(
                                  [Subtitle(1, 1, 25, 50, 20, 2, b"")], [due]))
-            part.names.given = programme(self, [(25, 50)])
+            part.names.given = write_programme(self, [(25, 50)])
             verdict = verdict_of([part])
-            verdict.request = asked_for("one.stl", "one.pes", "--within", str(within), "--option",
+            verdict.request = request_for("one.stl", "one.pes", "--within", str(within), "--option",
                                         option)
             self.assertEqual([[(one[name]["code"], one[name]["character"]) for name in (
                 "expected", "decoded")] for one in make_faults(verdict)], [
@@ -165,7 +166,7 @@ class FaultDetails(Case):
     def test_names_the_character_with_even_parity(self) -> None:
         due = b"\x0b\x0bAb \x01c"
         pages = [((due if row == 21 else b"").ljust(40)) for row in range(24)]
-        part = part_with(0, 99, 0, expected_pages=lambda: ExpectedPages(
+        part = make_part(0, 99, 0, expected_pages=lambda: ExpectedPages(
             [Subtitle(1, 1, 25, 50, 22, 2, b"")], [tuple(pages)]))
         rows: list[tuple[tuple[int, ...], str]] = [
             ((), "a byte"), ((0,), "a byte (start box)"), ((4, 5), "a byte (a space)"),
@@ -179,9 +180,9 @@ class FaultDetails(Case):
                 (50, "the page after subtitle 1"))):
             fault = fault_of(f"refused 68 Parity frame {time_of(frame)} packet 1")
             cells = bytes(HIT if at in hit else code for at, code in enumerate(pages[21]))
-            held = FaultPlace(None, None, (*pages[:21], cells, *pages[22:]))
-            said = words if frame == 25 or not hit else "a byte (a space)"
-            for place, wanted in ((held, f"{said} of {whose} has even parity"),
-                                  (held._replace(rows=None), "")):
+            decoded = FaultPlace(None, None, (*pages[:21], cells, *pages[22:]))
+            printed = words if frame == 25 or not hit else "a byte (a space)"
+            for place, wanted in ((decoded, f"{printed} of {whose} has even parity"),
+                                  (decoded._replace(rows=None), "")):
                 with mock.patch.object(judging_faults, "find_fault_place", return_value=place):
                     self.assertEqual(describe_parity_fault(fault, part), wanted, (hit, frame))

@@ -25,9 +25,9 @@ from subtitles.request.request import Unclear
 from subtitles.stream.packets import Packets, Run
 from subtitles.stream.receiver import BLANK_PAGE, Meeting
 from .bench import Case
-from .judged import Heard
-from .parts import answer, asked_for, packets_told, part_with, script, timeline_of
-from .transmissions import CLOSING, HEADER, ORIGIN, row
+from .judged import LineRecorder
+from .parts import make_answer, request_for, survey_packets, make_part, shell_script, decode_packets
+from .transmissions import CLOSING, HEADER, ORIGIN, row_packet
 from .test_judging_verdicts import verdict_of
 
 BEFORE = CLOCK - 60 * TICKS  # an origin whose frames cross the PTS wrap
@@ -91,10 +91,10 @@ class Descriptions(Case):
                  'subtitle 9 at 00:00:08:00, "text", has a wrong colour or attribute')):
             self.assertEqual(describe_causes(causes_of(*several), "english"), wanted, several)
         wrong = cause(0, WRONG_TEXT)._replace(sent_page=(b"]".ljust(40),) + BLANK_PAGE[1:])
-        part = part_with(0, 9, 0, answer(["refused 72 X frame 00:00:00:00", "1 faults"]),
+        part = make_part(0, 9, 0, make_answer(["refused 72 X frame 00:00:00:00", "1 faults"]),
                          causes=causes_of(wrong, text=b"["))
         verdict = verdict_of([part])
-        verdict.request = asked_for("one.stl", "one.pes", "--option", "german")
+        verdict.request = request_for("one.stl", "one.pes", "--option", "german")
         self.assertEqual(verdict.sentence, 'Refused: subtitle 1 at 00:00:00:00 has the wrong text: '
                          'expected "Ä", received "Ü".')
 
@@ -125,13 +125,13 @@ class Descriptions(Case):
 
     def test_ignores_frames_with_losses(self) -> None:
         data = b"".join(pes_packet(TICKS * frame, [HEADER, CLOSING]) for frame in (0, 50, 100))
-        held = timeline_of(self, data)
-        held.lost, held.doubts = Meeting([Span(10, 20)]), [Span(60, 70)]
+        decoded = decode_packets(self, data)
+        decoded.lost, decoded.doubts = Meeting([Span(10, 20)]), [Span(60, 70)]
         for first, last, is_seen in ((0, 9, True), (0, 10, False), (20, 25, False), (21, 59, True),
                                      (5, 30, False), (70, 90, False), (71, 100, True)):
-            self.assertEqual(held.is_seen(first, last), is_seen, (first, last))
-        held.halt = 9
-        self.assertEqual([held.is_seen(80, last) for last in (100, 101)], [True, False])
+            self.assertEqual(decoded.is_seen(first, last), is_seen, (first, last))
+        decoded.halt = 9
+        self.assertEqual([decoded.is_seen(80, last) for last in (100, 101)], [True, False])
 
     def test_finds_the_pes_packet_of_a_fault(self) -> None:
         data = b"".join(pes_packet(ticks, [HEADER, CLOSING])
@@ -145,28 +145,31 @@ class Descriptions(Case):
                 ("refused 68 Parity frame 00:00:00:10 packet 1", 1, 1),
                 ("refused 68 Parity frame 00:00:00:10 packet 2", 1, 2),
                 ("refused 38 UnitLength pes 3", 0, 3)):
-            packets, fault = packets_told(self, data), fault_of_line(line)
+            packets, fault = survey_packets(self, data), fault_of_line(line)
             assert fault
-            found = find_fault_place(fault, packets, timeline_of(self, data, 0, within))
+            found = find_fault_place(fault, packets, decode_packets(self, data, 0, within))
             self.must(f"{line} {within}", found.pes == pes, found)
-        data = b"".join(pes_packet(10 * TICKS, [HEADER, row(20, text)]) for text in (b"a", b"b"))
-        fault, held = fault_of_line("refused 72 X frame 00:00:00:10 row 20 column 2"), timeline_of(
+        data = b"".join(pes_packet(10 * TICKS, [HEADER, row_packet(20, text)])
+                        for text in (b"a", b"b"))
+        fault, decoded = fault_of_line(
+            "refused 72 X frame 00:00:00:10 row 20 column 2"), decode_packets(
             self, data)
         assert fault
         for number in (0, 1):  # the last one that changes the cell
-            due = held.state_after(1 - number).rows
-            self.must(f"{number}", find_fault_place(fault, held.packets, held, due).pes == number)
-        held = timeline_of(self, pes_packet(0, [HEADER]) + pes_packet(9, [CLOSING]), 0, 1)
+            due = decoded.state_after(1 - number).rows
+            self.must(f"{number}",
+                      find_fault_place(fault, decoded.packets, decoded, due).pes == number)
+        decoded = decode_packets(self, pes_packet(0, [HEADER]) + pes_packet(9, [CLOSING]), 0, 1)
         fault = fault_of_line("refused 67 Control frame 00:00:00:00 packet 0")
         self.must("headers",
-                  fault and len(find_fault_place(fault, held.packets, held).headers) == 1)
+                  fault and len(find_fault_place(fault, decoded.packets, decoded).headers) == 1)
 
     def test_reports_why_the_teletext_ends(self) -> None:
         packets = Packets(0x101, [Run(0, 5, 0, TICKS, "h", "")], refusal=31)
         why = "PID 0x101 has something else than PES packets of private_stream_1 from PES packet " \
             "5 on: refused 31 Start pes 5"
         for last, words in ((4, why), (3, "")):
-            part = part_with(0, 9, 0, packets=packets, pes=(0, last))
+            part = make_part(0, 9, 0, packets=packets, pes=(0, last))
             self.assertEqual(describe_pid_end(part), words, last)
 
     def test_names_the_longest_gap_if_all_is_known(self) -> None:
@@ -186,9 +189,9 @@ class Descriptions(Case):
             for origin, off in ((ORIGIN, 0), (CLOCK - 60 * TICKS, 0), (ORIGIN, 5), (ORIGIN, -5)):
                 headers, ends = ([(origin + TICKS * frame + off) % CLOCK for frame in some]
                                  for some in (frames, (last,)))
-                asked = asked_for("one.stl", "one.pes", "--every", str(every), "--within",
+                request = request_for("one.stl", "one.pes", "--every", str(every), "--within",
                                   str(abs(off)))
-                found = describe_longest_gap((headers, ends), origin, asked, numbers, times)
+                found = describe_longest_gap((headers, ends), origin, request, numbers, times)
                 self.must(f"{frames} {numbers} {origin} {off}", found ==
                           (wanted and f"the page had no header for up to {wanted}"), found)
 
@@ -203,9 +206,9 @@ class Descriptions(Case):
         good = ["accepted 1 frames 1 transmissions"]
         wanted = ["67: C4 (erase page) is clear: a repeat that does not erase",
                   "73: the page had no header for up to 225 frames"]
-        parts = [part_with(0, 99, ORIGIN, answer(some, path=self.path(f"list{at}")), at,
-                           packets=packets_told(self, data), pes=(0, 4),
-                           request=asked_for("one.stl", "one.pes"))
+        parts = [make_part(0, 99, ORIGIN, make_answer(some, path=self.path(f"list{at}")), at,
+                           packets=survey_packets(self, data), pes=(0, 4),
+                           request=request_for("one.stl", "one.pes"))
                  for at, some in enumerate((lines, good, [lines[2], "1 faults"]), 1)]
         verdict = verdict_of(parts)
         verdict.request.every = 100
@@ -216,16 +219,16 @@ class Descriptions(Case):
 
     def test_prints_the_first_forty_lines_of_a_list(self) -> None:
         for count in (0, 1, 40, 41, 42, 50):
-            heard = Heard()
+            recorder = LineRecorder()
             for at in range(count):
-                heard.of_list(f"{at}")
-            heard.end_list(f"{count - 1}")
+                recorder.of_list(f"{at}")
+            recorder.end_list(f"{count - 1}")
             more = [f".. {count - 41} more lines"] * (count > 41)
             wanted = [*map(str, range(min(count, 40))), *more, *[f"{count - 1}"] * (count > 40)]
-            self.must(f"{count}", heard.lines == wanted, heard.lines)
-            heard.command("next")
-            heard.of_list("first")
-            self.must(f"{count}: another list", heard.lines[len(wanted):] == ["+ next", "first"])
+            self.must(f"{count}", recorder.lines == wanted, recorder.lines)
+            recorder.command("next")
+            recorder.of_list("first")
+            self.must(f"{count}: another list", recorder.lines[len(wanted):] == ["+ next", "first"])
         with contextlib.redirect_stdout(io.StringIO()) as out:
             speech = Speech(Progress())
             for line in ("a", "b"):
@@ -238,13 +241,13 @@ class Descriptions(Case):
         with mock.patch("subtitles.judging.part.CauseDescriber") as wording:
             wording.return_value.format_line = lambda one: f"cause {one}"
             for count in (0, 40, 41, 45):
-                heard = Heard()
+                recorder = LineRecorder()
                 causes: Any = SimpleNamespace(list_causes=lambda: list(range(count)))
-                report_causes(Listener(heard), causes, "german")
+                report_causes(Listener(recorder), causes, "german")
                 self.must(f"{count} causes", wording.call_args.args[1] == "german" and
-                          heard.lines == [
+                          recorder.lines == [
                     *(f"cause {at}" for at in range(min(count, 40))),
-                    *[f".. {count - 40} more causes"] * (count > 40)], heard.lines)
+                    *[f".. {count - 40} more causes"] * (count > 40)], recorder.lines)
 
 
 class ProgramCalls(Case):
@@ -254,7 +257,7 @@ class ProgramCalls(Case):
             (["refused 50 Character block 1 at 6"], 1, False), (["a"], 1, False), ([], 2, False),
             (["a"], -9, False), (["refused 82 NoSubtitles", "b"], 1, False)]
         for lines, status, is_right in rows:
-            path = self.write_program("program", f"#!/bin/sh\n{script(lines, status)}")
+            path = self.write_program("program", f"#!/bin/sh\n{shell_script(lines, status)}")
             try:
                 found: list[str] | None = run_program(path, "schedule", "x")
             except Unclear as reason:
@@ -279,14 +282,14 @@ class Versions(Case):
 
     def test_updates_the_progress_line_five_times_a_second(self) -> None:
         for is_terminal, times, shown in ((True, (0.0, 0.1, 0.2, 0.5), 3), (False, (0.0, 9.0), 0)):
-            with contextlib.redirect_stderr(io.StringIO()) as told:
-                vars(told)["isatty"] = lambda: is_terminal
+            with contextlib.redirect_stderr(io.StringIO()) as errors:
+                vars(errors)["isatty"] = lambda: is_terminal
                 progress = Progress()
                 for now in times:
                     with mock.patch("time.monotonic", lambda: now + 100):
                         progress.show(lambda: "x" * 500)
                 progress.clear()
                 progress.clear()
-            lines = told.getvalue().split(CLEAR)
+            lines = errors.getvalue().split(CLEAR)
             self.must(f"{is_terminal}", len(lines) == (shown + 2 if shown else 1) and
                       all(0 < len(line) < 500 for line in lines[1:-1]), lines)

@@ -20,10 +20,10 @@ from subtitles.formats.teletext import ENGLISH
 from subtitles.judging.pages import describe_row_difference
 from subtitles.stream.layout import sent_in
 from .bench import BENCH, Case
-from .judged import Judged, judged
-from .streams import Shape, multiplexed, stream, with_loss
-from .parts import timeline_of
-from .transmissions import CLOSING, HEADER, Sent, joined, row, sendings
+from .judged import JudgedPair, judge_files
+from .streams import Shape, make_multiplex, stream_bytes, with_loss
+from .parts import decode_packets
+from .transmissions import CLOSING, HEADER, Sent, pes_file, row_packet, schedule_pages
 from .test_stream_layouts import HOUSES, line
 
 
@@ -56,14 +56,14 @@ def texts_of(some: random.Random, has_codes: bool, between: bytes, count: int
 
 class OtherLayouts(Case):
     def judge(self, texts: list[tuple[bytes, int]], drawn: str, *words: str,
-              sent: list[tuple[bytes, int]] | None = None) -> Judged:
+              sent: list[tuple[bytes, int]] | None = None) -> JudgedPair:
         """A pair whose recording is drawn by a layout, of other texts where these are given."""
         number = str(len(os.listdir(self.folder)))
         stl = file_of(self, texts, f"{number}.stl")
         other = file_of(self, sent or texts, f"{number}.sent.stl")
         layout = ["--layout", drawn] if drawn else []
         pes = self.schedule(other, f"{number}.pes", "--every", "20", *layout)
-        return judged(self, stl, pes, *words)
+        return judge_files(self, stl, pes, *words)
 
     def test_names_the_differing_cells_but_no_layout(self) -> None:
         some = random.Random(85)
@@ -88,11 +88,12 @@ class DecodedPages(Case):
                 (50, 80, ((0, 18), (60, 20)), [20]), (0, 50, ((0, 18), (25, 20)), [18]),
                 (0, 50, ((0, 18), (5, 19), (20, 20), (30, 21)), [21]),
                 (0, 50, ((0, 18), (10, None)), [18]), (0, 50, ((50, 18),), [])):
-            pes = [pes_packet(TICKS * frame, [HEADER, *[row(number or 1, b"ab" if number else b"c"
+            pes = [pes_packet(TICKS * frame,
+                              [HEADER, *[row_packet(number or 1, b"ab" if number else b"c"
                                                             )], CLOSING])
                    for frame, number in (*pages, (200, None))]
             one = Subtitle(1, 0, begin, end, 18, 2, b"ab")
-            found = sent_in([one], timeline_of(self, b"".join(pes)), ENGLISH)
+            found = sent_in([one], decode_packets(self, b"".join(pes)), ENGLISH)
             rows = [number for sent in found for number, cells in enumerate(sent.rows, 1)
                     if cells.strip()]
             self.must(f"{begin} {end} {pages}", rows == wanted, rows)
@@ -135,23 +136,24 @@ class OpenSubtitles(Case):
         texts = [(b"Number %d\x0a" % at, 2) for at in range(12)]  # a code that may hide text
         for dsc, kind in ((b"0", "0 (open subtitles)"), (b" ", "blank"), (b"3", None)):
             stl = file_of(self, texts, "open.stl", dsc)
-            alone = judged(self, stl)
+            alone = judge_files(self, stl)
             hint = f"its DSC is {kind}: --open accepts it"
             self.must(f"{kind}: 13", alone.result["line"] == "refused 13 Display block 0"
                       and alone.result["hints"] == [f"13: {hint}"] * bool(kind)
                       and (alone.result["faults"][0]["remedy"] == hint) == bool(kind), alone.said)
             if kind is None:
-                other = judged(self, stl, "--open")
+                other = judge_files(self, stl, "--open")
                 self.must("with --open", other.result["line"] == "refused 13 Display block 0",
                           other.said)
                 continue
-            self.must(f"{kind}: a file", judged(self, stl, "--open").word == "accepted")
+            self.must(f"{kind}: a file", judge_files(self, stl, "--open").word == "accepted")
             pes = self.schedule(stl, "open.pes", "--open", "--every", "20", "--layout", "after=0A")
-            found = judged(self, stl, pes, "--open", "--layout", "after=0A", "-o", self.path("out"))
+            found = judge_files(self, stl, pes, "--open", "--layout", "after=0A", "-o",
+                                self.path("out"))
             self.must(f"{kind}: a pair", found.word == "accepted" and
                       found.result["request"]["open"]
                       and b"12 subtitles" in self.read("out/one.html"), found.said)
-            late = judged(self, stl, pes, "--open")
+            late = judge_files(self, stl, pes, "--open")
             self.must(f"{kind}: causes", late.word == "refused"
                       and len(late.result["causes"]) == 12, late.said)
 
@@ -162,16 +164,16 @@ class OpenSubtitles(Case):
 # Seeds that the gate judges.
 GATE = (3, 5, 11, 17, 24, 31, 42, 50, 57, 68, 77, 89, 101, 123, 150, 171, 200, 217, 260, 299)
 UNSEEN = "not checked: whether"
-WRONG = [HEADER, row(20, b"Nobody wrote this"), CLOSING]
+WRONG = [HEADER, row_packet(20, b"Nobody wrote this"), CLOSING]
 Said = tuple[bytes, int]  # a text with its justification code
 
 
-def altered(said: Said, kind: int) -> Said:
+def altered(printed: Said, kind: int) -> Said:
     """Return the file's text if this text is transmitted:
 
     with more codes than an inserter draws, or other characters.
     """
-    text, justify = said
+    text, justify = printed
     return [(b"\x03" + text, justify), (b"\x08" + text, justify), (b"\x0d" + text, justify),
             (b"  " + text, justify), (text.replace(b"\x8a", b"\x8a\x8a\x8a", 1), justify),
             (text, justify % 3 + 1), (b"\x07" + text, justify),
@@ -205,9 +207,9 @@ class Programme(NamedTuple):
         assert found is not None
         return found
 
-    def page(self, said: Said) -> object:
+    def page(self, printed: Said) -> object:
         """Return the page of a text in the layout."""
-        lines = drawn(said[0], 18, said[1], self.layout, ENGLISH)
+        lines = drawn(printed[0], 18, printed[1], self.layout, ENGLISH)
         return lines if isinstance(lines, Refused) else page_rows(lines)
 
     def is_right(self) -> bool:
@@ -227,16 +229,16 @@ def programme_of(seed: int) -> Programme:
                       some.choice((0, 1, 2, 3, 5, 15, 16, 17, 32, 48)), some.random() < 0.6,
                       some.random() < 0.3, some.random() < 0.6)
     while len(found.file) < count:
-        said = between.join(line(some, has_codes) for _ in range(some.choice([1, 2, 2]))), \
+        printed = between.join(line(some, has_codes) for _ in range(some.choice([1, 2, 2]))), \
             some.choice([2, 2, 2, 1, 3, 0])
-        if not isinstance(found.page(said), Refused):
-            found.file.append(said)
+        if not isinstance(found.page(printed), Refused):
+            found.file.append(printed)
     found.sent.extend(found.file)
     kind = some.randrange(8)
     for at in some.sample(range(count), some.choice((0, 0, 0, 1, 1, 2, 5, 9))):
-        said = altered(found.file[at], kind)
-        if not isinstance(found.page(said), Refused):
-            found.file[at] = said
+        printed = altered(found.file[at], kind)
+        if not isinstance(found.page(printed), Refused):
+            found.file[at] = printed
     # After all else, so that seeds keep their programmes.
     kind = some.randrange(4)
     lost = found.lost if kind == 0 else 0  # a loss only without another fault
@@ -278,26 +280,27 @@ def recording_of(one: Programme, sent: Sent) -> bytes:
     if one.has_wrong:
         sent = [*sent[:place], (sent[place][0], WRONG), *sent[place + 1:]]
     if not one.is_stream:
-        return joined(sent[:place] + sent[place + min(one.lost, 9):])
-    made = multiplexed([pes_packet(pts, some) for pts, some in sent], Shape(150))
-    return stream(with_loss(made, sent[place][0], one.lost, one.is_announced))
+        return pes_file(sent[:place] + sent[place + min(one.lost, 9):])
+    made = make_multiplex([pes_packet(pts, some) for pts, some in sent], Shape(150))
+    return stream_bytes(with_loss(made, sent[place][0], one.lost, one.is_announced))
 
 
-def judge(case: Case, seed: int) -> tuple[Programme, Judged]:
+def judge(case: Case, seed: int) -> tuple[Programme, JudgedPair]:
     """Judge a pair whose recording has another layout, or other texts."""
     one = programme_of(seed)
     stl = file_of(case, one.file, f"{seed}.stl")
     other = file_of(case, one.sent, f"{seed}.sent.stl")
     layout = ["--layout", one.text] if one.text else []
-    sent = with_empty_packets(with_fault(one, sendings(case, other, *layout)), one.step)
+    sent = with_empty_packets(with_fault(one, schedule_pages(case, other, *layout)), one.step)
     profile = case.write(f"{seed}.profile", (
         f"--layout {quoted(one.text)}\n" * bool(one.text) + one.profile).encode())
     name = f"{seed}.ts" if one.is_stream else f"{seed}.pes"
     path = case.write(name, recording_of(one, sent))
-    return one, judged(case, stl, path, "--profile", profile, *["--origin", "0"] * one.is_known)
+    return one, judge_files(case, stl, path, "--profile", profile,
+                            *["--origin", "0"] * one.is_known)
 
 
-def is_correct(one: Programme, told: Judged) -> bool:
+def is_correct(one: Programme, told: JudgedPair) -> bool:
     """Return whether a fault is accepted only with a note on what was not checked, and a correct
     recording is accepted."""
     if told.word not in ("accepted", "waived"):
@@ -313,8 +316,8 @@ def test_of(seed: int) -> Callable[[RandomProgrammes], None]:
     """Return the test of a seed."""
 
     def test(self: RandomProgrammes) -> None:
-        one, told = judge(self, seed)
-        self.must(f"seed {seed}", is_correct(one, told), (one, told.said))
+        one, judged = judge(self, seed)
+        self.must(f"seed {seed}", is_correct(one, judged), (one, judged.said))
 
     return test
 
@@ -329,12 +332,12 @@ def main(program: str, first: int, end: int) -> None:
     case, wrong = RandomProgrammes(f"test_{GATE[0]:03}"), list[int]()
     case.setUp()
     for seed in range(first, end):
-        one, told = judge(case, seed)
-        if not is_correct(one, told):
+        one, judged = judge(case, seed)
+        if not is_correct(one, judged):
             wrong.append(seed)
         print(seed, one.text or "-", one.step, one.lost, "ts" if one.is_stream else "pes",
-              "right" if one.is_right() else "wrong", told.word, told.parts("pace"),
-              "" if is_correct(one, told) else "UNSOUND", flush=True)
+              "right" if one.is_right() else "wrong", judged.word, judged.parts("pace"),
+              "" if is_correct(one, judged) else "UNSOUND", flush=True)
     print(f"{end - first} programmes, {len(wrong)} accepted of which a wrong cell was sent, or not "
           f"accepted though right and whole: {wrong}")
 

@@ -13,12 +13,12 @@ from developing.pes import STUFFING_UNIT, pes_packet
 from subtitles.common.times import TICKS
 from subtitles.judging.timing import UNCHECKED, describe_unchecked_losses
 from subtitles.stream.pace import IRREGULAR, Pace
-from .judged import OfProgramme
-from .streams import Packet, Shape, multiplexed, of_teletext, with_loss
-from .transmissions import CLOSING, HEADER, Sent, programme, row, sendings
+from .judged import ProgrammeCase
+from .streams import Packet, Shape, make_multiplex, teletext_places, with_loss
+from .transmissions import CLOSING, HEADER, Sent, write_programme, row_packet, schedule_pages
 from .test_stream_pace import BEGIN, TIMES, filled
 
-WRONG = [HEADER, row(22, b"Wrong"), CLOSING]
+WRONG = [HEADER, row_packet(22, b"Wrong"), CLOSING]
 AT = BEGIN + 300  # frame of the wrong page, within a subtitle that is repeated 25 frames later
 PLACE = AT - BEGIN  # its PES packet
 
@@ -35,19 +35,19 @@ def lost(made: list[Packet], count: int, is_announced: bool = False, frame: int 
     return with_loss(made, frame * TICKS, count, is_announced)
 
 
-class HiddenPages(OfProgramme):
+class HiddenPages(ProgrammeCase):
     due = TIMES
 
     def with_wrong(self, every: int = 25) -> Sent:
         """Return a PES packet for each frame, one with a wrong page."""
-        sent = filled(sendings(self, self.stl, every=every))
+        sent = filled(schedule_pages(self, self.stl, every=every))
         return [*sent[:PLACE], (sent[PLACE][0], WRONG), *sent[PLACE + 1:]]
 
     def multiplexed(self, sent: Sent, first: int, count: int, size: int) -> list[Packet]:
         """Return a multiplex in which some PES packets take several TS packets."""
         made = [pes_packet(pts, some) for pts, some in sent]
         made[first:first + count] = [large(one, size) for one in made[first:first + count]]
-        return multiplexed(made, Shape(400))
+        return make_multiplex(made, Shape(400))
 
     def test_reports_the_loss_of_two_large_pes_packets(self) -> None:
         sent = self.with_wrong()
@@ -55,32 +55,34 @@ class HiddenPages(OfProgramme):
         self.must("it is wrong", whole.word == "refused" and
                   {one["number"] for one in whole.result["faults"]} == {72}, whole.listed)
         for count, size in ((2, 8), (4, 8), (4, 4), (16, 1)):
-            told = self.judge_stream(lost(self.multiplexed(sent, PLACE, count, size), count * size))
-            self.must(f"{count}", told.word == "refused" and told.parts("pace") == [(2,)] and
-                      told.result["line"] == "refused 79 Silent frame 10:00:12:01", told.said)
+            judged = self.judge_stream(lost(self.multiplexed(sent, PLACE, count, size),
+                                            count * size))
+            self.must(f"{count}", judged.word == "refused" and judged.parts("pace") == [(2,)] and
+                      judged.result["line"] == "refused 79 Silent frame 10:00:12:01", judged.said)
 
     def test_reports_missing_pes_packets_of_a_file(self) -> None:
         sent = self.with_wrong()
         for count in (1, 2, 3, 5, 7):
-            told = self.judge(sent[:PLACE] + sent[PLACE + count:])
-            self.must(f"{count}", told.word == "refused" and told.parts("pace") == [(1,)] and
-                      told.result["line"] == "refused 79 Silent frame 10:00:12:00"
-                      and "--pace none" not in told.verdict.sentence, told.said)
-            self.must(f"{count}: said", told.lines("pace: ") == [
+            judged = self.judge(sent[:PLACE] + sent[PLACE + count:])
+            self.must(f"{count}", judged.word == "refused" and judged.parts("pace") == [(1,)] and
+                      judged.result["line"] == "refused 79 Silent frame 10:00:12:00"
+                      and "--pace none" not in judged.verdict.sentence, judged.said)
+            self.must(f"{count}: said", judged.lines("pace: ") == [
                 "at most 1 frame from one PES packet to the next: --pace 1"])
 
     def test_notes_an_undetectable_loss_in_a_file(self) -> None:
         sent = self.with_wrong(50)
         each_other = [one for at, one in enumerate(sent) if at % 2 == 0 or at == PLACE + 1]
-        told = self.judge(each_other)
-        self.must("closer", told.parts("pace") == [(2,)] and "not checked for a missing PES packet "
+        judged = self.judge(each_other)
+        self.must("closer",
+                  judged.parts("pace") == [(2,)] and "not checked for a missing PES packet "
                   "at 1 place where PES packets are closer together" in
-                  told.result["notes"], told.said)
+                  judged.result["notes"], judged.said)
 
     def test_notes_an_undetectable_loss_between_repeat_and_cue(self) -> None:
         times = [(BEGIN + 60 * at, BEGIN + 60 * at + 47) for at in range(60)]
         cues = {edge for both in times for edge in both}
-        sent = [one for one in sendings(self, programme(self, times), every=1)
+        sent = [one for one in schedule_pages(self, write_programme(self, times), every=1)
                 if one[0] // TICKS in cues or one[0] // TICKS % 25 == 0]
         frames = [pts // TICKS for pts, _ in sent]
         place = next(at for at in range(20, len(frames)) if frames[at] not in cues
@@ -88,9 +90,10 @@ class HiddenPages(OfProgramme):
         wrong = [*sent[:place], (sent[place][0], WRONG), *sent[place + 1:]]
         for name, some, word in (("it is wrong", wrong, "refused"),
                                  ("missing", sent[:place] + sent[place + 1:], "accepted")):
-            told = self.judge(some, "--every", "25")
-            self.must(name, told.word == word and told.parts("pace") == [(25,)] and any(
-                "not checked for a missing " in note for note in told.result["notes"]), told.said)
+            judged = self.judge(some, "--every", "25")
+            self.must(name, judged.word == word and judged.parts("pace") == [(25,)] and any(
+                "not checked for a missing " in note for note in judged.result["notes"]),
+                judged.said)
 
     def test_finds_a_loss_that_an_announced_jump_hides(self) -> None:
         made = self.multiplexed(self.with_wrong(), 0, 1 << 20, 3)
@@ -101,24 +104,24 @@ class HiddenPages(OfProgramme):
             "announced jump of the counter"
         for words, word in (((), "lost"), (("--pace", "none"), "lost"),
                             (("--allow-lost",), "accepted")):
-            told = self.judge_stream(lost(made, 3, True), *words)
-            self.must(f"one, {words}", told.word == word and line in told.told and
-                      [one["judged"] for one in told.result["losses"]] == [True]
-                      and told.listed[-1].startswith("accepted"), told.said)
+            judged = self.judge_stream(lost(made, 3, True), *words)
+            self.must(f"one, {words}", judged.word == word and line in judged.told and
+                      [one["judged"] for one in judged.result["losses"]] == [True]
+                      and judged.listed[-1].startswith("accepted"), judged.said)
         own, later, more = self.with_wrong(), (BEGIN + 730) * TICKS, 400 * TICKS
         broken = [one for one in own if one[0] < later]
         broken += [(later + at * TICKS, []) for at in range(400)]
         broken += [(pts + more, some) for pts, some in own if pts >= later]
-        told = self.judge_stream(lost(self.multiplexed(broken, 0, 1 << 20, 3), 3, True),
+        judged = self.judge_stream(lost(self.multiplexed(broken, 0, 1 << 20, 3), 3, True),
                                  "--breaks", "1")
-        self.must("before a break", told.word == "lost" and line in told.told
-                  and [one["judged"] for one in told.result["losses"]] == [True], told.said)
-        told = self.judge_stream(lost(made, 5, True))  # one, and two thirds of the next
-        self.must("five", told.word == "refused" and
-                  told.result["line"] == "refused 45 Lost pes 300", told.said)
-        told = self.judge_stream(lost(made, 6, True))
-        self.must("two", told.word == "refused" and
-                  told.result["line"] == "refused 79 Silent frame 10:00:12:01", told.said)
+        self.must("before a break", judged.word == "lost" and line in judged.told
+                  and [one["judged"] for one in judged.result["losses"]] == [True], judged.said)
+        judged = self.judge_stream(lost(made, 5, True))  # one, and two thirds of the next
+        self.must("five", judged.word == "refused" and
+                  judged.result["line"] == "refused 45 Lost pes 300", judged.said)
+        judged = self.judge_stream(lost(made, 6, True))
+        self.must("two", judged.word == "refused" and
+                  judged.result["line"] == "refused 79 Silent frame 10:00:12:01", judged.said)
 
     def test_notes_that_too_few_pes_packets_reveal_no_loss(self) -> None:
         sent = [one for at, one in enumerate(self.with_wrong()) if at % 12 == 0 or one[1]]
@@ -127,18 +130,18 @@ class HiddenPages(OfProgramme):
         note = "not checked for missing PES packets: those of this file are too few to measure " \
             "their interval"
         for some, word in ((sent, "refused"), (sent[:place] + sent[place + 1:], "accepted")):
-            told = self.judge(some, "--to", "10:00:18:00")
-            known = [one.replace(self.folder + "/", "") for one in told.result["notes"]]
-            self.must(f"a file, {word}", len(sent) < 101 and told.word == word and note in known
-                      and told.parts("pace") == [(None,)], told.said)
-        made = multiplexed([large(pes_packet(pts, some), 4) for pts, some in sent], Shape(100))
+            judged = self.judge(some, "--to", "10:00:18:00")
+            known = [one.replace(self.folder + "/", "") for one in judged.result["notes"]]
+            self.must(f"a file, {word}", len(sent) < 101 and judged.word == word and note in known
+                      and judged.parts("pace") == [(None,)], judged.said)
+        made = make_multiplex([large(pes_packet(pts, some), 4) for pts, some in sent], Shape(100))
         note = "not checked for losses of 1.4 s or more on this PID alone: its PES packets are " \
             "too few to measure their interval"
         for count, is_announced, word in ((0, False, "refused"), (16, False, "accepted"),
                                           (4, True, "lost")):
-            told = self.judge_stream(lost(made, count, is_announced) if count else made, "--to",
+            judged = self.judge_stream(lost(made, count, is_announced) if count else made, "--to",
                               "10:00:18:00")
-            self.must(f"{count}", told.word == word and note in told.told, told.said)
+            self.must(f"{count}", judged.word == word and note in judged.told, judged.said)
 
     def test_notes_a_possible_loss_at_an_announced_jump(self) -> None:
         sent = self.with_wrong(50)
@@ -151,17 +154,17 @@ class HiddenPages(OfProgramme):
             "announced"
         for words in ((), ("--pace", "3"), ("--pace", "none")):
             whole = self.judge_stream(made, *words)
-            told = self.judge_stream(lost(made, 3, True, frame), *words)
+            judged = self.judge_stream(lost(made, 3, True, frame), *words)
             self.must(f"{words}", whole.word == "refused" and note not in whole.told and
-                      told.word == "accepted" and told.told.count(note) == 1 and
-                      note in told.result["notes"] and told.result["losses"] == [], told.said)
+                      judged.word == "accepted" and judged.told.count(note) == 1 and
+                      note in judged.result["notes"] and judged.result["losses"] == [], judged.said)
 
     def test_announced_where_nothing_is_missing(self) -> None:
         made = self.multiplexed(self.with_wrong(), 0, 0, 1)
-        at = of_teletext(made, (AT + 60) * TICKS)[0]
-        says = lost(made, 1, True)[of_teletext(made, AT * TICKS)[0]]
-        told = self.judge_stream([*made[:at], says, *made[at:]])
-        self.must("usual", told.word == "refused" and told.result["losses"] == [], told.said)
+        at = teletext_places(made, (AT + 60) * TICKS)[0]
+        says = lost(made, 1, True)[teletext_places(made, AT * TICKS)[0]]
+        judged = self.judge_stream([*made[:at], says, *made[at:]])
+        self.must("usual", judged.word == "refused" and judged.result["losses"] == [], judged.said)
 
 
 class Taken(unittest.TestCase):

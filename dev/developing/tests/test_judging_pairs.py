@@ -16,12 +16,13 @@ from subtitles.judging.pair import PairJudge
 from subtitles.recording.notices import NeverSent
 from subtitles.request.commands import CommandWords, Names
 from .bench import Case, example, example_bytes
-from .judged import FEW, OfProgramme, judged
-from .parts import asked_for, part_with
-from .results import agrees
+from .judged import FEW, ProgrammeCase, judge_files
+from .parts import request_for, make_part
+from .results import check_schema
 from .transmissions import (
-    ORIGIN, Sent, joined, one_late, packets, programme, random_subtitles, subtitle_file,
-    times)
+    ORIGIN, Sent, pes_file, delay_subtitle, packets, write_programme, random_subtitles,
+    write_subtitle_file,
+    subtitle_times)
 from .test_judging_verdicts import verdict_of
 
 STORY, HELLO, ACCENT = example("story.stl"), example("hello.stl"), example("accent.stl")
@@ -41,7 +42,7 @@ def broken(packet: bytes, number: int) -> bytes:
     return packet[:at] + bytes([packet[at] ^ bits]) + packet[at + 1:]
 
 
-class UnreadablePackets(OfProgramme):
+class UnreadablePackets(ProgrammeCase):
     due, every, origin = [(60 * at, 60 * at + 60) for at in range(2, 22)], 12, ORIGIN
 
     def setUp(self) -> None:
@@ -55,7 +56,8 @@ class UnreadablePackets(OfProgramme):
         for number, first, last in runs:
             for at in range(first, last + 1):
                 some[at] = MARK if number == 45 else broken(some[at], number)
-        found = judged(self, self.stl, self.write("one.pes", b"".join(some)), *EVERY, "--origin",
+        found = judge_files(self, self.stl, self.write("one.pes", b"".join(some)), *EVERY,
+                            "--origin",
                        str(ORIGIN))
         listed = [f"{word} {number} {NAMES[number]} pes {at}" for number, first, last in runs
                   for word, at in (("refused", first), *[("ended", last)] * (last > first))]
@@ -67,11 +69,12 @@ class UnreadablePackets(OfProgramme):
                   [(number, first, last if last > first else None)
                    for number, first, last in runs], found.result["faults"])
         self.must("the verdict", found.said[-1] == "refused 33 Flags pes 1", found.said)
-        agrees(self, found.result)
+        check_schema(self, found.result)
 
     def test_trusts_frames_around_two_gap_markers(self) -> None:
         some = [*self.pes[:22], MARK, *self.pes[24:61], MARK, *self.pes[62:]]
-        found = judged(self, self.stl, self.write("one.pes", b"".join(some)), *EVERY, "--origin",
+        found = judge_files(self, self.stl, self.write("one.pes", b"".join(some)), *EVERY,
+                            "--origin",
                        str(ORIGIN))
         stretches = [(0, 21, 1), (24, 60, 1), (62, len(self.pes) - 1, 0)]
         self.must("trusted", [(one["part"], one["from"], one["to"])
@@ -83,16 +86,17 @@ class UnreadablePackets(OfProgramme):
                                             found.result["losses"]] ==
                   [(time_of(self.frames[before]), time_of(self.frames[after]))
                    for before, after in ((21, 24), (60, 62))], found.result["losses"])
-        told = [line for line in found.told if "between" in line or "record" in line]
-        self.must("told", len(told) == 3 and told[2] == "record that part again: what is missing "
-                                                        "was not checked", told)
+        reported = [line for line in found.told if "between" in line or "record" in line]
+        self.must("told",
+                  len(reported) == 3 and reported[2] == "record that part again: what is missing "
+                                                        "was not checked", reported)
         severity = self.write("severity", b"45 warning\n")
         others = self.write("others", b"others warning\n")
         rows: list[tuple[list[str], str]] = [
             (["--allow-lost"], "waived"), (["--severity", severity], "waived"),
             (["--severity", others], "refused"), ([], "refused")]
         for words, word in rows:
-            found = judged(self, self.stl, self.path("one.pes"), *EVERY, *words)
+            found = judge_files(self, self.stl, self.path("one.pes"), *EVERY, *words)
             self.must(f"{words}", found.word == word, found.said)
 
     def test_is_not_judged_if_nothing_could_be_read(self) -> None:
@@ -105,7 +109,7 @@ class UnreadablePackets(OfProgramme):
                 ([HELLO, pes], every, "not judged"), ([HELLO, pes], one, "refused"),
                 ([ACCENT], every, "waived"), ([ACCENT], one, "refused"),
                 ([ACCENT, example("recording.ts")], one, "refused")):
-            found = judged(self, *words, "--severity", severity)
+            found = judge_files(self, *words, "--severity", severity)
             is_unread = word == "not judged"
             self.must(f"{words} {severity}", found.word == word and found.told[-1:] ==
                       [UNREAD] * is_unread or not is_unread, found.said)
@@ -117,9 +121,9 @@ class UnreadablePackets(OfProgramme):
 class Steps(Case):
     def pair(self, *words: str, count: int = 0) -> PairJudge:
         """Return a pair with judged parts."""
-        verdict, nothing = verdict_of([part_with(0, 9, 0, number=number)
+        verdict, nothing = verdict_of([make_part(0, 9, 0, number=number)
                                        for number in range(1, count + 1)]), mock.Mock()
-        verdict.request = asked_for("one.stl", "one.pes", *words)
+        verdict.request = request_for("one.stl", "one.pes", *words)
         return PairJudge(verdict, CommandWords("tools/qc", self.bench.program), Names(
             "one", "", None), nothing, False)
 
@@ -143,7 +147,8 @@ class Steps(Case):
                 else [(ALL_DAY, 30)]), made)
 
     def test_requests_expected_pages_with_the_options_of_the_part(self) -> None:
-        of_part = asked_for("one.stl", "one.pes", *"--page 150 --option german --from 00:00:01:00 "
+        of_part = request_for("one.stl", "one.pes",
+                              *"--page 150 --option german --from 00:00:01:00 "
                             "--to 00:00:02:00 --layout double".split())
         with mock.patch.object(pair, "schedule_pages") as due:
             self.pair().make_expected_pages(of_part, [])
@@ -163,17 +168,17 @@ class Steps(Case):
         listener.said.assert_has_calls([mock.call("one"), mock.call("two")])
 
 
-class Sentences(OfProgramme):
-    due, first = times(20), 50
+class Sentences(ProgrammeCase):
+    due, first = subtitle_times(20), 50
 
     def test_counts_late_subtitles(self) -> None:
         def moved(places: Sequence[int], by: int = 7) -> Sent:
             sent = self.sent
             for place in places:
-                sent = one_late(place, by)(sent)
+                sent = delay_subtitle(place, by)(sent)
             return sent
 
-        gone = [one for one in self.sent if not 301 * TICKS <= one[0] < 350 * TICKS]
+        missing = [one for one in self.sent if not 301 * TICKS <= one[0] < 350 * TICKS]
         rows: list[tuple[Sent, list[str], str]] = [
             (moved(range(2, 21)), [], "Refused: 19 of 20 subtitles appeared 7 frames late (first "
              "at 00:00:08:00, last at 00:01:20:00)."),
@@ -189,9 +194,10 @@ class Sentences(OfProgramme):
              "within 2 frames."),
             (self.sent, ["--strict"], "Not accepted: --strict counts warnings (repeat); everything "
              "that was received is right."),
-            (gone, ["--every", "49"], "Refused: from 00:00:13:24 on the page had no header for up "
+            (missing, ["--every", "49"],
+             "Refused: from 00:00:13:24 on the page had no header for up "
              "to 50 frames (25 are usual)."),
-            (gone, ["--every", "49", "--severity", self.write("mild", b"73 warning\n")],
+            (missing, ["--every", "49", "--severity", self.write("mild", b"73 warning\n")],
              "Waived, since these faults are declared as warnings: from 00:00:13:24 on the page "
              "had no header for up to 50 frames (25 are usual)."),
             (self.sent, ["--every", "20"], "Refused: from 00:00:04:20 on the page had no header "
@@ -202,10 +208,10 @@ class Sentences(OfProgramme):
                       found.result["sentence"] == wanted, found.said)
 
     def test_names_a_subtitle_by_its_place_and_number(self) -> None:
-        found = self.judge(one_late(3, 7)(self.sent))
+        found = self.judge(delay_subtitle(3, 7)(self.sent))
         place = {"position": 3, "number": 52, "begin": "00:00:12:00", "end": "00:00:14:10"}
         causes, faults = found.result["causes"], found.result["faults"]
-        agrees(self, found.result)
+        check_schema(self, found.result)
         self.must("result", [one["subtitle"] for one in (*causes, *faults)] == [place, place] and
                   [one["position"] for one in found.result["subtitles"]] == [*range(1, 21)], causes)
         self.must("cause", faults[0]["cause"] == {name: value for name, value in causes[0].items()
@@ -235,12 +241,12 @@ class Sentences(OfProgramme):
         broken_at = next(at for at, (pts, _) in enumerate(doubt) if pts == 300 * TICKS)
         pes = [pes_packet(pts % CLOCK, some) for pts, some in doubt]
         pes[broken_at] = broken(pes[broken_at], 37)
-        found = judged(self, self.stl, self.write("one.pes", b"".join(pes)), "--origin", "0")
+        found = judge_files(self, self.stl, self.write("one.pes", b"".join(pes)), "--origin", "0")
         self.must("can't be read", [one["name"] for one in found.result["causes"]] == ["unknown"]
                   and "not everything that was sent then can be "
                       "read" in "".join(found.said), found.said)
         back = [((1 << 33) - at * TICKS, early[0][1]) for at in (200, 150, 100, 50)]
-        found = self.judge([*back, *one_late(3, 4)(self.sent)])
+        found = self.judge([*back, *delay_subtitle(3, 4)(self.sent)])
         self.must("of another clock", found.lines("cause: ") == [
             'subtitle 3 (SN 52) at 00:00:12:00, "Number 52": late by 4 frames'] and
             found.parts("pes") == [(f"4-{len(self.sent) + 3}",)], found.said)
@@ -248,19 +254,19 @@ class Sentences(OfProgramme):
     def test_judges_by_a_given_clock_what_cannot_be_estimated(self) -> None:
         others = self.write("two.stl", random_subtitles(7)[0])
         self.schedule(others, "two.pes")
-        three = programme(self, times(3), name="three.stl")
+        three = write_programme(self, subtitle_times(3), name="three.stl")
         for clock, word in (("", "not judged"), (f"--origin {679_065 * TICKS}", "refused")):
-            found = judged(self, three, self.path("two.pes"), *clock.split())
+            found = judge_files(self, three, self.path("two.pes"), *clock.split())
             self.must(clock, found.word == word, found.said)
         twice = [*self.sent, *((pts + 6000 * TICKS, some) for pts, some in self.sent)]
-        path, last = self.write("one.pes", joined(twice)), len(self.sent) - 1
+        path, last = self.write("one.pes", pes_file(twice)), len(self.sent) - 1
         for words, word, origin, pes in (
                 ("", "not judged", None, None), ("--origin 0", "not judged", None, None),
                 (f"--pes 0-{last}", "accepted", 0, f"0-{last}"),
                 (f"--pes {last + 1}-99999", "accepted", 6000 * TICKS,
                  f"{last + 1}-{2 * last + 1}"),
                 ("--pes 99990-99999", "not judged", None, None)):
-            found = judged(self, self.stl, path, *words.split())
+            found = judge_files(self, self.stl, path, *words.split())
             self.must(f"{words}", found.word == word and found.parts("origin", "pes") ==
                       [(origin, pes)] * (origin is not None), found.said)
             typed = [line for line in found.told if line.startswith(("type ", "or "))]
@@ -284,7 +290,7 @@ class Sentences(OfProgramme):
     def test_gives_hints_for_the_first_faults(self) -> None:
         whole = "--option swedish, italian, french, spanish, czech have all characters of the " \
                 "file"
-        found = judged(self, ACCENT)
+        found = judge_files(self, ACCENT)
         self.must("list", "1 faults" in found.said, found.said)
         self.must("letter", found.result["hints"] == [f"50: {whole}"] and found.said[-3::2] == [
             f"50: {whole}", "refused 50 Character block 1 at 6"] and
@@ -292,7 +298,8 @@ class Sentences(OfProgramme):
                 '"Café" (block 1), the national option lacks' in one
                 for one in found.lines("Refused: ")),
             found.said)
-        found = judged(self, programme(self, times(1), text=b"\xa35"), "--option", "german")
+        found = judge_files(self, write_programme(self, subtitle_times(1), text=b"\xa35"),
+                            "--option", "german")
         self.must("by the option", found.result["hints"][0].startswith(
             "50: --option english, ") and [
                 (one["text_offset"], one["byte"]) for one in found.result["faults"]] == [(0, "A3")],
@@ -300,14 +307,15 @@ class Sentences(OfProgramme):
         data = bytearray(example_bytes("hello.pes"))
         at = DATA + 4 + 2 + 7  # in the first PES packet: C11 to C14 of its first header
         data[at:at + 1] = mirrored(b"\xd0")  # the code word of 8: C12 to C14 are those of German
-        found = judged(self, HELLO, self.write("one.pes", data))
+        found = judge_files(self, HELLO, self.write("one.pes", data))
         words = "the header is German, but --option is english"
         self.must("header", found.result["hints"] == [f"67: {words}"] and found.said[-3::2] == [
             f"67: {words}", "refused 67 Control frame 10:00:00:00 packet 0"] and
             found.result["faults"][0]["meaning"] == words, found.said)
 
     def test_judges_by_each_option(self) -> None:
-        stl = subtitle_file(self, [(90_000, 90_050, b"Gr\xc8u\xfbe"), (90_100, 90_150, b"Ja")],
+        stl = write_subtitle_file(self,
+                                  [(90_000, 90_050, b"Gr\xc8u\xfbe"), (90_100, 90_150, b"Ja")],
                             "two.stl", language=b"08")
         self.schedule(stl, "two.pes", "--page", "1A9", "--option", "german", "--origin", "4242")
         two, no_end, five = self.path("two.pes"), example("no-end.pes"), example("five-faults.pes")
@@ -327,7 +335,7 @@ class Sentences(OfProgramme):
                 (b"others warning\n72 error\n", "refused", "refused 72 ")))]
         for words, text, word, last in rows:
             more = ["--severity", self.write("severity", text)] if text else []
-            found = judged(self, *words, *more)
+            found = judge_files(self, *words, *more)
             self.must(f"{words} {text!r}", found.word == word, found.said)
             self.must(f"{words} {text!r}: last line", found.said[-1].startswith(last),
                       found.said[-1])

@@ -17,10 +17,11 @@ from subtitles.judging.timing import DesyncFindings
 from subtitles.recording import notices
 from subtitles.recording.notices import Notice
 from .bench import example
-from .judged import FEW, Judged, OfProgramme, judged
-from .parts import packets_told
+from .judged import FEW, JudgedPair, ProgrammeCase, judge_files
+from .parts import survey_packets
 from .transmissions import (
-    Change, EACH, LASTS, ORIGIN, Sent, apart, joined, late, one_late, programme, sendings, times)
+    Change, EACH, LASTS, ORIGIN, Sent, with_pauses, pes_file, delayed, delay_subtitle,
+    write_programme, schedule_pages, subtitle_times)
 
 HELLO = example("hello.stl")
 WARNING = "! warning: the page is repeated every 25 frames: give --every 25 to notice a missing " \
@@ -32,23 +33,24 @@ def cause_of(number: int, begin: int, by: int) -> str:
         f'{counted(by, "frame")}'
 
 
-class SeveralParts(OfProgramme):
-    due = times(24)
+class SeveralParts(ProgrammeCase):
+    due = subtitle_times(24)
 
     def setUp(self) -> None:
         super().setUp()
         self.at = {pts // TICKS: number for number, (pts, _) in enumerate(self.sent)}
 
     def judge_parts(self, shifts: tuple[int, ...], changes: dict[int, int], *words: str,
-                    marks: Sequence[int] = ()) -> Judged:
+                    marks: Sequence[int] = ()) -> JudgedPair:
         """Judge parts with shifted PTS, delayed subtitles, and gap markers before some PES packets.
         """
         sent = self.sent
         for number, by in changes.items():
-            sent = one_late(number, by)(sent)
-        pes = [pes_packet(pts % CLOCK, some) for pts, some in apart(sent, *shifts)]
+            sent = delay_subtitle(number, by)(sent)
+        pes = [pes_packet(pts % CLOCK, some) for pts, some in with_pauses(sent, *shifts)]
         data = b"".join(MARK * (number in marks) + one for number, one in enumerate(pes))
-        return judged(self, self.stl, self.write("one.pes", data), "--breaks", str(len(shifts)),
+        return judge_files(self, self.stl, self.write("one.pes", data), "--breaks",
+                           str(len(shifts)),
                       *words)
 
     def test_judges_each_part_by_its_own_clock(self) -> None:
@@ -70,10 +72,10 @@ class SeveralParts(OfProgramme):
             self.must(f"{shifts}: clocks", [
                 (one["source"], one["delay_frames"]) for one, in found.parts("clock")] == [
                 (GIVEN, 0) if words and not at else (RECORDING, None) for at in range(count)])
-            said = [line for line in found.said if not line.endswith(FEW)]
+            printed = [line for line in found.said if not line.endswith(FEW)]
             word, later = ("accepted", [FITTED_LATER]) if words else ("relative", list[str]())
             at = -3 - count - len(later)
-            self.must(f"{shifts}: said", [*said[at:-2], said[-1]] == [
+            self.must(f"{shifts}: said", [*printed[at:-2], printed[-1]] == [
                 *(f"part {at + 1}, from {time_of(edges[at][0])} to {time_of(ends[at])}: accepted "
                   f"{ends[at] - begins[at] + 1} frames "
                   f"{self.at[ends[at]] - self.at[begins[at]] + 1} transmissions"
@@ -160,13 +162,13 @@ class SeveralParts(OfProgramme):
             return DesyncFindings([NamedFault(PICTURES_LEFT, f"left {number}", part=number)] * (
                 number in own), [f"note {number}"])
 
-        hidden, told = NamedFault(NOT_SHOWN, "hidden"), Notice(HIDDEN, "strange", None)
+        hidden, reported = NamedFault(NOT_SHOWN, "hidden"), Notice(HIDDEN, "strange", None)
         for own in ((1,), (2, 3), ()):
             counts = iter(range(1, 4))
             pauses = mock.Mock(side_effect=lambda *_: [Notice("pause", f"{next(counts)}", None)])
             made: dict[str, Any] = {
                 "find_desync": left, "may_hide_rows": lambda *_: True,
-                "find_hidden_rows": lambda *_: HiddenRows([hidden], [told])}
+                "find_hidden_rows": lambda *_: HiddenRows([hidden], [reported])}
             with mock.patch.multiple(pair, **made), \
                     mock.patch.object(pair, "refuse_other_pid") as elsewhere, \
                     mock.patch.object(notices, "pause_notices", pauses):
@@ -180,7 +182,7 @@ class SeveralParts(OfProgramme):
                                         found.verdict.parts] == ["one.1.txt", "one.2.txt",
                                                                  "one.3.txt"])
             self.must(f"{own}: counted", found.verdict.fault_count == 2 + len(own))
-            self.must(f"{own}: warnings", told in warnings and [
+            self.must(f"{own}: warnings", reported in warnings and [
                 one.line for one in warnings if one.kind == "pause"] == ["1", "2", "3"], warnings)
             self.must(f"{own}: notes", [one for one in found.verdict.notes if one[:4] == "note"] ==
                       ["note 1", "note 2", "note 3"], found.verdict.notes)
@@ -188,13 +190,13 @@ class SeveralParts(OfProgramme):
                 (1, "refused"), (2, "accepted"), (3, "accepted")], found.said)
 
     def test_refuses_a_wrong_number_of_breaks(self) -> None:
-        data = self.write("one.pes", joined(apart(self.sent, 1000, 3000)))
-        found = judged(self, self.stl, data, "--breaks", "1")
+        data = self.write("one.pes", pes_file(with_pauses(self.sent, 1000, 3000)))
+        found = judge_files(self, self.stl, data, "--breaks", "1")
         self.must("one of two", found.word == "not judged" and not any(
             one.startswith("type ") for one in found.told), found.said)
-        whole = self.write("one.pes", joined(self.sent))
+        whole = self.write("one.pes", pes_file(self.sent))
         for count, word in (("1", "not judged"), ("0", "accepted")):
-            self.must(count, judged(self, self.stl, whole, "--breaks", count).word == word)
+            self.must(count, judge_files(self, self.stl, whole, "--breaks", count).word == word)
 
 
 # Correct transmissions that take several frames.
@@ -233,7 +235,7 @@ def under_load(sent: Sent) -> Sent:
     return [(pts + TICKS * chance.randrange(3), some) for pts, some in sent]
 
 
-class Tolerances(OfProgramme):
+class Tolerances(ProgrammeCase):
     lines, origin, words = 2, ORIGIN, ()
 
     def test_accepts_late_rows_within_the_tolerance(self) -> None:
@@ -260,20 +262,21 @@ class Tolerances(OfProgramme):
             ("fields", in_fields, 1, 0), ("late rows", with_late_rows, 1, 0),
             ("jitter", with_jitter, 1, None), ("load", under_load, 2, 0)]
         for name, change, least, off in ways:
-            packets = packets_told(self, joined(change(self.sent)))
+            packets = survey_packets(self, pes_file(change(self.sent)))
             for within in (least, 5, 50):
                 origin = find(Sought(self.stl, "one.pes", within=within), packets)
                 found = origin.parts[0].origin - ORIGIN
                 self.must(f"{name} {within}", origin.status == 0 and
                           (abs(found) < EARLY if off is None else found == off), origin)
-                told = [line for line in origin.lines if " late" in line]
-                self.must(f"{name} {within}: how late", len(told) == 1 and (
-                    told[0] == "no cue is late" or "cues are 0 to " in told[0]), origin.lines)
+                reported = [line for line in origin.lines if " late" in line]
+                self.must(f"{name} {within}: how late", len(reported) == 1 and (
+                    reported[0] == "no cue is late" or "cues are 0 to " in reported[0]),
+                    origin.lines)
         at_once: list[tuple[Change, int, str]] = [
             (with_late_rows, 3600, "1 frame"), (in_fields, 1800, "1 frame"),
             (in_three_frames, 7200, "2 frames")]
         for change, ticks, early in at_once:
-            packets = packets_told(self, joined(change(self.sent)))
+            packets = survey_packets(self, pes_file(change(self.sent)))
             origin = find(Sought(self.stl, "one.pes"), packets)
             self.must(f"{ticks}: within 0", origin.parts[0].origin == ORIGIN + ticks and
                       any(f"all out-cues are {early} early compared with" in line
@@ -299,16 +302,17 @@ class Tolerances(OfProgramme):
 
     def moved(self, number: int, by: int) -> Sent:
         begin = ORIGIN + EACH * number * TICKS
-        return late(by, begin, begin + LASTS * TICKS - 1)(self.sent)
+        return delayed(by, begin, begin + LASTS * TICKS - 1)(self.sent)
 
     def without(self, number: int) -> Sent:
         begin = ORIGIN + EACH * number * TICKS
         return [one for one in self.sent if not begin <= one[0] < begin + LASTS * TICKS]
 
     def test_finds_causes_with_a_tolerance(self) -> None:
-        hello = [(ORIGIN + pts, some) for pts, some in sendings(self, HELLO)]
-        pauses = programme(self, [(103 * at, 103 * at + 100) for at in range(1, 6)], name="two.stl")
-        sent = [(ORIGIN + pts, some) for pts, some in sendings(self, pauses)]
+        hello = [(ORIGIN + pts, some) for pts, some in schedule_pages(self, HELLO)]
+        pauses = write_programme(self, [(103 * at, 103 * at + 100) for at in range(1, 6)],
+                                 name="two.stl")
+        sent = [(ORIGIN + pts, some) for pts, some in schedule_pages(self, pauses)]
         behind = [(sent[0][0] - 40 * TICKS, sent[-1][1]), sent[0],
                   *((pts + 3 * TICKS, some) for pts, some in sent[1:])]
         row = "late by 3 frames: the page is incomplete for 6 frames in a row, from 00:00:08:03 " \
@@ -320,20 +324,21 @@ class Tolerances(OfProgramme):
                  "unknown: it disappears at 10:00:01:00"),
                 (pauses, behind, 3, "00:00:08:06", row),
                 (pauses, behind, 5, "00:00:08:06", row)):
-            found = judged(self, stl, self.write("one.pes", joined(some)), "--origin", str(ORIGIN),
+            found = judge_files(self, stl, self.write("one.pes", pes_file(some)), "--origin",
+                                str(ORIGIN),
                            "--within", str(within))
             self.must(f"{cause} {within}", any(f" at {begin}, " in one and one.endswith(cause)
                                                for one in found.lines("cause: ")), found.said)
-        self.must("of six in a row", judged(self, pauses, self.path("one.pes"), "--origin",
+        self.must("of six in a row", judge_files(self, pauses, self.path("one.pes"), "--origin",
                                             str(ORIGIN), "--within", "6").word == "accepted")
 
     def test_finds_the_pes_packet_in_a_frame_with_several(self) -> None:
         for at, bits, wanted in ((10, 0x80, (68, 1, 1, "10:00:00:00")),
                                  (22, 0x06, (72, 1, None, "10:00:00:00"))):
-            some = in_fields(sendings(self, HELLO))
+            some = in_fields(schedule_pages(self, HELLO))
             one = some[1][1][0]
             some[1][1][0] = one[:at] + bytes([one[at] ^ bits]) + one[at + 1:]
-            found = judged(self, HELLO, self.write("one.pes", joined(some)), "--within", "1",
+            found = judge_files(self, HELLO, self.write("one.pes", pes_file(some)), "--within", "1",
                            "--origin", "0")
             fault = found.result["faults"][0]
             self.must(f"{at}", (fault["number"], fault["pes"], fault["packet"],

@@ -12,10 +12,10 @@ import sys
 from subtitles.common.times import TICKS
 from subtitles.judging.sentence import FAULT_CLAUSES
 from .bench import BENCH, Case
-from .judged import OfProgramme, judged
+from .judged import ProgrammeCase, judge_files
 from .streams import mpeg_2_picture, with_pictures
-from .planted import FIRST, Programme, planted
-from .transmissions import Sent, joined, subtitle_file
+from .planted import FIRST, Programme, plant_fault
+from .transmissions import Sent, pes_file, write_subtitle_file
 
 JPEG_2000 = 0x21  # stream_type of an unsupported video format
 ADVICE = ("--within", "--keeping", "--no-complete", "--allow-lost", "--severity", "--pace")
@@ -27,7 +27,7 @@ def off_grid(sent: Sent, every: int, first: int, ticks: int) -> Sent:
             for at, (pts, some) in enumerate(sent)]
 
 
-class OffFramePts(OfProgramme):
+class OffFramePts(ProgrammeCase):
     due = [(FIRST + 100 * at, FIRST + 100 * at + (100 if at % 3 else 60)) for at in range(10)]
 
     def test_leads_with_off_frame_pts(self) -> None:
@@ -56,7 +56,7 @@ class OffFramePts(OfProgramme):
                    "was never sent" in found.verdict.sentence, True)
 
 
-class EarlyFirstSubtitle(OfProgramme):
+class EarlyFirstSubtitle(ProgrammeCase):
     due = [(FIRST + 100 * at, FIRST + 100 * at + 60) for at in range(10)]
 
     def test_refuses_and_names_an_early_first_subtitle(self) -> None:
@@ -75,16 +75,16 @@ class EarlyFirstSubtitle(OfProgramme):
                     found.word, found.verdict.sentence == sentence), ("refused", ticks < TICKS))
 
 
-class NoClock(OfProgramme):
+class NoClock(ProgrammeCase):
     words = ("--every", "25")
 
     def test_advises_only_what_works_for_the_recording(self) -> None:
-        first, pes = TICKS * 40, joined(self.sent)
+        first, pes = TICKS * 40, pes_file(self.sent)
         pictures = with_pictures(pes, first).data
         of_other = with_pictures(pes, first, JPEG_2000, mpeg_2_picture()).data
         for name, data, is_start in (("PES packets", pes, False), ("MPEG-2", pictures, True),
                                      ("JPEG 2000", of_other, False)):
-            found = judged(self, self.stl, self.write("one", data), *self.words)
+            found = judge_files(self, self.stl, self.write("one", data), *self.words)
             advice = found.verdict.sentence.partition(" was not checked: ")[2]
             self.check(name, (found.verdict.word, "--start" in advice, "--origin" in advice),
                        ("relative", is_start, True))
@@ -98,17 +98,18 @@ class Blocks(Case):
                 "a long line": (long, "a line has more than 40 cells", long.decode()),
                 "an accent": (b"\xc2e\xe6", "the national option lacks", "\u00e9\u0132")}
         for name, (text, words, shown) in rows.items():
-            stl = subtitle_file(self, [(100, 150, b"One"), (200, 250, text), (300, 350, b"Three")],
+            stl = write_subtitle_file(self,
+                                      [(100, 150, b"One"), (200, 250, text), (300, 350, b"Three")],
                                 first=7)
-            found = judged(self, stl)
+            found = judge_files(self, stl)
             begin = f'Refused: in subtitle 2 (SN 8) at 00:00:08:00, "{shown}" (block 2), {words}'
             self.check(name, found.verdict.sentence[:len(begin)], begin)
         stl = self.write("none.stl", b"no file of subtitles")
-        self.check("of no block", judged(self, stl).verdict.sentence.startswith(
+        self.check("of no block", judge_files(self, stl).verdict.sentence.startswith(
             "Refused: in block 0 "), True)
 
 
-class Advice(OfProgramme):
+class Advice(ProgrammeCase):
     def test_never_advises_an_option_that_accepts_the_fault(self) -> None:
         for number, words in FAULT_CLAUSES.items():
             self.check(f"{number}", [one for one in ADVICE if one in words and number != 79], [])
@@ -119,8 +120,8 @@ COUNT, NAMED = 100, 95  # programmes in the gate, and how many faults must be na
 
 def sentence_of(case: Case, made: Programme) -> str:
     """Return the sentence on a programme, judged with its clock."""
-    path = case.write("planted.pes", joined(made.sent()))
-    return judged(case, made.stl, path, "--origin", "0",
+    path = case.write("planted.pes", pes_file(made.sent()))
+    return judge_files(case, made.stl, path, "--origin", "0",
                   *made.inserter.options()).verdict.sentence
 
 
@@ -128,7 +129,7 @@ class PlantedFaults(Case):
     def test_names_at_least_95_of_100_planted_faults(self) -> None:
         others = list[tuple[int, object, str]]()
         for number in range(COUNT):
-            made = planted(self, number)
+            made = plant_fault(self, number)
             sentence = sentence_of(self, made)
             self.check(f"{number}: refused", sentence[:8], "Refused:")
             if not made.is_named(sentence):
@@ -139,10 +140,11 @@ class PlantedFaults(Case):
 def main(program: str, first: int, last: int) -> None:
     """Plant faults; print those that are not named, and the counts."""
     BENCH.chosen = program
-    case, counts = PlantedFaults("test_planted_faults_are_named"), collections.Counter[str]()
+    case = PlantedFaults("test_names_at_least_95_of_100_planted_faults")
+    counts = collections.Counter[str]()
     case.setUp()
     for number in range(first, last):
-        made = planted(case, number)
+        made = plant_fault(case, number)
         sentence, kind = sentence_of(case, made), made.fault.kind if made.fault else ""
         is_named = made.is_named(sentence)
         counts[kind if is_named else f"{kind}, not named"] += 1

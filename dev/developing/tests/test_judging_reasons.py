@@ -21,11 +21,13 @@ from subtitles.stream.gaps import Place, places_of, what_of
 from subtitles.stream.packets import Clocked, Mark, Packets, Run, subcode_of, turns_of
 from subtitles.stream.receiver import BLANK_PAGE, Meeting, Rows, Timeline, TUNED
 from .bench import Case
-from .judged import Judged, OfProgramme, judged
-from .streams import OLD, Shape, TELETEXT_PID, beside_video, in_turn, multiplexed, stream, without
-from .parts import answer, asked_for, timeline_of
+from .judged import JudgedPair, ProgrammeCase, judge_files
+from .streams import (
+    OLD, Shape, TELETEXT_PID, stream_with_video, stream_by_plan, make_multiplex, stream_bytes, delete_between)
+from .parts import make_answer, request_for, decode_packets
 from .transmissions import (
-    CLOSING, HEADER, PAGE, Sent, in_pipe, joined, programme, row, scheduled, times)
+    CLOSING, HEADER, PAGE, Sent, write_pipe, pes_file, write_programme, row_packet, schedule_pes,
+    subtitle_times)
 
 
 # The reported reason is the sender's fault.
@@ -47,7 +49,7 @@ def all_changed(sent: Sent, at: int, off: int, on: int) -> Sent:
     return [(pts, [changed(one, at, off, on) for one in some]) for pts, some in sent]
 
 
-class Reasons(OfProgramme):
+class Reasons(ProgrammeCase):
     def test_reports_headers_that_never_erase(self) -> None:
         found = self.judge(all_changed(self.sent, 3, 8, 0), *WORDS)
         words = "C4 (erase page) is clear in 49 of 49 headers"
@@ -58,29 +60,29 @@ class Reasons(OfProgramme):
                   not any(COMPLETED_LATER in line for line in found.said), found.said)
 
     def test_reports_why_a_decoded_page_is_refused(self) -> None:
-        text = row(20, b"Text")
+        text = row_packet(20, b"Text")
         even = text[:10] + bytes([text[10] ^ 0x80]) + text[11:]
         for name, sent, words in (
                 ("two of a frame", [(0, [HEADER, text, CLOSING]), (0, [HEADER, CLOSING])],
                  COMPLETED_LATER),
                 ("even parity", [(0, [HEADER, even, CLOSING])], EVEN_PARITY),
                 ("whole", [(0, [HEADER, text, CLOSING])], "")):
-            held = timeline_of(self, joined(sent), within=1)
-            found = CauseFinder(ExpectedPages([], []), held).describe_hidden_fault(0)
+            decoded = decode_packets(self, pes_file(sent), within=1)
+            found = CauseFinder(ExpectedPages([], []), decoded).describe_hidden_fault(0)
             self.must(name, found == words, found)
         back = [(7200, [HEADER, text, CLOSING]), (3600, [HEADER, text, CLOSING])]
-        held = timeline_of(self, joined(back))
-        found = CauseFinder(ExpectedPages([], []), held).describe_hidden_fault(5)
+        decoded = decode_packets(self, pes_file(back))
+        found = CauseFinder(ExpectedPages([], []), decoded).describe_hidden_fault(5)
         self.must("behind one that goes back", found == NOT_READABLE, found)
 
     def test_reports_a_scrambled_pid(self) -> None:
-        data = bytearray(beside_video(b"".join(self.pes)))
+        data = bytearray(stream_with_video(b"".join(self.pes)))
         for at in range(0, len(data), 188):
             if (data[at + 1] & 31, data[at + 2]) == (TELETEXT_PID >> 8, TELETEXT_PID & 255):
                 data[at + 3] |= 0x80
         words = f"PID 0x101 is scrambled, in all its {len(self.pes)} TS packets"
-        for recording in (self.write("one.ts", data), in_pipe(self, bytes(data))):
-            found = judged(self, self.stl, recording)
+        for recording in (self.write("one.ts", data), write_pipe(self, bytes(data))):
+            found = judge_files(self, self.stl, recording)
             self.must(recording, found.word == "not judged" and found.verdict.sentence ==
                       f"Not judged: {recording} has no header of page 888; {words}." and
                       not any("type " in line for line in found.told), found.told)
@@ -90,7 +92,7 @@ class Reasons(OfProgramme):
             of_length = [one[:4] + (len(one) - 6 + length - 36).to_bytes(2, "big") + one[6:8]
                          + bytes([length]) + one[9:14].ljust(length, b"\xff")[:length] + one[45:]
                          for one in self.pes]
-            data = in_turn(self.pes, [(0, OLD)], lambda at: [(OLD, of_length[at])])
+            data = stream_by_plan(self.pes, [(0, OLD)], lambda at: [(OLD, of_length[at])])
             words = f"the PES header of PID 0x101 has {9 + length} bytes (PES_header_data_length " \
                 f"{length:02X}), but EN 300 472 requires 45 (24)"
             found = self.judge_stream(data)
@@ -101,7 +103,8 @@ class Reasons(OfProgramme):
             words = words.replace(" of PID 0x101", "")
             for one in (of_length[0], b"\0\0\1\xbe" + of_length[0][4:]):
                 self.assertEqual(pes_header_problem(one, 0), words, one)
-        found = judged(self, self.stl, self.write("one.pes", b"".join(of_length)), "--origin", "0")
+        found = judge_files(self, self.stl, self.write("one.pes", b"".join(of_length)), "--origin",
+                            "0")
         self.must("PES packets", words in found.verdict.sentence, found.said)
         for data in (b"", b"refused 60", self.pes[0], self.pes[0][:8]):
             self.assertEqual(pes_header_problem(data, 0), "", data)
@@ -111,20 +114,20 @@ class Reasons(OfProgramme):
     def test_reports_rows_of_a_closed_page(self) -> None:
         for name, between in (("FF", CLOSING), ("800", OTHER_PAGE)):
             sent = [(pts, [some[0], between, *some[1:]]) for pts, some in self.sent]
-            path = self.write("one.pes", joined(sent))
+            path = self.write("one.pes", pes_file(sent))
             for words, word in (((), "not judged"), (("--origin", "0"), "refused")):
-                found = judged(self, self.stl, path, *WORDS, *words)
+                found = judge_files(self, self.stl, path, *WORDS, *words)
                 self.must(f"{name} {words}", found.word == word and
                           "rows came while page 888 was not "
                           "open" in found.verdict.sentence, found.said)
-            reason = judged(self, self.stl, path, *WORDS).verdict.sentence
+            reason = judge_files(self, self.stl, path, *WORDS).verdict.sentence
             self.must(f"{name}: first", reason.startswith(
                 "Not judged: the clock is not clear: rows came while page 888 was not open, in "),
                 reason)
 
     def test_reports_alternating_sub_pages(self) -> None:
         alternate = [one for pts, some in all_changed(self.sent, 2, 15, 1) for one in (
-            (pts, some), (pts + 4 * TICKS, [changed(HEADER, 2, 15, 2), row(20, b"Other"),
+            (pts, some), (pts + 4 * TICKS, [changed(HEADER, 2, 15, 2), row_packet(20, b"Other"),
                                             CLOSING]))]
         once = all_changed(self.sent[:20], 2, 15, 1) + all_changed(self.sent[20:], 2, 15, 2)
         words = "sub-pages of 888 alternate, with the sub-codes 0001 and 0002"
@@ -155,16 +158,16 @@ class Reasons(OfProgramme):
         self.assertEqual([*other_words(sent("11", "12"), PAGE)], [])
 
     def test_estimates_losses_by_the_pcr(self) -> None:
-        stl = programme(self, [(2000 + 25 * at, 2020 + 25 * at) for at in range(40)],
+        stl = write_programme(self, [(2000 + 25 * at, 2020 + 25 * at) for at in range(40)],
                         name="long.stl")
-        made = multiplexed(scheduled(self, stl, "--every", "1"), Shape(4000, 1800))
+        made = make_multiplex(schedule_pes(self, stl, "--every", "1"), Shape(4000, 1800))
         for count, lost, words in (
                 (2, 2, "2 TS packets lost"), (16, 0, "TS packets of 0.64 s are missing by the PCR "
                                               "and the counters of other PIDs"),
                 (50, 2, "TS packets of 2.00 s are missing by the PCR; the counter shows 2 of "
                  "them")):
-            path = self.write("one.ts", stream(without(made, 200, count)))
-            found = judged(self, stl, path, "--origin", "0")
+            path = self.write("one.ts", stream_bytes(delete_between(made, 200, count)))
+            found = judge_files(self, stl, path, "--origin", "0")
             self.must(f"{count}", [one["lost_ts_packets"] for one in
                                    found.result["losses"]] == [lost] and any(
                                        line.endswith(f": {words}") for line in found.told),
@@ -191,7 +194,7 @@ class Reasons(OfProgramme):
 NUMBERS = bytes([8, 8, 0, 8, 0, 8, 1, 0])  # of HEADER
 KEEPS = bytes([8, 8, 0, 0, 0, 8, 1, 0])
 KEEPING_HEADER = packet(0, 0, KEEPS, b" " * 32)
-FIRST, SECOND = row(20, b"One"), row(22, b"Two")
+FIRST, SECOND = row_packet(20, b"One"), row_packet(22, b"Two")
 CLEAR = "C4 (erase page) is clear"
 
 
@@ -214,14 +217,14 @@ def numbers(**places: int) -> bytes:
 class Headers(Case):
     def test_knows_the_previous_header_of_each_header(self) -> None:
         one, other = "88000810", "88100810"
-        heard = TUNED._replace(is_heard=True, is_open=True, header=NUMBERS)
+        received = TUNED._replace(is_heard=True, is_open=True, header=NUMBERS)
         first, second = KEEPS, of_subcode(KEEPS, 1)
         for does, control, state, wanted in (
                 ("-", "", TUNED, []), ("h", one, TUNED, [(first, None, False)]),
-                ("hec", "88080810", heard, [(NUMBERS, NUMBERS, True)]),
-                ("cho", one, heard, [(first, NUMBERS, False)]),
+                ("hec", "88080810", received, [(NUMBERS, NUMBERS, True)]),
+                ("cho", one, received, [(first, NUMBERS, False)]),
                 ("hh", f"{one}+{other}", TUNED, [(first, None, False), (second, first, True)]),
-                ("hchc", f"{other}+{one}", heard,
+                ("hchc", f"{other}+{one}", received,
                  [(second, NUMBERS, True), (first, second, False)])):
             run = Run(0, 1, 0, 0, does, control)
             found = [tuple(header) for header in find_page_headers(run, state)]
@@ -243,14 +246,15 @@ class Headers(Case):
                 (PageHeader(KEEPS, KEEPS, True), "--keeping", is_open),
                 (PageHeader(KEEPS, KEEPS, True), "--keeping --no-complete", ""),
                 (PageHeader(KEEPS, None, True), "--keeping", is_open)):
-            found = describe_missing_erase(header, asked_for("one.stl", "one.pes", *words.split()))
+            found = describe_missing_erase(header,
+                                           request_for("one.stl", "one.pes", *words.split()))
             self.must(f"{header} {words}", found == wanted, found)
 
     def test_describes_the_first_wrong_header_of_several(self) -> None:
         good, keeps, german, plain = map(PageHeader, (
             NUMBERS, KEEPS, bytes([*NUMBERS[:7], 8]), bytes([*NUMBERS[:5], 0, 1, 0])))
         other, clear = "the header is German, but --option is english", "C6 (subtitle) is clear"
-        for headers, words, effect, said in (
+        for headers, words, effect, printed in (
                 ([good, keeps, plain], "", "may appear over old text", REPEAT_WITHOUT_ERASE),
                 ([good, keeps, plain], "--keeping", "hides the picture", clear),
                 ([german, keeps], "", "has other characters", other),
@@ -258,10 +262,10 @@ class Headers(Case):
                  f"{clear}; the header is English, but --option is german"),
                 ([german, keeps, good], "--option german --keeping", "has other characters",
                  "the header is English, but --option is german"), ([good], "", None, "")):
-            asked = asked_for("one.stl", "one.pes", *words.split())
-            self.must(f"{headers} {words}", describe_header_faults(headers, asked) == said and
-                      effect in (None, describe_effect(headers, asked)),
-                      describe_effect(headers, asked))
+            request = request_for("one.stl", "one.pes", *words.split())
+            self.must(f"{headers} {words}", describe_header_faults(headers, request) == printed and
+                      effect in (None, describe_effect(headers, request)),
+                      describe_effect(headers, request))
 
     def test_reports_c4_first(self) -> None:
         self.must("may be", describe_control_bits(KEEPS, "english") == [])
@@ -292,9 +296,9 @@ class HeaderCounts(Case):
                 ([20, 22], 22, 1, "row 22"), ([20, 22], None, 1, "a row"),
                 ([20, 22], 20, 5, "row 20"), ([18, 20, 22], 20, 1, "row 20 and 1 more"),
                 ([18, 20, 22], 20, -1, "rows 18, 20 and 22")]
-        for rows, told, came, wanted in cases:
-            found = describe_omitted_rows(rows, told, came)
-            self.must(f"{rows} {told} {came}", found == wanted, found)
+        for rows, reported, came, wanted in cases:
+            found = describe_omitted_rows(rows, reported, came)
+            self.must(f"{rows} {reported} {came}", found == wanted, found)
 
 
 def packets_at(frames: Sequence[tuple[int, list[bytes]]]) -> bytes:
@@ -314,50 +318,52 @@ def frame_text(frame: int) -> str:
 class MissingRows(Case):
     def decode(self, *frames: tuple[int, list[bytes]], within: int = 0) -> tuple[Timeline, Rows]:
         """Return the decoded pages, and the first page."""
-        found = timeline_of(self, packets_at(frames), within=within)
+        found = decode_packets(self, packets_at(frames), within=within)
         return found, found.page_at(frames[0][0])
 
     def answer_at(self, frame: int, *before: str) -> CheckOutput:
         """Return the answer of `check --all` if row 22 is refused at a frame."""
         lines = [*before, f"refused 72 Content {frame_text(frame)} row 22 column 0"]
-        return answer([*lines, f"{len(lines)} faults"], path=self.path("told"))
+        return make_answer([*lines, f"{len(lines)} faults"], path=self.path("told"))
 
     def test_finds_the_rows_missing_at_a_frame(self) -> None:
-        held, due = self.decode((0, WHOLE), (25, AGAIN), (50, ONE_LESS), (75, BARE), (100, WHOLE))
+        decoded, due = self.decode((0, WHOLE), (25, AGAIN), (50, ONE_LESS), (75, BARE),
+                                   (100, WHOLE))
         for frame, wanted in (
                 (0, ""), (24, ""), (50, "row 22"), (60, "row 22"), (75, "rows 20 and 22"),
                 (99, "rows 20 and 22"), (100, "")):
-            found = find_omitted_rows(held, due, frame, self.answer_at(frame))
+            found = find_omitted_rows(decoded, due, frame, self.answer_at(frame))
             self.must(f"{frame}", found == wanted, found)
         self.must("the row", [self.answer_at(frame).find_fault_row(9) for frame in (0, 9, 10)] ==
                   [22, 22, None])
-        self.must("nothing told", find_omitted_rows(held, due, 50, None) == "a row")
-        self.must("another page is due", find_omitted_rows(held, BLANK_PAGE, 50, None) == "")
-        nothing = timeline_of(self, packets_at([(5, [CLOSING])]))
+        self.must("nothing told", find_omitted_rows(decoded, due, 50, None) == "a row")
+        self.must("another page is due", find_omitted_rows(decoded, BLANK_PAGE, 50, None) == "")
+        nothing = decode_packets(self, packets_at([(5, [CLOSING])]))
         self.must("no header", find_omitted_rows(nothing, BLANK_PAGE, 5, None) == "")
 
     def test_a_changed_row_is_not_missing(self) -> None:
-        held, due = self.decode((0, WHOLE), (20, WHOLE), (25, ONE_LESS), (50, ONE_LESS))
+        decoded, due = self.decode((0, WHOLE), (20, WHOLE), (25, ONE_LESS), (50, ONE_LESS))
         for frame, wanted in ((0, "row 22"), (19, "row 22"), (20, ""), (25, ""), (26, "row 22")):
-            told = self.answer_at(25, f"refused 69 RowChanged {frame_text(frame)} packet 1")
-            found = find_omitted_rows(held, due, 25, told)
+            reported = self.answer_at(25, f"refused 69 RowChanged {frame_text(frame)} packet 1")
+            found = find_omitted_rows(decoded, due, 25, reported)
             self.must(f"{frame}", found == wanted, found)
-        held, due = self.decode((0, AGAIN), (25, ONE_LESS))
-        told = self.answer_at(25, f"refused 69 RowChanged {frame_text(0)} packet 1")
-        self.must("none erases", find_omitted_rows(held, due, 25, told) == "")
+        decoded, due = self.decode((0, AGAIN), (25, ONE_LESS))
+        reported = self.answer_at(25, f"refused 69 RowChanged {frame_text(0)} packet 1")
+        self.must("none erases", find_omitted_rows(decoded, due, 25, reported) == "")
 
     def test_counts_rows_up_to_the_tolerance(self) -> None:
         frames = (0, WHOLE), (25, [KEEPING_HEADER]), (26, [FIRST]), (50, WHOLE)
-        held, due = self.decode(*frames, within=2)
-        self.must("both frames", find_omitted_rows(held, due, 27, self.answer_at(27)) == "row 22")
-        held, due = self.decode(*frames)
+        decoded, due = self.decode(*frames, within=2)
+        self.must("both frames",
+                  find_omitted_rows(decoded, due, 27, self.answer_at(27)) == "row 22")
+        decoded, due = self.decode(*frames)
         self.must("one frame",
-                  find_omitted_rows(held, due, 25, self.answer_at(25)) == "rows 20 and 22")
+                  find_omitted_rows(decoded, due, 25, self.answer_at(25)) == "rows 20 and 22")
 
     def test_finds_rows_missing_after_a_keeping_header(self) -> None:
-        held, due = self.decode((0, WHOLE), (25, BARE), (50, ONE_LESS))
+        decoded, due = self.decode((0, WHOLE), (25, BARE), (50, ONE_LESS))
         one = Subtitle(1, 1, 0, 100, 20, 2, b"1")
-        namer = CauseFinder(ExpectedPages([one], [due]), held, self.answer_at(50))
+        namer = CauseFinder(ExpectedPages([one], [due]), decoded, self.answer_at(50))
         for frame, wanted in ((0, ""), (25, "rows 20 and 22"), (50, "row 22")):
             self.must(f"{frame}", namer.list_omitted_rows(frame) == wanted,
                       namer.list_omitted_rows(frame))
@@ -366,8 +372,8 @@ class MissingRows(Case):
                   namer.list_omitted_rows(50) == "" and namer.list_omitted_rows(25) != "")
         several = (25, [KEEPING_HEADER]), (25, [FIRST, CLOSING])
         for within, wanted in ((0, ""), (1, "row 22")):
-            held, due = self.decode((0, WHOLE), *several, within=within)
-            namer = CauseFinder(ExpectedPages([one], [due]), held, self.answer_at(25))
+            decoded, due = self.decode((0, WHOLE), *several, within=within)
+            namer = CauseFinder(ExpectedPages([one], [due]), decoded, self.answer_at(25))
             self.must(f"in two, {within}", namer.list_omitted_rows(25) == wanted,
                       namer.list_omitted_rows(25))
 
@@ -377,10 +383,10 @@ class MissingRows(Case):
         for frame, name, words in ((0, "unknown", f"it is missing at {time_of(25)}"),
                                    (30, "erased", "by a header without rows, at 00:00:01:05")):
             bare, whole = (frame, [HEADER, CLOSING]), (26 if not frame else 25, WHOLE)
-            held, _ = self.decode(*sorted([bare, whole, (50, WHOLE)]), within=1)
-            due = held.page_at(50)
+            decoded, _ = self.decode(*sorted([bare, whole, (50, WHOLE)]), within=1)
+            due = decoded.page_at(50)
             faulty.during = Span(25 if not frame else 30, 35)
-            cause = CauseFinder(ExpectedPages([one], [due]), held,
+            cause = CauseFinder(ExpectedPages([one], [due]), decoded,
                                 self.answer_at(25)).find_cause(0, faulty)
             self.must(name, (cause.name, cause.details) == (name, words), cause)
 
@@ -409,10 +415,10 @@ def with_keeping_repeats(sent: Sent, way: str = "", frames: int = 0) -> Sent:
     return made
 
 
-class KeepingRepeats(OfProgramme):
-    due = times(3)
+class KeepingRepeats(ProgrammeCase):
+    due = subtitle_times(3)
 
-    def judged(self, way: str, *words: str, frames: int = 0) -> Judged:
+    def judged(self, way: str, *words: str, frames: int = 0) -> JudgedPair:
         return self.judge(with_keeping_repeats(self.sent, way, frames), *words)
 
     def test_accepts_keeping_headers_only_if_they_are_allowed(self) -> None:

@@ -11,12 +11,14 @@ import re
 from developing.pes import pes_packet, pts_in
 from subtitles.common.times import TICKS
 from .bench import Case, example_bytes
-from .judged import judged
+from .judged import judge_files
 from .streams import (
-    NEW, OLD, TELETEXT_PID, beside_video, in_stream, in_turn, spaced, teletext_descriptor)
+    NEW, OLD, TELETEXT_PID, stream_with_video, stream_of_pids, stream_by_plan, with_packet_size,
+    teletext_descriptor)
 from .transmissions import (
-    HEADER, ORIGIN, apart, in_pipe, joined, moved, packets, programme, random_subtitles, sendings,
-    times)
+    HEADER, ORIGIN, with_pauses, write_pipe, pes_file, with_new_pts, packets, write_programme,
+    random_subtitles, schedule_pages,
+    subtitle_times)
 from .test_judging_pairs import ACCENT, HELLO, STORY, broken
 
 
@@ -26,7 +28,7 @@ class Recordings(Case):
         for at in (2, 3, 7):
             five[at] = broken(five[at], 37)
         self.schedule(STORY, "every.pes", "--every", "25")
-        slow = moved(self.read("every.pes"), lambda _, pts: pts + 8 * TICKS * (
+        slow = with_new_pts(self.read("every.pes"), lambda _, pts: pts + 8 * TICKS * (
             pts == 1_822_675 * TICKS))
         for name, data, often, count, causes, last in (
                 ("right", example_bytes("story.pes"), "250", 0, 0,
@@ -35,12 +37,12 @@ class Recordings(Case):
                  "refused 67 Control frame 20:15:01:00 packet 0"),
                 ("late", slow, "25", 1, 1,
                  "refused 72 Content frame 20:15:07:00 row 22 column 16")):
-            whole = in_stream((TELETEXT_PID, data))
+            whole = stream_of_pids((TELETEXT_PID, data))
             lists = set[tuple[str, ...]]()
-            piped = in_pipe(self, whole)
+            piped = write_pipe(self, whole)
             for recording in (self.write("one.pes", data), self.write("one.ts", whole),
-                              in_pipe(self, data), piped):
-                found = judged(self, STORY, recording, "--every", often, "--origin", "0")
+                              write_pipe(self, data), piped):
+                found = judge_files(self, STORY, recording, "--every", often, "--origin", "0")
                 lists.add(tuple(found.listed))
                 self.must(f"{name} {recording}", found.said[-1] == last and
                           found.verdict.fault_count == count
@@ -75,13 +77,13 @@ class Recordings(Case):
             (STORY, teletext_descriptor(b"\x1b[2"), -1, ["pts_behind", "language"]),
             (french, teletext_descriptor(b"fre"), 9, ["option"])]
         for stl, descriptor, ahead, kinds in rows:
-            path = self.write("one.ts", beside_video(pes, descriptor, ahead))
-            found = judged(self, stl, path, "--origin", "0")
+            path = self.write("one.ts", stream_with_video(pes, descriptor, ahead))
+            found = judge_files(self, stl, path, "--origin", "0")
             warned = found.result["warnings"]
             self.must(f"{descriptor!r} {ahead}", [one["kind"] for one in warned] == kinds and
                       found.word == "accepted" and found.lines("! warning: ") ==
                       [one["line"] for one in warned], found.said)
-            strict = judged(self, stl, path, "--origin", "0", "--strict")
+            strict = judge_files(self, stl, path, "--origin", "0", "--strict")
             self.must(f"{descriptor!r} {ahead}: strict", strict.word == (
                 "warned" if kinds else "accepted") and (not kinds or strict.said[-1].startswith(
                     "not accepted, since --strict counts warnings "
@@ -89,41 +91,41 @@ class Recordings(Case):
 
     def test_handles_truncated_files(self) -> None:
         pes = example_bytes("story.pes")
-        stream = in_stream((TELETEXT_PID, pes))
+        stream = stream_of_pids((TELETEXT_PID, pes))
         later = pes_packet(pts_in(packets(pes)[-1]) + 100 * TICKS, [HEADER] * 5)  # two TS packets
-        for data in (pes + later[:100], in_stream((TELETEXT_PID, pes + later))[:-188], stream):
-            found = judged(self, STORY, self.write("cut.rec", data), "--origin", "0")
+        for data in (pes + later[:100], stream_of_pids((TELETEXT_PID, pes + later))[:-188], stream):
+            found = judge_files(self, STORY, self.write("cut.rec", data), "--origin", "0")
             self.must("cut", found.word == "accepted" and [
                 one["kind"] for one in found.result["warnings"]] == ["cut"] * (data != stream),
                 found.said)
         cut = self.write("cut.stl", example_bytes("story.stl")[:-128])
-        self.must("counts", judged(self, cut, "--strict").said[-1].startswith(
+        self.must("counts", judge_files(self, cut, "--strict").said[-1].startswith(
             "not accepted, since --strict counts warnings (blocks, subtitles): "))
 
     def test_judges_a_pipe_in_parts(self) -> None:
-        stl = programme(self, times(24))
-        sent = sendings(self, stl)
-        data = joined(apart(sent, 1000))
-        found = judged(self, stl, in_pipe(self, data), "--breaks", "1")
+        stl = write_programme(self, subtitle_times(24))
+        sent = schedule_pages(self, stl)
+        data = pes_file(with_pauses(sent, 1000))
+        found = judge_files(self, stl, write_pipe(self, data), "--breaks", "1")
         self.must("in two parts", found.word == "accepted" and all(
             f" check {stl} one.recording.pes " in one for one in found.lines("+ ")) and \
             found.parts("origin") == [
             (ORIGIN,), (ORIGIN + 1000 * TICKS,)], found.said)
 
     def test_counts_losses_of_the_page_pid_only(self) -> None:
-        stl = programme(self, times(10), 2)
-        sent = sendings(self, stl)
-        own = joined(sent)
+        stl = write_programme(self, subtitle_times(10), 2)
+        sent = schedule_pages(self, stl)
+        own = pes_file(sent)
         self.schedule(stl, "other.pes", "--page", "801", "--every", "25")
         other = self.read("other.pes")
         for page, second in ((0x101, 0x102), (0x102, 0x101)):
-            whole = in_stream((page, own), (second, other))
+            whole = stream_of_pids((page, own), (second, other))
             for lost, word in ((None, "accepted"), (second, "accepted"), (page, "refused")):
                 inner = [at for at in range(0, len(whole), 188) if lost and
                          whole[at + 1:at + 3] == lost.to_bytes(2, "big")]
                 data = whole[:inner[4]] + whole[inner[4] + 188:] if lost else whole
-                for recording in (self.write("one.ts", data), in_pipe(self, data)):
-                    found = judged(self, stl, recording, "--origin", "0", "--every", "100")
+                for recording in (self.write("one.ts", data), write_pipe(self, data)):
+                    found = judge_files(self, stl, recording, "--origin", "0", "--every", "100")
                     self.must(f"{page} {lost} {recording}", found.word == word and
                               "more place" not in "".join(found.said) and
                               found.parts("pid") == [(page,)] and [
@@ -133,33 +135,33 @@ class Recordings(Case):
 
     def test_reports_foreign_bytes(self) -> None:
         pes = example_bytes("story.pes")
-        whole = in_stream((TELETEXT_PID, pes))
+        whole = stream_of_pids((TELETEXT_PID, pes))
         junk = whole[:188 * 20] + b"x" * 40 + whole[188 * 20:]
         skipped, cut = " outside of TS packets skipped", "it was read up to there"
-        for data, size, count in ((whole, 188, ""), (spaced(whole, 192), 192, ""),
-                                  (spaced(whole, 204), 204, ""), (junk, 188, "40 bytes")):
-            for recording in (self.write("one.ts", data), in_pipe(self, data)):
-                found = judged(self, STORY, recording, "--origin", "0")
+        for data, size, count in ((whole, 188, ""), (with_packet_size(whole, 192), 192, ""),
+                                  (with_packet_size(whole, 204), 204, ""), (junk, 188, "40 bytes")):
+            for recording in (self.write("one.ts", data), write_pipe(self, data)):
+                found = judge_files(self, STORY, recording, "--origin", "0")
                 self.must(f"{size} {count} {recording}", found.word == "accepted" and
                           found.parts("pid", "packet_size") == [(257, size)] and
                           [line.removesuffix(skipped) for line in found.said
                            if line.endswith(skipped)] == [count] * bool(count), found.said)
         for data, words in ((pes, ""), (pes + b"x" * 50, cut)):
-            found = judged(self, STORY, in_pipe(self, data), "--origin", "0")
+            found = judge_files(self, STORY, write_pipe(self, data), "--origin", "0")
             self.must(words, found.word == "accepted" and
                       any(cut in one for one in found.said) == bool(words), found.said)
 
     def test_reports_missing_or_ambiguous_pids(self) -> None:
         pes = example_bytes("story.pes")
-        both = self.write("both.ts", in_stream((TELETEXT_PID, pes), (0x102, pes)))
-        one = self.write("one.ts", in_stream((TELETEXT_PID, pes)))
+        both = self.write("both.ts", stream_of_pids((TELETEXT_PID, pes), (0x102, pes)))
+        one = self.write("one.ts", stream_of_pids((TELETEXT_PID, pes)))
         other = self.write("other.stl", random_subtitles(7)[0])
         self.schedule(self.write("own.stl", random_subtitles(8)[0]), "own.pes")
         rows: list[tuple[list[str], str, list[str]]] = [
             ([STORY, both], "page 888 is sent on 2 PIDs of ", ["--pid 0x101", "--pid 0x102"]),
-            ([STORY, in_pipe(self, in_stream((TELETEXT_PID, pes), (0x102, pes)))],
+            ([STORY, write_pipe(self, stream_of_pids((TELETEXT_PID, pes), (0x102, pes)))],
              "page 888 is sent on 2 PIDs of ", ["--pid 0x101", "--pid 0x102"]),
-            ([STORY, self.write("moved.ts", in_turn(packets(pes), [(0, OLD), (2, NEW)]))],
+            ([STORY, self.write("moved.ts", stream_by_plan(packets(pes), [(0, OLD), (2, NEW)]))],
              "page 888 is sent on 2 PIDs of ", ["--pid 0x101", "--pid 0x111"]),
             ([STORY, both, "--page", "801"], "no header of page 801", ["--page 888"]),
             ([STORY, one, "--pid", "0x200"], "PID 0x200 has no complete PES packet",
@@ -178,28 +180,28 @@ class Recordings(Case):
             ([STORY, self.write("text.ts", b"no packets\n" * 400)], "is not a transport "
                                                                     "stream", [])]
         for words, why, to_type in rows:
-            found = judged(self, *words)
+            found = judge_files(self, *words)
             typed = [one.split(" ", 4)[-1] for one in found.told
                      if one.startswith(("type ", "or "))]
             self.must(f"{words}", found.word == "not judged" and why in "".join(found.told) and
                       not found.told[0].startswith("./") and
                       typed == to_type, found.told)
         for pid in ("0x101", "0x102"):
-            found = judged(self, STORY, both, "--pid", pid)
+            found = judge_files(self, STORY, both, "--pid", pid)
             self.must(pid, found.word == "accepted" and found.parts("pid") == [(int(pid, 16),)])
 
     def test_stores_a_recording_and_its_hashes(self) -> None:
         pes = example_bytes("story.pes")
-        data = in_stream((TELETEXT_PID, pes))
+        data = stream_of_pids((TELETEXT_PID, pes))
         path = self.write("one.ts", data)
         rows: list[tuple[list[str], str, list[str]]] = [
             ([], path, ["html", "json", "txt"]),
             (["--keep"], path, ["html", "json", "recording.pes", "txt"]),
-            ([], in_pipe(self, data), ["html", "json", "txt"]),
-            (["--keep"], in_pipe(self, data), ["html", "json", "recording.ts", "txt"])]
+            ([], write_pipe(self, data), ["html", "json", "txt"]),
+            (["--keep"], write_pipe(self, data), ["html", "json", "recording.ts", "txt"])]
         for words, recording, kept in rows:
             out = self.path(f"out{len(os.listdir(self.folder))}")
-            found = judged(self, STORY, recording, "-o", out, "--origin", "0", *words)
+            found = judge_files(self, STORY, recording, "-o", out, "--origin", "0", *words)
             self.must(f"{words} {recording}", sorted(os.listdir(out)) ==
                       [f"one.{ending}" for ending in kept], os.listdir(out))
             part, own = found.result["parts"][0], found.result["inputs"]["recording"]
@@ -215,10 +217,10 @@ class Recordings(Case):
                       self.read(f"{out}/one.recording.pes") == pes)
 
     def test_reports_that_the_recording_was_not_read(self) -> None:
-        judged(self, STORY, "-o", self.path("alone"))
+        judge_files(self, STORY, "-o", self.path("alone"))
         self.must("alone", sorted(os.listdir(self.path("alone"))) == [
             "one.html", "one.json", "one.txt"])
-        found = judged(self, ACCENT, self.write("one.ts", b"x"), "-o", self.path("out"))
+        found = judge_files(self, ACCENT, self.write("one.ts", b"x"), "-o", self.path("out"))
         self.must("said", found.word == "refused" and b"one.ts: it was not read" in
                   self.read("out/one.html"), found.said)
 
@@ -228,6 +230,6 @@ class Recordings(Case):
                            (HELLO, ["Accepted: 1 subtitle without a fault.",
                                     "1 subtitle without a fault"]),
                            (ACCENT, ["refused 50 Character block 1 at 6"])):
-            found = judged(self, stl)
+            found = judge_files(self, stl)
             self.must(stl, found.said[-len(lines):] == lines and found.parts("from", "pes") ==
                       [(None, None)], found.said)

@@ -31,9 +31,10 @@ from subtitles.request.commands import Names
 from subtitles.results.files import row_of_object
 from subtitles.stream.receiver import national_option
 from .bench import Case, example_bytes
-from .judged import Judged, judged
-from .parts import answer, fault_of
-from .transmissions import Shown, joined, late, moved, packets, sendings, times
+from .judged import JudgedPair, judge_files
+from .parts import make_answer, fault_of
+from .transmissions import (
+    Shown, pes_file, delayed, with_new_pts, packets, schedule_pages, subtitle_times)
 from .test_judging_pairs import UNREAD, broken
 from .test_judging_reasons import KEEPING_HEADER
 from .test_judging_verdicts import verdict_of
@@ -63,10 +64,10 @@ class RefusedSubtitles(Case):
     def setUp(self) -> None:
         super().setUp()
         self.blocks: list[Shown] = [(begin, end, b"Number %d" % number)
-                                    for number, (begin, end) in enumerate(times(10), 1)]
+                                    for number, (begin, end) in enumerate(subtitle_times(10), 1)]
         self.stl = self.write("good.stl", stl_of(self.blocks))
-        self.sent = sendings(self, self.stl)
-        self.pes = self.write("one.pes", joined(self.sent))
+        self.sent = schedule_pages(self, self.stl)
+        self.pes = self.write("one.pes", pes_file(self.sent))
 
     def write_stl(self, *bad: int) -> str:
         """Write the subtitle file, with an unsupported character in some subtitles."""
@@ -74,13 +75,13 @@ class RefusedSubtitles(Case):
             (begin, end, BAD if number in bad else text)
             for number, (begin, end, text) in enumerate(self.blocks, 1)]))
 
-    def judge(self, stl: str, *words: str) -> Judged:
-        return judged(self, stl, *words, *WORDS)
+    def judge(self, stl: str, *words: str) -> JudgedPair:
+        return judge_files(self, stl, *words, *WORDS)
 
     def test_counts_judged_and_names_refused_subtitles(self) -> None:
         first = "subtitle 3 at 00:00:12:00 is refused by 50 Character (\u0132): \u0132 is in no " \
             f"option: {CURE}"
-        slow = self.write("slow.pes", joined(late(5, 3600 * 600, 3600 * 650)(self.sent)))
+        slow = self.write("slow.pes", pes_file(delayed(5, 3600 * 600, 3600 * 650)(self.sent)))
         for pes, end in ((self.pes, "all have the right text from the first frame to the last"),
                          (slow, 'subtitle 6 at 00:00:24:00, "Number 6", appeared 5 frames late')):
             found = self.judge(self.write_stl(3), pes)
@@ -96,9 +97,9 @@ class RefusedSubtitles(Case):
         for bad, words, more in (((3, 5), "2 of 10 subtitles are refused, subtitle 3 at ", ""),
                                  (range(2, 6), "4 of 10 subtitles are refused, ", " and 1 more; 6"),
                                  (range(2, 9), "7 of 10 subtitles are ", " and 4 more; 3 other")):
-            said = self.judge(self.write_stl(*bad), self.pes).verdict.sentence
-            self.must(f"{bad}", words in said and more in said and (" more; " in said) ==
-                      bool(more), said)
+            printed = self.judge(self.write_stl(*bad), self.pes).verdict.sentence
+            self.must(f"{bad}", words in printed and more in printed and (" more; " in printed) ==
+                      bool(more), printed)
 
     def test_writes_both_counts_into_all_results(self) -> None:
         files = {"--json": self.path("x.json"), "--csv": self.path("x.csv"),
@@ -125,11 +126,11 @@ class RefusedSubtitles(Case):
         for more, counts in (((self.stl, self.pes, *WORDS), {"judged": 10, "refused": 0}),
                              ((self.stl,), {"judged": 10, "refused": 0}),
                              ((self.write_stl(3),), None)):
-            result = judged(self, *more).result
+            result = judge_files(self, *more).result
             self.must(f"{more}", result["subtitle_counts"] == counts, result)
 
     def test_waives_faults_of_the_subtitle_file_and_78_by_number(self) -> None:
-        slow = self.write("slow.pes", joined(late(5, 3600 * 600, 3600 * 650)(self.sent)))
+        slow = self.write("slow.pes", pes_file(delayed(5, 3600 * 600, 3600 * 650)(self.sent)))
         for text, pes, word in ((b"50 warning\n78 warning\n", self.pes, "waived"),
                                 (b"50 warning\n", self.pes, "refused"),
                                 (b"78 warning\n", self.pes, "refused"),
@@ -167,19 +168,20 @@ class RefusedSubtitles(Case):
         two = [(pts + 3600 * 500 * (pts >= 3600 * 480), some) for pts, some in self.sent]
         kept = [(pts, [KEEPING_HEADER, *some[1:]] if at in (2, 40) else some)
                 for at, (pts, some) in enumerate(two)]
-        for bad, sent, said in (((7,), two, "all have the right text"),
+        for bad, sent, printed in (((7,), two, "all have the right text"),
                                 ((2, 7), two, "all have the right text"),
                                 ((2, 7), kept, " headers; 2 faults in all.")):
-            found = judged(self, self.write_stl(*bad), self.write("two.pes", joined(sent)),
+            found = judge_files(self, self.write_stl(*bad), self.write("two.pes", pes_file(sent)),
                            "--breaks",
                            "1", "--every", "100")
-            self.must(f"{bad} {said}", found.word == "refused" and said in found.verdict.sentence
+            self.must(f"{bad} {printed}",
+                      found.word == "refused" and printed in found.verdict.sentence
                       and len(found.result["parts"]) == 2 and
                       found.verdict.subtitle_counts == SubtitleCounts(10 - len(bad), len(bad)),
                       found.said)
 
     def test_lists_refused_and_late_subtitles_in_the_report(self) -> None:
-        slow = self.write("slow.pes", joined(late(5, 3600 * 600, 3600 * 650)(self.sent)))
+        slow = self.write("slow.pes", pes_file(delayed(5, 3600 * 600, 3600 * 650)(self.sent)))
         for number, (bad, pes) in enumerate((((3,), self.pes), ((3, 4, 9), slow))):
             out, stl = self.path(f"out{number}"), self.write_stl(*bad)
             self.judge(stl, pes, "-o", out)
@@ -202,26 +204,26 @@ class RefusedSubtitles(Case):
 
     def test_draws_the_judged_subtitles_by_a_layout(self) -> None:
         self.blocks = [(begin, end, b"N\xc8umber %d" % number)
-                       for number, (begin, end) in enumerate(times(14), 1)]
+                       for number, (begin, end) in enumerate(subtitle_times(14), 1)]
         words = "--layout", "row=-2", "--option", "german"
         self.schedule(self.write_stl(), "house.pes", "--every", "25", *words)
         others = "13 other subtitles were judged: "
-        for bad, by, said in (
+        for bad, by, printed in (
                 ((), 0, ""), ((3,), 0, f"{others}all have the right text from the first"),
                 ((3,), 5, f'{others}subtitle 6 at 00:00:24:00, "Nümber 6", appeared 5 frames '
                           'late')):
             def with_late(_: int, pts: int, by: int = by) -> int:
                 return pts + 3600 * by * (pts == 3600 * 600)
 
-            path = self.write("one.pes", moved(self.read("house.pes"), with_late))
+            path = self.write("one.pes", with_new_pts(self.read("house.pes"), with_late))
             found = self.judge(self.write_stl(*bad), path, *words)
             self.must(f"{bad} {by}", found.word == ("refused" if bad else "accepted") and
-                      said in found.verdict.sentence and
+                      printed in found.verdict.sentence and
                       " --layout " in found.lines("+ ")[-1], found.said)
 
     def test_notes_why_the_others_cannot_be_judged(self) -> None:
         empty = self.write("empty.pes", b"")
-        found = judged(self, self.write_stl(3), empty, *WORDS)
+        found = judge_files(self, self.write_stl(3), empty, *WORDS)
         self.must("refused", found.word == "refused" and found.listed == [
             "refused 50 Character block 3 at 0", "1 faults"] and
             found.result["subtitle_counts"] is None and
@@ -234,15 +236,15 @@ class RefusedSubtitles(Case):
             (self.write("odd.stl", bytes(odd)), [self.pes], "not judged"),
             (self.path("odd.stl"), [], "waived")]
         for stl, more, word in rows:
-            found = judged(self, stl, *more, *WORDS, "--severity", mild)
+            found = judge_files(self, stl, *more, *WORDS, "--severity", mild)
             self.must(f"named warnings {stl} {more}", found.word == word and
                       found.verdict.unjudged_reason == (None if word == "waived" else UNREAD),
                       found.said)
         for stl, when in ((self.write_stl(3), "check*--pes*--all*"), (self.stl, "show*")):
-            found = judged(self, stl, self.pes, *WORDS, by=self.program_but(when, "exit 9"))
+            found = judge_files(self, stl, self.pes, *WORDS, by=self.program_but(when, "exit 9"))
             self.must(f"{when}: not answered", found.word == "not judged", found.said)
         with mock.patch("subtitles.judging.pair.find_parts", side_effect=ValueError):
-            found = judged(self, self.write_stl(3), self.pes, *WORDS)
+            found = judge_files(self, self.write_stl(3), self.pes, *WORDS)
         self.must("a mistake", found.word == "not judged", found.said)
 
     def test_lists_forty_of_many_refused_subtitles(self) -> None:
@@ -251,13 +253,14 @@ class RefusedSubtitles(Case):
             (200 * at, 200 * at + 100, BAD if at in bad else b"Number %d" % at)
             for at in range(1, 801)])))
         faults = [fault_of(f"refused 50 Character block {at} at 0") for at in bad]
-        with mock.patch.object(subtitles, "has_characters", side_effect=has_characters) as asked:
+        with mock.patch.object(subtitles, "has_characters", side_effect=has_characters) as request:
             found = find_valid_subtitles(file, faults, "english")
-        self.must("once", len(found.judged) == 758 and asked.call_count <= 759 * len(OPTIONS),
-                  asked.call_count)
+        self.must("once", len(found.judged) == 758 and request.call_count <= 759 * len(OPTIONS),
+                  request.call_count)
         names, verdict, nothing = Names("many", self.folder, None), verdict_of([]), mock.Mock()
         names.give(self.path("many.stl"))
-        told = PairJudge(verdict, nothing, names, nothing, False).find_valid_subtitles(answer(
+        reported = PairJudge(verdict, nothing, names, nothing,
+                             False).find_valid_subtitles(make_answer(
             [*(one.line for one in faults), "refused 60 Empty", "43 faults"],
             path=self.path("all.txt")))
         self.must("all are left out",
@@ -265,7 +268,8 @@ class RefusedSubtitles(Case):
                   verdict.valid_subtitles.skipped_positions == found.skipped_positions,
                   verdict.valid_subtitles)
         self.must("of the file",
-                  (told.fault_count, told.fault_numbers, told.last_line) == (42, {50}, "42 faults"))
+                  (reported.fault_count, reported.fault_numbers,
+                   reported.last_line) == (42, {50}, "42 faults"))
         self.must("lines", [*found.format_lines()][40:] == ["undecided: 2 more subtitles"])
 
 
@@ -283,10 +287,11 @@ class ExpectedPages(unittest.TestCase):
             some = [Subtitle(at, at, begin, begin + 50, 20, 2, b"Number %d" % at)
                     for at, begin in ((1, 100), (2, 150 + gap))]
             due = draw_valid_pages(some, PAGE, option)
-            frames, held = range(99, 203 + gap), due.timeline
-            assert held
-            self.assertEqual(list(map(held.page_at, frames)), list(map(due.page_at, frames)), gap)
-            self.assertEqual({national_option(held.state_at(frame).header or b"") for frame in
+            frames, decoded = range(99, 203 + gap), due.timeline
+            assert decoded
+            self.assertEqual(list(map(decoded.page_at, frames)), list(map(due.page_at, frames)),
+                             gap)
+            self.assertEqual({national_option(decoded.state_at(frame).header or b"") for frame in
                               frames[1:]}, {BY_WORD[option].bits}, (gap, option))
 
     def test_names_the_first_refused_subtitles_and_counts_the_others(self) -> None:
@@ -300,12 +305,13 @@ class ExpectedPages(unittest.TestCase):
                              [one.format_line() for one in refused[:40]] + more, count)
             if count < 2:
                 continue
-            said = found.describe()
-            self.assertTrue(said.startswith(f"{count} of {count + 2} subtitles are refused, "),
+            printed = found.describe()
+            self.assertTrue(printed.startswith(f"{count} of {count + 2} subtitles are refused, "),
                             count)
-            self.assertEqual([at for at in range(1, count + 1) if f" (letter {at})" in said],
+            self.assertEqual([at for at in range(1, count + 1) if f" (letter {at})" in printed],
                              [*range(1, min(count, 3) + 1)], count)
-            self.assertEqual(re.findall(r" and (\d+) more$", said), [f"{count - 3}"] * (count > 3),
+            self.assertEqual(re.findall(r" and (\d+) more$", printed),
+                             [f"{count - 3}"] * (count > 3),
                              count)
 
 
@@ -344,8 +350,9 @@ class RandomFiles(Case):
                 (one.tci, one.tco) for one in wanted.records], found)
             first, places = dict[int, str](), {one.index for one in found.judged}
             for line in wanted.lines:
-                told = fault_of_line(line)
-                own = file.at_block(told.block) if told and told.block is not None else None
+                reported = fault_of_line(line)
+                own = file.at_block(
+                    reported.block) if reported and reported.block is not None else None
                 if own:
                     first.setdefault(own.position, line)
             self.must(f"{wanted.lines}: refused", [
@@ -358,10 +365,10 @@ class RandomFiles(Case):
                 found.describe())
             due = draw_valid_pages(found.judged, PAGE, "english")
             pages = defined.Due(wanted.records, wanted.others, options)
-            held = due.timeline
+            decoded = due.timeline
             for one, rows in zip(found.judged, due.pages):
-                self.must("page", b"".join(rows) == pages.at(one.begin) and held and all(
-                    b"".join(held.page_at(frame)) == pages.at(frame)
+                self.must("page", b"".join(rows) == pages.at(one.begin) and decoded and all(
+                    b"".join(decoded.page_at(frame)) == pages.at(frame)
                     for frame in (one.begin, one.end - 1, one.end)), rows)
         self.must("some", beside > 60, beside)
 
@@ -389,12 +396,12 @@ class LongInputs(Case):
             lines = run.stdout.read().decode().splitlines()
         self.must("status", run.returncode == 0, run.returncode)
         self.must("over", lines[-1] == f"over 0 {AT_ONCE * TIMES + len(parts)}", lines[-1])
-        told = [line for line in lines if line.startswith(f"pes {PID} 0 1 ")]
-        self.must("its PES packet", len(told) == 1, lines)
+        reported = [line for line in lines if line.startswith(f"pes {PID} 0 1 ")]
+        self.must("its PES packet", len(reported) == 1, lines)
 
     def test_judges_around_a_refused_subtitle_after_twelve(self) -> None:
         blocks = [(begin, end, b"Number %d" % number)
-                  for number, (begin, end) in enumerate(times(14), 1)]
+                  for number, (begin, end) in enumerate(subtitle_times(14), 1)]
         self.schedule(self.write("good.stl", stl_of(blocks)), "sent.pes")
         begin, end, _ = blocks[12]
         blocks[12] = begin, end, BAD

@@ -29,8 +29,9 @@ from subtitles.judging.transmissions import describe_control_bits
 from subtitles.recording.notices import Notice
 from subtitles.stream.receiver import BLANK_PAGE
 from .bench import Case
-from .judged import OfProgramme, judged
-from .transmissions import CLOSING, HEADER, Sent, joined, one_late, programme, row, sendings
+from .judged import ProgrammeCase, judge_files
+from .transmissions import (
+    CLOSING, HEADER, Sent, pes_file, delay_subtitle, write_programme, row_packet, schedule_pages)
 from .test_formats_characters import ANY_SUBCODE, CHARACTER, LEVEL_1, Receiver, TEXT_AT
 from .test_judging_faults import cause, causes_of
 
@@ -45,11 +46,11 @@ VERB = re.compile(r"\b(is|are|has|have|was|were|does|ends|comes|begins?|differs|
 
 class HeaderOptions(unittest.TestCase):
     def test_names_the_option_of_a_header(self) -> None:
-        for sent, asked in itertools.product(OPTIONS, repeat=2):
-            words = f"the header is {sent.name}, but --option is {asked.word}"
-            with self.subTest(sent=sent.word, asked=asked.word):
+        for sent, request in itertools.product(OPTIONS, repeat=2):
+            words = f"the header is {sent.name}, but --option is {request.word}"
+            with self.subTest(sent=sent.word, asked=request.word):
                 self.assertEqual(describe_control_bits(bytes([8, 8, 0, 8, 0, 8, 1, sent.bits << 1]),
-                                                       asked.word), [words] * (sent != asked))
+                                                       request.word), [words] * (sent != request))
 
 
 class Sentences(unittest.TestCase):
@@ -109,9 +110,10 @@ class Sentences(unittest.TestCase):
                  "Refused: from 10:00:00:00 on no header; 3 faults in all.")):
             found = write_sentence(seen)
             self.assertEqual(found, wanted, seen)
-        for told, begin in ((packet, "Refused: in PES packet 0 "), (block, "Refused: in block 12 "),
+        for reported, begin in ((packet, "Refused: in PES packet 0 "),
+                                (block, "Refused: in block 12 "),
                             (fault, "Refused: at 10:00:00:00 ")):
-            found = write_sentence(Facts(WAIVED if told is None else REFUSED, 1, first=told,
+            found = write_sentence(Facts(WAIVED if reported is None else REFUSED, 1, first=reported,
                                          faults=1))
             self.assertTrue(found.startswith(begin) and found.endswith(".") and
                             found.count(".") == 1 and "`" not in found, found)
@@ -124,8 +126,8 @@ class Sentences(unittest.TestCase):
             for place, begin in (("frame 10:00:00:00", "at 10:00:00:00"),
                                  ("pes 7", "in PES packet 7"), ("block 0", "in block 0"),
                                  ("", "")):
-                told = fault_of_line(f"refused {number} Name {place}".rstrip())
-                found = write_sentence(Facts(REFUSED, 1, first=told, faults=1))
+                reported = fault_of_line(f"refused {number} Name {place}".rstrip())
+                found = write_sentence(Facts(REFUSED, 1, first=reported, faults=1))
                 with self.subTest(number=number, place=place):
                     self.assertEqual(found, " ".join(["Refused:", *begin.split(), words]) + ".")
                     self.assertRegex(words, VERB)
@@ -135,10 +137,11 @@ class Sentences(unittest.TestCase):
         for name in [one for one in CAUSE_NAMES if one != TEXT_IN_PAUSE]:
             for several in ([cause(2, name, 3)], [cause(2, name, 3), cause(4, name, 5)]):
                 words = describe_causes(causes_of(*several), "english")
-                said = CAUSE_PREDICATES[name][len(several) > 1] if name in CAUSE_PREDICATES else \
+                printed = CAUSE_PREDICATES[name][len(
+                    several) > 1] if name in CAUSE_PREDICATES else \
                     "appeared 3 "
                 with self.subTest(name, count=len(several)):
-                    self.assertIn(f" {said}", words)
+                    self.assertIn(f" {printed}", words)
                     self.assertRegex(words, VERB)
                     self.assertRegex(words, r"^(subtitle 3 at \d\d:\d\d:\d\d:\d\d,? |2 of )")
 
@@ -157,7 +160,7 @@ def with_two_faults(sent: Sent) -> Sent:
     found = list(sent)
     found[1:2] = [(found[1][0], [KEEPS, *found[1][1][1:]])]
     at = next(number for number, (_, some) in enumerate(sent) if b"3" in joined_rows(some))
-    found[at] = (found[at][0], [HEADER, row(22, b"Wrong"), CLOSING])
+    found[at] = (found[at][0], [HEADER, row_packet(22, b"Wrong"), CLOSING])
     return found
 
 
@@ -166,7 +169,7 @@ def joined_rows(packets: list[bytes]) -> bytes:
     return b"".join(bytes(byte & 0x7F for byte in one[2:]) for one in packets[1:2])
 
 
-class LeadingFaults(OfProgramme):
+class LeadingFaults(ProgrammeCase):
     due = TIMES
 
     def setUp(self) -> None:
@@ -174,11 +177,12 @@ class LeadingFaults(OfProgramme):
         self.told = self.judge(with_two_faults(self.sent), "-o", self.path("out"))
 
     def test_the_result_of_a_pair_leads_with_the_visible_fault(self) -> None:
-        told = self.told
-        lead = told.result["worst_fault"]
-        self.must("lead", told.result["line"].startswith("refused 67 ") and
-                  lead.startswith("refused 72 ") and "has the wrong text" in told.result["sentence"]
-                  and told.result["sentence"].endswith("; also 67 Control."), told.result)
+        reported = self.told
+        lead = reported.result["worst_fault"]
+        self.must("lead", reported.result["line"].startswith("refused 67 ") and
+                  lead.startswith("refused 72 ")
+                  and "has the wrong text" in reported.result["sentence"]
+                  and reported.result["sentence"].endswith("; also 67 Control."), reported.result)
         page = self.read("out/one.html").decode()
         self.must("report", f'id="verdict">{lead}<' in page and "<title>" in page)
 
@@ -194,7 +198,7 @@ class LeadingFaults(OfProgramme):
         self.must("junit", [one.get("message") for one in failures] == [known["sentence"]])
 
 
-class RecordingEnds(OfProgramme):
+class RecordingEnds(ProgrammeCase):
     def test_counts_subtitles_that_are_cut_off(self) -> None:
         whole = (100, 1060)
         rows: list[tuple[str, int, tuple[int, int], list[str], str]] = [
@@ -221,7 +225,7 @@ class RecordingEnds(OfProgramme):
             self.must(name, sentence in found.verdict.sentence, found.verdict.sentence)
 
     def test_never_leads_with_a_waived_fault(self) -> None:
-        sent = one_late(3, 2)(self.sent)
+        sent = delay_subtitle(3, 2)(self.sent)
         pts, (header, text, *more) = sent[0]
         sent[0] = pts, [header, text[:-1] + bytes([text[-1] ^ 0x80]), *more]
         for waived, sentence, last in (
@@ -238,11 +242,12 @@ class RecordingEnds(OfProgramme):
             self.must(waived, found.said[-1].startswith(last), found.said[-1])
 
 
-class NamedPlaces(OfProgramme):
+class NamedPlaces(ProgrammeCase):
     due, words = TIMES, ("--origin", "0", "--option", "german")
 
     def test_names_subtitles_of_headers_and_characters(self) -> None:
-        sent = sendings(self, programme(self, TIMES, text=b"Number %d, \xc8Osl"), *self.words[2:])
+        sent = schedule_pages(self, write_programme(self, TIMES, text=b"Number %d, \xc8Osl"),
+                              *self.words[2:])
         name = 'subtitle 3, "Number 3, Ösl"'
 
         def header(c4: int = 8, c5: int = 8, c7: int = 1, option: int = 8) -> bytes:
@@ -284,24 +289,24 @@ class NamedPlaces(OfProgramme):
             made = [(pts, change(some) if pts == 3600 * frame % CLOCK else some)
                     for pts, some in sent]
             self.assertNotEqual(made, sent, (frame, change))
-            told = self.judge(made)
-            self.must(wanted, told.result["sentence"].startswith(f"Refused: {wanted}"),
-                      told.result["sentence"])
+            judged = self.judge(made)
+            self.must(wanted, judged.result["sentence"].startswith(f"Refused: {wanted}"),
+                      judged.result["sentence"])
         self.must("a hint", any(line.startswith("68: the character ") for line in self.judge(
             [(pts, rows[0][2](some)) for pts, some in sent]).said))
 
 
-class EmptyRanges(OfProgramme):
+class EmptyRanges(ProgrammeCase):
     due, words = TIMES, ()
 
     def test_reports_a_range_without_pes_packets(self) -> None:
         for words in ((), ("--origin", "0")):
             for pes, is_none in (("100-200", True), ("7-7", True), ("6-200", False)):
-                told = self.judge(self.sent[:7], "--pes", pes, *words)
-                said = f"{self.path('one.pes')} has 7 PES packets, 0-6: --pes {pes} is outside " \
+                judged = self.judge(self.sent[:7], "--pes", pes, *words)
+                printed = f"{self.path('one.pes')} has 7 PES packets, 0-6: --pes {pes} is outside " \
                        "of them"
-                self.must(f"{pes} {words}", (said in told.told) == is_none and
-                          (told.word == "not judged") >= is_none, told.told)
+                self.must(f"{pes} {words}", (printed in judged.told) == is_none and
+                          (judged.word == "not judged") >= is_none, judged.told)
 
 
 # Rows that no receiver or only some show: as a table, compared with libzvbi, and judged.
@@ -386,16 +391,18 @@ class VisibleRows(Case):
             wanted = [(subtitle, row, one) for subtitle, page in zip(subtitles, pages)
                       for row,
                       one in enumerate(page[:2], 1) if find_visibility(one) != Visibility.ALL]
-            said = [(find_visibility(one) == Visibility.NONE,
+            printed = [(find_visibility(one) == Visibility.NONE,
                      f"{subtitle.name} at {time_of(subtitle.begin)}, "
                      f"row {row}: {describe_hidden_characters(one, 'english')}",
                      file.starts[subtitle.index - 1], time_of(subtitle.begin))
                     for subtitle, row, one in wanted]
             found = find_hidden_rows(subtitles, pages, file, "english")
             self.assertEqual(found.faults, [NamedFault(NOT_SHOWN, words, block=block)
-                                            for is_none, words, block, _ in said if is_none], cells)
+                                            for is_none, words, block, _ in printed if is_none],
+                                            cells)
             self.assertEqual(found.warnings, [Notice(HIDDEN_KIND, words, when)
-                                              for is_none, words, _, when in said if not is_none],
+                                              for is_none, words, _,
+                                              when in printed if not is_none],
                              cells)
 
     def test_checks_only_files_with_codes_that_may_hide(self) -> None:
@@ -417,29 +424,30 @@ class VisibleRows(Case):
                 (b"\x1dHi", "refused", ALIKE), (b"Hi\x0b", "refused", NO_BOX),
                 (b"\x0a\x0aHi", "refused", NO_BOX), (b"\x0bHi", "accepted", ONE),
                 (b"Hi", "accepted", "")):
-            stl = programme(self, times, text=text.replace(b"Hi", b"Hi\xc8O"), first=7)
+            stl = write_programme(self, times, text=text.replace(b"Hi", b"Hi\xc8O"), first=7)
             words = why and first + why.replace("Hi", "HiÖ")
-            sent = self.write("one.pes", joined(sendings(self, stl, *option)))
+            sent = self.write("one.pes", pes_file(schedule_pages(self, stl, *option)))
             for more in ((), (sent, "--origin", "0")):
-                told = judged(self, stl, *more, *option)
-                self.must(f"{text!r} {more}", told.word == word, told.said)
+                judged = judge_files(self, stl, *more, *option)
+                self.must(f"{text!r} {more}", judged.word == word, judged.said)
                 if word == "refused":
-                    self.must(f"{text!r}: sentence", told.result["sentence"].startswith(
-                        f"Refused: {words}; 3 faults in all"), told.result["sentence"])
-                    self.must(f"{text!r}: lines", told.result["worst_fault"] == told.said[-1] ==
-                              "refused not shown block 1" and told.said[-2].endswith(
-                                  " See refusals.md#not-shown."), told.said)
+                    self.must(f"{text!r}: sentence", judged.result["sentence"].startswith(
+                        f"Refused: {words}; 3 faults in all"), judged.result["sentence"])
+                    self.must(f"{text!r}: lines", judged.result["worst_fault"] == judged.said[-1] ==
+                              "refused not shown block 1" and judged.said[-2].endswith(
+                                  " See refusals.md#not-shown."), judged.said)
                     self.must(f"{text!r}: faults", [
                         (one["name"], one["number"], one["block"], one["subtitle"]["position"])
-                        for one in told.result["faults"]] == [
-                        ("not shown", None, at, at) for at in (1, 2, 3)], told.result["faults"])
-                warned = [one["line"] for one in told.result["warnings"] if one["kind"] == "hidden"]
+                        for one in judged.result["faults"]] == [
+                        ("not shown", None, at, at) for at in (1, 2, 3)], judged.result["faults"])
+                warned = [one["line"] for one in judged.result["warnings"]
+                          if one["kind"] == "hidden"]
                 self.must(f"{text!r}: warnings", warned[:1] == [words] * (
                     word == "accepted" and bool(words)), warned)
-        told = judged(self, stl, *option, "--layout", "before=0B")
-        self.must("by a layout", [one["kind"] for one in told.result["warnings"]] ==
-                  ["hidden"] * 3, told.said)
+        judged = judge_files(self, stl, *option, "--layout", "before=0B")
+        self.must("by a layout", [one["kind"] for one in judged.result["warnings"]] ==
+                  ["hidden"] * 3, judged.said)
         mild = self.write("mild", b"not shown warning\n")
-        told = judged(self, programme(self, times, text=b"\x1dHi"), "--severity", mild)
-        self.must("waived", told.word == "waived" and {
-            one["severity"] for one in told.result["faults"]} == {"warning"}, told.said)
+        judged = judge_files(self, write_programme(self, times, text=b"\x1dHi"), "--severity", mild)
+        self.must("waived", judged.word == "waived" and {
+            one["severity"] for one in judged.result["faults"]} == {"warning"}, judged.said)

@@ -22,7 +22,7 @@ from subtitles.judging.status import (
     NOTHING_READ, REFUSED, RELATIVE, Severity, STATUSES, WAIVED, WARNED, combine_statuses, decide,
     decide_part, matches_exit_status)
 from .bench import Case
-from .parts import answer, part_with
+from .parts import make_answer, make_part
 
 
 # Status 0 to 3: all combinations that decide it.
@@ -95,12 +95,12 @@ ALLOWING = [severity_of(f"{WARNING} warning", is_loss_allowed=True),
 
 class PartVerdicts(unittest.TestCase):
     def test_takes_only_valid_answers_for_a_verdict(self) -> None:
-        for name, said in RIGHT.items():
+        for name, printed in RIGHT.items():
             with self.subTest(name):
-                self.assertEqual(decide_part(said), ACCEPTED if "accepted" in name else REFUSED)
-        for name, said in WRONG.items():
+                self.assertEqual(decide_part(printed), ACCEPTED if "accepted" in name else REFUSED)
+        for name, printed in WRONG.items():
             with self.subTest(name):
-                self.assertEqual(decide_part(said), NOT_JUDGED)
+                self.assertEqual(decide_part(printed), NOT_JUDGED)
 
 
 class Decisions(unittest.TestCase):
@@ -175,9 +175,10 @@ class Decisions(unittest.TestCase):
             self.assertEqual((found.word, found.status), by_clock(wanted, clock))
 
     def test_is_not_judged_after_a_failure(self) -> None:
-        for name, said in (RIGHT | WRONG).items():
+        for name, printed in (RIGHT | WRONG).items():
             for failed, reasons in itertools.product(OUTPUTS, ((), ("stopped",))):
-                found = decide(Grounds([said, said], NAMED, reasons=reasons, failed_outputs=failed,
+                found = decide(Grounds([printed, printed], NAMED, reasons=reasons,
+                                       failed_outputs=failed,
                                        has_clock=True))
                 is_clean = not failed and not reasons
                 with self.subTest(name, failed=failed, reasons=reasons):
@@ -275,7 +276,7 @@ SECOND = 25
 
 def answer_with(*lines: str, path: str) -> CheckOutput:
     """Return an answer with these fault lines."""
-    return answer([*lines, f"{len(lines)} faults"], path=path)
+    return make_answer([*lines, f"{len(lines)} faults"], path=path)
 
 
 class LeadingFaults(Case):
@@ -310,11 +311,11 @@ class LeadingFaults(Case):
                 ([UNDECIDED, CONTENT], CONTENT), ([CONTROL, UNDECIDED], CONTROL),
                 ([GAP, UNDECIDED], UNDECIDED), ([LETTER, UNDECIDED, CONTENT], LETTER),
                 ([CONTENT, LETTER], LETTER)):
-            part = part_with(0, 9, 0, answer_with(*lines, path=self.path("list")))
+            part = make_part(0, 9, 0, answer_with(*lines, path=self.path("list")))
             self.must(f"{lines}", part.first_text == wanted and part.check_output.line == lines[0]
                       and part.worst_fault_line and part.worst_fault_line.line == wanted,
                       part.first_text)
-        part = part_with(0, 9, 0, answer(["accepted 10 frames 2 transmissions"]))
+        part = make_part(0, 9, 0, make_answer(["accepted 10 frames 2 transmissions"]))
         self.must("none",
                   part.worst_fault_line is None and part.first_text == part.check_output.line)
 
@@ -334,7 +335,7 @@ class LeadingFaults(Case):
         rows: tuple[tuple[list[str], str | None], ...] = (
             ([LETTER, UNDECIDED, GAP, CONTROL], CONTROL), ([LETTER, UNDECIDED], None))
         for lines, wanted in rows:
-            part = part_with(0, 9, 0, answer_with(*lines, path=self.path("list")))
+            part = make_part(0, 9, 0, answer_with(*lines, path=self.path("list")))
             sent = part.worst_transmission_fault
             self.must(f"{lines}", (sent and sent.fault.line) == wanted, sent)
 

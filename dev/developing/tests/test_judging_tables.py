@@ -41,7 +41,7 @@ from subtitles.stream.receiver import BLANK_PAGE
 from subtitles.stream.pictures import Departure
 from subtitles.stream.survey import Announced
 from .bench import Case
-from .parts import asked_for, packets_told
+from .parts import request_for, survey_packets
 from .transmissions import CLOSING, HEADER, PAGE
 from .test_formats_characters import character_set_packet
 
@@ -57,21 +57,21 @@ class PartClocks(unittest.TestCase):
     def test_takes_parts_only_if_the_origin_is_clear(self) -> None:
         whole = TimedPart(3, 9, Clock(7, GIVEN))
         self.assertEqual(list_timed_parts(Origin(1, [OfPart(5)]), whole), [])
-        told = Selection("origin", "5", "clock: 3 of 4", 3, 4)
+        reported = Selection("origin", "5", "clock: 3 of 4", 3, 4)
         self.assertEqual(list_timed_parts(Origin(0, [OfPart(5, (1, 2), None, 3, 4, "3 of 4")]),
                                           whole),
-                         [TimedPart(3, 9, Clock(5, RECORDING, evidence=told), (1, 2))])
+                         [TimedPart(3, 9, Clock(5, RECORDING, evidence=reported), (1, 2))])
 
     def test_searches_with_all_requested_options(self) -> None:
-        asked = asked_for("a.stl", "a.pes", *"--page 150 --option german --within 3 --breaks 2 "
+        request = request_for("a.stl", "a.pes", *"--page 150 --option german --within 3 --breaks 2 "
                           "--every 30 --from 00:00:01:00 --late 0:9,3:1/0:12".split())
-        programme = PartSearch(asked, TimedPart(3, 9, Clock(7, GIVEN)), (2, 8), frozenset({4}))
+        programme = PartSearch(request, TimedPart(3, 9, Clock(7, GIVEN)), (2, 8), frozenset({4}))
         recording: Any = SimpleNamespace(packets="packets", shown="name", has_picture=lambda: True)
         with mock.patch.object(timing, "find", return_value=Origin(0)) as sought:
             report_estimated_origin(programme, recording, Clock(5, GIVEN), mock.Mock())
         self.assertEqual(sought.call_args.args, (Sought(
-            asked.stl_path, "name", (1, 0x50), "german", 5, 3, 2, (2, 8), asked.between,
-            frozenset({4}), asked.late, True), "packets"))
+            request.stl_path, "name", (1, 0x50), "german", 5, 3, 2, (2, 8), request.between,
+            frozenset({4}), request.late, True), "packets"))
         with mock.patch.object(timing, "cut_of") as cut:
             for packets, inside, begin, is_continued in (
                     (None, (2, 8), 3, False), ((4, 5), (4, 5), 3, False), (None, (2, 8), 3, True),
@@ -119,7 +119,7 @@ class Notices(Case):
     def test_warns_of_pages_that_the_pmt_announces(self) -> None:
         own, other = Announced(PAGE, "eng", 2), Announced((1, 0x50), "ger", 5)
         stl = self.write("one.stl", gsi_block(b"", 0, 0))
-        asked = asked_for(stl, "one.ts")
+        request = request_for(stl, "one.ts")
         of_pages: list[tuple[list[list[Announced]], str]] = [
             ([], ""), ([[own]], ""), ([[other, own]], ""), ([[], [own]], ""),
             ([[other], [own]], ""), ([[own], [other]], ""), ([[own, other]], ""),
@@ -131,16 +131,16 @@ class Notices(Case):
         for pages, words in of_pages:
             listing: Any = SimpleNamespace(programmes_of=lambda pid: [
                 SimpleNamespace(pages={0x101: some, 0x102: [other]}) for some in pages])
-            found = said(pmt_notices(listing, 0x101, asked))
+            found = said(pmt_notices(listing, 0x101, request))
             self.assertEqual([kind for kind, *_ in found], ["page"] * bool(words), pages)
             self.assertTrue(not found or found[0][1].endswith(words), found)
 
     def test_warns_of_each_other_character_set(self) -> None:
         for sets, count in (((0,), 0), ((8,), 1), ((0, 8), 1), ((8, 0), 1), ((8, 9), 2)):
-            packets = packets_told(self, pes_packet(0, [HEADER, *(
+            packets = survey_packets(self, pes_packet(0, [HEADER, *(
                 character_set_packet(number, one) for number, one in zip((29, 28), sets)),
                 CLOSING]))
-            found = said(character_set_notices(packets, asked_for("one.stl", "one.ts")))
+            found = said(character_set_notices(packets, request_for("one.stl", "one.ts")))
             self.assertEqual([one[0] for one in found], ["character_set"] * count, (sets, found))
 
     def test_warns_of_wrong_counts_in_the_gsi_block(self) -> None:
@@ -168,7 +168,7 @@ class Notices(Case):
     def test_warns_of_pauses_in_a_regular_stream(self) -> None:
         def pauses(frames: Sequence[int], origin: int = 0) -> list[tuple[str, str | None]]:
             pts = [(origin + TICKS * frame) % CLOCK for frame in frames]
-            warned = pause_notices(pts, asked_for("one.stl", "one.pes"), origin)
+            warned = pause_notices(pts, request_for("one.stl", "one.pes"), origin)
             return [(one.line.partition(" from ")[0], one.time) for one in warned
                     if one.kind == "pause"]
 
@@ -186,8 +186,8 @@ class Notices(Case):
     def test_warns_of_a_repeat_limit_that_is_too_long(self) -> None:
         def warned(step: int, every: int) -> list[str]:
             headers = [TICKS * frame for frame in range(0, 600, step)]
-            asked = asked_for("one.stl", "one.pes", "--every", str(every))
-            return [one.line for one in repeat_notices(headers, asked, 0, [(0, 599)])]
+            request = request_for("one.stl", "one.pes", "--every", str(every))
+            return [one.line for one in repeat_notices(headers, request, 0, [(0, 599)])]
 
         for step, every, words in ((25, 51, "25 frames: give --every "
                                             "25 "), (25, 50, ""), (25, 25, ""),
@@ -216,15 +216,15 @@ class FrameGrids(Case):
                             (b"100000\xb90", None), (b"00000025", None)):
             data = gsi_block(b"", 0, 0)
             stl = self.write("one.stl", data[:256] + code + data[264:])
-            asked = asked_for(stl, "one.ts", "--start", "tcp")
+            request = request_for(stl, "one.ts", "--start", "tcp")
             try:
-                found: int | None = start_frame(asked)
+                found: int | None = start_frame(request)
             except Unclear:
                 found = None
             self.assertEqual(found, frame, code)
-        asked = asked_for(stl, "one.ts", "--start", "10:00:00:01")
-        self.assertEqual(start_frame(asked), 900_001)
-        short = asked_for(self.write("two.stl", data[:260]), "one.ts", "--start", "tcp")
+        request = request_for(stl, "one.ts", "--start", "10:00:00:01")
+        self.assertEqual(start_frame(request), 900_001)
+        short = request_for(self.write("two.stl", data[:260]), "one.ts", "--start", "tcp")
         with self.assertRaises(Unclear):
             start_frame(short)
 
@@ -304,7 +304,8 @@ class NamesOfFiles(Case):
 
     def test_prints_the_call_with_other_options(self) -> None:
         typed = CommandWords("tools/qc", self.bench.program)
-        asked = asked_for("one.stl", "one.ts", "--page", "150", "--every", "50", "--no-complete",
+        request = request_for("one.stl", "one.ts", "--page", "150", "--every", "50",
+                              "--no-complete",
                           "--pid", "0x101", "--origin", "7", "--within", "2", "--breaks", "1",
                           "--pes", "2-9", "--option", "german")
         whole = "tools/qc one.stl one.ts --page 150 --every 50 --option german --origin 7 " \
@@ -315,8 +316,9 @@ class NamesOfFiles(Case):
                              (("--breaks", "0"), whole.replace(" --breaks 1", "") + " --breaks 0"),
                              (("--within", "5"), whole.replace(" --within 2", "") + " --within 5"),
                              (("--pes", "1-2"), whole.replace(" --pes 2-9", "") + " --pes 1-2")):
-            self.must(f"{more}", again(asked, typed, *more) == wanted, again(asked, typed, *more))
-        start = asked_for("one.stl", None, "--start", "tcp")
+            self.must(f"{more}", again(request, typed, *more) == wanted,
+                      again(request, typed, *more))
+        start = request_for("one.stl", None, "--start", "tcp")
         self.must("start", again(start, typed) == "tools/qc one.stl --start tcp")
         self.must("an origin instead", again(start, typed, "--origin", "T") ==
                   "tools/qc one.stl --origin T")

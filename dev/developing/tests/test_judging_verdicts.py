@@ -27,8 +27,8 @@ from subtitles.results.schema import Writing, trusted_of
 from subtitles.stream.gaps import Place
 from subtitles.stream.packets import Packets, Run
 from .bench import Case
-from .parts import answer, asked_for, packets_told, part_with
-from .transmissions import CLOSING, HEADER, row
+from .parts import make_answer, request_for, survey_packets, make_part
+from .transmissions import CLOSING, HEADER, row_packet
 
 REFUSED = ("refused 72 Content frame 00:00:05:00 row 20 column 1", "1 faults")
 OTHER = ("refused 38 UnitLength pes 7", "refused 70 Repeat frame 00:00:09:00", "2 faults")
@@ -41,7 +41,7 @@ def verdict_of(parts: Sequence[Part], severity: Severity | None = None) -> Verdi
 
 def of_pair(*words: str) -> Request:
     """Return a request with a clock."""
-    return asked_for("one.stl", "one.pes", "--origin", "0", *words)
+    return request_for("one.stl", "one.pes", "--origin", "0", *words)
 
 
 def loss_between(before: int | None, after: int | None, shift: int = 0, **more: Any) -> Place:
@@ -54,7 +54,7 @@ def loss_between(before: int | None, after: int | None, shift: int = 0, **more: 
 class Verdicts(Case):
     def three(self, *refused: int) -> list[Part]:
         """Return three parts of a hundred frames each, some of them refused."""
-        return [part_with(100 * at, 100 * at + 99, 5, answer(REFUSED if at in refused else
+        return [make_part(100 * at, 100 * at + 99, 5, make_answer(REFUSED if at in refused else
                           ("accepted 10 frames 2 transmissions",)), at + 1) for at in range(3)]
 
     def test_chooses_the_last_line_and_the_leading_fault(self) -> None:
@@ -66,8 +66,8 @@ class Verdicts(Case):
         of_house = {"request": of_pair("--profile", self.path("house"))}
         strict = {"request": of_pair("--strict"), "warnings": strange}
         self.write("relative", b"--relative\n")
-        untimed = {"request": asked_for("one.stl", "one.pes")}
-        in_profile = {"request": asked_for("one.stl", "one.pes", "--profile",
+        untimed = {"request": request_for("one.stl", "one.pes")}
+        in_profile = {"request": request_for("one.stl", "one.pes", "--profile",
                                            self.path("relative"))}
         is_unused = {"request": of_pair("--profile", self.path("relative"))}
         relative = "relative 10 frames 2 transmissions"
@@ -100,17 +100,18 @@ class Verdicts(Case):
             ("ff", untimed, "relative", "relative 20 frames 4 transmissions in 2 parts", None),
             ("f", in_profile, "relative", f"{relative}; the profile has --relative", None),
             ("a", is_unused, "accepted", good, good),
-            ("f", {"request": asked_for("one.stl", "one.pes", "--strict")}, "relative", relative,
+            ("f", {"request": request_for("one.stl", "one.pes", "--strict")}, "relative", relative,
              relative),
             ("f", {**untimed, "gaps": lost}, "lost", f"{of_loss}: {relative}", None),
-            ("f", {"request": asked_for("one.stl", "one.pes", "--strict"), "warnings": strange},
+            ("f", {"request": request_for("one.stl", "one.pes", "--strict"), "warnings": strange},
              "warned", f"{warned}: {relative}", None),
             ("r", {**untimed, "is_mild": True}, "relative", f"relative, waived: {content}", None),
             ("fo", untimed, "refused", first, None)]
         for names, known, word, line, lead in rows:
             is_mild = known.get("is_mild", False)
             verdict = dataclasses.replace(verdict_of(
-                [part_with(0, 99, 0, answer({"r": REFUSED, "o": OTHER}.get(name, (good,))), number,
+                [make_part(0, 99, 0, make_answer({"r": REFUSED, "o": OTHER}.get(name, (good,))),
+                           number,
                            RECORDING if name == "f" else GIVEN)
                  for number, name in enumerate(names, 1)], Severity(mild if is_mild else None)),
                 **{name: value for name, value in known.items() if name != "is_mild"})
@@ -154,7 +155,7 @@ class Verdicts(Case):
                   and "and in" not in alone.sentence, alone.sentence)
 
     def test_finds_the_losses_of_a_part(self) -> None:
-        part = part_with(100, 199, 0, pes=(5, 9))
+        part = make_part(100, 199, 0, pes=(5, 9))
         marks = [mark for mark in range(12)
                  if belongs_to_part(Place(None, None, 1, mark=mark), part)]
         self.must("marks", marks == [*range(5, 10)], marks)
@@ -163,11 +164,11 @@ class Verdicts(Case):
             is_of = (after is None or after > 100) and (before is None or before < 199)
             self.must(f"{before} {after}",
                       belongs_to_part(loss_between(before, after), part) == is_of)
-        self.must("no clock", not belongs_to_part(loss_between(1, 2), part_with(None, None, None)))
+        self.must("no clock", not belongs_to_part(loss_between(1, 2), make_part(None, None, None)))
 
     def test_counts_losses_of_any_part(self) -> None:
         for shift in (0, CLOCK - 150 * TICKS):
-            verdict = verdict_of([part_with(100 * at, 100 * at + 99, shift, number=at + 1)
+            verdict = verdict_of([make_part(100 * at, 100 * at + 99, shift, number=at + 1)
                                   for at in range(3)])
             for frames in ([10, 110, 210], [99, 299, -5], [99, 150], [150, 99], [10, 299, -9]):
                 verdict.gaps = make_gaps([loss_between(frame, frame + 1, shift)
@@ -183,7 +184,7 @@ class Verdicts(Case):
         recording: Any = SimpleNamespace(places=lambda jumps: [
             Place(before, after, is_announced=True) for before, after in jumps])
         for own in ((0,), (1,), (2,), (0, 2), (0, 1, 2), ()):
-            parts = [part_with(100 * at, 100 * at + 99, 0, recording=recording, jumps=[
+            parts = [make_part(100 * at, 100 * at + 99, 0, recording=recording, jumps=[
                 (TICKS * (100 * at + 50), TICKS * (100 * at + 60))] * (at in own))
                 for at in range(3)]
             found = [(gap.after, gap.is_judged) for gap in find_gaps(recording, parts)]
@@ -196,7 +197,7 @@ class Verdicts(Case):
                              (150, ("00:00:06:00", "00:00:06:01")),
                              (2350, ("00:00:14:00", "00:00:14:01")),
                              (2500, ("00:01:40:00", "00:01:40:01"))):
-            parts = [part_with(100, 199, 0), part_with(300, 399, TICKS * 2000, number=2)]
+            parts = [make_part(100, 199, 0), make_part(300, 399, TICKS * 2000, number=2)]
             gap, = make_gaps([Place(TICKS * frame, TICKS * (frame + 1), 1)], parts)
             self.must(f"{frame}", (gap.after, gap.before) == times, gap)
 
@@ -210,7 +211,7 @@ class Verdicts(Case):
             for origin in (0, CLOCK - 40 * TICKS):
                 first, second = (None if pts is None else (origin + pts) % CLOCK
                                  for pts in (before, after))
-                place, part = Place(first, second, 3, mark=0), part_with(0, 1, origin)
+                place, part = Place(first, second, 3, mark=0), make_part(0, 1, origin)
                 part = dataclasses.replace(part, pes=(0, 0))
                 found, = make_gaps([place], [part])
                 self.must(f"{words} {origin}",
@@ -218,7 +219,7 @@ class Verdicts(Case):
                           found.is_judged and found.place is place, found)
 
     def test_trusts_no_frame_of_a_loss(self) -> None:
-        said = ["trusted frames 00:00:04:00 00:00:07:24", "accepted 10 frames 2 transmissions"]
+        printed = ["trusted frames 00:00:04:00 00:00:07:24", "accepted 10 frames 2 transmissions"]
         hole, other = (Place(TICKS * at - 5, TICKS * (at + 10) - 5, missing=9) for at in (151, 121))
         mark, early = Place(TICKS * 170, TICKS * 180, 1, mark=7), ("--within", "1")
         cases: list[tuple[list[Place], Sequence[str], list[tuple[int, int]]]] = [
@@ -226,16 +227,17 @@ class Verdicts(Case):
             ([hole], (), [(100, 149), (160, 199)]), ([hole], early, [(100, 150), (161, 199)]),
             ([mark, hole, other], (), [(100, 119), (130, 149), (160, 199)])]
         for places, words, wanted in cases:
-            parts = [part_with(100, 199, 0, answer(said), 1),
-                     part_with(100, 199, 0, answer(said), 2, places=places,
-                               request=asked_for("a.stl", "a.pes", *words))]
+            parts = [make_part(100, 199, 0, make_answer(printed), 1),
+                     make_part(100, 199, 0, make_answer(printed), 2, places=places,
+                               request=request_for("a.stl", "a.pes", *words))]
             known = Writing(verdict_of(parts), MadeWith("1", "0" * 64, None))
             found = [(one["part"], one["from"], one["to"]) for one in trusted_of(known)]
             self.must(f"{places} {words}", found == [(1, time_of(100), time_of(199)), *(
                 (2, time_of(first), time_of(last)) for first, last in wanted)], found)
 
     def test_counts_faults_of_each_number_in_all_parts(self) -> None:
-        verdict = verdict_of([part_with(0, 9, 0, answer(one)) for one in (REFUSED, OTHER, OTHER)])
+        verdict = verdict_of([make_part(0, 9, 0, make_answer(one))
+                              for one in (REFUSED, OTHER, OTHER)])
         counts = [tuple(one) for one in count_fault_numbers(verdict.parts, {70})]
         verdict.named_faults.append(NamedFault(NEVER_SENT, ""))
         self.must("each", counts == [(72, "Content", 1), (38, "UnitLength", 2)], counts)
@@ -246,9 +248,9 @@ class Verdicts(Case):
             ValidSubtitles([], [], frozenset({4, 5})), 2
         self.must("beside", verdict.subtitle_counts == SubtitleCounts(0, 2),
                   verdict.subtitle_counts)
-        letter = answer(["refused 50 Character block 1 at 4", "1 faults"])
+        letter = make_answer(["refused 50 Character block 1 at 4", "1 faults"])
         self.must("a file",
-                  verdict_of([*self.three(), part_with(0, 9, 0, letter)]).subtitle_counts is None)
+                  verdict_of([*self.three(), make_part(0, 9, 0, letter)]).subtitle_counts is None)
 
     def test_spreads_the_delays_of_subtitles(self) -> None:
         of_spreads: list[tuple[list[int | None], DelaySpread | None]] = [
@@ -262,8 +264,8 @@ class Verdicts(Case):
         self.must("of all parts", verdict_of(parts).delays == DelaySpread(1, 7, 7, 1))
 
 
-class Read(Case):
-    def test_is_read(self) -> None:
+class PartDecisions(Case):
+    def test_knows_whether_a_part_was_read(self) -> None:
         refused, accepted = "50 Character block 1 at 4", "accepted 51 frames 2 transmissions"
         trusted = "trusted frames 10:00:00:00 10:00:01:24"
         of_lists: list[tuple[int, tuple[int, int] | None, list[str], bool]] = [
@@ -285,14 +287,14 @@ class Read(Case):
         for count, pes, some, wanted in of_lists:
             lines = [line if line[0].isalpha() else f"refused {line}" for line in some]
             faults = sum(line.startswith("refused ") for line in lines)
-            said = answer([*lines, *[f"{faults} faults"] * bool(faults)])
+            printed = make_answer([*lines, *[f"{faults} faults"] * bool(faults)])
             packets = Packets(0, [Run(0, count, 0, TICKS, "h", "")] * bool(count))
-            part = part_with(0, 9, 0, said, packets=packets, pes=pes)
+            part = make_part(0, 9, 0, printed, packets=packets, pes=pes)
             self.must(f"{count} {pes} {lines}", part.is_read() == wanted)
 
         lines = [f"refused {refused}", trusted, "1 faults"]
         for first, last in ((900_000, 900_024), (900_000, 900_049)):  # of 50 that may be trusted
-            part = part_with(900_000, 900_050, 0, answer(lines), pes=(0, 1), places=[
+            part = make_part(900_000, 900_050, 0, make_answer(lines), pes=(0, 1), places=[
                 loss_between(first - 1, last + 2, missing=9)])
             self.must(f"a hole from {first} to {last}", part.is_read() == (last < 900_049))
 
@@ -300,18 +302,19 @@ class Read(Case):
         runs = [Run(0, 2, 0, 9, "h", "88080812"), Run(2, 4, 20, 9, "h", "88080810"),
                 Run(6, 1, 60, 0, "hh", "88080818+88080810"), Run(7, 1, None, 0, "h", "88080814"),
                 Run(8, 1, 80, 0, "h", "8808081E", fault=38), Run(9, 1, 90, 0, "h", "8808081A")]
-        part = part_with(0, 9, 0, packets=Packets(0, runs), pes=(3, 8))
+        part = make_part(0, 9, 0, packets=Packets(0, runs), pes=(3, 8))
         english, german = (bytes([8, 8, 0, 8, 0, 8, 1, last]) for last in (0, 8))
         self.must("heard", part.count_headers() == {english: 4, german: 1}, part.count_headers())
         self.must("options", part.find_options() == {"english", "german", "swedish"},
                   part.find_options())
 
-    def test_what_is_held(self) -> None:
-        packets = packets_told(self, b"".join(pes_packet(TICKS * at - 5, [
-            HEADER, row(20, b"%d" % at), CLOSING]) for at in range(10, 60, 10)))
+    def test_decodes_the_pages_of_a_part(self) -> None:
+        packets = survey_packets(self, b"".join(pes_packet(TICKS * at - 5, [
+            HEADER, row_packet(20, b"%d" % at), CLOSING]) for at in range(10, 60, 10)))
         recording: Any = SimpleNamespace(packets=packets)
-        asked = asked_for("a.stl", "a.pes", "--within", "1")
-        part = Part(3, asked, Names("a", "", None), answer(), TimedPart(10, 50, Clock(0, GIVEN)),
+        request = request_for("a.stl", "a.pes", "--within", "1")
+        part = Part(3, request, Names("a", "", None), make_answer(),
+                    TimedPart(10, 50, Clock(0, GIVEN)),
                     recording, {4})
         summed = SummedFile("a", 9, "")
         for pes, frames in (((1, 2), [20, 30]), ((0, 3), [10, 20, 30, 40])):
@@ -322,29 +325,29 @@ class Read(Case):
                       made.decoded_pages is dataclasses.replace(made, hint="x").decoded_pages)
         with mock.patch("subtitles.judging.part.SubtitleFile") as file:
             part.open_subtitle_file()
-        file.assert_called_once_with("", asked.between, {4})
+        file.assert_called_once_with("", request.between, {4})
 
-    def test_what_tells_causes(self) -> None:
+    def test_gives_losses_and_range_to_the_causes(self) -> None:
         places = [Place(TICKS * at, TICKS * (at + 9), missing=9) for at in (120, 150)]
         for refusal, is_stream in itertools.product((None, 31), (True, False)):
             recording: Any = SimpleNamespace(
                 is_stream=is_stream, packets=SimpleNamespace(refusal=refusal),
                 reach=lambda: (0, TICKS * 250), places=lambda jumps: places)
-            part = part_with(100, 199, 0, recording=recording, pes=(0, 9), request=asked_for(
+            part = make_part(100, 199, 0, recording=recording, pes=(0, 9), request=request_for(
                 "a.stl", "a.ts", "--within", "2", "--every", "300"))
             with mock.patch("subtitles.judging.part.timeline_near") as near, \
                     mock.patch("subtitles.judging.part.Causes") as causes:
                 found = find_part_causes(part)
             self.must(f"{refusal}", causes.call_args.args[2] == (
                 Span(0, 250) if refusal is None else None), causes.call_args)
-            *asked, lost = near.call_args.args
-            self.must(f"{is_stream}: near", asked == [
+            *request, lost = near.call_args.args
+            self.must(f"{is_stream}: near", request == [
                 recording.packets, part.request.page, 0, 2, (100, 199), 300, None])
             self.must(f"{is_stream}: lost", [*lost] == [(120, 129), (150, 159)] * is_stream)
             causes.return_value.classify_all.assert_called_once_with(part.check_output)
             self.must("named", found is causes.return_value)
 
-    def test_passed_over(self) -> None:
+    def test_finds_the_skipped_pes_packets(self) -> None:
         of_lines: list[tuple[tuple[str, ...], list[tuple[int, int]]]] = [
             ((), []), (("refused 38 X pes 3",), [(3, 3)]),
             (("refused 38 X pes 3", "ended 38 X pes 5"), [(3, 5)]),
@@ -364,7 +367,7 @@ class Read(Case):
             self.must(f"{lines}", found == wanted, found)
 
 
-class Numbers(Case):
+class FaultNumbers(Case):
     def test_sets_of_numbers(self) -> None:
         self.must("pages are moved",
                   DELAYING_FAULTS == {30, 31, 32, 44, 45, 60, 62, 63, 71, 72, 74, 77})

@@ -20,10 +20,10 @@ from subtitles.stream.gaps import SECOND
 from subtitles.stream.packets import Packets
 from subtitles.stream.survey import Survey
 from .bench import Case
-from .judged import Judged, OfProgramme, judged
-from .streams import Carried, NEW, OLD, Programme, VIDEO_PID, in_turn, shown
-from .parts import asked_for, surveyed
-from .transmissions import CLOSING, Sent, joined, packets, programme
+from .judged import JudgedPair, ProgrammeCase, judge_files
+from .streams import Carried, NEW, OLD, Programme, VIDEO_PID, stream_by_plan, multiplex_programmes
+from .parts import request_for, read_survey
+from .transmissions import CLOSING, Sent, pes_file, packets, write_programme
 from .test_judging_pairs import broken
 from .test_correct_recordings import in_stream as in_pcr
 
@@ -33,7 +33,7 @@ ONE, TWO, THREE = 257, 258, 259
 
 def announcements(*lines: str) -> list[Announcement]:
     """Return the announcements of the page in lines of `survey`."""
-    return [*find_announcements(surveyed(*lines).programmes, PAGE)]
+    return [*find_announcements(read_survey(*lines).programmes, PAGE)]
 
 
 def pcr_at(seconds: float | None) -> int | None:
@@ -116,8 +116,8 @@ class Announcements(Case):
     def why_unclear(self, lines: list[str], carriers: set[int], pes: tuple[int, int] | None) \
             -> list[str] | None:
         """Return the advice if several programmes announce a page and one never sends it."""
-        asked = mock.Mock(page=PAGE, pes=pes)
-        recording = mock.Mock(survey=surveyed(*lines), request=asked, said=str)
+        request = mock.Mock(page=PAGE, pes=pes)
+        recording = mock.Mock(survey=read_survey(*lines), request=request, said=str)
         recording.again = lambda *words: " ".join(words)
         try:
             Recording.refuse_silent(recording, carriers)
@@ -167,26 +167,26 @@ class Announcements(Case):
             survey, found = Survey(), ""
             for line in "; ".join([*lines, *clock]).split("; "):
                 survey.take(line)
-            asked = asked_for("a.stl", "a.ts", *words)
+            request = request_for("a.stl", "a.ts", *words)
             try:
                 if sent in lines:
-                    refuse_other_pid(asked, survey, SECOND, 9 * SECOND)
+                    refuse_other_pid(request, survey, SECOND, 9 * SECOND)
                 else:
-                    refuse_unsent(asked, survey, [(100, 150)])
+                    refuse_unsent(request, survey, [(100, 150)])
             except NeverSent as reason:
                 found = str(reason)
             self.must(f"{lines} {words}", bool(found) == is_refused, found)
         stl = self.write("none.stl", b" " * 1024)
-        self.must("no TCP", find_origin(asked_for(stl, "a.ts", "--start", "tcp"), surveyed(
+        self.must("no TCP", find_origin(request_for(stl, "a.ts", "--start", "tcp"), read_survey(
             *pmt_lines(1, ONE), *start, f"stream {ONE} 6"), ONE) is None)
 
 
-class JudgedStreams(OfProgramme):
+class JudgedStreams(ProgrammeCase):
     words = ()
 
     def judge_plan(self, plan: Sequence[tuple[int, int]], sent: Carried, *words: str,
-                   count: int | None = None) -> Judged:
-        return self.judge_stream(in_turn(self.pes[:count], plan, sent), *words)
+                   count: int | None = None) -> JudgedPair:
+        return self.judge_stream(stream_by_plan(self.pes[:count], plan, sent), *words)
 
     def on_old(self, at: int) -> Sequence[tuple[int, bytes]]:
         return [(OLD, self.pes[at])]
@@ -195,7 +195,7 @@ class JudgedStreams(OfProgramme):
         """Return a PES packet without the page on the new PID."""
         return [(NEW, pes_packet(pts_in(self.pes[at]), []))]
 
-    def check_never_sent(self, name: str, told: Judged, words: str) -> None:
+    def check_never_sent(self, name: str, told: JudgedPair, words: str) -> None:
         fault, = told.result["faults"]
         known = told.result
         self.must(name, (told.word, known["status"], known["line"], known["worst_fault"]) == (
@@ -206,8 +206,8 @@ class JudgedStreams(OfProgramme):
                   and any("announced 888" in line for line in told.said), told.said)
 
     def test_refuses_a_page_that_comes_on_another_pid(self) -> None:
-        told = self.judge_plan([(0, OLD)], self.on_old, "--every", "25")
-        self.must("sent", told.word == "accepted")
+        judged = self.judge_plan([(0, OLD)], self.on_old, "--every", "25")
+        self.must("sent", judged.word == "accepted")
         words = "page 888 is announced on PID 0x111, but never sent (no TS packet of PID 0x111); " \
             "PID 0x101 has it"
         self.check_never_sent("announced elsewhere", self.judge_plan([(0, NEW)], self.on_old),
@@ -218,8 +218,8 @@ class JudgedStreams(OfProgramme):
             ("typed", [(0, NEW)], ["--pid", f"0x{OLD:X}"]),
             ("at the end", [(0, OLD), (len(self.pes) - 1, NEW)], [])]
         for name, plan, more in rows:
-            told = self.judge_plan(plan, self.on_old, "--every", "25", *more)
-            self.must(name, told.word == "accepted", told.said)
+            judged = self.judge_plan(plan, self.on_old, "--every", "25", *more)
+            self.must(name, judged.word == "accepted", judged.said)
 
     def test_refuses_a_page_that_never_comes_while_it_is_expected(self) -> None:
         words = "page 888 is announced on PID 0x111, but never sent"
@@ -229,35 +229,36 @@ class JudgedStreams(OfProgramme):
                 ("at another time", None, ["--origin", f"{CLOCK // 2}"], False),
                 ("typed", None, ["--pid", f"0x{NEW:X}"], True)]
         for name, count, more, is_due in rows:
-            told = self.judge_plan([(0, NEW)], self.bare, *more, count=count)
+            judged = self.judge_plan([(0, NEW)], self.bare, *more, count=count)
             if is_due:
-                self.check_never_sent(name, told, words)
+                self.check_never_sent(name, judged, words)
             else:
-                self.must(name, told.word == "not judged", told.said)
+                self.must(name, judged.word == "not judged", judged.said)
 
     def test_reports_that_one_of_several_programmes_never_sends_it(self) -> None:
         first, frames = pts_in(self.pes[0]), frame_at(pts_in(self.pes[-1]), 0) or 0
-        made = shown([Programme({OLD: self.pes}, first),
+        made = multiplex_programmes([Programme({OLD: self.pes}, first),
                       Programme({NEW: []}, first, VIDEO_PID + 1)], frames)
-        told = self.judge_stream(made.data)
-        self.must("asked", told.word == "not judged" and told.told[0].endswith(
+        judged = self.judge_stream(made.data)
+        self.must("asked", judged.word == "not judged" and judged.told[0].endswith(
             "but sent only on PID 0x101, not on PID 0x111") and [
-                line.split()[-1] for line in told.told if line.startswith(("type ", "or "))] == [
-                    "0x101", "0x111"], told.said)
+                line.split()[-1] for line in judged.told if line.startswith(("type ", "or "))] == [
+                    "0x101", "0x111"], judged.said)
 
     def test_reports_a_refused_subtitle_first(self) -> None:
         with open(self.stl, "rb") as file:
             bad = self.write("bad.stl", file.read().replace(b"Number 3", b"Number \xe6"))
-        told = judged(self, bad, self.write("one.ts", in_turn(self.pes, [(0, NEW)], self.on_old)))
-        self.must("refused", told.verdict.line == "refused 50 Character block 3 at 7" and
-                  {one["number"] for one in told.result["faults"]} == {50, None} and
-                  told.told[0].startswith("the other subtitles were not judged: page 888 is "
-                                          "announced on PID 0x111, but never sent "), told.said)
+        judged = judge_files(self, bad, self.write("one.ts", stream_by_plan(self.pes, [(0, NEW)],
+                                                                            self.on_old)))
+        self.must("refused", judged.verdict.line == "refused 50 Character block 3 at 7" and
+                  {one["number"] for one in judged.result["faults"]} == {50, None} and
+                  judged.told[0].startswith("the other subtitles were not judged: page 888 is "
+                                          "announced on PID 0x111, but never sent "), judged.said)
 
     def test_is_not_judged_if_the_fault_is_waived(self) -> None:
         path = self.write("severity", b"never sent warning\n")
-        told = self.judge_plan([(0, NEW)], self.bare, "--severity", path)
-        self.must("a warning", told.word == "not judged", told.said)
+        judged = self.judge_plan([(0, NEW)], self.bare, "--severity", path)
+        self.must("a warning", judged.word == "not judged", judged.said)
 
     def test_writes_report_and_result_of_a_page_never_sent(self) -> None:
         out = self.path("out")
@@ -267,7 +268,7 @@ class JudgedStreams(OfProgramme):
                   json.loads(self.read("out/one.json"))["status"] == 1, page[:2000])
 
 
-class DeadSources(OfProgramme):
+class DeadSources(ProgrammeCase):
     words = ("--every", "25")
 
     def blank(self, first: int = 0, last: int = 1 << 30) -> Sent:
@@ -283,34 +284,34 @@ class DeadSources(OfProgramme):
         end = self.due[-1][1]
         later = [(pts + TICKS * 2 * end, some) for pts, some in self.sent]
         count, own = len(self.sent), "is never sent while subtitles are expected: "
-        cut = joined(self.blank())
+        cut = pes_file(self.blank())
         rows: dict[str, tuple[bytes, tuple[str, ...], str]] = {
             "headers": (cut, (), f"{count} headers, no row"),
             "headers, with a clock": (cut, ("--origin", "0"), f"{count - 1} headers, no row"),
             "headers, with a clock before": (cut, ("--origin", f"{TICKS * 2 * end}"), ""),
             "headers, with a clock behind": (cut, ("--origin", f"{CLOCK - TICKS * 2 * end}"), ""),
             "the first header at the last TCO": (
-                joined(self.without(end - 1)), ("--origin", "0"), f"{count - 1} PES packets, no "
+                pes_file(self.without(end - 1)), ("--origin", "0"), f"{count - 1} PES packets, no "
                 "header"),
-            "a header before it": (joined(self.without(end - 26)), ("--origin", "0"),
+            "a header before it": (pes_file(self.without(end - 26)), ("--origin", "0"),
                                    "1 header, no row"),
-            "rows behind the last TCO": (joined([*self.blank(), *later]), ("--origin", "0"),
+            "rows behind the last TCO": (pes_file([*self.blank(), *later]), ("--origin", "0"),
                                          f"{count - 1} headers, no row; the first row comes "
                                          f"{2 * end} frames after the first TCI"),
-            "rows behind it, without a clock": (joined([*self.blank(), *later]), (), ""),
-            "a row": (joined(self.blank(0, end - 100)), ("--origin", "0"), ""),
-            "a row when the page is closed": (joined([
+            "rows behind it, without a clock": (pes_file([*self.blank(), *later]), (), ""),
+            "a row": (pes_file(self.blank(0, end - 100)), ("--origin", "0"), ""),
+            "a row when the page is closed": (pes_file([
                 *self.blank()[:9], (self.sent[9][0], [CLOSING, *self.sent[9][1][1:]]),
                 *self.blank()[10:]]), ("--origin", "0"), ""),
             "a PES packet that can't be read": (b"".join([broken(one, 37) if at == 3 else one
                 for at, one in enumerate(packets(cut))]), ("--origin", "0"), ""),
-            "no header at all": (joined(self.without(1 << 30)), ("--origin", "0"), ""),
+            "no header at all": (pes_file(self.without(1 << 30)), ("--origin", "0"), ""),
             "some PES packets, by --pes": (cut, ("--pes", f"0-{count}"), "")}
-        for name, (data, words, said) in rows.items():
-            found = judged(self, self.stl, self.write("one.pes", data), *self.words, *words)
-            sentence = f"Refused: page 888 {own}{said}."
-            self.check(name, found.verdict.sentence == sentence, bool(said))
-            if said:
+        for name, (data, words, printed) in rows.items():
+            found = judge_files(self, self.stl, self.write("one.pes", data), *self.words, *words)
+            sentence = f"Refused: page 888 {own}{printed}."
+            self.check(name, found.verdict.sentence == sentence, bool(printed))
+            if printed:
                 self.check(f"{name}: verdict", (found.word, found.verdict.line,
                                                 found.result["parts"]),
                            ("refused", "refused never sent", []))
@@ -321,7 +322,7 @@ class DeadSources(OfProgramme):
                    ("refused", True))
 
     def test_accepts_headers_for_blank_subtitles(self) -> None:
-        stl = programme(self, self.due, text=b" ", name="blank.stl")
-        found = judged(self, stl, self.write("one.pes", joined(self.blank())), *self.words,
+        stl = write_programme(self, self.due, text=b" ", name="blank.stl")
+        found = judge_files(self, stl, self.write("one.pes", pes_file(self.blank())), *self.words,
                        "--origin", "0")
         self.check("verdict", "never sent while" in found.verdict.sentence, False)

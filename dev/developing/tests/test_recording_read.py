@@ -19,7 +19,7 @@ from subtitles.stream.gaps import SECOND
 from subtitles.stream.packets import Mark, PES, Packets, Run
 from subtitles.stream.survey import Survey
 from .bench import Case
-from .parts import asked_for, surveyed
+from .parts import request_for, read_survey
 
 ONE, TWO, THREE = 257, 258, 259
 
@@ -31,7 +31,7 @@ def read_recording(survey: Survey, *words: str, name: str = "one.ts", kind: int 
     listener: Any = SimpleNamespace(lines=lines, said=lines.append,
                                     chosen=lambda one: lines.append(one.line))
     with mock.patch("os.stat", return_value=SimpleNamespace(st_mode=kind)):
-        made: Any = Recording(asked_for("a.stl", name, *words), mock.Mock(),
+        made: Any = Recording(request_for("a.stl", name, *words), mock.Mock(),
                               Names("one", folder, None), listener, [(100, 150)])
     made.survey, made.again = survey, lambda *more: " ".join(more)
     made.said, made.header_problem = str, lambda packets: ""
@@ -71,7 +71,7 @@ class ChosenPids(Case):
             ([pes_line(ONE)], ["--pid", f"{TWO}"], ["--pid PID"]),
             ([pes_line(ONE, "-"), *pmt_lines(7, ONE)], ["--pid", f"{ONE}"], NeverSent)]
         for lines, words, wanted in rows:
-            recording = read_recording(surveyed("size 188", *lines), *words)
+            recording = read_recording(read_survey("size 188", *lines), *words)
             found: object = None
             try:
                 packets = recording.chosen()
@@ -83,7 +83,7 @@ class ChosenPids(Case):
                 found = [*reason.to_type]
             self.must(f"{lines} {words}", found == wanted, found)
         for count in (0, 1):
-            packets = read_recording(surveyed("size 0", *[pes_line(PES)] * count)).chosen()
+            packets = read_recording(read_survey("size 0", *[pes_line(PES)] * count)).chosen()
             self.must(f"{count}", (packets.pid, packets.count) == (PES, count))
 
     def test_distinguishes_files_pipes_and_streams(self) -> None:
@@ -97,7 +97,7 @@ class ChosenPids(Case):
             ("-", file, 188, True, ("one.recording.ts", "recording.ts")),
             ("-", pipe, 0, True, ("one.recording.pes", "recording.pes"))]
         for name, kind, packet_size, is_piped, wanted in rows:
-            one = read_recording(surveyed(f"size {packet_size}"), name=name, kind=kind)
+            one = read_recording(read_survey(f"size {packet_size}"), name=name, kind=kind)
             one.packets = Packets(ONE)
             self.must(f"{name} {kind} {packet_size}", (
                 one.is_piped, one.path, one.stream(), (one.shown, one.kept_ending)) == (
@@ -132,7 +132,7 @@ class Messages(Case):
     def test_reports_what_is_missing(self) -> None:
         for damage, refusal, skipped, marks, size in itertools.product(
                 (None, "is damaged"), (0, 31), (0, 40), range(3), (0, 188)):
-            one = read_recording(surveyed(f"size {size}", f"over {skipped} 9"))
+            one = read_recording(read_survey(f"size {size}", f"over {skipped} 9"))
             one.packets = Packets(ONE, [Run(0, 9, 0, TICKS, "-", "")] + [
                 Run(9 + at, 1, None, 0, "m", "") for at in range(marks)], damage=damage,
                 refusal=refusal, marks=[Mark(9 + at, 8 * TICKS, 1, 0) for at in range(marks)])
@@ -146,7 +146,7 @@ class Messages(Case):
     def test_warns_of_a_cut_and_of_damage(self) -> None:
         for is_cut, refusal, damage, size in itertools.product(
                 (False, True), (0, 31), (None, "is damaged"), (0, 188)):
-            one = read_recording(surveyed(f"size {size}"))
+            one = read_recording(read_survey(f"size {size}"))
             one.packets = Packets(ONE, is_cut=is_cut, refusal=refusal, damage=damage)
             found = [notice.line.split(" ", 1)[1] for notice in one.strange()]
             ends = ["ends within"] * (is_cut and not refusal and size > 0) + ["is damaged"] * bool(
@@ -160,7 +160,7 @@ class Messages(Case):
         rows: list[tuple[int, bytes | None]] = [(ONE, b"0x101\n"), (THREE, None),
                                                 (0x104, b"0x104\n")]
         for pid, wanted in rows:
-            one, found = read_recording(surveyed("size 188"), folder=self.folder), None
+            one, found = read_recording(read_survey("size 188"), folder=self.folder), None
             one.typed.program_path, one.packets = path, Packets(pid)
             try:
                 found = b"".join(one.kept())

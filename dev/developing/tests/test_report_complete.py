@@ -22,7 +22,7 @@ from subtitles.stream.gaps import Place
 from subtitles.stream.packets import Packets, PES
 from subtitles.stream.receiver import BLANK_PAGE, Timeline
 from .bench import Case, example
-from .parts import answer, asked_for, in_page, packets_told, part_with
+from .parts import make_answer, request_for, markup_text, survey_packets, make_part
 from .transmissions import CLOSING, HEADER
 from .test_judging_verdicts import verdict_of
 
@@ -35,7 +35,7 @@ class CompletePage(Case):
 
     def setUp(self) -> None:
         super().setUp()
-        self.packets = packets_told(self, b"".join(pes_packet(
+        self.packets = survey_packets(self, b"".join(pes_packet(
             TICKS * frame, [HEADER, CLOSING]) for frame in (75, 85, 87, 90)))
 
     def verdict(self, kinds: str, is_fitted: bool = False, is_read: bool = True) -> Verdict:
@@ -47,13 +47,14 @@ class CompletePage(Case):
                 "packets": self.packets, "pes": (0, 3), "expected_pages": lambda: ExpectedPages(
                     [Subtitle(1, 1, 75, 100, 20, 2, b"")], [BLANK_PAGE],
                     Timeline(Packets(PES), (0, 0x88), 0))} if is_read else {}
-            part = part_with(75, 99, 0, answer(self.KINDS[kind], path=self.path(f"{number}.txt")),
+            part = make_part(75, 99, 0,
+                             make_answer(self.KINDS[kind], path=self.path(f"{number}.txt")),
                              number, RECORDING if is_fitted and number == len(kinds) else GIVEN,
                              delays=[0], drawing_differences=f"drawn {number}", **given)
             part.names.given = example("story.stl")
             parts.append(part)
         verdict = verdict_of(parts)
-        verdict.request = asked_for(example("story.stl"), "one.pes")
+        verdict.request = request_for(example("story.stl"), "one.pes")
         verdict.notes, verdict.warnings = ["note <1>", "note 2"], [
             Notice("pause", "one &", None), Notice("page", "other", "00:00:03:04")]
         verdict.gaps = [Gap(f"00:00:0{at}:00", None, f"{at} packets", Place(
@@ -73,22 +74,22 @@ class CompletePage(Case):
             verdict.named_faults = [NamedFault("not shown", f"row {at}", block=at)
                                     for at in range(1, named + 1)]
             verdict.unjudged = Unjudged(why, ("type <this>",)) if why else None
-            page = in_page(report_page.report_page(verdict, typed))
+            page = markup_text(report_page.report_page(verdict, typed))
             box, text = (re.sub("<[^>]*>", "", one) for one in (
                 page.partition("</div></div>")[0], page))
-            told = [verdict.sentence, *verdict.notes]
-            told += [warning.warning_text() for warning in verdict.warnings]
-            told += ["not judged", "why", "type <this>"] if why else [
+            reported = [verdict.sentence, *verdict.notes]
+            reported += [warning.warning_text() for warning in verdict.warnings]
+            reported += ["not judged", "why", "type <this>"] if why else [
                 verdict.worst_line or "",
                 *(f"{one.line}: {one.words}" for one in verdict.named_faults),
                 *[gap.format_line() for gap in verdict.gaps] * bool(kinds)]
-            told += [FITTED[1:]] * (is_fitted and len(kinds) == 1 and not why)
+            reported += [FITTED[1:]] * (is_fitted and len(kinds) == 1 and not why)
             each = [] if why else [DELAY] * is_fitted
             each += [BETWEEN] * (len(kinds) > 1 and not why)
             for number, kind in enumerate("" if why else kinds, 1):
                 each += [f"drawn {number}", *(line.partition(" ")[2] for line in self.KINDS[kind]
                                               if line.startswith("refused"))]
-            self.assertEqual([one for some, where in ((told, box), (each, text)) for one in some
+            self.assertEqual([one for some, where in ((reported, box), (each, text)) for one in some
                               if escape(one) not in where], [], (kinds, is_fitted, named, why))
             colour = re.findall('<div class="verdict ([a-z]+)">', page)[0]
             self.assertTrue(why or (colour == "refused") == (verdict.word == REFUSED), kinds)

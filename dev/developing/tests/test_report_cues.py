@@ -18,7 +18,7 @@ from subtitles.report.page import SHAPES, with_options
 from subtitles.stream.packets import Packets, PES
 from subtitles.stream.receiver import BLANK_PAGE, Rows, Timeline
 from .bench import Case
-from .parts import fault_of, in_page
+from .parts import fault_of, markup_text
 from .test_judging_status import severity_of
 
 
@@ -29,11 +29,11 @@ def page(text: bytes) -> Rows:
 
 def timeline_of_pages(*changes: tuple[int, Rows]) -> Timeline:
     """Return a timeline of pages by their first frames, up to frame 1000."""
-    held = Timeline(Packets(PES), (0, 0x88), 0)
-    held.first, held.last = 0, 1000
+    decoded = Timeline(Packets(PES), (0, 0x88), 0)
+    decoded.first, decoded.last = 0, 1000
     for frame, rows in changes:
-        held.change(frame, rows)
-    return held
+        decoded.change(frame, rows)
+    return decoded
 
 
 class ActualCues(Case):
@@ -54,18 +54,18 @@ class ActualCues(Case):
                 ("by another one", None, [(100, one), (150, two)], (100, 150)),
                 ("up to the end", None, [(100, one)], (100, None))):
             subtitles = [Subtitle(1, 1, 100, 200, 20, 2, b""), Subtitle(2, 2, 200, 300, 20, 2, b"")]
-            held = timeline_of_pages(*changes)
+            decoded = timeline_of_pages(*changes)
             made = find_decoded_times(Cue(subtitles[0], one, cause), 0,
-                                      ExpectedPages(subtitles, [one, two]), held, 0)
+                                      ExpectedPages(subtitles, [one, two]), decoded, 0)
             self.must(name, (made.begin, made.end) == wanted, (made.begin, made.end))
             self.must(f"{name}: late", made.delay_in == (
                 None if wanted[0] is None else wanted[0] - 100), made.delay_in)
 
     def test_finds_the_cue_between_equal_pages(self) -> None:
         subtitles = [Subtitle(1, 1, 100, 200, 20, 2, b""), Subtitle(2, 2, 200, 300, 20, 2, b"")]
-        held = timeline_of_pages((100, self.ONE), (300, BLANK_PAGE))
+        decoded = timeline_of_pages((100, self.ONE), (300, BLANK_PAGE))
         due = ExpectedPages(subtitles, [self.ONE, self.ONE])
-        made = [find_decoded_times(Cue(one, self.ONE, None), place, due, held, 0)
+        made = [find_decoded_times(Cue(one, self.ONE, None), place, due, decoded, 0)
                 for place, one in enumerate(subtitles)]
         self.must("times", [(one.begin, one.end) for one in made] == [(100, 200), (200, 300)], made)
 
@@ -117,9 +117,9 @@ class TextMarkup(Case):
                 ("a b", "axxb", ("a[ ]b", "a[xx]b")), ("abcd", "abd", ("ab[c]d", "abd")),
                 ("", "abc", ("", "[abc]")), ("aXbYc", "a1b2c", ("a[X]b[Y]c", "a[1]b[2]c")),
                 ("aa", "a", ("a[a]", "a")), ("<a>", "<b>", ("&lt;[a]&gt;", "&lt;[b]&gt;"))):
-            told = tuple(in_page(one).replace("<mark>", "[").replace("</mark>", "]")
+            reported = tuple(markup_text(one).replace("<mark>", "[").replace("</mark>", "]")
                          for one in mark_difference(first, second))
-            self.must(f"{first} {second}", told == wanted, told)
+            self.must(f"{first} {second}", reported == wanted, reported)
 
     def test_writes_numbers_with_their_signs(self) -> None:
         self.must("signs", [signed(one) for one in (None, 0, 12, -3)] == ["", "0", "+12", "-3"])
@@ -127,13 +127,14 @@ class TextMarkup(Case):
     def test_breaks_no_option_between_lines(self) -> None:
         for text, wanted in (("give --origin or --start", "give <b>--origin</b> or <b>--start</b>"),
                              ("--every 25 <x>", "<b>--every 25</b> &lt;x&gt;"), ("a - b", "a - b")):
-            self.must(text, in_page(with_options(text)) == wanted, in_page(with_options(text)))
+            self.must(text, markup_text(with_options(text)) == wanted,
+                      markup_text(with_options(text)))
 
     def test_gives_each_verdict_a_class_and_a_shape(self) -> None:
         words = (ACCEPTED, WAIVED, RELATIVE, REFUSED, LOST, WARNED, NOT_JUDGED)
         self.must("all", set(SHAPES) == set(words))
         self.must("classes", len({kind for kind, _ in SHAPES.values()}) == len(words))
-        self.must("shapes", len({in_page(drawn) for _, drawn in SHAPES.values()}) == len(words))
+        self.must("shapes", len({markup_text(drawn) for _, drawn in SHAPES.values()}) == len(words))
 
 
 class RefusedFiles(Case):
@@ -145,13 +146,13 @@ class RefusedFiles(Case):
         for number in range(10, 60):
             line = f"refused {number} X block {int(number > 14)}"
             head, _, value = fields.get(number, "").rpartition(" ")
-            told = in_page(field_markup(made, fault_of(line))).strip()
-            self.must(line, told == (f"{head} <mark>{value}</mark>" if head else ""), told)
-        self.must("no block", in_page(field_markup(made, fault_of("refused 14 Cct"))) == "")
+            reported = markup_text(field_markup(made, fault_of(line))).strip()
+            self.must(line, reported == (f"{head} <mark>{value}</mark>" if head else ""), reported)
+        self.must("no block", markup_text(field_markup(made, fault_of("refused 14 Cct"))) == "")
 
     def test_marks_the_byte_or_line_that_a_fault_names(self) -> None:
         def marked(*lines: str) -> str:
-            return in_page(marked_text(b"a b\x8ac", [fault_of(line) for line in lines]))
+            return markup_text(marked_text(b"a b\x8ac", [fault_of(line) for line in lines]))
 
         for lines, words in (
                 ((), "a b<br/>c"), (("refused 50 X block 2 at 0",), "<mark>a</mark> b<br/>c"),
@@ -160,7 +161,7 @@ class RefusedFiles(Case):
                 (("refused 53 X block 2 at 0", "refused 50 X block 2 at 2"),
                  "<mark>a <mark>b</mark></mark><br/>c"), (("refused 21 X block 2",), "a b<br/>c")):
             self.must(f"{lines}", marked(*lines) == words, marked(*lines))
-        letters = [in_page(readable(byte)) for byte in (0x20, 0x41, 0x7E, 0x7F, 0x1F)]
+        letters = [markup_text(readable(byte)) for byte in (0x20, 0x41, 0x7E, 0x7F, 0x1F)]
         self.must("letters", letters == ["\u2423", "A", "~", "<i>7F</i>", "<i>1F</i>"])
 
     def test_marks_the_times_that_a_fault_names(self) -> None:
@@ -171,7 +172,7 @@ class RefusedFiles(Case):
                 ("refused 56 X block 6", (f"<mark>{begin}</mark>", end)),
                 ("refused 57 X block 6", (f"<mark>{begin}</mark>", end)),
                 ("refused 20 X block 6", (begin, end)), ("refused 50 X block 6", (begin, end))):
-            self.must(line, (*map(in_page, marked_times(one, [fault_of(line)])),) == wanted)
+            self.must(line, (*map(markup_text, marked_times(one, [fault_of(line)])),) == wanted)
         wrong = one._replace(begin="99:00:00:00")
-        told = [*map(in_page, marked_times(wrong, [fault_of("refused 20 X block 6")]))]
-        self.must("no time", told == ["<mark>99:00:00:00</mark>", end])
+        reported = [*map(markup_text, marked_times(wrong, [fault_of("refused 20 X block 6")]))]
+        self.must("no time", reported == ["<mark>99:00:00:00</mark>", end])

@@ -10,7 +10,7 @@ from subtitles.report.pictures import (
     CellStyle, LOW_ROWS, differences, draw_row, frames_of, is_boxed, picture, rows_to_draw,
     styled_spans)
 from subtitles.stream.receiver import BLANK_PAGE, HIT, OLD, Rows
-from .parts import in_page
+from .parts import markup_text
 
 
 SUBTITLE_HEADER, PLAIN_HEADER = bytes([8, 8, 0, 8, 0, 8, 1, 0]), bytes([8, 8, 0, 8, 0, 0, 1, 0])
@@ -82,7 +82,7 @@ class Attributes(unittest.TestCase):
 class Drawings(unittest.TestCase):
     def test_draws_the_used_rows(self) -> None:
         rows = page(r20=b"\x0b\x0b\x0dtall", r21=b"\x0b\x0bcovered", r22=b"\x0b\x0b\1seen <")
-        drawn = in_page(picture(rows, SUBTITLE_HEADER, (19, 23), [(22, 3), (22, 4)]))
+        drawn = markup_text(picture(rows, SUBTITLE_HEADER, (19, 23), [(22, 3), (22, 4)]))
         self.assertEqual(("tall" in drawn, "covered" in drawn, "seen &lt;</text>" in drawn),
                          (True, False, True))
         for part, count in (('class="n"', 2), ('<rect class="p0" x="12" width="468" height="30"/>',
@@ -91,12 +91,13 @@ class Drawings(unittest.TestCase):
                             ('<rect class="d1" x="36" y="315" width="24" height="15"/>', 1)):
             self.assertEqual(drawn.count(part), count, part)
         for header, count in ((PLAIN_HEADER, 3), (SUBTITLE_HEADER, 1)):
-            self.assertEqual(in_page(picture(rows, header, (18, 20))).count('class="n"'), count,
+            self.assertEqual(markup_text(picture(rows, header, (18, 20))).count('class="n"'), count,
                              (header, count))
         for last, is_there in ((21, False), (22, True)):
-            drawn = in_page(picture(rows, PLAIN_HEADER, (18, last)))
+            drawn = markup_text(picture(rows, PLAIN_HEADER, (18, last)))
             self.assertEqual("seen" in drawn, is_there, last)
-        marked = in_page(draw_row(bytes([OLD] * 3 + [0x41, HIT, HIT]).ljust(40), 20, 0, True)[0])
+        marked = markup_text(draw_row(bytes([OLD] * 3 + [0x41, HIT, HIT]).ljust(40), 20, 0,
+                                      True)[0])
         self.assertIn('<rect class="old" x="1" y="1" width="34" height="13"/>', marked)
         self.assertIn('<rect class="hit" x="49" y="1" width="22" height="13"/>', marked)
         self.assertEqual([is_boxed(bytes([8, 8, 0, 0, 0, bits, 1, 0])) for bits in (0, 4, 8, 12)],
@@ -108,11 +109,11 @@ class Drawings(unittest.TestCase):
             ([(5, 1), (6, 1)], [], 1), ([(5, 1), (7, 1)], [], 2), ([(5, 1), (7, 1)], [5], 1),
             ([(5, 1), (6, 1), (6, 2)], [], 2)]
         for cells, tall, count in rows:
-            drawn = in_page(frames_of(cells, set(tall)))
+            drawn = markup_text(frames_of(cells, set(tall)))
             self.assertEqual(drawn.count('class="d1"'), count, cells)
             self.assertEqual(drawn.count('class="d2"'), count, cells)
         self.assertIn('x="12" y="60" width="12" height="30"',
-                      in_page(frames_of([(6, 1), (5, 1)], set())))
+                      markup_text(frames_of([(6, 1), (5, 1)], set())))
 
     def test_shows_the_used_rows_and_one_more_on_each_side(self) -> None:
         for pages, wanted in (
@@ -136,5 +137,5 @@ class Drawings(unittest.TestCase):
     def test_draws_characters_of_the_header_option(self) -> None:
         for option, letter in ((0, "\u2190"), (4, "\u00c4"), (0, "\u2190"), (7, "\u25a1")):
             header = bytes([*SUBTITLE_HEADER[:7], option << 1])
-            self.assertIn(f">{letter}</text>", in_page(picture(
+            self.assertIn(f">{letter}</text>", markup_text(picture(
                 page(r20=b"\x0b\x0b["), header, (19, 21))), (option, letter))

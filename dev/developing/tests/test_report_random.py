@@ -18,7 +18,7 @@ from subtitles.formats.listing import (
 from subtitles.formats.stl import NEW_LINE, USER_DATA
 from subtitles.formats.teletext import page_name
 from .bench import BENCH, example_bytes
-from .judged import Judged, judged_by
+from .judged import JudgedPair, judge_files_with
 
 
 COUNT, EACH = 240, 8  # reports, and reports for each test
@@ -169,10 +169,10 @@ def text_of(item: tree.Element) -> str:
     return "".join(item.itertext())
 
 
-def report_made(number: int, folder: str) -> tuple[Judged, str]:
+def report_made(number: int, folder: str) -> tuple[JudgedPair, str]:
     """Return the judged pair of a seed and its report, or ""."""
     out = os.path.join(folder, "out")
-    found = judged_by(BENCH.program, *RandomPair(number, folder).words(), "-o", out)
+    found = judge_files_with(BENCH.program, *RandomPair(number, folder).words(), "-o", out)
     path = os.path.join(out, "one.html")
     if not os.path.exists(path):
         return found, ""
@@ -219,7 +219,7 @@ class Reports(unittest.TestCase):
             elif item.tag == f"{HTML}a":
                 self.assertTrue("".join(item.itertext()).strip())
 
-    def check_rows(self, found: Judged, told: list[FaultLine], rows: list[CueRow]) -> None:
+    def check_rows(self, found: JudgedPair, told: list[FaultLine], rows: list[CueRow]) -> None:
         """Check that each judged subtitle has a row, and that rows are right only without faults at
         their time."""
         part = found.verdict.parts[0]
@@ -235,20 +235,20 @@ class Reports(unittest.TestCase):
         if found.verdict.word == "accepted":
             self.assertEqual(set[str]().union(*(row.classes for row in rows)), {"ok"})
 
-    def check_counts(self, found: Judged, page: tree.Element) -> None:
+    def check_counts(self, found: JudgedPair, page: tree.Element) -> None:
         """Check that the table has each number with its count."""
         table = {row.get("id"): text_of(row[1]) for row in page.iter(HTML + "tr")
                  if re.fullmatch(r"n\d+", row.get("id", ""))}
         self.assertEqual(table, {f"n{number}": f"{count:,}" for number, count in
                                  found.verdict.parts[0].check_output.counts_by_number.items()})
 
-    def check_times(self, found: Judged, rows: list[CueRow]) -> None:
+    def check_times(self, found: JudgedPair, rows: list[CueRow]) -> None:
         """Check that the expected page is displayed from the actual in-cue up to the out-cue, and
         another page just outside."""
-        asked = found.verdict.request
-        receiver = ["--origin", str(asked.origin), "--page", page_name(*asked.page)]
-        due = asked.stl + ".due"
-        run("schedule", asked.stl, due, "--every", "1500", "--option", asked.option, *receiver)
+        request = found.verdict.request
+        receiver = ["--origin", str(request.origin), "--page", page_name(*request.page)]
+        due = request.stl + ".due"
+        run("schedule", request.stl, due, "--every", "1500", "--option", request.option, *receiver)
 
         def held(path: str, frame: int, *words: str) -> list[str]:
             lines = run("listen", path, *receiver, *words, "--at", time_of(frame))
@@ -260,12 +260,12 @@ class Reports(unittest.TestCase):
             if expected is None or begin is None:
                 continue
             page = held(due, expected)
-            within = ["--within", str(asked.within)]
-            self.assertEqual(held(asked.recording or "", begin, *within), page, row)
+            within = ["--within", str(request.within)]
+            self.assertEqual(held(request.recording or "", begin, *within), page, row)
             if row.cells[4] != row.cells[2]:
-                self.assertNotEqual(held(asked.recording or "", begin - 1, *within), page, row)
+                self.assertNotEqual(held(request.recording or "", begin - 1, *within), page, row)
             if end is not None and end != row.frame(3):
-                self.assertNotEqual(held(asked.recording or "", end, *within), page, row)
+                self.assertNotEqual(held(request.recording or "", end, *within), page, row)
 
     def check_report(self, number: int, folder: str) -> None:
         """Check the report of a seed."""
@@ -278,9 +278,9 @@ class Reports(unittest.TestCase):
             root = tree.fromstring(page)
             rows = cue_rows(root)
             with open(os.path.join(out, "one.txt"), encoding="utf-8") as file:
-                told = [fault for fault in map(fault_of_line, file.read().splitlines())
+                reported = [fault for fault in map(fault_of_line, file.read().splitlines())
                         if fault and fault.is_fault]
-            self.check_rows(found, told, rows)
+            self.check_rows(found, reported, rows)
             self.check_counts(found, root)
             numbers = found.verdict.parts[0].check_output.fault_numbers
             passed = numbers & {*PASSED_OVER, *ENDS_READING, 62}

@@ -8,8 +8,8 @@ from typing import Callable, NamedTuple
 from developing.pes import pts_in
 from subtitles.common.times import frame_in, time_of
 from .bench import Case
-from .judged import Judged, judged
-from .transmissions import scheduled, subtitle_file
+from .judged import JudgedPair, judge_files
+from .transmissions import schedule_pes, write_subtitle_file
 
 COUNT, SEEDS, EACH = 50, 20, 5  # subtitles, programmes, and programmes for each test
 ORIGIN = 900_000
@@ -52,12 +52,12 @@ def edited(subtitles: list[Timed], chance: random.Random) -> list[Timed]:
 class ActualTimes(Case):
     def sent(self, subtitles: list[Timed]) -> list[bytes]:
         """Return the PES packets of a transmission of some subtitles."""
-        return scheduled(self, subtitle_file(self, subtitles, "sent.stl"), "--every", "25",
+        return schedule_pes(self, write_subtitle_file(self, subtitles, "sent.stl"), "--every", "25",
                          "--origin", str(ORIGIN))
 
-    def judge(self, packets: list[bytes], expected: list[Timed], *words: str) -> Judged:
+    def judge(self, packets: list[bytes], expected: list[Timed], *words: str) -> JudgedPair:
         """Judge PES packets by some subtitles."""
-        return judged(self, subtitle_file(self, expected), self.write(
+        return judge_files(self, write_subtitle_file(self, expected), self.write(
             "one.pes", b"".join(packets)), "--origin", str(ORIGIN), *words)
 
     def test_gives_no_time_to_what_was_not_recorded(self) -> None:
@@ -91,7 +91,7 @@ class ActualTimes(Case):
             for row in found.result["subtitles"]], rows)
 
     def test_writes_a_csv_row_with_the_reason(self) -> None:
-        found = judged(self, subtitle_file(self, random_programme(random.Random(1))),
+        found = judge_files(self, write_subtitle_file(self, random_programme(random.Random(1))),
                        self.write("empty.pes", b""), "--csv", self.path("one.csv"))
         with open(self.path("one.csv"), encoding="utf-8", newline="") as file:
             rows = [(row["verdict"], row["reason"]) for row in csv.DictReader(file)]

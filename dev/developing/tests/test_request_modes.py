@@ -28,8 +28,8 @@ from subtitles.request.lines import request_of_line
 from subtitles.request.request import (
     ALONE, BATCH, COLLECT, LINE, MEASURE, MODES, Mode, PAIR, WATCH)
 from subtitles.results.files import FORMULA
-from .bench import Case, Done, example, is_python, script, tool_path
-from .parts import defaults
+from .bench import Case, Done, example, is_python, import_script, tool_path
+from .parts import default_options
 
 
 # The options of each mode of tools/qc; parser and error messages agree.
@@ -59,7 +59,7 @@ def refusal(mode: Mode, name: str, folder: str) -> str | None:
     """Return the error message about an option in a mode, or `None`."""
     try:
         if mode is LINE:
-            request_of_line(["a.stl", "a.ts", *option_arguments(name, folder)], defaults())
+            request_of_line(["a.stl", "a.ts", *option_arguments(name, folder)], default_options())
         else:
             line = [*CALLS[mode], *option_arguments(name, folder)]
             refuse_options(make_parser(""), line, find_mode(make_parser("").parse_args(line)))
@@ -73,9 +73,9 @@ class Modes(Case):
         self.write("house", b"--every 25\n")
         for name, taken_by in OPTION_MODES.items():
             for mode in MODES:
-                said = refusal(mode, name, self.folder)
-                is_right = said is None if mode in taken_by else said is not None and name in said
-                self.must(f"{name} and {mode.words}", is_right, said)
+                printed = refusal(mode, name, self.folder)
+                is_right = printed is None if mode in taken_by else printed is not None and name in printed
+                self.must(f"{name} and {mode.words}", is_right, printed)
 
     def test_takes_the_last_of_repeated_options(self) -> None:
         for words, name, value in (
@@ -85,7 +85,7 @@ class Modes(Case):
                 ("--page 801 --page 8A2", "page", (0, 0xA2))):
             found = vars(make_parser("").parse_args(["a.stl", "a.ts", *words.split()]))
             self.must(words, found[name] == value, found)
-        for words, mode, said in (
+        for words, mode, printed in (
                 ("--every 25 --every 50", COLLECT, "--every may be given with"),
                 ("--complete --no-complete", ALONE, "--complete may be given with"),
                 ("--no-complete --complete", COLLECT, "--complete may be given with"),
@@ -99,7 +99,7 @@ class Modes(Case):
                 ("--start tcp", ALONE, "--start may be given with")):
             with self.assertRaises(Stop) as refused:
                 refuse_options(make_parser(""), [*CALLS[mode], *words.split()], mode)
-            self.must(words, str(refused.exception).startswith(said), refused.exception)
+            self.must(words, str(refused.exception).startswith(printed), refused.exception)
 
     def test_calls_the_function_of_each_mode(self) -> None:
         rows: list[tuple[list[str], ModuleType, str, dict[str, object]]] = [
@@ -246,16 +246,16 @@ def tool_names() -> list[str]:
 @functools.lru_cache(None)
 def tool_module(name: str) -> Any:
     """Import a tool once for this process."""
-    return script(name)
+    return import_script(name)
 
 
 def call_in_process(name: str, words: Sequence[str]) -> Done:
     """Call a Python tool in this process."""
-    module, out, told = tool_module(name), io.StringIO(), io.StringIO()
+    module, out, errors = tool_module(name), io.StringIO(), io.StringIO()
     with mock.patch.object(sys, "argv", [tool_path(name), *words]), \
-            contextlib.redirect_stdout(out), contextlib.redirect_stderr(told):
+            contextlib.redirect_stdout(out), contextlib.redirect_stderr(errors):
         status = ended(module.called if name == "qc" else module.main, words)
-    return Done(status, out.getvalue().encode(), told.getvalue().splitlines())
+    return Done(status, out.getvalue().encode(), errors.getvalue().splitlines())
 
 
 class WrongArguments(Case):
@@ -283,17 +283,17 @@ class WrongArguments(Case):
             known = json.loads(self.read("one.json"))
             head, row, *more = csv.reader(self.read("one.csv").decode().splitlines())
             suite = tree.fromstring(self.read("one.xml"))
-            told = done.told[0].partition(": ")[2]
+            reported = done.told[0].partition(": ")[2]
             self.must(f"{words}", done.status == 2 and known["verdict"] == "not judged" and
-                      known["reason"] == told, known)
+                      known["reason"] == reported, known)
             one = dict(zip(head, row))
-            cell = "'" * told.startswith(FORMULA) + told
+            cell = "'" * reported.startswith(FORMULA) + reported
             self.must(f"{words}: table", not more and
                       (one["verdict"], one["reason"]) == ("not judged", cell), row)
             cases = list(suite.iter("testcase"))
             self.must(f"{words}: case", len(cases) == 1 and suite.get("errors") == "1" and
                       [one.get("message") for one in cases[0].iter("error")] == [
-                          known.get("sentence", told)],
+                          known.get("sentence", reported)],
                       self.read("one.xml"))
         for option, name in names.items():
             path = self.write(name, b"something else")

@@ -21,9 +21,9 @@ from subtitles.request.request import (
 from subtitles.results.schema import REQUEST
 from .. import DEV
 from .bench import Case, example
-from .judged import judged
-from .parts import asked_for, call_words, defaults
-from .transmissions import subtitle_file
+from .judged import judge_files
+from .parts import request_for, call_arguments, default_options
+from .transmissions import write_subtitle_file
 
 
 # Add two options to the table before it is used, and print all that depends on them.
@@ -39,8 +39,8 @@ options.OPTIONS = (*options.OPTIONS, options.Option(
 options.Request = dataclasses.make_dataclass("Request", [
     ("new_one", object, None), ("newer", bool, False)], bases=(options.Request,))
 from developing import pages
-from developing.tests.parts import defaults
-from developing.tests.parts import call_words
+from developing.tests.parts import default_options
+from developing.tests.parts import call_arguments
 from subtitles.cli.main import make_parser
 from subtitles.results.schema import REQUEST
 from subtitles.cli.main import find_mode, refuse_options
@@ -70,14 +70,14 @@ print(json.dumps({
     "help": help, "man page": pages.tool_parts(help)["options"],
     "chapter": pages.chapter_parts()["options"],
     "completion": pages.completion_parts("  check STL PES  does\\n", "", [help])["values"],
-    "asked": REQUEST.made(asked), "left out": REQUEST.made(none), "call": call_words(asked),
+    "asked": REQUEST.made(asked), "left out": REQUEST.made(none), "call": call_arguments(asked),
     "again": again(asked, CommandWords("tools/qc", program)), "check": asked.check_words(),
     "file": asked.check_words(True), "pages": asked.words_of_pages(),
     "schema": schema()["definitions"]["request"]["properties"],
-    "same": request_of(make_parser("").parse_args(call_words(asked))) == asked,
+    "same": request_of(make_parser("").parse_args(call_arguments(asked))) == asked,
     "not with": [taken("a.stl", *given), taken(*pair, *given),
                  taken("--collect", "x", "--new-one", "5")],
-    "line": REQUEST.made(request_of_line([*pair, *given], defaults()))}))
+    "line": REQUEST.made(request_of_line([*pair, *given], default_options()))}))
 """
 # An option with its value, and its member of a result.
 ROWS: list[tuple[str, str, Any]] = [
@@ -134,30 +134,32 @@ class OptionRows(Case):
         parser = Words("")
         add_options(parser)
         plain_words = parser.parse_args([])
-        without = REQUEST.made(asked_for("one.stl", "one.pes"))
+        without = REQUEST.made(request_for("one.stl", "one.pes"))
         for name, value, member in ROWS:
             words = [name, value] if value else [name]
             words += ["--within", "5"] if name == "--late" else []
-            asked = asked_for("one.stl", "one.pes", *words)
+            request = request_for("one.stl", "one.pes", *words)
             self.must(f"{name}: a call",
-                      sorted(call_words(asked)) == sorted([*words, "--", "one.stl", "one.pes"]))
+                      sorted(call_arguments(request)) == sorted([*words, "--", "one.stl",
+                                                                 "one.pes"]))
             once_more = request_with("one.stl", "one.pes", parser.parse_args(words))
-            self.must(f"{name}: again", once_more == asked)
-            known = REQUEST.made(asked)
+            self.must(f"{name}: again", once_more == request)
+            known = REQUEST.made(request)
             key = name.replace("--no-", "--").strip("-").replace("-", "_")
             self.must(f"{name}: result", known == {
                 **without, **({"within": 5} if name == "--late" else {}), key: member}, known)
-            self.must(f"{name}: pages", asked.words_of_pages() == (
-                words if name in ("--layout", "--open") else []), asked.words_of_pages())
+            self.must(f"{name}: pages", request.words_of_pages() == (
+                words if name in ("--layout", "--open") else []), request.words_of_pages())
             line = request_of_line(["one.stl", "one.pes", *words], plain_words)
-            self.must(f"{name}: line", line == asked, line)
+            self.must(f"{name}: line", line == request, line)
         every = [word for name, value, _ in ROWS if name != "--start"
                  for word in ([name, value] if value else [name])]
-        asked = asked_for("one.stl", "one.pes", *every)
-        typed = again(asked, CommandWords("tools/qc", self.bench.program))
+        request = request_for("one.stl", "one.pes", *every)
+        typed = again(request, CommandWords("tools/qc", self.bench.program))
         for name, _, _ in ROWS:
             self.must(f"{name}: typed", (f" {name}" in typed) == (name != "--start"), typed)
-        self.must("complete", options_of(asked_for("a", "b", "--complete")) == [[]] * len(OPTIONS))
+        self.must("complete",
+                  options_of(request_for("a", "b", "--complete")) == [[]] * len(OPTIONS))
 
     def test_each_row_is_complete(self) -> None:
         for one in OPTIONS:
@@ -175,13 +177,13 @@ class OptionRows(Case):
                 ("", 0, day), ("--from 00:00:00:00", 0, day), ("--to 00:00:00:00", 0, 0),
                 ("--to 00:00:00:01", 0, 1), ("--from 23:59:59:24", day - 1, day),
                 ("--from 00:00:01:00 --to 23:59:59:24", 25, day - 1)):
-            asked = asked_for("a.stl", "a.ts", *words.split())
-            self.assertEqual(asked.between, (first, end), words)
-            self.assertEqual(asked.of_part(first, end).between, (first, end), words)
+            request = request_for("a.stl", "a.ts", *words.split())
+            self.assertEqual(request.between, (first, end), words)
+            self.assertEqual(request.of_part(first, end).between, (first, end), words)
         for option, time in itertools.product(("--from", "--to"), (
                 "24:00:00:00", "00:00:00:25", "00:00:00", "10", "")):
             with self.assertRaises(Stop):
-                asked_for("a.stl", "a.ts", option, time)
+                request_for("a.stl", "a.ts", option, time)
 
     def test_omits_default_values(self) -> None:
         number = Option("--n", "N", "", JUDGED, field="n", default=5, shape=Text())
@@ -227,23 +229,23 @@ class ProfileFiles(Case):
                 self.path("house"), hashlib.sha256(text.encode()).hexdigest()))
 
     def test_stores_a_subtitle_file_from_a_pipe(self) -> None:
-        data = subtitle_file(self, [(0, 9, b"text")], "one.stl", language=b"08")
+        data = write_subtitle_file(self, [(0, 9, b"text")], "one.stl", language=b"08")
         os.mkfifo(self.path("pipe"))
         for name in (data, self.path("pipe")):
-            asked = asked_for(name, "a.ts", "--option", "auto")
-            self.must("not read yet", (asked.stl_path, asked.language) == (
-                name, "08" if name == data else None), asked)
+            request = request_for(name, "a.ts", "--option", "auto")
+            self.must("not read yet", (request.stl_path, request.language) == (
+                name, "08" if name == data else None), request)
             writer = threading.Thread(target=lambda: self.write("pipe", self.read("one.stl")))
             if name != data:
                 writer.start()
-            keep_stl(asked, self.folder)
+            keep_stl(request, self.folder)
             kept = name if name == data else self.path("subtitles.stl")
-            self.must(name, (asked.stl, asked.stl_path, asked.option, asked.language) == (
-                name, kept, "german", "08"), asked)
+            self.must(name, (request.stl, request.stl_path, request.option, request.language) == (
+                name, kept, "german", "08"), request)
             with open(kept, "rb") as file:
                 self.must(f"{name}: whole", file.read() == self.read("one.stl"))
         writer.join()
-        typed = asked_for(self.path("pipe"), "a.ts", "--option", "swedish")
+        typed = request_for(self.path("pipe"), "a.ts", "--option", "swedish")
         writer = threading.Thread(target=lambda: self.write("pipe", self.read("one.stl")))
         writer.start()
         keep_stl(typed, self.folder)
@@ -252,7 +254,7 @@ class ProfileFiles(Case):
 
     def test_refuses_wrong_lines_by_number(self) -> None:
         not_there = f"is not an option of a profile, which may have {MAY}"
-        for text, number, said in (
+        for text, number, printed in (
                 ("--every 25\n\n--breaks 1", 3, f"--breaks {not_there}"),
                 *((f"{name}=1", 1, f"{name} {not_there}") for name in (
                     "--from", "--to", "--pes", "--profile")),
@@ -273,7 +275,7 @@ class ProfileFiles(Case):
             path = self.write("house", text.encode())
             with self.assertRaises(Stop) as refused:
                 profile_at(path)
-            self.must(text, str(refused.exception) == f"{path}, line {number}: {said}",
+            self.must(text, str(refused.exception) == f"{path}, line {number}: {printed}",
                       refused.exception)
 
     def test_allows_the_options_that_its_message_lists(self) -> None:
@@ -297,8 +299,8 @@ class ProfileFiles(Case):
 class Overrides(Case):
     def request(self, call: str, line: str | None) -> Request:
         """Return the request of a call, or of a line of its list."""
-        words = defaults(*call.split())
-        return asked_for("a.stl", "a.ts", *call.split()) if line is None else \
+        words = default_options(*call.split())
+        return request_for("a.stl", "a.ts", *call.split()) if line is None else \
             request_of_line(["a.stl", "a.ts", *line.split()], words, self.folder)
 
     def test_given_options_override_the_profile(self) -> None:
@@ -328,11 +330,12 @@ class Overrides(Case):
                 ("--every 9", "--profile house --within 2", (25, True, 2, shares, True)),
                 ("--every 9", "--profile house --within 3", (25, True, 3, None, True)),
                 ("--within 1 --late 0:1,1:1/0:1", "--within 0", (250, False, 0, None, True))):
-            asked = self.request(call, line)
-            found = (asked.every, asked.may_keep, asked.within, asked.late, asked.is_complete)
+            request = self.request(call, line)
+            found = (request.every, request.may_keep, request.within, request.late,
+                     request.is_complete)
             self.must(f"{call} | {line}", found == wanted, found)
-            again = asked_for("a.stl", "a.ts", *call_words(asked)[:-3])
-            self.must(f"{call} | {line}: again", again == asked, again)
+            again = request_for("a.stl", "a.ts", *call_arguments(request)[:-3])
+            self.must(f"{call} | {line}: again", again == request, again)
 
     def test_replaces_one_clock_by_another(self) -> None:
         self.write("other", b"--every 50\n")
@@ -349,8 +352,8 @@ class Overrides(Case):
             ("--origin 9", "--profile other --start tcp", (None, "tcp")),
             ("--start tcp", "--profile other --origin=0", (0, None))]
         for call, line, wanted in rows:
-            asked = self.request(call, line)
-            self.must(f"{call} | {line}", (asked.origin, asked.start) == wanted, asked)
+            request = self.request(call, line)
+            self.must(f"{call} | {line}", (request.origin, request.start) == wanted, request)
         two = self.write("two", b"--start tcp\n--origin 0\n")
         for words in ("--start tcp --origin 0", f"--profile {two}"):
             with self.assertRaisesRegex(Stop, "--start and --origin both give the clock"):
@@ -358,7 +361,7 @@ class Overrides(Case):
 
     def test_delay_counts_need_a_tolerance(self) -> None:
         for words in ("--late 0:1,1:1/0:1", "--late 0:1/0:1,3:1 --within 2"):
-            self.assertRaises(Stop, asked_for, "a.stl", "a.ts", *words.split())
+            self.assertRaises(Stop, request_for, "a.stl", "a.ts", *words.split())
 
     def test_finds_a_profile_in_the_folder_of_the_list(self) -> None:
         os.mkdir(self.path("in"))
@@ -367,11 +370,11 @@ class Overrides(Case):
             self.write(name, data)
         pair = f"{self.path('a.stl')} {self.path('a.ts')} --profile"
         path = self.write("in/list", f"{pair} house\n{pair} bad\n{pair} none\n".encode())
-        good, bad, none = pairs_at(path, defaults())
+        good, bad, none = pairs_at(path, default_options())
         self.must("good", good.asked and good.asked.every == 25 and self.path("in/house") in
                   good.files, good)
-        said = f"{path}, line 2: {self.path('in/bad')}, line 2: --breaks is not an option of a "
-        self.must("bad", bad.asked is None and str(bad.reason).startswith(said), bad.reason)
+        printed = f"{path}, line 2: {self.path('in/bad')}, line 2: --breaks is not an option of a "
+        self.must("bad", bad.asked is None and str(bad.reason).startswith(printed), bad.reason)
         self.must("none", none.asked is None and f"{self.path('in/none')}" in str(none.reason),
                   none.reason)
 
@@ -395,18 +398,19 @@ class ProfileVerdicts(Case):
                 (["--severity", levels, "--every", "25"], waived),
                 (["--profile", relative], accepted)):
             self.write("levelsx", b"")
-            found = judged(self, STORY, RECORDING, "--origin", "5000000000", *words)
+            found = judge_files(self, STORY, RECORDING, "--origin", "5000000000", *words)
             self.must(f"{words}", found.said[-1] == last == found.result["line"], found.said[-1])
 
     def test_prints_and_stores_what_a_profile_sets(self) -> None:
         data = b"--every 25  # each second\n--no-complete\n--layout 'fit,up'\n"
         path = self.write("house", data)
-        asked = asked_for("a.stl", "a.ts", "--profile", path, "--every", "50")
-        self.must("line", asked.profile and profile_line(asked.profile) ==
+        request = request_for("a.stl", "a.ts", "--profile", path, "--every", "50")
+        self.must("line", request.profile and profile_line(request.profile) ==
                   f"profile {path}: --every 25 --no-complete --layout fit,up")
         none = profile_at(self.write("none", b"#\n"))
         self.must("nothing", profile_line(none) == f"profile {none.name}: no options")
-        found = judged(self, STORY, RECORDING, "--profile", path, "--layout", "up", "--every", "50")
+        found = judge_files(self, STORY, RECORDING, "--profile", path, "--layout", "up", "--every",
+                            "50")
         known = found.result["request"]
         self.must("result", known["profile"] == {
             "name": path, "sha256": hashlib.sha256(data).hexdigest()} and
@@ -415,12 +419,12 @@ class ProfileVerdicts(Case):
     def test_never_overwrites_a_profile(self) -> None:
         path = self.write("house", b"--every 25\n")
         bad = self.write("bad", b"\n--every")
-        for words, said in (
+        for words, printed in (
                 (["--profile", path, "--json", path], f"{path} is also an input: give another "
                                                       "name"),
                 (["--profile", bad, "--json", "x.json"],
                  f"{bad}, line 2: argument --every: expected one argument")):
             done = self.tool("qc", STORY, RECORDING, *words)
-            self.must(said, done.status == 2 and done.told == [f"qc: {said}"], done)
+            self.must(printed, done.status == 2 and done.told == [f"qc: {printed}"], done)
         self.must("as it was", self.read("house") == b"--every 25\n" and
                   b"line 2" in self.read("x.json"))

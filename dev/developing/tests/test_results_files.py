@@ -25,10 +25,11 @@ from subtitles.results.files import object_at, object_of, table_lines, unjudged
 from subtitles.results.schema import FAULT as ROWS_OF_FAULT, FORMAT, LISTS, VERDICT, misfit, schema
 from ..pages import SCHEMA, format_json
 from .bench import Case, example_bytes
-from .judged import judged
-from .parts import asked_for, defaults
+from .judged import judge_files
+from .parts import request_for, default_options
 from .results import (
-    REQUEST, FAULT, result, row, schema as read_schema, second_reader, wrong_by_schema, wrong_in)
+    REQUEST, FAULT, make_result, row, schema as read_schema, second_validator, all_violations,
+    violations)
 
 
 # The schema follows from the table, all results match it, and any file that is read back is a valid
@@ -82,7 +83,7 @@ class WrittenResults(Case):
     def test_the_schema_file_is_up_to_date(self) -> None:
         self.must("made", read(os.path.join(TOP, SCHEMA)) == format_json(schema()) + "\n",
                   "dev/make-pages")
-        self.must("read", second_reader() is None or second_reader().schema == read_schema())
+        self.must("read", second_validator() is None or second_validator().schema == read_schema())
 
     def test_a_new_row_of_the_table_is_used_everywhere(self) -> None:
         row = ROWS_OF_FAULT.members[0]._replace(name="new", shape=Integer(3, 3), of=lambda _: 3)
@@ -95,21 +96,21 @@ class WrittenResults(Case):
             self.must("schema", known["properties"]["new"] == {
                 "description": row.meaning, "type": "integer", "minimum": 3, "maximum": 3} or
                 known["properties"]["new"]["maximum"] == 3, known["properties"]["new"])
-            self.must("read", misfit(result(faults=[FAULT])) == ".faults[0].new" and
+            self.must("read", misfit(make_result(faults=[FAULT])) == ".faults[0].new" and
                       misfit(found) is None)
         self.must("no more", misfit(found) == ".faults[0].new")
 
     def judge(self) -> dict[str, Any]:
         """Return the result of a recording with four faults."""
         stl = self.write("story.stl", example_bytes("story.stl"))
-        return judged(self, stl, self.write("x.pes", example_bytes("five-faults.pes"))).result
+        return judge_files(self, stl, self.write("x.pes", example_bytes("five-faults.pes"))).result
 
     def test_the_schema_allows_all_fault_numbers(self) -> None:
         for number, fits in ((9, False), (10, True), (UNDECIDED, True), (SILENT, True),
                              (80, False)):
-            known = result(faults=[{**FAULT, "number": number}])
+            known = make_result(faults=[{**FAULT, "number": number}])
             self.must(f"{number}", (misfit(known) is None) == fits != any(
-                wrong_in(known, read_schema())))
+                violations(known, read_schema())))
 
     def test_counts_omitted_items_of_each_list(self) -> None:
         whole = self.judge()
@@ -139,15 +140,15 @@ class WrittenResults(Case):
             ("relative", 3, {}, True), ("relative", 0, {}, False),
             ("relative", 0, {"relative": True}, True), ("relative", 1, {}, False),
             ("refused", 1, {}, True), ("refused", 3, {}, False), ("lost", 1, {}, True)]
-        for word, status, asked, fits in rows:
-            known = result(word, status=status, request={**REQUEST, "origin": None, **asked})
-            self.must(f"{word} {status} {asked}", (misfit(known) is None) == fits and
-                      (not [*wrong_by_schema(known)]) == fits, misfit(known))
+        for word, status, request, fits in rows:
+            known = make_result(word, status=status, request={**REQUEST, "origin": None, **request})
+            self.must(f"{word} {status} {request}", (misfit(known) is None) == fits and
+                      (not [*all_violations(known)]) == fits, misfit(known))
 
     def test_cuts_a_text_that_is_too_long(self) -> None:
         self.must("cut", len(unjudged("x", "y" * 70_000)["reason"]) == 65_536 and
                   misfit(unjudged("x", "y" * 70_000)) is None)
-        found = judged(self, self.write("story.stl", example_bytes("story.stl")))
+        found = judge_files(self, self.write("story.stl", example_bytes("story.stl")))
         program = MadeWith("1", "0" * 64, None)
         found.verdict.unjudged = Unjudged("why")
         known = json.loads("".join(object_of(found.verdict, program)))
@@ -160,13 +161,13 @@ class UntrustedResults(Case):
         known = [self.known(), unjudged("one", "why")]
         for number in range(CHANGES):
             made = changed(known[number % 9 == 8], chance)
-            wrong = [*wrong_in(made, read_schema())]
+            wrong = [*violations(made, read_schema())]
             is_pair = isinstance(made, dict) and "pairs" not in made
             self.must(f"{number}", not is_pair or (misfit(made) is None) == (not wrong),
                       (wrong, misfit(made)))
-            if second_reader() and number % 9 == 0:
+            if second_validator() and number % 9 == 0:
                 self.must(f"{number}: second reader",
-                          second_reader().is_valid(made) == (not wrong), wrong)
+                          second_validator().is_valid(made) == (not wrong), wrong)
             fitting += not wrong
         self.must("some of each", CHANGES // 20 < fitting < CHANGES // 2, fitting)
 
@@ -174,13 +175,13 @@ class UntrustedResults(Case):
         """Return a result with all kinds of values."""
         stl = self.write("story.stl", example_bytes("story.stl"))
         ts = self.write("x.pes", example_bytes("five-faults.pes"))
-        return judged(self, stl, ts, "--every", "25").result
+        return judge_files(self, stl, ts, "--every", "25").result
 
     def words(self, **more: Any) -> argparse.Namespace:
         """Return the arguments of a call on a folder of results."""
         for name in ("in", "out"):
             os.makedirs(self.path(name), exist_ok=True)
-        words = argparse.Namespace(**vars(defaults()))
+        words = argparse.Namespace(**vars(default_options()))
         vars(words).update({
             "watch": self.path("in"), "out": self.path("out"), "collect": self.path("out"),
             "settled": 0, "is_kept": False, "csv": self.path("x.csv"), "junit": self.path("x.xml"),
@@ -198,8 +199,8 @@ class UntrustedResults(Case):
                        if name.endswith(".json"))
         self.must("names", sorted(rows) == names, rows)
         calls = PairRunner(typed, self.folder, self.path("out"), False)
-        asked = asked_for(self.path("story.stl"), self.path("x.pes"))
-        resumed_rows(calls, [Item(name, asked, None) for name in names])
+        request = request_for(self.path("story.stl"), self.path("x.pes"))
+        resumed_rows(calls, [Item(name, request, None) for name in names])
         pairs: list[dict[str, Any]] = json.loads(self.read("x.json"))["pairs"]
         self.must("all pairs", len(pairs) == len(names) and status == 2, (len(pairs), names))
         self.must("all fit", all(misfit(one) is None for one in pairs))
@@ -221,12 +222,12 @@ class UntrustedResults(Case):
     def test_refuses_deep_large_and_invalid_json(self) -> None:
         self.known()
         self.words()
-        for number, (text, told) in enumerate(TEXTS.items()):
+        for number, (text, reported) in enumerate(TEXTS.items()):
             path = self.write(f"out/{number}.json", text)
             found = object_at(path)
-            self.must(told, found is not None and found["verdict"] == "not judged" and
-                      found["name"] == f"{number}" and told in found["reason"], found)
-        self.write("out/whole.json", json.dumps(result("accepted")).encode())
+            self.must(reported, found is not None and found["verdict"] == "not judged" and
+                      found["name"] == f"{number}" and reported in found["reason"], found)
+        self.write("out/whole.json", json.dumps(make_result("accepted")).encode())
         self.all_read()
         size = os.path.getsize(self.path("out/whole.json"))
         for most, is_read in ((size, True), (size - 1, False)):
@@ -270,12 +271,12 @@ class CollectedResults(Case):
         paths = [self.path(f"{one.name}.json") for one in self.ROWS]
         for one, path in zip(self.ROWS, paths):
             have = unjudged("c", "why\nmore") if one.name == "c" else \
-                result(one.verdict, line=one.line)
+                make_result(one.verdict, line=one.line)
             self.write(os.path.basename(path), json.dumps(have).encode())
-        out, told = io.StringIO(), io.StringIO()
-        with contextlib.redirect_stdout(out), contextlib.redirect_stderr(told):
+        out, errors = io.StringIO(), io.StringIO()
+        with contextlib.redirect_stdout(out), contextlib.redirect_stderr(errors):
             status = collection.write_collection(words, self.ROWS, paths)
-        return status, out.getvalue(), told.getvalue()
+        return status, out.getvalue(), errors.getvalue()
 
     def test_prints_the_table_unless_a_file_uses_standard_output(self) -> None:
         table = "".join(f"{line}\n" for line in collection.summary_table(self.ROWS))
@@ -283,11 +284,12 @@ class CollectedResults(Case):
         for name in ("csv", "junit", "json"):
             with mock.patch.object(collection, "put_file"):
                 self.must(f"{name} to -", self.end(**{name: "-"}) == (2, "", table))
-        status, out, told = self.end(csv=self.path("no/x"), junit=self.path("no/y"))
+        status, out, reported = self.end(csv=self.path("no/x"), junit=self.path("no/y"))
         self.must("failed", status == 2 and
                   out == f"{table.rstrip()}; an output was not written\n" and
-                  len(told.splitlines()) == 2 and
-                  "no/x" in told.splitlines()[0] and "no/y" in told.splitlines()[1], told)
+                  len(reported.splitlines()) == 2 and
+                  "no/x" in reported.splitlines()[0] and "no/y" in reported.splitlines()[1],
+                  reported)
         self.end(json=self.path("all"), csv=self.path("lines"), junit=self.path("cases"))
         have = json.loads(self.read("all"))
         self.must("as it is written", self.read("all").startswith(
@@ -316,23 +318,23 @@ class CollectedResults(Case):
         words = argparse.Namespace(csv=None, junit=None, json=None, collect=self.path("in"))
 
         def collect() -> tuple[int, str, str]:
-            out, told = io.StringIO(), io.StringIO()
-            with contextlib.redirect_stdout(out), contextlib.redirect_stderr(told):
-                return collection.collect(words), out.getvalue(), told.getvalue()
+            out, errors = io.StringIO(), io.StringIO()
+            with contextlib.redirect_stdout(out), contextlib.redirect_stderr(errors):
+                return collection.collect(words), out.getvalue(), errors.getvalue()
 
         self.assertRaises(Stop, collect)
         os.mkdir(self.path("in"))
         self.assertRaises(Stop, collect)
         self.write("in/a.json", b"[]")
         self.write("in/x.json", b"[]")
-        self.write("in/one.json", json.dumps(result("accepted")).encode())
-        status, out, told = collect()
+        self.write("in/one.json", json.dumps(make_result("accepted")).encode())
+        status, out, errors = collect()
         self.must("accepted", status == 0 and "1 pair: 1 accepted" in out and
-                  told.count(".json is not a JSON result of a pair and is skipped") == 2, told)
+                  errors.count(".json is not a JSON result of a pair and is skipped") == 2, errors)
         with self.assertRaises(Stop):
             collection.refuse_output_names(argparse.Namespace(
                 json=None, csv=self.path("in"), junit=None))
-        self.write("in/two.json", json.dumps(result()).encode())
+        self.write("in/two.json", json.dumps(make_result()).encode())
         self.must("refused", collect()[0] == 1)
         self.write("in/three.json", b"{")
         self.must("not judged", collect()[0] == 2)
@@ -345,15 +347,15 @@ class CollectedResults(Case):
                 self.write("gone.json", data)
             have = collection.load_result(path)
             self.must("gone", have["verdict"] == "not judged" and have["name"] == "gone", have)
-        known = result(faults=[FAULT])
+        known = make_result(faults=[FAULT])
         self.write("gone.json", b'{"status": 0, ' + json.dumps(known, indent=3).encode()[1:])
         self.must("as it was read", collection.load_result(path) == known)
         lines = table_lines(map(collection.load_for_csv, [path, path]))
         self.check("lines", len(b"".join(lines).splitlines()), 5)
         known["omitted"]["faults"] = 7
         self.write("gone.json", json.dumps(known).encode())
-        with contextlib.redirect_stderr(io.StringIO()) as told:
+        with contextlib.redirect_stderr(io.StringIO()) as errors:
             lines = table_lines([collection.load_for_csv(path)])
             self.check("lines of some", len([*lines]), 3)
-        self.must("told", told.getvalue().endswith(
-            f": {path} omits 7 faults, so the CSV file does too\n"), told.getvalue())
+        self.must("told", errors.getvalue().endswith(
+            f": {path} omits 7 faults, so the CSV file does too\n"), errors.getvalue())

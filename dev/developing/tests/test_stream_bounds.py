@@ -19,7 +19,7 @@ from subtitles.stream.packets import Clocked, Mark, Packets, Run, Texts
 from subtitles.stream.receiver import (
     BLANK_PAGE, HIT, Meeting, OLD, OLD_PAGE, ReceivedPackets, Timeline, cleared,
     timeline_near)
-from .parts import asked_for
+from .parts import request_for
 
 ORIGINS = 0, 7, CLOCK - 100 * SECOND - 5, CLOCK - 20 * SECOND, CLOCK - 5
 
@@ -92,8 +92,8 @@ class Silences(unittest.TestCase):
         for count in (0, 1, TOLD - 1, TOLD, TOLD + 1, TOLD + 2):
             lines = [f"{number}" for number in range(count)]
             more = count - TOLD
-            told = [f"and at {more} more place{'s' * (more > 1)}"] * (more > 0)
-            self.assertEqual(first_lines(lines), lines[:TOLD] + told, count)
+            reported = [f"and at {more} more place{'s' * (more > 1)}"] * (more > 0)
+            self.assertEqual(first_lines(lines), lines[:TOLD] + reported, count)
             pts = [SECOND + at * TICKS for at in range(2 * count + 1)]
             packets = Packets(5, [Run(at, 1, None if at % 2 else one, 0, "", "")
                                   for at, one in enumerate(pts)])
@@ -129,7 +129,7 @@ class FirstPictures(unittest.TestCase):
             self.assertEqual(found, [exact, near], (origin, times))
 
     def test_refuses_subtitles_before_and_after_the_recording(self) -> None:
-        asked, last = asked_for("a.stl", "a.ts"), 1000
+        request, last = request_for("a.stl", "a.ts"), 1000
         for origin, (begin, end, is_told, is_refused) in itertools.product((
                 *ORIGINS, CLOCK - last * TICKS), (
                 (100, last + FRAMES_A_SECOND, True, False),
@@ -138,13 +138,13 @@ class FirstPictures(unittest.TestCase):
             began = Began(Clock(origin, TCP), [], 100)
             pts = (origin + TICKS * last) % CLOCK if is_told else None
             try:
-                refuse_outside(asked, began, begin, end, pts)
+                refuse_outside(request, began, begin, end, pts)
                 found = False
             except Unclear:
                 found = True
             self.assertEqual(found, is_refused, (origin, begin, end))
             with self.assertRaises(Unclear):  # the recording ends with its first frame
-                refuse_outside(asked, began._replace(frame=0), 0, FRAMES_A_SECOND + 1, origin)
+                refuse_outside(request, began._replace(frame=0), 0, FRAMES_A_SECOND + 1, origin)
 
 
 class ReceivedFrames(unittest.TestCase):
@@ -199,11 +199,11 @@ class ReceivedFrames(unittest.TestCase):
         """
         packets = Packets(5)
         for number, word in enumerate(filter(None, sent.split(" "))):
-            frame, does, *told = word.split(":")
+            frame, does, *reported = word.split(":")
             packets.runs.append(Run(number, 1, round(TICKS * float(frame.rstrip("!"))), 0, does,
                                     "0" * ("h" in does), fault=33 * ("!" in frame)))
             packets.held += [(number, ((20, text.encode("latin-1").ljust(40)),))
-                             for text in told]
+                             for text in reported]
         return Timeline(packets, (0, 0x88), 0, **more)
 
     def test_decodes_the_transmitted_pages(self) -> None:
@@ -221,38 +221,39 @@ class ReceivedFrames(unittest.TestCase):
             ("then erased", "10:heo:a 15!:heo:b 30:heo", "10 a 30 b", [10], [10, 30]),
             ("then told", "10:heo:a 15!:heo:b 20:o:c 30:ho", "10 a 20 c", [10], [10, 30])]
         for name, sent, pages, turns, sendings in rows:
-            held = self.timeline(sent)
+            decoded = self.timeline(sent)
             found = " ".join(f"{frame} {page[19].decode().strip()}"
-                             for frame, page in zip(held.frames, held.pages))
-            self.assertEqual((found, [*held.turns], [*held.sendings]), (pages, turns, sendings),
+                             for frame, page in zip(decoded.frames, decoded.pages))
+            self.assertEqual((found, [*decoded.turns], [*decoded.sendings]),
+                             (pages, turns, sendings),
                              name)
-            self.assertEqual(held.closed_from(99), None if len(turns) % 2 else 99, name)
+            self.assertEqual(decoded.closed_from(99), None if len(turns) % 2 else 99, name)
 
     def test_handles_steps_back_and_losses(self) -> None:
         for frame, halt in ((299, None), (300, 2), (310, 2)):
-            held = self.timeline(f"200:he {frame}:he 290:he", begin=300)
-            self.assertEqual(held.halt, halt, frame)
+            decoded = self.timeline(f"200:he {frame}:he 290:he", begin=300)
+            self.assertEqual(decoded.halt, halt, frame)
         twice = "10:heo:a 10:c 11:c"
-        held = self.timeline(twice)
-        self.assertEqual((held.halt, [run.first for run in held.members(10)]), (None, [0, 1]))
+        decoded = self.timeline(twice)
+        self.assertEqual((decoded.halt, [run.first for run in decoded.members(10)]), (None, [0, 1]))
         before, behind = "200:heos:a 205!:he 220:c ", "150:heos:b 160!:h 170:c 310:ho:c"
         alone, both = (self.timeline(sent, begin=300) for sent in (behind, before + behind))
         for name in ("frames", "pages", "turns", "sendings", "erasings", "strays", "doubts",
                      "pauses", "begins", "ends", "count", "first", "last", "states", "stored"):
             self.assertEqual(getattr(both, name), getattr(alone, name), name)
-        held = self.timeline("200:he 310:he 200:he 400:he", begin=300)
-        self.assertEqual((held.halt, held.last), (2, 310))
+        decoded = self.timeline("200:he 310:he 200:he 400:he", begin=300)
+        self.assertEqual((decoded.halt, decoded.last), (2, 310))
         self.assertEqual([self.timeline(twice, came=came).first for came in (NO_FRAME, 0, 7)],
                          [10, 0, 7])
-        held = self.timeline(twice, lost=[Span(5, 6)])
-        self.assertEqual([held.lost.has(*one) for one in ((6, 9), (7, 9))], [True, False])
+        decoded = self.timeline(twice, lost=[Span(5, 6)])
+        self.assertEqual([decoded.lost.has(*one) for one in ((6, 9), (7, 9))], [True, False])
         runs = [Run(0, 3, 0, 5 * TICKS, "s", ""), Run(3, 1, 20 * TICKS, 0, "s", ""),
                 Run(4, 1, 30 * TICKS, 0, "s", "")]
         texts = [((20, b"a"),), ((20, b"b"),)]
-        held = Timeline(Packets(5, runs, strays=[(0, texts[0]), (4, texts[1])]), (0, 0x88), 0)
-        self.assertEqual(held.strays, [(Span(0, 10), texts[0]), (Span(20, 20), texts[0]),
+        decoded = Timeline(Packets(5, runs, strays=[(0, texts[0]), (4, texts[1])]), (0, 0x88), 0)
+        self.assertEqual(decoded.strays, [(Span(0, 10), texts[0]), (Span(20, 20), texts[0]),
                                        (Span(30, 30), texts[1])])
-        self.assertEqual([*held.ends], [10, 20, 30])
+        self.assertEqual([*decoded.ends], [10, 20, 30])
 
     def test_decodes_only_packets_near_the_subtitle(self) -> None:
         runs = [Run(at, 1, TICKS * 10 * at, 0, "heo" if at != 75 else "-", "0" * (at != 75))
@@ -260,24 +261,26 @@ class ReceivedFrames(unittest.TestCase):
         packets = Packets(5, runs, held=[(at, ((20, b"%d" % at),)) for at in range(300)])
         for every, inside, first, last in ((25, None, 750, 1450), (400, None, 600, 1600),
                                            (25, (90, 110), 900, 1100)):
-            held = timeline_near(packets, (0, 0x88), 0, 0, Span(1000, 1200), every, inside,
+            decoded = timeline_near(packets, (0, 0x88), 0, 0, Span(1000, 1200), every, inside,
                                  [Span(5, 6)])
-            self.assertEqual((held.first, held.last, held.lost.has(6, 7)), (first, last, True),
+            self.assertEqual((decoded.first, decoded.last, decoded.lost.has(6, 7)),
+                             (first, last, True),
                              (every, inside, first))
-            self.assertEqual([held.stretch(at) for at in (0, len(held.frames) - 1)], [
-                Span(held.frames[0], held.frames[0] + 9), Span(last, last)], (every, inside, first))
-        held = timeline_near(packets, (0, 0x88), EARLY, 1, Span(1000, 1200), 25)
-        self.assertEqual((held.first, held.last), (750, 1450))
-        held = timeline_near(packets, (0, 0x88), 0, 0, Span(9000, 9100), 25)
-        self.assertEqual((held.count, held.first), (0, NO_FRAME))
+            self.assertEqual([decoded.stretch(at) for at in (0, len(decoded.frames) - 1)], [
+                Span(decoded.frames[0], decoded.frames[0] + 9), Span(last, last)],
+                (every, inside, first))
+        decoded = timeline_near(packets, (0, 0x88), EARLY, 1, Span(1000, 1200), 25)
+        self.assertEqual((decoded.first, decoded.last), (750, 1450))
+        decoded = timeline_near(packets, (0, 0x88), 0, 0, Span(9000, 9100), 25)
+        self.assertEqual((decoded.count, decoded.first), (0, NO_FRAME))
 
     def test_starts_a_range_with_the_last_printed_rows(self) -> None:
         for does, is_told in itertools.product(("he", "h"), (True, False)):
             runs = [Run(at, 1, TICKS * at, 0, one, "0") for at, one in enumerate(
                 (does, "h", "ho", "he"))]
-            held: list[tuple[int, Texts]] = [(at, ((20, text),)) for at, text in enumerate(
+            decoded: list[tuple[int, Texts]] = [(at, ((20, text),)) for at, text in enumerate(
                 (b"w", b"x", b"y", b"z"))]
-            packets = Packets(5, runs, held=held if is_told else held[:2] + held[3:])
+            packets = Packets(5, runs, held=decoded if is_told else decoded[:2] + decoded[3:])
             rows = Timeline(packets, (0, 0x88), 0, 0, (2, 2)).states[-1].rows
             self.assertEqual((rows[0], rows[19]), ((BLANK_PAGE if "e" in does else OLD_PAGE)[0],
                                                    b"y" if is_told else b"x"), (does, is_told))

@@ -46,7 +46,7 @@ class ExtractMessages(Case):
 
 
 class ConvertedStreams(Case):
-    def test_extracts_what_was_put_in(self) -> None:
+    def test_extracts_the_multiplexed_pes_packets(self) -> None:
         done = self.tool("pes2ts", example("story.pes"), "0x101")
         self.check("made", (done.status, done.told), (0, ["pes2ts: 5 PES packets as PID 0x101"]))
         made = [done.out[at:at + 188] for at in range(0, len(done.out), 188)]

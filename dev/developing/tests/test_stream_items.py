@@ -118,24 +118,25 @@ class ItemDecisions(Case):
     def test_reads_and_writes_layout_items(self) -> None:
         for text, items in ITEMS:
             layout = meant(text)
-            told = [(layout_text(with_items(PLAIN, [item], layout)),
+            reported = [(layout_text(with_items(PLAIN, [item], layout)),
                      layout_text(without(layout, [item])))
                     for item in items_in(layout)]
-            self.must(text, told == items, told)
+            self.must(text, reported == items, reported)
             self.must(f"{text}, all", without(layout, items_in(layout)) == PLAIN
                       and with_items(PLAIN, items_in(layout), layout) == layout)
 
     def test_knows_which_items_hide_something(self) -> None:
-        for text, gone in TAKEN:
+        for text, missing in TAKEN:
             layout = meant(text)
-            told = layout_text(with_items(PLAIN, taken_from(layout), layout))
-            self.must(text, told == gone, told)
+            reported = layout_text(with_items(PLAIN, taken_from(layout), layout))
+            self.must(text, reported == missing, reported)
 
     def test_takes_an_item_that_nine_in_ten_subtitles_draw(self) -> None:
-        for decides, told, is_seen in ((9, 9, False), (10, 9, True), (10, 8, False), (0, 0, False),
+        for decides, reported, is_seen in ((9, 9, False), (10, 9, True), (10, 8, False),
+                                           (0, 0, False),
                                        (19, 17, False), (19, 18, True), (100, 90, True),
                                        (100, 89, False)):
-            self.must(f"{decides} {told}", Rest("", decides, told).is_seen == is_seen)
+            self.must(f"{decides} {reported}", Rest("", decides, reported).is_seen == is_seen)
 
     def test_takes_an_item_that_is_clear(self) -> None:
         for found, count, is_clear in ((9, 9, False), (10, 9, True), (10, 8, False),
@@ -184,15 +185,16 @@ class ProposedItems(Case):
             sent = [*sent_of([two] * 10, Layout(double=True)), *sent_of([two] * otherwise),
                     *sent_of(plain(100))]
             found = Evidence(sent, ENGLISH)
-            layout, gone = found.supported(Layout(double=True))
-            self.must(f"{otherwise}", layout_text(layout) == taken and bool(gone) == (not taken) and
+            layout, missing = found.supported(Layout(double=True))
+            self.must(f"{otherwise}",
+                      layout_text(layout) == taken and bool(missing) == (not taken) and
                       found.rest(Layout(double=True), [("double", 0)]) ==
-                      Rest("double", 10 + otherwise, 10), (layout, gone))
+                      Rest("double", 10 + otherwise, 10), (layout, missing))
 
     def test_drops_the_item_with_the_least_evidence_first(self) -> None:
         found = Evidence(sent_of([WHITE] * 3 + [SPACES] * 5 + plain(92)), ENGLISH)
-        gone = found.supported(meant("strip=07,trim"))[1]
-        self.must("first", gone == [{("strip", 7)}, {("trim", 0)}], gone)
+        missing = found.supported(meant("strip=07,trim"))[1]
+        self.must("first", missing == [{("strip", 7)}, {("trim", 0)}], missing)
         found = Evidence(sent_of([COLOUR] * 5 + [SPACES] + plain(20)), ENGLISH)
         left = found.left_of(PLAIN, [frozenset({("strip", 3)}), frozenset({("trim", 0)})],
                              meant("strip=03,trim"))
@@ -200,8 +202,8 @@ class ProposedItems(Case):
             ("strip=03", 5), ("trim", 1), ("strip=03,trim", 6)], left)
         layout = meant("before=0D*0B0B")
         found = Evidence(sent_of([SentText(b"\3Hi", b"\3Hi")] * 12 + plain(88), layout), ENGLISH)
-        told = found.choice(layout).items
-        self.must("told", told == (Rest("before=0D*0B0B", 12, 12),), told)
+        reported = found.choice(layout).items
+        self.must("told", reported == (Rest("before=0D*0B0B", 12, 12),), reported)
 
     def test_finds_subtitles_by_their_characters(self) -> None:
         blank = (b" " * 40,) * 24
@@ -243,8 +245,8 @@ class ProposedItems(Case):
         layout = Layout(strip=codes)
         self.must("many", len(items_in(layout)) > MOST_ITEMS)
         sent = sent_of([SentText(codes + b"Hi", b"Hi")] * 10)
-        taken, gone = Evidence(sent, ENGLISH).supported(layout)
-        self.must("few", len(items_in(taken)) <= MOST_ITEMS and len(gone) >= 4, taken)
+        taken, missing = Evidence(sent, ENGLISH).supported(layout)
+        self.must("few", len(items_in(taken)) <= MOST_ITEMS and len(missing) >= 4, taken)
 
     def test_finds_each_layout_although_some_differ(self) -> None:
         for number, (has_codes, leaves_room, text) in enumerate(HOUSES):

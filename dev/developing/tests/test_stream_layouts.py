@@ -70,13 +70,13 @@ HOUSES = [
     (True, False, "row=-1,double,last"), (False, False, "left=2,right=3")]
 
 
-def text_bytes(said: str) -> bytes:
+def text_bytes(printed: str) -> bytes:
     """Return the bytes of a text."""
     return b"".join(one.encode() if one in ("Hi", "Ho") else bytes.fromhex(one)
-                    for one in said.split(" "))
+                    for one in printed.split(" "))
 
 
-def said_of(text: bytes, row: int, justify: int, layout: Layout) -> str:
+def drawing_of(text: bytes, row: int, justify: int, layout: Layout) -> str:
     """Return what is drawn, in the format of the table."""
     found = drawn(text, row, justify, layout, ENGLISH)
     if isinstance(found, Refused):
@@ -119,11 +119,11 @@ class Layouts(Case):
             layout_of(text) or PLAIN)) == ["", "up", "fit", "last", "text", *order[5:]])
 
     def test_draws_each_line(self) -> None:
-        for said, row, justify, text, want in DRAWN:
+        for printed, row, justify, text, want in DRAWN:
             layout = layout_of(text) if text else PLAIN
             assert layout is not None, text
-            found = said_of(text_bytes(said), row, justify, layout)
-            self.must(f"{said} {text}", found == want, (found, want))
+            found = drawing_of(text_bytes(printed), row, justify, layout)
+            self.must(f"{printed} {text}", found == want, (found, want))
         pair = drawn(b"a\x0a\xc8a", 5, 2, Layout(strip=b"\x0a"), GERMAN)
         self.must("letters", [letters_of_text(text, ENGLISH) for text in (
             b"a\xe6b", b" \x03 ", b"a\x8a\x03b")] == [None, b"", b"ab"])
@@ -184,12 +184,6 @@ class LayoutSearch(Case):
 
 
 class StoredRows(Case):
-    """Rows of dev/vectors/layouts.tsv:
-
-    text, VP, JC, layout or `-`; then the transmitted rows with columns and cells, or the printed
-    line.
-    """
-
     def rows(self) -> list[list[str]]:
         with open(os.path.join(DEV, "vectors", "layouts.tsv"), encoding="utf-8") as file:
             rows = [line.split("\t") for line in file.read().splitlines()]
@@ -204,7 +198,7 @@ class StoredRows(Case):
                 continue
             lines = drawn(bytes.fromhex(text), int(row), int(justify), layout, ENGLISH)
             fault = fault_of_line(want)
-            found: object = lines if isinstance(lines, Refused) else rows_said(
+            found: object = lines if isinstance(lines, Refused) else format_rows(
                 enumerate(page_rows(lines), 1))
             self.must(f"{text} {row} {justify} {words}", found == (
                 Refused(fault.number, fault.at or 0) if fault else want), (found, want))
@@ -234,10 +228,10 @@ def sent_in(pes: bytes) -> str:
     sending = read_packet(split_packets(pes)[0][0], 0, 0)
     assert not isinstance(sending, int)
     packets = [Packet(one, address_of(one), header_of(one)) for one in sending[1]]
-    return rows_said(sorted(rows_in(span_of(packets, page)[0], page).items()))
+    return format_rows(sorted(rows_in(span_of(packets, page)[0], page).items()))
 
 
-def rows_said(rows: Iterable[tuple[int, bytes]]) -> str:
+def format_rows(rows: Iterable[tuple[int, bytes]]) -> str:
     """Format rows as in the table."""
     return "; ".join(f"{number} {len(codes) - len(codes.lstrip(b' '))} {codes.strip(b' ').hex()}"
                      for number, codes in rows if codes.strip(b" ")) or "blank"

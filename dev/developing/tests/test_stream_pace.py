@@ -16,9 +16,9 @@ from subtitles.stream.pace import (
 from subtitles.stream.repeats import edges_of
 from subtitles.stream.packets import Packets, Run
 from .bench import Case
-from .judged import Judged, OfProgramme, judged
-from .streams import Packet, Shape, TELETEXT_PID, multiplexed, stream, without
-from .transmissions import Sent, in_pipe, programme, sendings
+from .judged import JudgedPair, ProgrammeCase, judge_files
+from .streams import Packet, Shape, TELETEXT_PID, make_multiplex, stream_bytes, delete_between
+from .transmissions import Sent, write_pipe, write_programme, schedule_pages
 
 BEGIN = 900_000  # the first frame
 LONG = range(5000)  # frames; five may be exceptions
@@ -41,8 +41,8 @@ class Row(NamedTuple):
 
 def holed(frames: Sequence[int], *holes: tuple[int, int]) -> list[int]:
     """Delete some frames after given ones."""
-    gone = {frame for first, count in holes for frame in range(first + 1, first + 1 + count)}
-    return [frame for frame in frames if frame not in gone]
+    missing = {frame for first, count in holes for frame in range(first + 1, first + 1 + count)}
+    return [frame for frame in frames if frame not in missing]
 
 
 def without_frames(count: int) -> list[int]:
@@ -246,8 +246,8 @@ class PaceDecisions(Case):
             packets = Packets(5, [Run(first, count, None if frame is None else int(
                 origin + frame * TICKS) % CLOCK, step * TICKS, "-", "", fault=fault)
                 for first, count, frame, step, fault in runs])
-            told = [[*row] for row in frame_rows(packets, (0, 99), origin, within)]
-            self.must(f"{runs}", told == wanted, told)
+            reported = [[*row] for row in frame_rows(packets, (0, 99), origin, within)]
+            self.must(f"{runs}", reported == wanted, reported)
         packets = Packets(5, [Run(0, 9, origin, TICKS, "-", "")])
         self.must("some", [[*row] for row in frame_rows(packets, (3, 5), origin, 0)] == [[3, 4, 5]])
 
@@ -298,8 +298,8 @@ def in_bursts(sent: Sent, times: Sequence[tuple[int, int]]) -> Sent:
 def without_pid(made: list[Packet], first: int, count: int) -> list[Packet]:
     """Delete some TS packets of the PID from one on."""
     own = [at for at, one in enumerate(made) if one.pid == TELETEXT_PID][first:first + count]
-    gone = {*own}
-    return [one for at, one in enumerate(made) if at not in gone]
+    missing = {*own}
+    return [one for at, one in enumerate(made) if at not in missing]
 
 
 UNSEEN = "not checked for losses of {} s or more on this PID alone: its PES packets "
@@ -308,16 +308,17 @@ PACE_LINE = "at most 1 frame from one PES packet to the next, at least 3 after a
     "packets: --pace 2"
 
 
-class Losses(OfProgramme):
+class Losses(ProgrammeCase):
     due = TIMES
 
     def multiplexed(self, sent: Sent, rate: int = 100) -> list[Packet]:
-        return multiplexed([pes_packet(pts, some) for pts, some in sent], Shape(rate))
+        return make_multiplex([pes_packet(pts, some) for pts, some in sent], Shape(rate))
 
     def in_bursts(self, times: Sequence[tuple[int, int]]) -> list[Packet]:
-        return self.multiplexed(in_bursts(sendings(self, programme(self, times), every=1), times))
+        return self.multiplexed(in_bursts(schedule_pages(self, write_programme(self, times),
+                                                         every=1), times))
 
-    def check_faults(self, name: str, told: Judged, word: str, *lines: str) -> None:
+    def check_faults(self, name: str, told: JudgedPair, word: str, *lines: str) -> None:
         """Check the verdict and the faults."""
         faults = [line for line in told.listed if line.startswith("refused")]
         self.must(name, told.word == word and faults == [f"refused {line}" for line in lines],
@@ -333,21 +334,21 @@ class Losses(OfProgramme):
         first, lost, silent = 660, "45 Lost pes 660", "79 Silent frame 10:00:26:11"
         for count in (1, 2, 14, 15, 16, 17):
             faults = [*([lost] if count % 16 else []), *([silent] if count > 1 else [])]
-            told = self.judge_stream(without_pid(made, first, count))
-            self.check_faults(f"{count}", told, "refused", *faults)
+            judged = self.judge_stream(without_pid(made, first, count))
+            self.check_faults(f"{count}", judged, "refused", *faults)
         for count in (1, 15, 16, 17):
             faults = [*([lost] if count % 16 else []), *([silent] if count > 1 else [])]
-            told = self.judge_stream(without(made, first, count))
-            self.check_faults(f"all of {count}", told, "refused", *faults)
-        for cut, count in ((without_pid, 32), (without_pid, 160), (without, 160)):
-            told = self.judge_stream(cut(made, first, count))
-            self.must(f"{cut.__name__} {count}", told.word == "refused" and
-                      f"refused {silent}" in told.listed and not any(
-                          line.startswith("refused 45") for line in told.listed), told.listed)
-        told = self.judge_stream(without_pid(made, first, 16))
-        self.must("how long", told.verdict.sentence ==
+            judged = self.judge_stream(delete_between(made, first, count))
+            self.check_faults(f"all of {count}", judged, "refused", *faults)
+        for cut, count in ((without_pid, 32), (without_pid, 160), (delete_between, 160)):
+            judged = self.judge_stream(cut(made, first, count))
+            self.must(f"{cut.__name__} {count}", judged.word == "refused" and
+                      f"refused {silent}" in judged.listed and not any(
+                          line.startswith("refused 45") for line in judged.listed), judged.listed)
+        judged = self.judge_stream(without_pid(made, first, 16))
+        self.must("how long", judged.verdict.sentence ==
                   "Refused: at 10:00:26:11 there was no PES packet for as many frames as --pace "
-                  "allows: none for 16 frames from 10:00:26:10 on.", told.verdict.sentence)
+                  "allows: none for 16 frames from 10:00:26:10 on.", judged.verdict.sentence)
 
     def test_reports_losses_with_two_pes_packets_a_frame(self) -> None:
         sent = filled(self.sent)
@@ -356,15 +357,15 @@ class Losses(OfProgramme):
         made = self.multiplexed(both, 400)
         note = "not checked for losses of up to 0.08 s on this PID alone at "
         for count in (0, 16, 32, 48, 160):
-            told = self.judge_stream(without_pid(made, 1320, count), "--within", "1")
-            self.must(f"{count}", told.word == ("refused" if count else "accepted") and bool(
-                count) == ("refused 79 Silent frame 10:00:26:11" in told.listed), told.listed)
-            self.must(f"{count}: said", told.lines("pace: ") == ["at most 1 frame from one PES "
+            judged = self.judge_stream(without_pid(made, 1320, count), "--within", "1")
+            self.must(f"{count}", judged.word == ("refused" if count else "accepted") and bool(
+                count) == ("refused 79 Silent frame 10:00:26:11" in judged.listed), judged.listed)
+            self.must(f"{count}: said", judged.lines("pace: ") == ["at most 1 frame from one PES "
                       "packet to the next, in which three may come: --pace 2"] and sum(
-                          line.startswith(note) for line in told.told) == 1, told.said)
+                          line.startswith(note) for line in judged.told) == 1, judged.said)
         without_one = [one for at, one in enumerate(both) if at // 2 not in (510, 610)]
-        told = self.judge_stream(self.multiplexed(without_one, 400), "--within", "1")
-        self.check_faults("frames without", told, "accepted")
+        judged = self.judge_stream(self.multiplexed(without_one, 400), "--within", "1")
+        self.check_faults("frames without", judged, "accepted")
 
     def test_judges_by_the_given_pace(self) -> None:
         made = self.multiplexed(filled(self.sent))
@@ -372,13 +373,14 @@ class Losses(OfProgramme):
         for words, word, pace, lines in (
                 ("--pace=none", "accepted", None, []), ("--pace=17", "accepted", 17, []),
                 ("--pace=16", "refused", 16, []), ("--allow-lost", "waived", 2, [PACE_LINE])):
-            told = self.judge_stream(holed_then, words)
-            self.must(words, told.word == word and told.lines("pace: ") == lines and
-                      told.parts("pace") == [(pace,)], told.said)
-            self.must(f"{words}: asked", told.result["request"]["pace"] == (
+            judged = self.judge_stream(holed_then, words)
+            self.must(words, judged.word == word and judged.lines("pace: ") == lines and
+                      judged.parts("pace") == [(pace,)], judged.said)
+            self.must(f"{words}: asked", judged.result["request"]["pace"] == (
                 words[7:] if words.startswith("--pace") else None))
-        feed = in_pipe(self, stream(holed_then))
-        self.check_faults("a feed", judged(self, self.stl, feed, *self.words), "refused", silent)
+        feed = write_pipe(self, stream_bytes(holed_then))
+        self.check_faults("a feed", judge_files(self, self.stl, feed, *self.words), "refused",
+                          silent)
         sent = filled(self.sent)
         self.check_faults("PES packets", self.judge(sent[:660] + sent[676:]), "refused",
                      "79 Silent frame 10:00:26:10")
@@ -389,17 +391,18 @@ class Losses(OfProgramme):
         for cut, count, word in (
                 (without_pid, 0, "accepted"), (without_pid, 1, "refused"),
                 (without_pid, 15, "refused"),
-                (without_pid, 16, "accepted"), (without_pid, 17, "refused"), (without, 16, "lost"),
-                (without, 17, "refused")):
-            told = self.judge_stream(cut(made, first, count))
-            self.check_faults(f"{cut.__name__} {count}", told, word,
+                (without_pid, 16, "accepted"), (without_pid, 17, "refused"),
+                (delete_between, 16, "lost"),
+                (delete_between, 17, "refused")):
+            judged = self.judge_stream(cut(made, first, count))
+            self.check_faults(f"{cut.__name__} {count}", judged, word,
                          *["45 Lost pes 155"] * (word == "refused"))
-            self.must(f"{cut.__name__} {count}: said", IRREGULAR_NOTE in told.told and
-                      IRREGULAR_NOTE in told.result["notes"] and
-                      not told.lines("pace: ") and told.parts("pace") == [(None,)], told.said)
+            self.must(f"{cut.__name__} {count}: said", IRREGULAR_NOTE in judged.told and
+                      IRREGULAR_NOTE in judged.result["notes"] and
+                      not judged.lines("pace: ") and judged.parts("pace") == [(None,)], judged.said)
         for words in ("--pace=none", "--pace=180"):
-            told = self.judge_stream(without_pid(made, first, 16), words)
-            self.must(words, told.word == "accepted" and IRREGULAR_NOTE not in told.told)
+            judged = self.judge_stream(without_pid(made, first, 16), words)
+            self.must(words, judged.word == "accepted" and IRREGULAR_NOTE not in judged.told)
         self.check_faults("given", self.judge_stream(made, "--pace=100"), "refused", *(
             f"79 Silent frame 10:00:{10 * at + 4:02}:24" for at in range(6)))
 
@@ -408,22 +411,22 @@ class Losses(OfProgramme):
         content = "72 Content frame 10:00:38:00 row 22 column 14"
         for count, line in ((0, ""), (14, "45 Lost pes 155"), (32, content), (160, content),
                             (320, content)):
-            for cut in (without_pid, without):
-                told = self.judge_stream(cut(made, 155, count))
-                faults = [one for one in told.listed if one.startswith("refused")]
+            for cut in (without_pid, delete_between):
+                judged = self.judge_stream(cut(made, 155, count))
+                faults = [one for one in judged.listed if one.startswith("refused")]
                 self.must(f"{cut.__name__} {count}", faults[:1] == [f"refused {line}"] * bool(line)
-                          and told.word == ("refused" if line else "accepted") and
-                          IRREGULAR_NOTE in told.told, told.listed)
+                          and judged.word == ("refused" if line else "accepted") and
+                          IRREGULAR_NOTE in judged.told, judged.listed)
                 self.must(f"{cut.__name__} {count}: gap", (count >= 160) == (
-                    "refused 73 Gap frame 10:00:40:04" in told.listed), told.listed)
+                    "refused 73 Gap frame 10:00:40:04" in judged.listed), judged.listed)
 
     def test_notes_that_no_pace_exists_for_a_pausing_inserter(self) -> None:
         for count, note in ((4, UNSEEN.format("0.6") + "pause for up to 1701 frames"),
                             (6, IRREGULAR_NOTE)):
             times = [(BEGIN + 2000 * at, BEGIN + 2000 * at + 200) for at in range(count)]
-            sent = filled(sendings(self, programme(self, times), every=25))
+            sent = filled(schedule_pages(self, write_programme(self, times), every=25))
             sent = [one for one in sent if (one[0] // TICKS - BEGIN) % 2000 < 300]
-            told = self.judge_stream(self.multiplexed(sent, 25), "--every", "1800")
-            self.check_faults(f"{count}", told, "accepted")
-            self.must(f"{count}: said", note in told.told and told.parts("pace") == [(None,)],
-                      told.said)
+            judged = self.judge_stream(self.multiplexed(sent, 25), "--every", "1800")
+            self.check_faults(f"{count}", judged, "accepted")
+            self.must(f"{count}: said", note in judged.told and judged.parts("pace") == [(None,)],
+                      judged.said)

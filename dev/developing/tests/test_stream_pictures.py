@@ -16,9 +16,9 @@ from subtitles.stream.packets import Packets, Run, announced_jumps
 from subtitles.stream.pictures import Departure, VideoLead, departures_of
 from subtitles.stream.survey import Survey
 from .bench import Case
-from .judged import judged
-from .streams import Programme, TELETEXT_PID, shown
-from .transmissions import programme, scheduled, times
+from .judged import judge_files
+from .streams import Programme, TELETEXT_PID, multiplex_programmes
+from .transmissions import write_programme, schedule_pes, subtitle_times
 
 
 # Departures by the lines of `survey`, in tables.
@@ -33,10 +33,10 @@ def leads_of(leads: Sequence[float], steps: Mapping[int, float] = {}, first: int
 
     `steps` has the lines at which decoding times jump by some frames.
     """
-    found, gone = list[VideoLead](), 0.0
+    found, missing = list[VideoLead](), 0.0
     for at, ahead in enumerate(leads):
-        gone += steps.get(at, 0)
-        time = first + round(TICKS * (each * at + gone))
+        missing += steps.get(at, 0)
+        time = first + round(TICKS * (each * at + missing))
         lead = round(TICKS * ahead)
         found.append(VideoLead((time + lead) % CLOCK, lead, each * at))
     return found
@@ -204,8 +204,8 @@ class DepartureFaults(Case):
 
 class Pairs(Case):
     def test_reports_departures_of_recordings(self) -> None:
-        stl = programme(self, times(20))
-        pes = scheduled(self, stl, "--every", "10")
+        stl = write_programme(self, subtitle_times(20))
+        pes = schedule_pes(self, stl, "--every", "10")
         begin, end = pts_in(pes[0]) // TICKS - 25, pts_in(pes[-1]) // TICKS + 25
         rows: list[tuple[int, list[str], str, str]] = [
             (0, [], "accepted", ""), (12, [], "refused", "12 frames early"),
@@ -213,8 +213,8 @@ class Pairs(Case):
                                                    "3 frames late")]
         for frames, words, word, way in rows:
             made = Programme({TELETEXT_PID: pes}, TICKS * begin, later=[(1500, TICKS * frames)])
-            path = self.write("one.ts", shown([made], end - begin).data)
-            found = judged(self, stl, path, "--origin", "0", *words)
+            path = self.write("one.ts", multiplex_programmes([made], end - begin).data)
+            found = judge_files(self, stl, path, "--origin", "0", *words)
             line = f" on subtitles are {way} for viewers: the video's timestamps jump"
             self.must(f"{frames} {words}", found.word == word and (not way or any(
                 line in one for one in found.said)), found.said)
@@ -248,6 +248,7 @@ class AnnouncedJumps(Case):
                                     for at, frame in enumerate(frames)], seams=[2, 3, 4, 5, 6])
             recording: Any = SimpleNamespace(is_stream=True, packets=packets)
             part: Any = SimpleNamespace(recorded=(recording, None), pes=(0, 7))
-            told = find_late_jumps(part, Pace(REGULAR, apart))
-            self.must(f"{origin} {apart}", told == ([
-                (pts_of(one, origin), pts_of(other, origin)) for one, other in late], others), told)
+            reported = find_late_jumps(part, Pace(REGULAR, apart))
+            self.must(f"{origin} {apart}", reported == ([
+                (pts_of(one, origin), pts_of(other, origin)) for one, other in late], others),
+                reported)

@@ -26,10 +26,11 @@ from ..cited import too_long
 from ..definitions import Library, count_reading
 from ..promises import clauses_in, unknown_clauses
 from .bench import Case
-from .judged import judged
-from .streams import Packet, Shape, TELETEXT_PID, in_frames, multiplexed, stream, without
-from .parts import asked_for, call_words
-from .transmissions import programme, scheduled
+from .judged import judge_files
+from .streams import (
+    Packet, Shape, TELETEXT_PID, multiplex_frames, make_multiplex, stream_bytes, delete_between)
+from .parts import request_for, call_arguments
+from .transmissions import write_programme, schedule_pes
 
 
 # Losses, and how late PTS are.
@@ -52,13 +53,14 @@ class LossPlaces(Case):
                 (ends, [], [], [((None, pts[1]), False), ((pts[7], None), False)]),
                 ([mark], [], [jump, other], [(jump, False), (other, True)])]
             for marks, clocks, jumps, wanted in rows:
-                gone = {one.number for one in marks}
-                own = [Run(at, 1, None if at in gone else one, 0, "-", "", fault=45 * (at in gone))
+                missing = {one.number for one in marks}
+                own = [Run(at, 1, None if at in missing else one, 0, "-", "",
+                           fault=45 * (at in missing))
                        for at, one in enumerate(pts)]
                 packets = Packets(5, own, marks=marks, clocked=clocks)
-                told = [((one.before, one.after), one.is_announced)
+                reported = [((one.before, one.after), one.is_announced)
                         for one in places_of(packets, jumps)]
-                self.must(f"{shift} {marks} {clocks} {jumps}", told == wanted, told)
+                self.must(f"{shift} {marks} {clocks} {jumps}", reported == wanted, reported)
                 where = [line.partition(" (")[0] for line in marks_told(packets)]
                 self.must(f"{shift} {marks}: lines", where == [
                     f"between PTS {before} and {after}" if None not in (before, after) else
@@ -86,8 +88,8 @@ class LossPlaces(Case):
             clocks = [Clocked(3 * TICKS, 5 * TICKS, one * TICKS, 9, TICKS, 9, "broken")
                       for one in ticks]
             packets = Packets(5, runs, marks=[Mark(4, 3 * TICKS, 2, 0)], clocked=clocks)
-            told = [one.missing for one in places_of(packets)]
-            self.must(f"{ticks}", told == [2 * TICKS], told)
+            reported = [one.missing for one in places_of(packets)]
+            self.must(f"{ticks}", reported == [2 * TICKS], reported)
 
 
 class LatePts(Case):
@@ -118,13 +120,13 @@ PAGE = 0, 0x88
 class StreamLosses(Case):
     def programme(self, every: int = 1) -> list[bytes]:
         """Return PES packets of a programme of eight seconds."""
-        stl = programme(self, [(begin, begin + 20) for begin in range(
+        stl = write_programme(self, [(begin, begin + 20) for begin in range(
             BEGIN, BEGIN + 25 * COUNT, 25)], text=boxed(b"Number %d"), name="story.stl")
-        return scheduled(self, stl, "--every", str(every))
+        return schedule_pes(self, stl, "--every", str(every))
 
     def survey_losses(self, made: list[Packet]) -> tuple[list[Place], list[ClockJump]]:
         """Return the losses of a multiplex, and its clock jumps."""
-        path = self.write("heard.ts", stream(made))
+        path = self.write("heard.ts", stream_bytes(made))
         found = survey(self.bench.program, path, PAGE).by_pid[TELETEXT_PID]
         return places_of(found), list(jumps_of(found))
 
@@ -132,9 +134,9 @@ class StreamLosses(Case):
         pes = self.programme()
         for shape in (Shape(), Shape(4000, 1800), Shape(700, 9000, True), Shape(pause=(60, 100)),
                       Shape(jump=(60, 500_000), is_announced=True)):
-            places, jumps = self.survey_losses(multiplexed(pes, shape))
+            places, jumps = self.survey_losses(make_multiplex(pes, shape))
             self.must(f"{shape}", not places and not jumps, (places, jumps))
-        made = b"".join(in_frames(pes, pts_in(pes[0]), 80))
+        made = b"".join(multiplex_frames(pes, pts_in(pes[0]), 80))
         own = [at for at in range(0, len(made), PACKET)
                if made[at + 1] & 0x1F == TELETEXT_PID >> 8 and made[at + 2] == TELETEXT_PID & 255]
         torn = made[:own[40]] + made[own[56] - 5 * PACKET:]
@@ -145,18 +147,18 @@ class StreamLosses(Case):
     def test_finds_losses_of_16_packets_and_more(self) -> None:
         pes = self.programme()
         for shape in (Shape(4000, 1800), Shape(2000, 3600, True)):
-            made = multiplexed(pes, shape)
+            made = make_multiplex(pes, shape)
             for count in (16, 64):
-                places, _ = self.survey_losses(without(made, 70, count))
+                places, _ = self.survey_losses(delete_between(made, 70, count))
                 known = [(one.before, one.after) for one in places]
                 first, last = known[0] if known else (None, None)
                 self.must(f"{shape} {count}", len(known) == 1 and first is not None
                           and last is not None and pts_in(pes[66]) <= first <= pts_in(pes[69])
                           and pts_in(pes[70 + count]) <= last <= pts_in(pes[74 + count]), known)
-        places, _ = self.survey_losses(without(made, 70, 17))
+        places, _ = self.survey_losses(delete_between(made, 70, 17))
         self.must("by its counter", [one.lost for one in places] == [1], places)
         for ticks in (8641 * SECOND, -SECOND, CLOCK // 2 - 10 * SECOND):
-            made = multiplexed(pes, Shape(jump=(60, ticks)))
+            made = make_multiplex(pes, Shape(jump=(60, ticks)))
             places, jumps = self.survey_losses(made)
             self.must(f"{ticks}", len(jumps) == 1 and abs(jumps[0].ticks - ticks) < 400
                       and not places, (jumps, places))
@@ -167,30 +169,31 @@ class StreamLosses(Case):
 
     def test_judges_a_stream_with_losses_and_jumps(self) -> None:
         pes = self.programme()
-        made = multiplexed(pes, Shape())
+        made = make_multiplex(pes, Shape())
         words = [self.path("story.stl"), self.path("one.ts"), "--origin", "0"]
         own = [one for one in made if one.pid == TELETEXT_PID]
-        jumped = multiplexed(pes, Shape(jump=(60, 8641 * SECOND)))
+        jumped = make_multiplex(pes, Shape(jump=(60, 8641 * SECOND)))
         hole = "s are missing by the PCR and the counters of other PIDs"
         for name, sent, word, more, line in (
                 ("whole", made, "accepted", "--pid=0x101", ""),
-                ("a hole", without(made, 27, 16), "lost", "--pace=none", hole),
-                ("and the pace", without(made, 27, 16), "refused", "--page=888", hole),
-                ("allowed", without(made, 27, 16), "waived", "--allow-lost", hole),
+                ("a hole", delete_between(made, 27, 16), "lost", "--pace=none", hole),
+                ("and the pace", delete_between(made, 27, 16), "refused", "--page=888", hole),
+                ("allowed", delete_between(made, 27, 16), "waived", "--allow-lost", hole),
                 ("a jump", jumped, "accepted", "--page=888", "the clock jumps by 2:24:01 at "
                  "10:00:02:08, but no packet is missing: was an encoder restarted?"),
                 ("alone", own, "accepted", "--pid=0x101", ""),
                 ("not asked", own, "accepted", "--pace=none",
                  " has no PCR: ")):
-            self.write("one.ts", stream(sent))
-            found = judged(self, *words, more)
-            told = [one for one in found.told if one.startswith("warning: the clock") or
+            self.write("one.ts", stream_bytes(sent))
+            found = judge_files(self, *words, more)
+            reported = [one for one in found.told if one.startswith("warning: the clock") or
                     " has no PCR: " in one or hole in one]
-            self.must(name, found.word == word and len(told) == bool(line) and
-                      line in "".join(told), found.said)
+            self.must(name, found.word == word and len(reported) == bool(line) and
+                      line in "".join(reported), found.said)
             if word == "lost":
-                judged(self, *words, more, "-o", self.path("out"))
-                self.must("in the report", told[0] in self.read("out/one.html").decode(), told)
+                judge_files(self, *words, more, "-o", self.path("out"))
+                self.must("in the report", reported[0] in self.read("out/one.html").decode(),
+                          reported)
 
 
 # The value of --pace in a call, in a list, and in a result that is resumed.
@@ -207,15 +210,15 @@ class PaceOptions(Case):
 
     def test_passes_the_pace_to_check(self) -> None:
         for word, pace in (("none", None), ("1", 1), ("0025", 25), ("2160000", 2160000)):
-            asked = asked_for("one.stl", "one.ts", "--pace", word)
+            request = request_for("one.stl", "one.ts", "--pace", word)
             given = ["--pace", str(pace)] if pace else []
-            self.must(word, asked.check_words() == ["--complete", *given] and asked.pace == pace
-                      and request_of(self.options(*call_words(asked))) == asked)
-            self.must(f"{word}: result", REQUEST.made(asked)["pace"] == str(pace or "none"))
-        self.must("left out", REQUEST.made(asked_for("one.stl", "one.ts"))["pace"] is None)
+            self.must(word, request.check_words() == ["--complete", *given] and request.pace == pace
+                      and request_of(self.options(*call_arguments(request))) == request)
+            self.must(f"{word}: result", REQUEST.made(request)["pace"] == str(pace or "none"))
+        self.must("left out", REQUEST.made(request_for("one.stl", "one.ts"))["pace"] is None)
         for word in ("0", "", "-1", "x", "None", "2160001", "9" * 5000, "1.5", "\u0661"):
             with self.assertRaises(Stop, msg=word):
-                asked_for("one.stl", "one.ts", "--pace", word)
+                request_for("one.stl", "one.ts", "--pace", word)
 
     def test_takes_the_pace_of_a_line_of_a_list(self) -> None:
         line = f"{self.path('one.stl')} {self.path('one.ts')}"
@@ -229,14 +232,14 @@ class PaceOptions(Case):
 
     def test_judges_again_with_another_pace(self) -> None:
         program = MadeWith("1", "0" * 64, None)
-        asked = [asked_for(self.path("one.stl"), self.path("one.ts"), *words)
+        request = [request_for(self.path("one.stl"), self.path("one.ts"), *words)
                  for words in ((), ("--pace", "none"), ("--pace", "16"))]
-        for one in asked:
+        for one in request:
             words = REQUEST.made(one)
             known = {"request": words, "files_at_start": found(one),
                      "program": PROGRAM.made(program)}
-            self.must(f"{one.pace}", [is_current(known, other, program) for other in asked] ==
-                      [other == one for other in asked])
+            self.must(f"{one.pace}", [is_current(known, other, program) for other in request] ==
+                      [other == one for other in request])
             del words["pace"]
             self.must(f"{one.pace}: of an earlier tool", not is_current(known, one, program))
 
@@ -330,19 +333,19 @@ class ReadingLists(Case):
 
     def test_limits_the_lines_to_read(self) -> None:
         library(self)
-        told = list(too_long(self.folder, {"total": 6, "high/count.other": 2}))
-        self.must("lines", told == [
-            None, "high/count.other needs 6 lines to be read, at most 2 are allowed"], told)
+        reported = list(too_long(self.folder, {"total": 6, "high/count.other": 2}))
+        self.must("lines", reported == [
+            None, "high/count.other needs 6 lines to be read, at most 2 are allowed"], reported)
 
     def test_refuses_ambiguous_and_unknown_names(self) -> None:
         them = library(self)
         for name, why in (("size", "high/Things.size"), ("none", "no definition"),
                           ("count.none", "clause")):
             try:
-                told = str(them.reading_list(name))
+                reported = str(them.reading_list(name))
             except Stop as reason:
-                told = str(reason)
-            self.must(name, why in told, told)
+                reported = str(reason)
+            self.must(name, why in reported, reported)
 
     def test_reads_an_index(self) -> None:
         them = library(self)
@@ -350,5 +353,6 @@ class ReadingLists(Case):
         self.must("clauses", clauses_in(text) == ["high/count.other", "high/law"],
                   clauses_in(text))
         self.must("all there", unknown_clauses(text, them) == [])
-        told = unknown_clauses(text.replace("count.other", "count.gone"), them)
-        self.must("one gone", len(told) == 1 and "high/count.gone is no" in told[0], told)
+        reported = unknown_clauses(text.replace("count.other", "count.gone"), them)
+        self.must("one gone", len(reported) == 1 and "high/count.gone is no" in reported[0],
+                  reported)

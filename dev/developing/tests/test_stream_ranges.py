@@ -11,9 +11,10 @@ from subtitles.judging.subtitles import HOUR, advise_on_title
 from subtitles.judging.transmissions import read_subtitles
 from subtitles.stream.packets import Packets
 from .bench import Case
-from .judged import OfProgramme, judged, shown_files
-from .parts import answer, asked_for, part_with
-from .transmissions import CLOSING, HEADER, joined, late, programme, row, sendings, subtitle_file
+from .judged import ProgrammeCase, judge_files, shown_files
+from .parts import make_answer, request_for, make_part
+from .transmissions import (
+    CLOSING, HEADER, pes_file, delayed, write_programme, row_packet, schedule_pages, write_subtitle_file)
 
 MINUTE = 1500  # frames
 EARLIER, LATER = ("--to", "00:01:00:00"), ("--from", "00:01:00:00")
@@ -29,7 +30,7 @@ class DayFiles(Case):
     def day(self, *texts: bytes, name: str = "day.stl") -> str:
         """Write a file with three subtitles in the first minute and three in the second."""
         texts = texts or tuple(b"Number %d" % number for number in range(1, 7))
-        return subtitle_file(self, [(begin, end, text) for (begin, end), text in zip(
+        return write_subtitle_file(self, [(begin, end, text) for (begin, end), text in zip(
             [*three(0), *three(MINUTE)], texts)], name)
 
     def transmission(self, *words: str) -> str:
@@ -45,12 +46,12 @@ class DayFiles(Case):
                 (EARLIER, "not judged", 3), (("--from", "00:00:06:00"), "refused", 4),
                 ((*LATER, "--to", "00:01:06:00"), "accepted", 2),
                 ((*LATER, "--to", "00:01:06:01"), "accepted", 3)):
-            found = judged(self, day, second, "--origin", "0", *words)
+            found = judge_files(self, day, second, "--origin", "0", *words)
             self.must(f"{words}", (found.word, found.verdict.subtitle_count) == (word, count),
                       found.said)
             self.must(f"{words}: subtitles", word == "not judged" or len(
                 found.result["subtitles"]) == count, found.result["subtitles"])
-        found = judged(self, day, second, *LATER, "-o", self.path("out"))
+        found = judge_files(self, day, second, *LATER, "-o", self.path("out"))
         self.must("fitted", found.word == "accepted" and found.parts("from", "to", "stl") == [
             ("00:01:02:00", "00:01:07:15", day)], found.said)
         self.must("places", [one["position"] for one in found.result["subtitles"]] == [4, 5, 6])
@@ -65,28 +66,28 @@ class DayFiles(Case):
         texts = [b"Number %d" % number for number in range(1, 7)]
         first_bad, last_bad = self.day(*texts[:2], BAD, *texts[3:], name="first.stl"), \
             self.day(*texts[:5], BAD, name="last.stl")
-        found = judged(self, first_bad, second, *LATER, "-o", self.path("out"))
+        found = judge_files(self, first_bad, second, *LATER, "-o", self.path("out"))
         self.must("outside", found.word == "accepted" and found.verdict.subtitle_count == 3,
                   found.said)
-        found = judged(self, first_bad, second)
+        found = judge_files(self, first_bad, second)
         self.must("the whole", found.verdict.line == "refused 50 Character block 3 at 11",
                   found.said)
-        found = judged(self, last_bad, second, *LATER, "-o", self.path("out"))
+        found = judge_files(self, last_bad, second, *LATER, "-o", self.path("out"))
         self.must("inside", found.verdict.line == "refused 50 Character block 6 at 11" and
                   found.result["faults"][0]["subtitle"]["position"] == 6, found.said)
         for words, word in ((EARLIER, "accepted"), ((), "refused"), (LATER, "refused")):
-            self.must(f"alone {words}", judged(self, last_bad, *words).word == word)
+            self.must(f"alone {words}", judge_files(self, last_bad, *words).word == word)
 
     def test_refuses_a_range_without_subtitles(self) -> None:
         day, second = self.day(), self.transmission()
         for words in (("--from", "00:02:00:00", "--to", "00:01:00:00"), ("--from", "00:05:00:00"),
                       ("--to", "00:00:00:00"), (*LATER, "--to", "00:01:02:00")):
             for recording in list[list[str]]([[], [second]]):
-                found = judged(self, day, *recording, *words)
+                found = judge_files(self, day, *recording, *words)
                 self.must(f"{words} {recording}", found.word == "not judged" and
                           f"{day} has no subtitle with a TCI" in found.told[-1], found.said)
         none = self.write("none.stl", gsi_block(b"", 0, 0))
-        found = judged(self, none, second)
+        found = judge_files(self, none, second)
         self.must("nor has the file one", found.word == "not judged" and
                   found.told[-1] == f"{none} has no subtitle", found.said)
 
@@ -99,10 +100,11 @@ class DayFiles(Case):
 
     def test_finds_parts_within_the_range(self) -> None:
         times = [(100 * at, 100 * at + 60) for at in range(1, 15)]
-        day = programme(self, [*times, (MINUTE * 5, MINUTE * 5 + 9)], name="day.stl")
+        day = write_programme(self, [*times, (MINUTE * 5, MINUTE * 5 + 9)], name="day.stl")
         sent = [(pts + (pts >= 780 * 3600) * 3600 * 999, some)
-                for pts, some in sendings(self, programme(self, times))]
-        found = judged(self, day, self.write("day.pes", joined(sent)), "--breaks", "1", "--to",
+                for pts, some in schedule_pages(self, write_programme(self, times))]
+        found = judge_files(self, day, self.write("day.pes", pes_file(sent)), "--breaks", "1",
+                            "--to",
                        "00:04:00:00")
         self.must("accepted", found.word == "accepted" and found.verdict.subtitle_count == 14,
                   found.said)
@@ -142,7 +144,7 @@ class SkippedSubtitles(Case):
                 1, 2, 2, 3, 3, 4, 5], at)
 
     def test_reads_a_file_as_the_program_shows_it(self) -> None:
-        path = programme(self, [(9, 20), (20, 30), (40, 50)], 2)
+        path = write_programme(self, [(9, 20), (20, 30), (40, 50)], 2)
         with open(path, "rb") as file:
             self.must("read",
                       subtitles_read(file.read()) == read_subtitles(self.bench.program, path))
@@ -175,57 +177,59 @@ class SkippedSubtitles(Case):
 
     def test_prints_the_note_on_a_title_once(self) -> None:
         times = [(10 * HOUR + begin, 10 * HOUR + end) for begin, end in three(0)]
-        without = programme(self, times, name="without.stl")
-        pes = self.write("one.pes", joined(sendings(self, without)))
+        without = write_programme(self, times, name="without.stl")
+        pes = self.write("one.pes", pes_file(schedule_pages(self, without)))
         for title, number in (((0, 0), 21), ((0, 25), 63)):
-            whole = programme(self, [title, *times], name="whole.stl", first=0)
+            whole = write_programme(self, [title, *times], name="whole.stl", first=0)
             for recording in list[list[str]]([[], [pes, "--origin", "0"]]):
-                found = judged(self, whole, *recording)
+                found = judge_files(self, whole, *recording)
                 notes = [one for one in found.told if "00:00:00:00" in one]
                 self.must(f"{title} {recording}", len(notes) == 1 and notes[0].endswith(
                     "give --from 10:00:02:00"), found.said)
                 self.must(f"{title} {recording}: refused", not (recording or number == 21) or
                           str(number) in (found.verdict.line or ""), found.said)
-                found = judged(self, whole, *recording, "--from", "10:00:02:00")
+                found = judge_files(self, whole, *recording, "--from", "10:00:02:00")
                 self.must(f"{title} {recording}: without", found.word == "accepted" and not any(
                     "00:00:00:00" in one for one in found.told), found.said)
 
 
-class Adjoining(OfProgramme):
+class Adjoining(ProgrammeCase):
     due = [(100, 150), (200, 250), (250, 300), (300, 350), (400, 450), (500, 550)]
 
     def test_advises_pauses_instead_of_an_end_between_adjoining_subtitles(self) -> None:
         for frame, near in ((250, (151, 351)), (300, (151, 351))):
-            told = self.judge(self.sent, "--to", time_of(frame))
-            self.must(f"{frame}", told.word == "not judged" and told.result["parts"] == [] and [
-                word.rpartition(" ")[2] for word in told.verdict.suggestions] ==
+            judged = self.judge(self.sent, "--to", time_of(frame))
+            self.must(f"{frame}", judged.word == "not judged" and judged.result["parts"] == [] and [
+                word.rpartition(" ")[2] for word in judged.verdict.suggestions] ==
                       [*map(time_of, near)],
-                (told.said, told.verdict.suggestions))
+                (judged.said, judged.verdict.suggestions))
             for end in near:
-                told = self.judge(self.sent, "--to", time_of(end))
-                self.must(f"{frame}, {end}", told.word == "accepted", told.said)
-        told = self.judge(self.sent, "--to", time_of(500))
-        self.must("a pause", told.word == "accepted", told.said)
+                judged = self.judge(self.sent, "--to", time_of(end))
+                self.must(f"{frame}, {end}", judged.word == "accepted", judged.said)
+        judged = self.judge(self.sent, "--to", time_of(500))
+        self.must("a pause", judged.word == "accepted", judged.said)
 
-        other = [(pts, [HEADER, row(22, b"Other"), CLOSING]) if pts == 250 * TICKS else
+        other = [(pts, [HEADER, row_packet(22, b"Other"), CLOSING]) if pts == 250 * TICKS else
                  (pts, some) for pts, some in self.sent]
-        one_late = late(1, 200 * TICKS, 200 * TICKS)(self.sent)
+        one_late = delayed(1, 200 * TICKS, 200 * TICKS)(self.sent)
         for name, sent in (("another page", other), ("another fault", one_late)):
-            told = self.judge(sent, "--to", time_of(250))
-            self.must(name, told.word == "refused", told.said)
-        self.check("the fault leads, and not the end", told.verdict.sentence,
+            judged = self.judge(sent, "--to", time_of(250))
+            self.must(name, judged.word == "refused", judged.said)
+        self.check("the fault leads, and not the end", judged.verdict.sentence,
                    'Refused: subtitle 2 at 00:00:08:00, "Number 2", appeared 1 frame late.')
 
     def test_expects_pages_with_the_options_of_the_call(self) -> None:
         words = "--open", "--layout", "row=-2", "--option", "german", "--page", "150"
-        stl = subtitle_file(self, [(*one, b"Gr\xc8u\xfbe %d" % one[0]) for one in self.due], row=20)
+        stl = write_subtitle_file(self, [(*one, b"Gr\xc8u\xfbe %d" % one[0]) for one in self.due],
+                                  row=20)
         with open(stl, "r+b") as file:
             file.seek(11)
             file.write(b"0")  # DSC: open subtitles
         pes = self.schedule(stl, "one.pes", "--every", "25", *words)
-        told = judged(self, stl, pes, "--origin", "0", *words, "--to", time_of(250))
-        self.must("not judged", told.word == "not judged" and len(told.verdict.suggestions) == 2,
-                  told.said)
+        judged = judge_files(self, stl, pes, "--origin", "0", *words, "--to", time_of(250))
+        self.must("not judged",
+                  judged.word == "not judged" and len(judged.verdict.suggestions) == 2,
+                  judged.said)
 
     def test_finds_the_last_tco_at_which_a_subtitle_adjoins(self) -> None:
         rows: list[tuple[int, int, list[int], int | None]] = [
@@ -234,9 +238,10 @@ class Adjoining(OfProgramme):
             (72, 0, [200, 200], None)]
         for number, within, frames, wanted in rows:
             lines = [f"refused {number} Name frame {time_of(frame)}" for frame in frames]
-            said = answer([*lines, f"{len(lines)} faults"] if lines else ["accepted 9 frames 2 "
+            printed = make_answer([*lines, f"{len(lines)} faults"] if lines
+                                  else ["accepted 9 frames 2 "
                                                                           "transmissions"])
-            part = part_with(100, 200, 0, said, packets=Packets(0), request=asked_for(
+            part = make_part(100, 200, 0, printed, packets=Packets(0), request=request_for(
                 "a.stl", "a.pes", "--within", str(within)))
             self.assertEqual(find_adjoining_end(part), wanted, (number, within, frames))
 

@@ -19,9 +19,9 @@ from .bench import Case
 from .streams import (
     AHEAD, AUDIO_PID, CLOSED_GROUP, MPEG_2, PMT_PID, PRIVATE, RANDOM_ACCESS, SLICES, TELETEXT_PID,
     VIDEO_PID, Maker, Programme, components, filler, mpeg_2_picture, program_association,
-    program_map, shown, spaced, teletext_descriptor, video_packet)
-from .parts import surveyed
-from .transmissions import CLOSING, HEADER, PAGE, row
+    program_map, multiplex_programmes, with_packet_size, teletext_descriptor, video_packet)
+from .parts import read_survey
+from .transmissions import CLOSING, HEADER, PAGE, row_packet
 from .test_formats_characters import character_set_packet
 
 FIRST = 1_000_000  # PTS of the first picture and of the first PES packet of Teletext
@@ -61,7 +61,7 @@ def timed_video(pts: int | None, dts: int | None = None, stream_id: int = 0xE0) 
 class LeadLines(Case):
     def lines_of(self, *programmes: Programme, frames: int = 60) -> list[str]:
         """Return the lines of a recording of programmes."""
-        return lines_of_kinds(self, shown(programmes, frames).data, "lead")
+        return lines_of_kinds(self, multiplex_programmes(programmes, frames).data, "lead")
 
     def test_prints_the_lead_once_a_second(self) -> None:
         rows: list[tuple[str, tuple[int, ...], int, list[int]]] = [
@@ -322,7 +322,6 @@ class TableLines(Case):
                 "programme 1 8191", "stream 257 6", "announce 257 888 656e67 2", "teletext 257"])
 
     def test_ignores_tables_that_are_not_in_force(self) -> None:
-        """A PAT or PMT with current_next_indicator 0 is ignored until it is sent with 1."""
         def sent_early(data: bytes) -> bytes:
             body = data[1:6] + bytes([data[6] & 0xFE]) + data[7:-4]
             return b"\0" + body + crc(body).to_bytes(4, "big")
@@ -343,7 +342,7 @@ class TableLines(Case):
                 maker.put_packet(PMT_PID if data[1] == 2 else 0, BEGINS,
                                  data.ljust(PACKET - 4, b"\xff"))
             maker.packets += [filler(AUDIO_PID, maker.counters).data] * 5
-            self.check(name, told(self, maker.data, *self.kinds), wanted)
+            self.check(name, lines_of_kinds(self, maker.data, *self.kinds), wanted)
 
     def test_reads_the_last_of_twenty_programmes(self) -> None:
         maker, pids = Maker([]), range(0x400, 0x414)
@@ -440,8 +439,6 @@ class ClockLines(Case):
                    [f"clock {TELETEXT_PID} {FIRST} {LAST} 20000 10 3600 5 whole"])
 
     def test_uses_no_adaptation_field_of_a_damaged_packet(self) -> None:
-        """A TS packet with transport_error_indicator has no PCR and announces no jump; one that is
-        scrambled, or whose adaptation_field_length is wrong, does."""
         data = with_pcr([*[(3600, 5)] * 30, (20_000, 9)], 2)
         place = len(data) - 3 * PACKET  # of the late PCR
         late = data[place:place + PACKET]
@@ -454,13 +451,14 @@ class ClockLines(Case):
                     .ljust(PACKET, b"\xff"))
 
         damaged = late[:1] + bytes([late[1] | 0x80]) + late[2:]
-        self.check("a PCR", told(self, data[:place] + damaged + data[place + PACKET:],
+        self.check("a PCR", lines_of_kinds(self, data[:place] + damaged + data[place + PACKET:],
                                  "clock", "pcr")[-1], pcr)
         rows: dict[str, tuple[bytes, list[str]]] = {
             "plain": (announcing(0, 0, 183), []), "error": (announcing(0x80, 0, 183), [line]),
             "scrambled": (announcing(0, 0xC0, 183), []), "wrong": (announcing(0, 0x10, 184), [])}
         for name, (more, wanted) in rows.items():
-            self.check(name, told(self, data[:place] + more + data[place:], "clock"), wanted)
+            self.check(name, lines_of_kinds(self, data[:place] + more + data[place:], "clock"),
+                       wanted)
 
     def test_samples_pts_against_pcr_once_a_second(self) -> None:
         for first in (FIRST, CLOCK - 40 * TICKS):
@@ -577,8 +575,7 @@ class PesLines(Case):
                 f"refused {refusal} " if refusal else "written 5 pes") and status == (refusal > 0),
                 out)
 
-    def test_says_whether_the_last_pes_packet_is_cut(self) -> None:
-        """Whatever its PTS is, and wherever it ends."""
+    def test_reports_whether_the_last_pes_packet_is_cut(self) -> None:
         long = pes_packet(FIRST, [CLOSING] * 4)
         untimed = long[:7] + bytes([long[7] & 0x3F]) + long[8:]
         whole = pes_packet(FIRST, [CLOSING])
@@ -593,12 +590,12 @@ class PesLines(Case):
             for pes in several:
                 maker.put(TELETEXT_PID, pes)
             data = b"".join(maker.packets[:-1] if left_out else maker.packets)
-            self.check(name, told(self, data, "end")[0].split()[7], str(cut))
+            self.check(name, lines_of_kinds(self, data, "end")[0].split()[7], str(cut))
         maker = Maker(components())
         maker.put_tables()
         maker.put(TELETEXT_PID, whole)
         maker.put_packet(TELETEXT_PID, BEGINS, long[:9])
-        self.check("cut before the PTS", told(self, maker.data, "end"),
+        self.check("cut before the PTS", lines_of_kinds(self, maker.data, "end"),
                    [f"end {TELETEXT_PID} 1 0 2 0 0 1 {FIRST}"])
 
     def test_reads_more_than_is_buffered(self) -> None:
@@ -606,7 +603,7 @@ class PesLines(Case):
         data, last = of_pes(pes), FIRST + 1499 * TICKS
         run = f"0 1500 {FIRST} {TICKS} b/ 1 0"
         for size in (188, 192, 204):
-            made = spaced(data, size)
+            made = with_packet_size(data, size)
             for name, more, skipped in (
                     ("alone", made, 0), ("before", bytes(1000) + made, 1000),
                     ("in it", made[:size * 1000] + bytes(100) + made[size * 1000:], 100),
@@ -666,8 +663,6 @@ def with_units(pes: bytes, data_unit_id: int) -> bytes:
 
 
 class Listings(Case):
-    """Complete output, line by line as in docs/manual/survey.md."""
-
     maxDiff = None
 
     def lines_of(self, data: bytes) -> list[str]:
@@ -679,16 +674,19 @@ class Listings(Case):
 
     def test_prints_all_lines_of_a_programme(self) -> None:
         other = packet(7, 0, [0, 5, 0, 8, 0, 8, 1, 0], b" " * 32)  # page 750
-        held = "0b0b4869" + "20" * 36
+        decoded = "0b0b4869" + "20" * 36
         begun = f"pes 257 0 1 {FIRST} 0 heob/88080810 1 0"
         rows: dict[str, tuple[bytes, str]] = {
-            "rows": (of_teletext(pes_packets_with([HEADER, row(20, b"Hi")], [CLOSING], [HEADER])),
-                     f"sub 257 888; pes 257 0 1 {FIRST} 0 heo/88080810 2 0; rows 257 0 20:{held}; "
+            "rows": (of_teletext(pes_packets_with([HEADER, row_packet(20, b"Hi")], [CLOSING],
+                                                  [HEADER])),
+                     f"sub 257 888; pes 257 0 1 {FIRST} 0 heo/88080810 2 0; "
+                     f"rows 257 0 20:{decoded}; "
                      f"pes 257 1 1 1003600 0 c/ 1 0; pes 257 2 1 1007200 0 heob/88080810 1 0; "
                      "rows 257 2 -; subs 257 888 2; end 257 3 0 3 0 0 0 1007200; over 0 5"),
-            "strays": (of_teletext(pes_packets_with([HEADER, CLOSING, row(20, b"Hi")], [CLOSING])),
+            "strays": (of_teletext(pes_packets_with([HEADER, CLOSING, row_packet(20, b"Hi")],
+                                                    [CLOSING])),
                        f"sub 257 888; pes 257 0 1 {FIRST} 0 hecbs/88080810 3 0; rows 257 0 -; "
-                       f"strays 257 0 20:{held}; pes 257 1 1 1003600 0 b/ 1 0; subs 257 888 1; "
+                       f"strays 257 0 20:{decoded}; pes 257 1 1 1003600 0 b/ 1 0; subs 257 888 1; "
                        "end 257 2 0 2 0 0 0 1003600; over 0 4"),
             "data_unit_id 02": (
                 of_teletext([with_units(one, 2) for one in pes_packets_with([HEADER])]),
@@ -788,17 +786,17 @@ class SurveyAnswers(Case):
                 ([begin, "fault 2 Read", over], 2, "fault 2 Read, status 2"),
                 (["usage 0 Words"], 2, "usage 0 Words, status 2"),
                 ([begin, "refused 60 Empty", over], 0, "refused 60 Empty, status 0")):
-            heard = surveyed(*lines)
+            received = read_survey(*lines)
             if why is None:
-                heard.refuse(status)
+                received.refuse(status)
             else:
                 with self.subTest(why), self.assertRaisesRegex(Unanswered, f": {why}$"):
-                    heard.refuse(status)
+                    received.refuse(status)
 
 
     def test_reads_each_kind_of_line(self) -> None:
-        def on_5(heard: Survey) -> Packets:
-            return heard.by_pid[5]
+        def on_5(received: Survey) -> Packets:
+            return received.by_pid[5]
 
         rows: list[tuple[str, Callable[[Survey], object], object]] = [
             ("head 4740", lambda it: it.head, b"G@"), ("head ", lambda it: it.head, b""),
@@ -868,24 +866,24 @@ class SurveyAnswers(Case):
              {(5, 9): [VideoLead(7, -9, 3), VideoLead(8, 0, 4)], (5, 8): [VideoLead(1, 2, 1)]})]
         for lines, known, wanted in rows:
             for more in ("", " more")[:1 if "sub" in lines or "pictures" in lines else 2]:
-                heard = surveyed(*(line + more for line in lines.split("; ")))
-                self.must(f"{lines}{more}", known(heard) == wanted, known(heard))
+                received = read_survey(*(line + more for line in lines.split("; ")))
+                self.must(f"{lines}{more}", known(received) == wanted, known(received))
 
     def test_takes_the_last_pcr_before_a_pmt(self) -> None:
         chance = random.Random(7)
         for _ in range(200):
-            heard, used, clocks = Survey(), dict[int, list[int]](), dict[int, int]()
+            received, used, clocks = Survey(), dict[int, list[int]](), dict[int, int]()
             for _ in range(40):
                 pid, number, pcr = (chance.randrange(most) for most in (12, 2, CLOCK))
                 if chance.random() < 0.2:
                     clocks[pid] = pcr * (chance.random() < 0.8)
-                    heard.take(f"pcr {pid} {clocks[pid]}")
+                    received.take(f"pcr {pid} {clocks[pid]}")
                     continue
-                heard.take(f"programme {number} {pid}")
+                received.take(f"programme {number} {pid}")
                 before = used.setdefault(number, [])
                 known = [one for one in [*dict.fromkeys(reversed(before))][:8] if one in clocks]
                 wanted = clocks.get(pid, clocks[known[0]] if known else None)
-                self.assertEqual(heard.programmes[-1].after, wanted, (before, pid, clocks))
+                self.assertEqual(received.programmes[-1].after, wanted, (before, pid, clocks))
                 before.append(pid)
 
     def fake_survey(self, lines: Sequence[str], status: int = 0) -> str:
@@ -912,11 +910,12 @@ class SurveyAnswers(Case):
         rows = "rows 0 0 20:41", "rows 0 2 -", "rows 0 3 20:41"
         lines = [runs[0], rows[0], runs[1], runs[2], rows[1], runs[3], rows[2]]
         for count, wanted in enumerate([[], [((20, b"A"),)], [((20, b"A"),), None]]):
-            told = [*runs_told(self.fake_survey(lines[:2 * count - (count == 2)]), "one.pes", PAGE)]
-            self.must(f"{count}", [texts for _, texts in told] == wanted, told)
-        told = list[tuple[Run, Texts | None]]()
+            reported = [*runs_told(self.fake_survey(lines[:2 * count - (count == 2)]), "one.pes",
+                                   PAGE)]
+            self.must(f"{count}", [texts for _, texts in reported] == wanted, reported)
+        reported = list[tuple[Run, Texts | None]]()
         with self.assertRaises(Unanswered):
             for one in runs_told(self.fake_survey(lines, 3), "one.pes", PAGE):
-                told.append(one)
-        self.must("all", [(run.first, texts) for run, texts in told] == [
-            (0, ((20, b"A"),)), (1, None), (2, ())], told)
+                reported.append(one)
+        self.must("all", [(run.first, texts) for run, texts in reported] == [
+            (0, ((20, b"A"),)), (1, None), (2, ())], reported)

@@ -18,7 +18,7 @@ from subtitles.stream.gaps import (
 from subtitles.stream.packets import Change, Clocked, Mark, Packets, Run, Texts, headers_in
 from subtitles.stream.ranges import cut_of, is_outside
 from subtitles.stream.survey import Survey
-from .parts import surveyed
+from .parts import read_survey
 
 
 def packets_with(pts: Sequence[int | None], **more: Any) -> Packets:
@@ -173,7 +173,7 @@ class ClockTables(unittest.TestCase):
         self.assertEqual(bases_of(edges, packets, 0)[0].packets, (0, 39))
 
     def test_takes_the_pcr_before_each_pmt(self) -> None:
-        survey = surveyed("pcr 513 7", *(f"programme 1 {512 + at % 2}" for at in range(200)))
+        survey = read_survey("pcr 513 7", *(f"programme 1 {512 + at % 2}" for at in range(200)))
         self.assertEqual({one.after for one in survey.programmes[2:]}, {7})
         self.assertIsNone(survey.programmes[0].after)
 
@@ -196,7 +196,7 @@ class ClockTables(unittest.TestCase):
 
     def test_takes_the_pcr_pid_of_the_last_programme(self) -> None:
         self.assertIsNone(Survey().clock_of(257))
-        survey = surveyed("programme 1 100", "stream 257 6", "programme 2 200", "stream 257 6",
+        survey = read_survey("programme 1 100", "stream 257 6", "programme 2 200", "stream 257 6",
                           "programme 3 300", "stream 258 6", "pcr 100 5", "pcr 200 9", "pcr 300 1",
                           "pcr 100 8", "pcr 200 11")
         self.assertEqual([survey.clock_of(pid) for pid in (257, 258, 259)], [(9, 11), (1, 1), None])
@@ -339,14 +339,14 @@ class ClockTables(unittest.TestCase):
              4),
             ("two behind, and no header", "100 -, 201 -, 202 -", whole, None, False, True, 3),
             ("nothing", "", every, None, False, False, 0)]
-        for name, sent, asked, wanted, has_end, is_over, read in rows:
+        for name, sent, request, wanted, has_end, is_over, read in rows:
             known = [one.split() for one in sent.split(", ") if one]
             made = Packets(257, [
                 Run(at, 1, None if one[0] == "m" else round(TICKS * float(one[0])), 0,
                     "".join(one[1:]).strip("xy-"), "") for at, one in enumerate(known)],
                 changes=[Change(round(TICKS * float(one[0])), b"", at, text_of(at, one[-1]))
                          for at, one in enumerate(known) if one[-1][-1] in "xy"])
-            begin, end, bound, within = (*asked, None, 0)[:4] if len(asked) < 4 else asked
+            begin, end, bound, within = (*request, None, 0)[:4] if len(request) < 4 else request
             found = cut_of(made, begin or 0, end or 0, 0, bound, within or 0)
             low, high = 100 - (bound or 0), 200 + (bound or 0)
             frames = [round(float(one[0].replace("m", "-1"))) for one in known]
@@ -450,8 +450,8 @@ class ClockTables(unittest.TestCase):
         words = f"between PTS {CLOCK - 3600} and 3600 (00:00:00:01 and 00:00:00:03 after the " \
             "first): "
         for first, last in ((CLOCK - 7200, 3600), (CLOCK - 7201, 3599)):
-            said = place_line(Place(CLOCK - 3600, last, 1, 2), first)
-            self.assertEqual(said, words.replace(" 3600", f" {last}") +
+            printed = place_line(Place(CLOCK - 3600, last, 1, 2), first)
+            self.assertEqual(printed, words.replace(" 3600", f" {last}") +
                              "1 TS packet lost, 2 TS packets scrambled", (first, last))
         self.assertEqual(place_line(Place(None, 3600, 0), None),
                          "before PTS 3600 (00:00:00:01 after the first): a break in the stream")

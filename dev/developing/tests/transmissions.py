@@ -27,14 +27,15 @@ HEADER = packet(0, 0, [8, 8, 0, 8, 0, 8, 1, 0], b" " * 32)  # of page 888; with 
 CLOSING = packet(0, 0, [15, 15, 15, 7, 15, 3, 0, 0], b" " * 32)
 
 
-def row(number: int, text: bytes) -> bytes:
+def row_packet(number: int, text: bytes) -> bytes:
     """Return a row packet of the magazine of page 888."""
     return packet(0, number, (), b"\x0b\x0b" + text.ljust(38))
 
 
 # Subtitle files, and transmissions of them by `schedule`.
 
-def subtitle_file(case: Case, subtitles: Iterable[Shown], name: str = "one.stl", first: int = 1,
+def write_subtitle_file(case: Case, subtitles: Iterable[Shown], name: str = "one.stl",
+                        first: int = 1,
                   row: int = 22, justify: int = 2, language: bytes = b"09") -> str:
     """Write a subtitle file whose subtitle numbers count up from `first`; return its path."""
     blocks = [subtitle_blocks(number, begin, end, row, justify, text)
@@ -43,10 +44,10 @@ def subtitle_file(case: Case, subtitles: Iterable[Shown], name: str = "one.stl",
                       + b"".join(blocks))
 
 
-def programme(case: Case, times: Sequence[tuple[int, int]], lines: int = 1,
+def write_programme(case: Case, times: Sequence[tuple[int, int]], lines: int = 1,
               text: bytes = b"Number %d", first: int = 1, name: str = "one.stl") -> str:
     """Write a subtitle file with one subtitle for each pair of frames; return its path."""
-    return subtitle_file(case, ((begin, end, NEW_LINE.join(
+    return write_subtitle_file(case, ((begin, end, NEW_LINE.join(
         [text % number if b"%" in text else text] * lines))
         for number, (begin, end) in enumerate(times, first)), name, first)
 
@@ -67,27 +68,28 @@ def random_subtitles(seed: int) -> tuple[bytes, list[int]]:
     return gsi_block(b"At random", len(made), len(made), edges[0]) + b"".join(made), edges
 
 
-def sendings(case: Case, stl: str, *words: str, origin: int = 0, every: int = 25) -> Sent:
+def schedule_pages(case: Case, stl: str, *words: str, origin: int = 0, every: int = 25) -> Sent:
     """Return the transmission that `schedule` makes of a subtitle file."""
     return [(origin + pts_in(one), teletext_packets(data_field(one)))
-            for one in scheduled(case, stl, "--every", str(every), *words)]
+            for one in schedule_pes(case, stl, "--every", str(every), *words)]
 
 
-def scheduled(case: Case, stl: str, *words: str) -> list[bytes]:
+def schedule_pes(case: Case, stl: str, *words: str) -> list[bytes]:
     """Return the PES packets that `schedule` makes of a subtitle file."""
     return packets(case.read(case.schedule(stl, "planned.pes", *words)))
 
 
-def in_two_parts(case: Case) -> tuple[str, bytes]:
+def make_two_parts(case: Case) -> tuple[str, bytes]:
     """Return a subtitle file, and PES packets with a break of three minutes halfway through."""
     due = [(begin, begin + 60) for begin in range(900_000, 902_000, 100)]
-    sent = [one for first, origin in ((1, 1000), (11, 1000 + 4500 * TICKS)) for one in sendings(
-        case, programme(case, due[first - 1:first + 9], first=first, name="part.stl"),
+    sent = [one for first,
+            origin in ((1, 1000), (11, 1000 + 4500 * TICKS)) for one in schedule_pages(
+        case, write_programme(case, due[first - 1:first + 9], first=first, name="part.stl"),
         origin=origin)]
-    return programme(case, due, name="two.stl"), joined(sent)
+    return write_programme(case, due, name="two.stl"), pes_file(sent)
 
 
-def joined(sent: Sent) -> bytes:
+def pes_file(sent: Sent) -> bytes:
     """Return a transmission as a file of PES packets."""
     return b"".join(pes_packet(pts % CLOCK, some) for pts, some in sent)
 
@@ -97,7 +99,7 @@ def packets(data: bytes) -> list[bytes]:
     return list(pes_packets(io.BytesIO(data)))
 
 
-def moved(data: bytes, new_pts: Callable[[int, int], int]) -> bytes:
+def with_new_pts(data: bytes, new_pts: Callable[[int, int], int]) -> bytes:
     """Return the file with new PTS, computed from each packet's number and old PTS."""
     return b"".join(one[:9] + pts_bytes(new_pts(number, pts_in(one)) % CLOCK) + one[14:]
                     for number, one in enumerate(packets(data)))
@@ -110,23 +112,23 @@ ORIGIN = 20_000 * TICKS + 7
 PAUSES = 880, 1680  # frames before the 9th and 17th subtitle, where parts begin
 
 
-def times(count: int) -> list[tuple[int, int]]:
+def subtitle_times(count: int) -> list[tuple[int, int]]:
     """Return the first and end frames of `count` subtitles."""
     return [(EACH * number, EACH * number + LASTS) for number in range(1, count + 1)]
 
 
-def late(by: int, first: int = 0, last: int = 1 << 40) -> Change:
+def delayed(by: int, first: int = 0, last: int = 1 << 40) -> Change:
     """Delay everything sent from the PTS `first` to `last` by some frames."""
     return lambda sent: [(pts + by * TICKS * (first <= pts <= last), some) for pts, some in sent]
 
 
-def one_late(number: int, by: int) -> Change:
+def delay_subtitle(number: int, by: int) -> Change:
     """Delay the page transmissions of one subtitle by some frames."""
     begin = EACH * number * TICKS
-    return late(by, begin, begin + LASTS * TICKS - 1)
+    return delayed(by, begin, begin + LASTS * TICKS - 1)
 
 
-def apart(sent: Sent, *shifts: int) -> Sent:
+def with_pauses(sent: Sent, *shifts: int) -> Sent:
     """Delay everything after each pause by that pause's number of frames."""
     begun = [sum(pts >= pause * TICKS for pause in PAUSES[:len(shifts)]) for pts, _ in sent]
     return [(ORIGIN + pts + TICKS * (0, *shifts)[at], some) for at, (pts, some) in zip(begun, sent)]
@@ -134,20 +136,20 @@ def apart(sent: Sent, *shifts: int) -> Sent:
 
 # Pipes.
 
-def in_pipe(case: Case, data: bytes, path: str = "") -> str:
+def write_pipe(case: Case, data: bytes, path: str = "") -> str:
     """Write bytes to a new named pipe in the background; return its path."""
     path = path or case.path(f"feed{len(os.listdir(case.folder))}")
-    feed(path, data)
+    start_feed(path, data)
     return path
 
 
-def feed(path: str, data: bytes) -> None:
+def start_feed(path: str, data: bytes) -> None:
     """Write bytes to a named pipe at a path in the background."""
     os.mkfifo(path)
-    threading.Thread(target=send, args=(path, data), daemon=True).start()
+    threading.Thread(target=feed_pipe, args=(path, data), daemon=True).start()
 
 
-def send(path: str, data: bytes) -> None:
+def feed_pipe(path: str, data: bytes) -> None:
     """Write bytes to a pipe, slowly enough for `survey`; ignore a closed pipe."""
     with contextlib.suppress(OSError), open(os.open(path, os.O_WRONLY), "wb", 0) as file:
         for at in range(0, len(data), 1 << 16):

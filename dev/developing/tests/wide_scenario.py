@@ -10,7 +10,7 @@ from developing.multiplex import PACKET
 from subtitles.common.times import time_of
 from subtitles.formats.stl import GSI, TTI
 from .streams import (
-    MPEG_2, PMT_PID, PRIVATE, TELETEXT_PID, VIDEO_PID, program_map, spaced,
+    MPEG_2, PMT_PID, PRIVATE, TELETEXT_PID, VIDEO_PID, program_map, with_packet_size,
     teletext_descriptor)
 from .scenario import SECOND_PID, Scenario, Sent, Written
 
@@ -26,19 +26,19 @@ def pid_of(packet: bytes) -> int:
 class Wider(Scenario):
     """A pair that uses the random numbers of `Scenario` first, then its own."""
 
-    def others(self) -> list[Written]:
+    def transmitted_subtitles(self) -> list[Written]:
         """Change the transmitted subtitles less often than `Scenario` does."""
-        return super().others() if self.some(30) else self.subtitles
+        return super().transmitted_subtitles() if self.has_chance(30) else self.subtitles
 
-    def wrong(self, sent: Sent) -> Sent:
-        return super().wrong(sent) if self.some(40) else sent
+    def add_fault(self, sent: Sent) -> Sent:
+        return super().add_fault(sent) if self.has_chance(40) else sent
 
     # The subtitle file.
 
     def write(self, name: str, subtitles: list[Written]) -> None:
         """Write a subtitle file, sometimes with another language or a changed field."""
         super().write(name, subtitles)
-        if name == "one.stl" and self.some(25):
+        if name == "one.stl" and self.has_chance(25):
             with open(name, "r+b") as file:
                 data = bytearray(file.read())
                 self.change(data)
@@ -65,66 +65,68 @@ class Wider(Scenario):
 
     # The recording.
 
-    def recorded(self, sent: Sent, second: Sent) -> bytes:
+    def make_stream(self, sent: Sent, second: Sent) -> bytes:
         """Return the recording after up to two more kinds of damage."""
-        data = super().recorded(sent, second)
+        data = super().make_stream(sent, second)
         size = PACKET if data[:1] == b"\x47" or len(data) % 192 else 192
         packets = [data[at + size - PACKET:at + size] for at in range(0, len(data), size)]
         packets = [one for one in packets if len(one) == PACKET]
         kinds: list[Callable[[list[bytes]], list[bytes]]] = [
-            self.announced, self.scrambled, self.wrong_bits, self.without, self.doubled, self.moved,
-            self.cut, self.without_flags, self.reordered]
+            self.announce_jump, self.scramble, self.flip_bits, self.delete_pid, self.repeat,
+            self.move_pid,
+            self.cut, self.clear_flags, self.swap_runs]
         for _ in range(self.chance.choice((0, 1, 1, 2))):
             packets = self.chance.choice(kinds)(packets) or packets
         data, place = b"".join(packets), self.chance.randrange(len(packets))
-        if self.some(6):  # insert bytes that are no TS packet
+        if self.has_chance(6):  # insert bytes that are no TS packet
             data = data[:place * PACKET] + b"\0" * self.chance.choice((1, 188, 3000)) \
                 + data[place * PACKET:]
-        return spaced(data, self.chance.choice((192, 204))) if self.some(20) else data
+        return with_packet_size(data,
+                                self.chance.choice((192, 204))) if self.has_chance(20) else data
 
-    def some_of(self, packets: list[bytes], pid: int | None = None) -> range:
+    def random_run(self, packets: list[bytes], pid: int | None = None) -> range:
         """Return the places of a run of packets that begins with a packet of a PID."""
         pid = self.chance.choice(PIDS) if pid is None else pid
         own = [at for at, one in enumerate(packets) if pid_of(one) == pid] or [0]
         first = self.chance.choice(own)
         return range(first, min(len(packets), first + self.chance.choice((1, 30, 400, 9999))))
 
-    def announced(self, packets: list[bytes]) -> list[bytes]:
+    def announce_jump(self, packets: list[bytes]) -> list[bytes]:
         """Insert a packet with a discontinuity_indicator, and delete some packets after it."""
-        at = self.some_of(packets)[0]
+        at = self.random_run(packets)[0]
         one = packets[at]
         return [*packets[:at], one[:3] + bytes([0x20 | one[3] & 15, 183, 0x80]) + b"\xff" * 182,
                 *packets[at + self.chance.choice((0, 1, 7)):]]
 
-    def scrambled(self, packets: list[bytes]) -> list[bytes]:
-        pid, run = self.chance.choice(PIDS), self.some_of(packets)
+    def scramble(self, packets: list[bytes]) -> list[bytes]:
+        pid, run = self.chance.choice(PIDS), self.random_run(packets)
         return [one[:3] + bytes([one[3] | 0xC0]) + one[4:] if at in run and pid_of(one) == pid
                 else one for at, one in enumerate(packets)]
 
-    def wrong_bits(self, packets: list[bytes]) -> list[bytes]:
+    def flip_bits(self, packets: list[bytes]) -> list[bytes]:
         """Flip bits, or set a transport_error_indicator."""
         found = list(packets)
         for _ in range(self.chance.choice((1, 1, 5, 50))):
-            at = self.some_of(found, self.chance.choice((TELETEXT_PID, TELETEXT_PID, None)))[0]
+            at = self.random_run(found, self.chance.choice((TELETEXT_PID, TELETEXT_PID, None)))[0]
             byte = self.chance.choice((1, 3, 4, *range(4, 188, 5)))
             bit = 0x80 if byte == 1 else 1 << self.chance.randrange(8)
             found[at] = found[at][:byte] + bytes([found[at][byte] ^ bit]) + found[at][byte + 1:]
         return found
 
-    def without(self, packets: list[bytes]) -> list[bytes]:
+    def delete_pid(self, packets: list[bytes]) -> list[bytes]:
         """Delete the packets of one PID within a run."""
-        pid, run = self.chance.choice(PIDS), self.some_of(packets)
+        pid, run = self.chance.choice(PIDS), self.random_run(packets)
         return [one for at, one in enumerate(packets) if at not in run or pid_of(one) != pid]
 
-    def doubled(self, packets: list[bytes]) -> list[bytes]:
+    def repeat(self, packets: list[bytes]) -> list[bytes]:
         """Repeat the packets of one PID within a run."""
-        pid, run = self.chance.choice(PIDS), self.some_of(packets)
+        pid, run = self.chance.choice(PIDS), self.random_run(packets)
         return [one for at, packet in enumerate(packets)
                 for one in [packet] * (1 + (at in run and pid_of(packet) == pid))]
 
-    def moved(self, packets: list[bytes]) -> list[bytes]:
+    def move_pid(self, packets: list[bytes]) -> list[bytes]:
         """Move the page to another PID, with or without a new PMT."""
-        first, is_told = self.some_of(packets, TELETEXT_PID)[0], self.some(80)
+        first, is_told = self.random_run(packets, TELETEXT_PID)[0], self.has_chance(80)
         table = program_map(1, [(VIDEO_PID, MPEG_2, b""),
                                 (SECOND_PID, PRIVATE, teletext_descriptor())], VIDEO_PID)
         found = packets[:first]
@@ -141,16 +143,16 @@ class Wider(Scenario):
     def cut(self, packets: list[bytes]) -> list[bytes]:
         """Cut the beginning or the end."""
         at = self.chance.randrange(len(packets))
-        return packets[at:] if self.some(50) else packets[:at]
+        return packets[at:] if self.has_chance(50) else packets[:at]
 
-    def without_flags(self, packets: list[bytes]) -> list[bytes]:
+    def clear_flags(self, packets: list[bytes]) -> list[bytes]:
         """Clear every random_access_indicator of the video."""
         return [one[:5] + bytes([one[5] & 0xBF]) + one[6:] if pid_of(one) == VIDEO_PID
                 and one[3] & 0x20 and one[4] else one for one in packets]
 
-    def reordered(self, packets: list[bytes]) -> list[bytes]:
+    def swap_runs(self, packets: list[bytes]) -> list[bytes]:
         """Swap two runs of packets."""
-        run, count = self.some_of(packets), self.chance.choice((1, 5, 40))
+        run, count = self.random_run(packets), self.chance.choice((1, 5, 40))
         first, middle, last = run[0], run[0] + count, run[0] + 2 * count
         return [*packets[:first], *packets[middle:last], *packets[first:middle], *packets[last:]]
 
@@ -175,6 +177,6 @@ class Wider(Scenario):
                               (8, ["--quiet"]), (8, ["--option", "auto"]), (1, ["--page", "889"]),
                               (8, ["--pes", chance.choice(("0-9", "3-40", "20-999", "7-7"))]),
                               (2, ["--breaks", chance.choice(("1", "2"))])):
-            if self.some(percent) and more[0] not in words:
+            if self.has_chance(percent) and more[0] not in words:
                 words[-2:-2] = more
         return words
