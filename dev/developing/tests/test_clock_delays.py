@@ -10,7 +10,8 @@ from .bench import Case, example, example_bytes
 from .judged import JudgedPair, ProgrammeCase, judge_files
 from .streams import H_264, HEVC, MPEG_2, SLICES, mpeg_2_picture, with_pictures
 from .transmissions import (
-    Sent, write_pipe, make_two_parts, pes_file, delayed, with_new_pts, write_programme, schedule_pages)
+    Sent, write_pipe, make_two_parts, pes_file, delayed, with_new_pts, write_programme,
+    schedule_pages)
 from .test_cli_pairs import TS, lines_of, qc
 
 # frames: the first subtitle, from one to the next, length of one

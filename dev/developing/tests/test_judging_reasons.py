@@ -23,7 +23,8 @@ from subtitles.stream.receiver import BLANK_PAGE, Meeting, Rows, Timeline, TUNED
 from .bench import Case
 from .judged import JudgedPair, ProgrammeCase, judge_files
 from .streams import (
-    OLD, Shape, TELETEXT_PID, stream_with_video, stream_by_plan, make_multiplex, stream_bytes, delete_between)
+    OLD, Shape, TELETEXT_PID, stream_with_video, stream_by_plan, make_multiplex, stream_bytes,
+    delete_between)
 from .parts import make_answer, request_for, decode_packets
 from .transmissions import (
     CLOSING, HEADER, PAGE, Sent, write_pipe, pes_file, write_programme, row_packet, schedule_pes,

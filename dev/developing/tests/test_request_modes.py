@@ -73,9 +73,9 @@ class Modes(Case):
         self.write("house", b"--every 25\n")
         for name, taken_by in OPTION_MODES.items():
             for mode in MODES:
-                printed = refusal(mode, name, self.folder)
-                is_right = printed is None if mode in taken_by else printed is not None and name in printed
-                self.must(f"{name} and {mode.words}", is_right, printed)
+                error = refusal(mode, name, self.folder)
+                is_right = error is None if mode in taken_by else name in (error or "")
+                self.must(f"{name} and {mode.words}", is_right, error)
 
     def test_takes_the_last_of_repeated_options(self) -> None:
         for words, name, value in (

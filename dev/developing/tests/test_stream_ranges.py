@@ -14,7 +14,8 @@ from .bench import Case
 from .judged import ProgrammeCase, judge_files, shown_files
 from .parts import make_answer, request_for, make_part
 from .transmissions import (
-    CLOSING, HEADER, pes_file, delayed, write_programme, row_packet, schedule_pages, write_subtitle_file)
+    CLOSING, HEADER, pes_file, delayed, write_programme, row_packet, schedule_pages,
+    write_subtitle_file)
 
 MINUTE = 1500  # frames
 EARLIER, LATER = ("--to", "00:01:00:00"), ("--from", "00:01:00:00")
