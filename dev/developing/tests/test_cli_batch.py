@@ -50,7 +50,8 @@ class Lists(Case):
                  "{0}/x.stl /dev/null --within 2\n{0}/x.stl {0}/socket\n").format(self.folder)
         with socket.socket(socket.AF_UNIX) as made:
             made.bind(self.path("socket"))
-        items = pairs_at(self.write("list", lines.encode() + b"caf\xe9.stl x.ts"), default_options())
+        items = pairs_at(self.write("list", lines.encode() + b"caf\xe9.stl x.ts"),
+                         default_options())
         self.must("names", [item.name for item in items] == [
             "one", "two", "one~2", "line 6", "line 7", "one~3", "none", "one~4", "line 11", "x",
             "x~2", "caf%E9"],
@@ -135,7 +136,8 @@ class CompleteBatches(Case):
 
         `unwritten` has results that are stored in no file.
         """
-        words = argparse.Namespace(**{**vars(default_options()), "batch": self.write("list", "".join(
+        words = argparse.Namespace(**{**vars(default_options()),
+                                      "batch": self.write("list", "".join(
             f"{self.path(name)}.stl {self.path('one.ts')}\n" for name in ("one", "two", "three")
         ).encode()), "out": None, "program": self.path("program"), "is_kept": False, "jobs": None,
             "limit": 7, "is_resumed": False, "line": None, "json": None, "csv": None,

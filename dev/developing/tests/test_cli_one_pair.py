@@ -103,7 +103,8 @@ class LastLines(Case):
         said = self.said(self.verdict([make_part(0, 99, 0)], "--allow-lost", gaps=[gap(True)]))
         self.must("allowed", not any("record that part" in one for one in said) and
                   said[-1].startswith("accepted"), said)
-        said = self.said(self.verdict([make_part(0, 99, 0, make_answer(REFUSED))], gaps=[gap(True)]))
+        said = self.said(self.verdict([make_part(0, 99, 0, make_answer(REFUSED))],
+                                      gaps=[gap(True)]))
         self.must("refused too", "! record that part again: what is missing was not "
                                  "checked" in said, said)
 
@@ -173,7 +174,8 @@ class OutputFilesOfPair(Case):
         return make_part(0, 9, 0, said, number, names=names)
 
     def verdict(self, lines: Sequence[str] = REFUSED) -> Verdict:
-        made = Verdict(request_for(example("story.stl"), self.path("one.pes")), Severity(None), now())
+        made = Verdict(request_for(example("story.stl"), self.path("one.pes")), Severity(None),
+                       now())
         made.files_at_start = found(made.request)
         made.parts = [self.part(1, lines)]
         return made
