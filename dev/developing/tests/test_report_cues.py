@@ -13,7 +13,7 @@ from subtitles.judging.status import (
     ACCEPTED, LOST, NOT_JUDGED, REFUSED, RELATIVE, WAIVED, WARNED)
 from subtitles.judging.transmissions import ExpectedPages
 from subtitles.report.blocks import field_markup, marked_text, marked_times, readable
-from subtitles.report.cue_list import mark_difference, signed
+from subtitles.report.cue_list import CueList, CueRow, mark_difference, signed
 from subtitles.report.page import SHAPES, with_options
 from subtitles.stream.packets import Packets, PES
 from subtitles.stream.receiver import BLANK_PAGE, Rows, Timeline
@@ -120,6 +120,14 @@ class TextMarkup(Case):
             reported = tuple(markup_text(one).replace("<mark>", "[").replace("</mark>", "]")
                          for one in mark_difference(first, second))
             self.must(f"{first} {second}", reported == wanted, reported)
+
+    def test_prints_the_first_200_wrong_rows(self) -> None:
+        made: Any = SimpleNamespace(
+            rows=[CueRow(at, look, [], [at]) for look in ("ok", "bad") for at in range(203)],
+            part=SimpleNamespace(number=1), kinds=[], caption=lambda: "")
+        text = in_page(CueList.list_section(made))
+        self.check("rows", (text.count('class="bad"'), text.count('class="bad more"')), (200, 3))
+        self.must("texts", "203 right subtitles" in text and "and 3 more rows" in text, text[:900])
 
     def test_writes_numbers_with_their_signs(self) -> None:
         self.must("signs", [signed(one) for one in (None, 0, 12, -3)] == ["", "0", "+12", "-3"])

@@ -255,6 +255,13 @@ class CollectedResults(Case):
             "Content frame 1; more", "a hint", 12), row("c", "not judged", "why\nmore"),
             row("d", "waived", "waived: refused 5 X", "", 3)]
 
+    def test_notes_an_estimated_clock(self) -> None:
+        for sources, wanted in (("", ""), ("given", ""), ("recording", files.NO_CLOCK),
+                                ("recording start", files.NO_CLOCK),
+                                ("start recording", files.LATER_CLOCK)):
+            parts = [{"clock": {"source": source}} for source in sources.split()]
+            self.check(sources, files.clock_in({"parts": [*parts, {"clock": None}]}), wanted)
+
     def test_prints_columns_as_wide_as_their_widest_cell(self) -> None:
         self.must("table", list(collection.summary_table(self.ROWS)) == [
             "pair    verdict     faults  worst fault", "one     accepted         0",
