@@ -30,14 +30,14 @@ from .single import (
     judge_and_report, refuse_folder_files, refuse_pair_files, remove_results)
 
 
-# A call of this tool in a process of its own, forked from one that has all loaded and no thread.
+# Each pair is judged in a process forked from one that has loaded all modules and has no threads.
 #
-# Python's start and the loading of all modules take ten times as long as a small pair does. One
-# that dies, is killed or hangs costs its own pair alone.
+# Starting Python and loading the modules takes ten times as long as judging a small pair. A process
+# that dies or hangs costs only its own pair.
 
-PRELOADED = page  # which one pair loads only if it draws a report
+PRELOADED = page  # loaded before the forks: each process may draw a report
 INPUT, OUTPUT, ERRORS = range(3)
-FILES = "/proc/self/fd"  # those that this process has open
+FILES = "/proc/self/fd"  # the open files of this process
 
 
 def judge_forked_pair(request: Request, call: PairOptions) -> int:
@@ -62,9 +62,9 @@ class ForkedProcess:
     there; its lines on standard error are known once it has ended."""
 
     def __init__(self, does: Callable[[], int]) -> None:
-        # In memory: the disk may be full.
+        # A file in memory, since the disk may be full.
         self.errors = open(os.memfd_create("told"), "w+b", buffering=0)
-        # Open there as long as it goes on: what it calls does not get it.
+        # The process keeps it open until it ends; its children do not inherit it.
         self.alive_pipe, alive = os.pipe()
         with hold_signals():
             try:
@@ -138,7 +138,7 @@ def run_and_exit(does: Callable[[], int], told: int, alive: int) -> NoReturn:
     status = 2
     try:
         try:
-            gc.freeze()  # what the parent has is neither looked at nor given back
+            gc.freeze()  # the collector leaves the parent's objects, so their pages stay shared
             os.setsid()
             redirect_files(told, alive)
             handle_signals()
@@ -147,7 +147,7 @@ def run_and_exit(does: Callable[[], int], told: int, alive: int) -> NoReturn:
         finally:
             os._exit(status)
     finally:
-        os._exit(2)  # a signal came just then
+        os._exit(2)  # a signal interrupted that
 
 
 def redirect_files(told: int, alive: int) -> None:
@@ -171,12 +171,12 @@ def wait_for_any(calls: Collection[ForkedProcess], seconds: float) -> list[Forke
     return [by_file[file] for file, _ in poll.poll(1000 * seconds)]
 
 
-# Many pairs: each judged by a call of its own, as many at a time as there are processors.
+# Many pairs: each in a process of its own, by default one for each processor.
 
-POLL_SECONDS = 0.2  # seconds between two looks at what is done
-# Seconds of the processor that a pair may take without --limit: a small file can take hours.
+POLL_SECONDS = 0.2  # seconds to wait for ended processes
+# CPU time limit of a pair in seconds without --limit: even a small file can take hours.
 LEAST_SECONDS, BYTES_PER_SECOND = 60, 10_000_000  # one more for each so many bytes
-GRACE_SECONDS = 10  # seconds in which it may write then what is known
+GRACE_SECONDS = 10  # seconds from SIGTERM to SIGKILL, in which a process may write its result
 
 
 def default_limit(files: Mapping[str, Any]) -> int:
@@ -389,11 +389,11 @@ def judge_next(calls: PairRunner, waiting: collections.deque[Item], jobs: int) -
     yield from calls.finished_rows(POLL_SECONDS)
 
 
-# A folder into which pairs are written: judged as a batch of it is that is resumed, again and
-# again, each pair once both of its files are whole.
+# A watched folder is judged like a batch that is resumed again and again: each pair once both of
+# its files are complete.
 
-SCAN_SECONDS = 1.0  # seconds between two looks: no notice comes of what another machine writes
-DONE_SUFFIX = ".done"  # after the name of a pair: both of its files are whole
+SCAN_SECONDS = 1.0  # seconds between scans: writes of other machines send no notification
+DONE_SUFFIX = ".done"  # a file PAIR.done marks both files of a pair as complete
 
 
 class Sighting(NamedTuple):

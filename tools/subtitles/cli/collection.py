@@ -23,7 +23,7 @@ from ..results.schema import FORMAT
 from .single import now, refuse_folder_files
 
 
-# All pairs of a folder on one page, those that somebody has to look at first; without a script.
+# The page over all pairs of a folder, worst first; it has no script.
 
 STYLE = Markup("""<style>
 :root { --ground: #fff; --words: #1b1e23; --soft: #545c66; --line: #c3c9d1; --shade: #f1f3f6;
@@ -138,9 +138,9 @@ def file_links(folder: str, name: str) -> Markup:
     return joined(found, " ")
 
 
-# Objects of many pairs in one table, one page, and one file for each kind of machine.
+# The results of many pairs in a table, on a page, and as JSON, CSV and JUnit files.
 
-ResultSource = Union[str, dict[str, Any]]  # of an object: its file, or itself where it has none
+ResultSource = Union[str, dict[str, Any]]  # the file of a JSON result, or the result itself
 TABLE_HEADS = ("pair", "verdict", "faults", "worst fault")
 
 
@@ -193,12 +193,12 @@ def write_collection(args: argparse.Namespace, rows: Sequence[Row], places: Sequ
         for line in summary_table(rows, why) if rows else ():
             print(shown(line), file=out)
         out.flush()
-    except BrokenPipeError:  # who reads it wants no more: what is written stays
+    except BrokenPipeError:  # the reader has closed the pipe
         silence(out)
     return status()
 
 
-PAIRS_PER_SECOND = 1000  # of a folder that is watched: so often its page is written again
+PAIRS_PER_SECOND = 1000  # limits how often the page of a watched folder is written
 
 
 class FolderRows:

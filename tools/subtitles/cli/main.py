@@ -16,7 +16,7 @@ from ..request.request import (
 from ..results import files
 
 
-# What tools/qc is called for, the options of the call itself, and which options go with which.
+# The modes of tools/qc, the options of a call, and the modes that take each option.
 
 CALLS = (PAIR, ALONE, BATCH, WATCH)
 OUTPUT_MODES = (PAIR, ALONE, BATCH, COLLECT)
@@ -154,7 +154,7 @@ def testcase(known: dict[str, Any]) -> list[bytes]:
 PIECES: dict[str, Callable[[dict[str, Any]], Iterable[bytes]]] = {
     "--json": lambda known: [files.object_text(known)],
     "--csv": lambda known: files.table_lines([known]), "--junit": testcase}
-# What a file begins with that an earlier call wrote: another one may be an input.
+# The first bytes of an earlier output: any other file may be an input and is not replaced.
 FIRST_BYTES = {"--json": b"{", "--csv": b"stl,recording,", "--junit": b"<?xml version='1.0' "}
 
 
@@ -183,7 +183,7 @@ def dispatch(text: str, program_name: str, line: list[str]) -> int:
         raise Stop("--keep needs -o DIR, the folder in which it keeps the recording")
     args.out = args.out and plain_name(args.out)
     if args.collect is not None:
-        from . import collection  # one pair needs nothing of these
+        from . import collection  # not loaded for one pair
         return collection.collect(args)
     if args.batch is not None:
         from . import batch

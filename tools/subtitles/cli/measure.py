@@ -38,9 +38,9 @@ from ..stream.receiver import Timeline, timeline_near
 from .single import now
 
 
-NAMED = 5  # subtitles that speak against something
+NAMED = 5  # counterexamples to list
 APART = 25  # frames before a TCI within which its page may come too early
-GOOD = {0, 3}  # statuses: accepted, and right by a clock that was fitted
+GOOD = {0, 3}  # statuses: accepted, and relative
 
 
 class Finding(NamedTuple):
@@ -112,7 +112,7 @@ def pace_found(paces: Sequence[Pace]) -> Finding:
         "one PES packet to the next"])
 
 
-# How late cues are, by a clock that is given.
+# Delays of cues by a given clock.
 
 
 class Delays(NamedTuple):
@@ -269,9 +269,9 @@ def option_of(options: Iterable[str], judged: str) -> Finding:
     return Finding(f"--option {sent[0]}" if len(sent) == 1 else "", lines)
 
 
-# How the house draws.
+# The layout of the site's inserter.
 
-# Behind the codes that open a box, or before those that close it: spaces.
+# Spaces after the codes that open a box, or before those that close it.
 SPACE_IN_BOX = re.compile(rb"^[\x00-\x1f]*\x0b[\x00-\x1f]* | [\x00-\x1f]*\x0a[\x00-\x1f]*$")
 
 

@@ -34,13 +34,12 @@ from ..results.files import found, object_text, unjudged
 from ..stream.gaps import first_lines
 
 
-# The files of a pair in a folder of results: they belong to one call at a time. A call takes away
-# what an earlier one left, perhaps beside its inputs: so whatever else stands under these names is
-# left as it is.
+# The results of a pair in a folder belong to one call at a time. A call removes the results of an
+# earlier one, perhaps from the folder of its inputs, so foreign files with these names are kept.
 
 RESULT = re.compile(rb'\{\s*"format": [0-9]+,\s*"(verdict": "|status": )')
-PREFIX_BYTES = 4096  # bytes by which a file tells what it is
-KEPT_SECONDS = 600  # within which a result is written after the recording that is kept beside it
+PREFIX_BYTES = 4096  # bytes that show what a file is
+KEPT_SECONDS = 600  # between writing a kept recording and its result, at most
 
 
 class FilesInUse(Stop):
@@ -129,7 +128,7 @@ def hold_lock(folder: str | None, name: str, refusal: str) -> Iterator[None]:
     try:
         yield
     finally:
-        with contextlib.suppress(OSError):  # somebody has changed the folder
+        with contextlib.suppress(OSError):  # the folder was changed meanwhile
             if is_file_at(handle, path):
                 os.unlink(path)
         os.close(handle)
@@ -149,10 +148,10 @@ def open_locked(path: str) -> int | None:
             os.close(handle)
             return None
         except OSError:
-            return handle  # a file system that knows no locks
+            return handle  # the file system has no locks
         if is_file_at(handle, path):
             return handle
-        os.close(handle)  # the one who had it took it away meanwhile
+        os.close(handle)  # its owner removed it meanwhile
 
 
 def is_file_at(handle: int, path: str) -> bool:
@@ -163,7 +162,7 @@ def is_file_at(handle: int, path: str) -> bool:
         return False
 
 
-# One pair: judged, said, and written to the files that were asked for.
+# One pair: judge it, print the verdict and write the outputs.
 
 ESCAPED = re.compile("[\ud800-\udfff]")  # bytes of a name that is not UTF-8
 SIGNALS = (signal.SIGINT, signal.SIGTERM, signal.SIGHUP)
@@ -206,7 +205,7 @@ def judge_and_report(request: Request, call: PairOptions, program_name: str) -> 
     out, staging_folder = call.out, call.staging_folder or call.out
     is_output_taken = any(path in OWN_OUTPUT for path in (call.json, call.csv, call.junit))
     speech = Speech(Progress(), is_output_taken)
-    speech.at_end = ignore_signals  # what stands last is that of the status
+    speech.at_end = ignore_signals  # so that the last line agrees with the exit status
     speech.is_quiet = call.is_quiet
     if request.profile:
         speech.say(profile_line(request.profile))
@@ -264,7 +263,7 @@ def judge_pair(pair: PairJudge, files: OutputFiles) -> None:
         verdict.hints = [*dict.fromkeys(list_hints(verdict))]  # parts may have the same
     except Unclear as unclear:
         verdict.unjudged = Unjudged(unclear.reason, unclear.to_type, isinstance(unclear, Unsaid))
-    except Exception as reason:  # whatever it is, nothing is judged
+    except Exception as reason:  # any error makes the pair not judged
         verdict.unjudged = Unjudged(error_line(reason), is_temporary=isinstance(
             reason, (Unanswered, OSError, MemoryError)))
     except KeyboardInterrupt:
@@ -333,7 +332,7 @@ def print_verdict(verdict: Verdict, speech: Speech, page: str | None = None) -> 
         for line in verdict.hints:
             speech.say(line)
         speech.end(verdict.sentence + reference_text(verdict, page), verdict.line)
-    elif is_line(speech.last):  # what the program says is no verdict then
+    elif is_line(speech.last):  # the program's last line is not the verdict
         speech.say(NOT_JUDGED)
     if verdict.is_stopped:
         speech.say(counted(verdict.fault_count, "fault") + " so far" if verdict.parts else
@@ -444,7 +443,7 @@ class OutputFiles:
         program = about_program(self.typed.program_path)
 
         def page() -> Iterator[bytes]:
-            from ..report.page import report_page  # most calls need nothing of it
+            from ..report.page import report_page  # not loaded by most calls
             return iter([report_page(verdict, self.typed).page()])
 
         def members() -> Iterator[bytes]:

@@ -23,9 +23,9 @@ from ..stream.receiver import FEW, PAUSE
 from ..stream.survey import ANY, Announced, KINDS, ProgramMap, SUBTITLE_KINDS, Survey, names_of
 
 
-# What is strange of a recording and breaks no rule of `check`: said, and the status stays.
+# Anomalies of a recording that break no rule of `check`: warnings, which don't change the status.
 
-TNB, TNS = slice(238, 243), slice(243, 248)  # of a GSI block: how many TTI blocks and subtitles
+TNB, TNS = slice(238, 243), slice(243, 248)  # fields of a GSI block: counts of blocks, subtitles
 
 
 class Notice(NamedTuple):
@@ -191,9 +191,9 @@ def repeat_notices(headers: Sequence[int], request: Request, origin: int,
                      "to notice a missing repeat")
 
 
-# A page that the PMT announces, and that never comes on its PID.
+# A page that the PMT announces and that is never sent on its PID.
 
-NEAR = 2 * SECOND  # ticks: a PMT has the time of the PCR before it, which is told each second
+NEAR = 2 * SECOND  # ticks: a PMT has the time of the PCR before it, listed once a second
 
 
 class NeverSent(Exception):

@@ -23,10 +23,9 @@ from ..stream.survey import Survey, survey
 from .notices import Notice, find_announcements, refuse_unsent, silent_pids
 
 
-# A recording that comes through a pipe: copied to a file, which is judged once all has come. To
-# judge it while it came took a rule of its own for when that was.
+# A recording from a pipe is copied to a file, which is judged once it is complete.
 
-MOST_PAGES = 3  # that an operator is offered
+MOST_PAGES = 3  # other pages to propose
 MOST_PIPED = 32_000_000_000  # bytes: two hours of 35 Mbit/s
 
 
@@ -48,7 +47,7 @@ def copy_piped(name: str, path: str, speech: Speech) -> SummedFile:
     return SummedFile(name, count, digest.hexdigest())
 
 
-# The header of the first PES packet of a PID, where it is not one of Teletext.
+# The header of the first PES packet of a PID, if it is not a Teletext header.
 #
 # Teletext has PES headers of 45 bytes and PES packets of 184 N bytes (EN 300 472, PES packet).
 
@@ -78,7 +77,7 @@ def pes_header_problem(begun: bytes, pid: int) -> str:
             f"{length:02X}), but EN 300 472 requires {FIXED + TELETEXT} ({TELETEXT:02X})")
 
 
-# A recording: what `subttx survey` tells of it, and how the program reads it once more.
+# A recording, as `subttx survey` describes it.
 
 def is_recording(path: str) -> bool:
     """Return whether a file begins as a recording does."""
@@ -266,7 +265,7 @@ class Recording:
         done = subprocess.run([self.typed.program_path, "extract", *self.words(), "--", self.path,
                                own], stdin=subprocess.DEVNULL, stdout=subprocess.DEVNULL,
                               check=False)
-        if done.returncode != 1:  # what stands before a PES packet that is refused is kept
+        if done.returncode != 1:  # everything before a refused PES packet is kept
             done.check_returncode()
         yield from pieces_of(own)
 
