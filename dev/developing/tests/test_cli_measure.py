@@ -13,7 +13,8 @@ from collections import Counter
 
 from developing.pes import packet
 from subtitles.cli.measure import (
-    Delays, NAMED, delays_of, keeping_of, late_found, measured, named_lines, option_of, usual_in)
+    Delays, NAMED, measure_delays, measure_recording, named_lines, propose_keeping,
+    propose_lateness, propose_option, remove_unusual)
 from subtitles.common.command_line import MOST_WITHIN
 from subtitles.common.times import TICKS
 from subtitles.formats.stl import Subtitle
@@ -91,7 +92,7 @@ class Cues(Case):
         for shown, pages, received, begins, ends, words in ROWS:
             subtitles = [Subtitle(at, at, begin, end, 20, 2, text.encode())
                          for at, (begin, end, text) in enumerate(shown, 1)]
-            found = delays_of("x.stl", subtitles, timeline_with(pages, *received), ENGLISH)
+            found = measure_delays("x.stl", subtitles, timeline_with(pages, *received), ENGLISH)
             early = [word for word in words if " " in word]
             self.must(f"{shown} {pages} {received}", (found.begins, found.ends) == (
                 Counter(begins), Counter(ends)) and [
@@ -111,7 +112,7 @@ class Cues(Case):
             one = Delays(Counter(begins), Counter(ends), ["x"], ["y"])
             for some in ([one], [one, Delays(Counter(), Counter(), ["z"], [])],
                          [Delays(Counter(), Counter(), ["z"], []), one]):
-                found = [*late_found(some, [])]
+                found = [*propose_lateness(some, [])]
                 lines = [line for finding in found for line in finding.lines]
                 self.must(f"{begins} {ends}", "|".join(filter(None, (
                     finding.words for finding in found))) == wanted and any(
@@ -126,7 +127,7 @@ class Cues(Case):
             ([Delays(Counter(), Counter([0]), [], [])], (5, 100), "--within 1"),
             ([Delays(Counter([3]), Counter([0]), [], [])], (50, 100), "--within 3|--late 3:1/0:1")]
         for delays, off, wanted in of_off:
-            found = [*late_found(delays, [], off)]
+            found = [*propose_lateness(delays, [], off)]
             self.check(f"{delays}, {off} off", "|".join(filter(None, (
                 finding.words for finding in found))), wanted)
         names = [f"n{at}" for at in range(NAMED + 2)]
@@ -135,26 +136,26 @@ class Cues(Case):
             self.must(f"{count} names", named_lines("what", names[:count]) == (
                 [] if end is None else [f"what: {'; '.join(names[:min(count, NAMED)])}{end}"]))
         for headers, keeping, is_alone in itertools.product((9, 20, 21), (0, 1), (False, True)):
-            found_words = keeping_of(headers, keeping, is_alone).words
+            found_words = propose_keeping(headers, keeping, is_alone).words
             self.must(f"{keeping} of {headers}, {is_alone}", bool(found_words) == (
                 keeping > 0 and headers < 21 and is_alone))
 
     def test_ignores_delays_of_fewer_than_one_cue_in_twenty(self) -> None:
-        self.check_each(lambda delays: dict(usual_in(Counter(delays))), {
+        self.check_each(lambda delays: dict(remove_unusual(Counter(delays))), {
             "none": (({},), {}), "one alone": (({5: 1},), {5: 1}),
             "one of twenty": (({0: 19, 5: 1},), {0: 19, 5: 1}),
             "one of 21": (({0: 20, 5: 1},), {0: 20}),
             "two of 40, each alone": (({0: 38, 4: 1, 5: 1},), {0: 38, 4: 1}),
             "a tail": (({0: 45, 1: 4, 2: 1},), {0: 45, 1: 4})})
         late = Delays(Counter({0: 89, 5: 1}), Counter({0: 90}), [], [], [(5, "x begins late")])
-        found = [*late_found([late], [])]
+        found = [*propose_lateness([late], [])]
         self.check("one of 90", ("".join(one.words for one in found), found[0].lines[1]), (
             "", "later than usual, which --within then refuses: x begins late"))
         late = late._replace(begins=Counter({0: 19, 5: 1}))
-        self.check("one of 20", next(late_found([late], [])).lines[1:], [])
+        self.check("one of 20", next(propose_lateness([late], [])).lines[1:], [])
 
     def test_proposes_the_option_of_all_headers(self) -> None:
-        self.check_each(lambda *sent: option_of(sent, "english").words, {
+        self.check_each(lambda *sent: propose_option(sent, "english").words, {
             "none": ((), ""), "one": (("german",), "--option german"),
             "two": (("german", "english"), "")})
 
@@ -185,8 +186,8 @@ class Parts(Case):
                 for at in (places[part], places[part] + 1):
                     changed[at] = (sent[at][0], [KINDS[what], *sent[at][1][1:]])
             path = self.write("one.pes", pes_file(with_pauses(changed, 130)))
-            found = measured(request_for(stl, path, "--breaks", "1", "--origin", f"{ORIGIN}"),
-                             typed,
+            found = measure_recording(
+                request_for(stl, path, "--breaks", "1", "--origin", f"{ORIGIN}"), typed,
                              self.path(f"{number}"))
             self.must(f"{what} in {part}", ([(one.longest, len(one.exceptions))
                                              for one in found.repeats], found.headers,

@@ -10,7 +10,8 @@ from typing import Any, Sequence
 from developing.pes import data_field, pes_packet, pts_in, teletext_packets
 from subtitles.cli.main import make_parser
 from subtitles.cli.measure import (
-    Delays, Measured as Shown, every_of, measure, never_words, pace_found, profile_lines)
+    Delays, Measured as Shown, explain_omission, measure, profile_lines, propose_every,
+    propose_pace)
 from subtitles.common.program import TOP, read
 from subtitles.common.times import TICKS, time_of
 from subtitles.request.lines import profile_at, read_options
@@ -252,12 +253,12 @@ class Profiles(Case):
             (paces, "--pace 4"), (paces[:1], "--pace 2"), ([], ""),
             ([*paces, Pace(PAUSED, 9, 9)], "")]
         for some, words in rows:
-            self.must(f"{some}", pace_found(some).words == words, pace_found(some))
+            self.must(f"{some}", propose_pace(some).words == words, propose_pace(some))
 
     def test_proposes_the_longest_distance_of_repeats(self) -> None:
         several = [Repeats(9, 30, 5, 25), Repeats(8, 50, 7, 26), Repeats(3, 40, 9, None)]
         for some in itertools.permutations(several):
-            found = every_of(some)
+            found = propose_every(some)
             self.must(f"{some}", (found.words, *found.lines) == (
                 "--every 50", "every: at most 50 frames from one header of the page to the next, "
                 "first from 00:00:00:07 on, in 20 headers; 26 are usual"), found)
@@ -424,4 +425,4 @@ class Profiles(Case):
                 ("row=3", "no site moves all by more than 2 rows"),
                 ("strip=03", "it removes something that viewers see"),
                 ("after=0A", "10 subtitles have to show it, 9 in 10 of them as they were sent")):
-            self.assertEqual(never_words(text), words, text)
+            self.assertEqual(explain_omission(text), words, text)

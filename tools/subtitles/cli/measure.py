@@ -74,7 +74,7 @@ class Sending(NamedTuple):
 # How often the page is repeated.
 
 
-def every_of(several: Sequence[Repeats]) -> Finding:
+def propose_every(several: Sequence[Repeats]) -> Finding:
     """Propose --every: the maximum distance between two headers of the page in all recordings."""
     if not several:
         return Finding("", ["every: there are too few headers of the page"])
@@ -99,7 +99,7 @@ WHY_NONE = {
     "too close together, to show a loss"}
 
 
-def pace_found(paces: Sequence[Pace]) -> Finding:
+def propose_pace(paces: Sequence[Pace]) -> Finding:
     """Propose a maximum PES interval (--pace) for all recordings."""
     frames = [one.frames for one in paces]
     known = [one for one in frames if one is not None]
@@ -126,8 +126,8 @@ class Delays(NamedTuple):
     late: Sequence[tuple[int, str]] = ()
 
 
-def delays_of(stl: str, subtitles: Sequence[Subtitle], held: Timeline, option: NationalOption) \
-        -> Delays:
+def measure_delays(stl: str, subtitles: Sequence[Subtitle], held: Timeline,
+                   option: NationalOption) -> Delays:
     """Measure the delays of a file's cues by the decoded text. If two subtitles adjoin, the end of
     one is the begin of the next."""
     late = list[tuple[int, str]]()
@@ -141,14 +141,14 @@ def delays_of(stl: str, subtitles: Sequence[Subtitle], held: Timeline, option: N
                          for at in (place - 1, place + 1))
         is_new = before is None or rows[place - 1][1] != letters \
             or before.end + APART < subtitle.begin
-        first = begun(held, subtitle, letters, APART if is_new else 0)
+        first = find_text_begin(held, subtitle, letters, APART if is_new else 0)
         if first is None:
             delays.unseen.append(name)
             continue
         if is_new and first > held.first:
             take(delays.begins, delays.early, late, first - subtitle.begin, f"{name} begins")
         if after is None or after.begin > subtitle.end:
-            last = ended(held, subtitle, letters, first,
+            last = find_text_end(held, subtitle, letters, first,
                          FRAMES_OF_A_DAY if after is None else after.begin)
             if last < held.last:
                 take(delays.ends, delays.early, late, last + 1 - subtitle.end, f"{name} ends")
@@ -166,7 +166,7 @@ def take(counts: collections.Counter[int], early: list[str], late: list[tuple[in
         late.append((delay, f"{name} {counted(delay, 'frame')} late"))
 
 
-def usual_in(delays: collections.Counter[int]) -> collections.Counter[int]:
+def remove_unusual(delays: collections.Counter[int]) -> collections.Counter[int]:
     """Return the delays without the longest ones that are so few that they are no habit."""
     usual, rest = collections.Counter(delays), 0
     for delay in sorted(delays, reverse=True):
@@ -177,7 +177,7 @@ def usual_in(delays: collections.Counter[int]) -> collections.Counter[int]:
     return usual
 
 
-def begun(held: Timeline, subtitle: Subtitle, letters: bytes, earlier: int) -> int | None:
+def find_text_begin(held: Timeline, subtitle: Subtitle, letters: bytes, earlier: int) -> int | None:
     """Return the first frame with the text of a subtitle, from `earlier` frames before its TCI on.
     """
     numbers = held.numbers(max(subtitle.begin - earlier, 0), subtitle.end)
@@ -185,7 +185,8 @@ def begun(held: Timeline, subtitle: Subtitle, letters: bytes, earlier: int) -> i
                  if letters_on(held.pages[number]) == letters), None)
 
 
-def ended(held: Timeline, subtitle: Subtitle, letters: bytes, first: int, limit: int) -> int:
+def find_text_end(held: Timeline, subtitle: Subtitle, letters: bytes, first: int,
+                  limit: int) -> int:
     """Return the last frame with the text of a subtitle, from `first` up to some frames after its
     TCO."""
     end = min(subtitle.end + MOST_WITHIN + 1, limit)
@@ -194,7 +195,7 @@ def ended(held: Timeline, subtitle: Subtitle, letters: bytes, first: int, limit:
                if letters_on(held.pages[number]) == letters)
 
 
-def late_found(several: Sequence[Delays], without: Sequence[str],
+def propose_lateness(several: Sequence[Delays], without: Sequence[str],
                off_frame: tuple[int, int] = (0, 0)) -> Iterator[Finding]:
     """Propose --within and --late from the recordings whose clock was given; `without` are the
     others. `off_frame` are the PTS that are off their frames, and all PTS: if many are off,
@@ -211,9 +212,9 @@ def late_found(several: Sequence[Delays], without: Sequence[str],
     begins, ends = collections.Counter[int](), collections.Counter[int]()
     for delays in several:
         begins, ends = begins + delays.begins, ends + delays.ends
-    lines += [f"within, late: in-cues {counts_text(begins)}; out-cues {counts_text(ends)} (frames "
-              "late:how many)"]
-    begins, ends = usual_in(begins), usual_in(ends)
+    lines += [f"within, late: in-cues {format_delays(begins)}; out-cues {format_delays(ends)} "
+              "(frames late:how many)"]
+    begins, ends = remove_unusual(begins), remove_unusual(ends)
     lines += named_lines("early, which no option accepts", [
         name for one in several for name in one.early])
     lines += named_lines("text never sent", [
@@ -233,7 +234,7 @@ def late_found(several: Sequence[Delays], without: Sequence[str],
     yield Finding(f"--late {late_text(shares)}", [])
 
 
-def counts_text(counts: collections.Counter[int]) -> str:
+def format_delays(counts: collections.Counter[int]) -> str:
     """Return delays and their counts as `0:31, 1:40`, or `none`."""
     return ", ".join(f"{delay}:{count}" for delay, count in sorted(counts.items())) or "none"
 
@@ -249,7 +250,7 @@ def named_lines(what: str, names: Sequence[str]) -> list[str]:
 # Whether headers that repeat the page keep it, and their national option.
 
 
-def keeping_of(headers: int, keeping: int, is_alone: bool) -> Finding:
+def propose_keeping(headers: int, keeping: int, is_alone: bool) -> Finding:
     """Propose --keeping if many of the headers keep the page; `is_alone`: no header has another
     fault."""
     lines = [f"keeping: C4 (erase page) is clear in {keeping} of {counted(headers, 'header')}"]
@@ -261,7 +262,7 @@ def keeping_of(headers: int, keeping: int, is_alone: bool) -> Finding:
     return Finding("--keeping" if is_habit and is_alone else "", lines)
 
 
-def option_of(options: Iterable[str], judged: str) -> Finding:
+def propose_option(options: Iterable[str], judged: str) -> Finding:
     """Propose the national option that all headers have."""
     sent = sorted(options)
     lines = [f"option: {' and '.join(sent) or 'unknown'} by C12 to C14 of the headers; the text "
@@ -275,7 +276,7 @@ def option_of(options: Iterable[str], judged: str) -> Finding:
 SPACE_IN_BOX = re.compile(rb"^[\x00-\x1f]*\x0b[\x00-\x1f]* | [\x00-\x1f]*\x0a[\x00-\x1f]*$")
 
 
-def layout_found(sendings: Sequence[Sending], option: NationalOption) -> Finding:
+def propose_layout(sendings: Sequence[Sending], option: NationalOption) -> Finding:
     """Propose the layout that draws nearly all subtitles as sent, with counterexamples; otherwise
     say why there is none, with the nearest."""
     closest, choice = choices_of([sending.sent for sending in sendings], option)
@@ -285,21 +286,22 @@ def layout_found(sendings: Sequence[Sending], option: NationalOption) -> Finding
     text = layout_text(choice.layout)
     if not choice.is_clear:
         nearest = choice if closest.is_clear else closest
-        return Finding("", [*no_layout(nearest, sendings, option), *left_lines(choice)])
+        return Finding("", [*explain_missing_layout(nearest, sendings, option),
+                            *list_omitted_items(choice)])
     rests = [f"{rest.text} is based on {rest.decides}, of which {rest.drawn} were sent so"
              for rest in choice.items]
-    lines = ["; ".join([f"layout: {counts_words(choice)}", *rests])]
+    lines = ["; ".join([f"layout: {format_counts(choice)}", *rests])]
     return Finding(f"--layout {quoted(text)}" if text else "", [
-        *lines, *against_lines(choice, sendings, option), *left_lines(choice)])
+        *lines, *list_counterexamples(choice, sendings, option), *list_omitted_items(choice)])
 
 
-def left_lines(choice: Choice) -> list[str]:
+def list_omitted_items(choice: Choice) -> list[str]:
     """Return which items would draw more subtitles as sent but are not proposed, and why."""
-    return [f"{left.text} would draw {left.more} more of {choice.total}: {never_words(left.whole)}"
-            for left in choice.left]
+    return [f"{left.text} would draw {left.more} more of {choice.total}: "
+            f"{explain_omission(left.whole)}" for left in choice.left]
 
 
-def against_lines(choice: Choice, sendings: Sequence[Sending], option: NationalOption) \
+def list_counterexamples(choice: Choice, sendings: Sequence[Sending], option: NationalOption) \
         -> Iterator[str]:
     """Yield the subtitles that a layout draws differently than they were sent."""
     others = [one for one in sendings if not draws(choice.layout, one.sent, option)]
@@ -317,19 +319,19 @@ def page_text(choice: Choice, sent: Sent, option: NationalOption) -> str:
         format_cells(page_rows(lines))
 
 
-def no_layout(nearest: Choice, sendings: Sequence[Sending], option: NationalOption) \
+def explain_missing_layout(nearest: Choice, sendings: Sequence[Sending], option: NationalOption) \
         -> Iterator[str]:
     """Yield why no layout is proposed: the nearest one, and what no layout can do."""
     others = [sending.sent for sending in sendings
               if not draws(nearest.layout, sending.sent, option)]
     text = layout_text(nearest.layout)
     yield f"layout: none is proposed. The nearest, {text or 'that without --layout'}, draws " \
-        f"{counts_words(nearest)}; {TENTHS} in 10 are needed"
+        f"{format_counts(nearest)}; {TENTHS} in 10 are needed"
     for words, is_one in KINDS:
         count = sum(is_one(sent, nearest, option) for sent in others)
         if count:
             yield f"{words} in {count} of the {len(others)} others: no layout can do that"
-    yield from against_lines(nearest, sendings, option)
+    yield from list_counterexamples(nearest, sendings, option)
 
 
 def is_spaced(sent: Sent, _: Choice, option: NationalOption) -> bool:
@@ -351,7 +353,7 @@ KINDS: Sequence[tuple[str, Callable[[Sent, Choice, NationalOption], bool]]] = (
     ("a space is in the box", is_spaced), ("lines form a block, aligned left,", is_block))
 
 
-def sendings_of(stl: str, subtitles: Iterable[Subtitle], held: Timeline, option: NationalOption) \
+def find_sendings(stl: str, subtitles: Iterable[Subtitle], held: Timeline, option: NationalOption) \
         -> list[Sending]:
     """Return the subtitles of a file whose text was decoded at their time, with the decoded page.
     """
@@ -359,7 +361,7 @@ def sendings_of(stl: str, subtitles: Iterable[Subtitle], held: Timeline, option:
             for sent in sent_in([subtitle], held, option)]
 
 
-def never_words(text: str) -> str:
+def explain_omission(text: str) -> str:
     """Return why a layout that draws more subtitles is not proposed."""
     layout = layout_of(text) or PLAIN
     brought, taken = layout.before + layout.behind, taken_from(layout)
@@ -373,7 +375,7 @@ def never_words(text: str) -> str:
         f"{FEWEST} subtitles have to show it, {TENTHS} in 10 of them as they were sent"
 
 
-def counts_words(choice: Choice) -> str:
+def format_counts(choice: Choice) -> str:
     """Return how many subtitles are drawn as they were sent."""
     return f"{choice.drawn} of {counted(choice.total, 'subtitle')} as they were sent"
 
@@ -416,16 +418,16 @@ class Measured(NamedTuple):
 
 def measure(words: argparse.Namespace, called: str) -> int:
     """Print the profile of the pairs of a call; return the exit status."""
-    typed, requests = CommandWords(called, words.program), requests_of(words)
+    typed, requests = CommandWords(called, words.program), read_requests(words)
     with temporary_folder("subttx-qc-") as folder:
-        recordings = [measured(request, typed, os.path.join(folder, str(number)))
+        recordings = [measure_recording(request, typed, os.path.join(folder, str(number)))
                       for number, request in enumerate(requests)]
         lines = [*profile_lines(requests, recordings)]
         path = os.path.join(folder, "profile")
         with open(path, "w", encoding="utf-8", errors="surrogateescape") as file:
             file.writelines(f"{line}\n" for line in lines)
         settings = profile_at(path).settings.values()
-        lines += judged_lines([dataclasses.replace(request, **{
+        lines += list_refused([dataclasses.replace(request, **{
             setting.field: setting.value for setting in settings}) for request in requests], typed,
             folder)
     for line in lines:
@@ -433,7 +435,7 @@ def measure(words: argparse.Namespace, called: str) -> int:
     return 0
 
 
-def requests_of(words: argparse.Namespace) -> list[Request]:
+def read_requests(words: argparse.Namespace) -> list[Request]:
     """Return the pairs of a call, given as arguments or in a list."""
     names = words.measure
     if len(names) == 1 and not is_stl(names[0]):
@@ -462,15 +464,15 @@ def requests_in(path: str, words: argparse.Namespace) -> list[Request]:
     return [item.asked for item in items if item.asked]
 
 
-def measured(request: Request, typed: CommandWords, folder: str) -> Measured:
+def measure_recording(request: Request, typed: CommandWords, folder: str) -> Measured:
     """Measure a recording; raise `Stop` if that fails."""
     os.mkdir(folder)
     try:
         refuse_files(request)
-        found = of_pair(pair_of(request, typed, folder))
+        found = measure_pair(pair_of(request, typed, folder))
         if len(found.options) == 1 and request.option not in found.options:
             request = dataclasses.replace(request, option=min(found.options))
-            found = of_pair(pair_of(request, typed, folder))
+            found = measure_pair(pair_of(request, typed, folder))
         return found._replace(option=request.option)
     except Unclear as why:
         raise Stop(f"{request.stl} and {request.recording} can't be measured: {why}") from None
@@ -486,7 +488,7 @@ def pair_of(request: Request, typed: CommandWords, folder: str) -> PairJudge:
                      False)
 
 
-def judged_lines(requests: Sequence[Request], typed: CommandWords, folder: str) -> Iterator[str]:
+def list_refused(requests: Sequence[Request], typed: CommandWords, folder: str) -> Iterator[str]:
     """Yield for each recording that the profile does not accept why not; else that it does."""
     refused = 0
     for request in requests:
@@ -505,34 +507,34 @@ def judged_lines(requests: Sequence[Request], typed: CommandWords, folder: str) 
         yield "# By this profile none of these recordings is refused."
 
 
-def of_pair(pair: PairJudge) -> Measured:
+def measure_pair(pair: PairJudge) -> Measured:
     """Measure the recording of a pair."""
     request, option = pair.request, BY_WORD[pair.request.option]
     recording, clocks, subtitles = pair.located_recording
-    parts = [cut_of_part(clocks.search, part) for part in pair.parts_in(
+    parts = [add_part_packets(clocks.search, part) for part in pair.parts_in(
         recording, clocks.alignments, clocks.search, subtitles)]
     times = [(one.begin, one.end) for one in subtitles]
-    sent = [(subtitles_of(part, subtitles), held_near(part)) for part in parts]
+    sent = [(find_subtitles(part, subtitles), decode_pages(part)) for part in parts]
     headers = [part.count_headers() for part in parts]
     sent_options = {word for part in parts for word in part.find_options()}
     word = min(sent_options) if len(sent_options) == 1 else request.option
     return Measured(
-        *pid_of(pair),
+        *find_pid(pair),
         [repeats for part in parts if (repeats := repeats_in(
             part.list_pts(HEADER), part.list_pts()[-1], part.origin or 0, times))],
         [measure_pace(part, times)[0] for part in parts],
-        [delays_of(request.stl, *both, option) for both in sent],
+        [measure_delays(request.stl, *both, option) for both in sent],
         (sum(sum(counts.values()) for counts in headers),
          sum(count for counts in headers for header,
              count in counts.items() if keeps_page(header))),
         not any(describe_control_bits(header, word) for counts in headers for header in counts),
         sent_options,
-        [sending for both in sent for sending in sendings_of(request.stl, *both, option)],
+        [sending for both in sent for sending in find_sendings(request.stl, *both, option)],
         (sum(ticks_after(part.origin or 0, pts) % TICKS > 0 for part in parts
              for pts in part.list_pts()), sum(len(part.list_pts()) for part in parts)))
 
 
-def cut_of_part(programme: PartSearch, part: Part) -> Part:
+def add_part_packets(programme: PartSearch, part: Part) -> Part:
     """Return a part with the PES packets of its time."""
     pes = cut_packets(programme, *part.judged_recording, programme.request.within).range
     if pes is None:
@@ -540,19 +542,19 @@ def cut_of_part(programme: PartSearch, part: Part) -> Part:
     return part.add_packets(pes)
 
 
-def held_near(part: Part) -> Timeline:
+def decode_pages(part: Part) -> Timeline:
     """Return the pages decoded around the frames of a part."""
     recording, frames = part.judged_recording
     return timeline_near(recording.packets, part.request.page, frames.origin, 1,
                          Span(frames.begin, frames.end), part.request.every, frames.packets)
 
 
-def subtitles_of(part: Part, subtitles: Iterable[Subtitle]) -> list[Subtitle]:
+def find_subtitles(part: Part, subtitles: Iterable[Subtitle]) -> list[Subtitle]:
     """Return the subtitles that begin in the frames of a part."""
     return [one for one in subtitles if part.request.between.has(one.begin)]
 
 
-def pid_of(pair: PairJudge) -> tuple[str | None, list[str]]:
+def find_pid(pair: PairJudge) -> tuple[str | None, list[str]]:
     """Return the PID with the page, and lines with the evidence and the announcement in the PMT; no
     PID for a file of PES packets."""
     recording, name = pair.located_recording.recording, pair.request.page_name
@@ -582,25 +584,25 @@ def profile_lines(requests: Sequence[Request], recordings: Sequence[Measured]) -
     counts = [one.headers for one in recordings]
     options = {option for one in recordings for option in one.options}
     findings = [
-        Finding(f"--page {page_name(*first.page)}", []), pid_found(recordings),
-        option_of(options, recordings[0].option),
-        every_of([repeats for one in recordings for repeats in one.repeats]),
-        pace_found([pace for one in recordings for pace in one.paces]),
-        *late_found([delays for one, is_known in zip(recordings, are_known) if is_known
+        Finding(f"--page {page_name(*first.page)}", []), propose_pid(recordings),
+        propose_option(options, recordings[0].option),
+        propose_every([repeats for one in recordings for repeats in one.repeats]),
+        propose_pace([pace for one in recordings for pace in one.paces]),
+        *propose_lateness([delays for one, is_known in zip(recordings, are_known) if is_known
                      for delays in one.delays],
                     [request.recording or "" for request, is_known in zip(requests, are_known)
                      if not is_known],
                     (sum(one.off_frame[0] for one in recordings),
                      sum(one.off_frame[1] for one in recordings))),
-        keeping_of(sum(count for count, _ in counts), sum(count for _, count in counts),
+        propose_keeping(sum(count for count, _ in counts), sum(count for _, count in counts),
                    all(one.is_alone for one in recordings)),
-        layout_found([sending for one in recordings for sending in one.sendings],
+        propose_layout([sending for one in recordings for sending in one.sendings],
                      BY_WORD[recordings[0].option])]
     for finding in findings:
         yield from finding.all()
 
 
-def pid_found(recordings: Sequence[Measured]) -> Finding:
+def propose_pid(recordings: Sequence[Measured]) -> Finding:
     """Propose the PID if it is the same in all recordings."""
     pids = {one.pid for one in recordings}
     lines = [f"pid: {line}"
