@@ -14,14 +14,14 @@ cli        what a call does: a pair, many pairs, a folder; what tools/install do
 air        programmes on air: what tools/air records and judges
 
 Where is                               See
-a call for one pair, step by step      cli/single.py, then `Pair.judge` of judging/pair.py
+a call for one pair, step by step      cli/single.py, then `PairJudge.judge` of judging/pair.py
 the PID chosen                         recording/recording.py `Recording.chosen`
 the origin found                       clock/origin.py `find`
 a part made, step by step              judging/pair.py `judge_part`, its values judging/part.py
 the PES packets taken                  stream/ranges.py `cut_of`
 a hole of 16 TS packets found          stream/pace.py `pace_of`, for a part judging/timing.py
 the verdict decided                    judging/status.py `decide`
-the sentence of the last line made     judging/sentence.py `sentence_of`
+the sentence of the last line made     judging/sentence.py `write_sentence`
 an option added                        request/request.py `OPTIONS`
 a member of a JSON result added        results/schema.py
 """
