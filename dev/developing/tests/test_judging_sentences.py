@@ -303,7 +303,7 @@ class EmptyRanges(ProgrammeCase):
         for words in ((), ("--origin", "0")):
             for pes, is_none in (("100-200", True), ("7-7", True), ("6-200", False)):
                 judged = self.judge(self.sent[:7], "--pes", pes, *words)
-                path = self.path("one.pes") \
+                path = self.path("one.pes")
                 printed = f"{path} has 7 PES packets, 0-6: --pes {pes} is outside " \
                        "of them"
                 self.must(f"{pes} {words}", (printed in judged.told) == is_none and
