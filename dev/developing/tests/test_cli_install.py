@@ -134,7 +134,7 @@ class Installation(Case):
         home = self.path("prefix/lib/subttx")
         paths = [path for path in glob.glob(os.path.join(home, "**", "*.md"), recursive=True)
                  if os.path.relpath(path, home) in documents()]
-        self.must("documents", len(paths) > 30, paths)
+        self.must("documents", len(paths) > 20, paths)
         count = 0
         for path in paths:
             text = read(path) or ""
@@ -162,7 +162,7 @@ class Installation(Case):
 
         paths = glob.glob(os.path.join(TOP, "docs", "manual", "*.md"))
         manual = "".join(read(path) or "" for path in paths)
-        headings = re.findall(r"^## `(\w+) (.*)`$", manual, re.MULTILINE)
+        headings = re.findall(r"^##+ `(\w+) (.*)`$", manual, re.MULTILINE)
         self.must("commands", offered("subttx", "") == {name for name, _ in headings}, headings)
         for name, words in headings:
             options = set(re.findall(r"--[\w-]+", words))

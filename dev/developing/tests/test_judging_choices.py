@@ -138,8 +138,9 @@ class Choices(Case):
         manual = read(os.path.join(TOP, "docs", "manual", "qc.md")) or ""
         rule = manual.partition('<a id="what-qc-chooses">')[2].partition("<a id=")[0]
         rule = " ".join(rule.split())
-        words = {"pid": "the PID that the programme announces", "origin": "a clock",
-                 "pes": "the PES packets of the time", "pace": "a pace", "option": "`--option`"}
+        words = {"pid": "the announced PID", "origin": "a clock",
+                 "pes": "the PES packets within the programme's time", "pace": "a pace",
+                 "option": "`--option`"}
         for what in CHOICES:
             self.must(what, words[what] in rule, rule)
         for option in ("layout", "within", "keeping", "breaks", "every", "option", "allow-lost",
