@@ -1,8 +1,6 @@
 """The lines about a PID with Teletext: its PES packets, gaps, pages."""
 from __future__ import annotations
 
-from typing import NamedTuple
-
 from developing.every_place.reading import LENGTH, START, head_fault, length_at, units_of
 from developing.every_place.recordings import Stretch
 from developing.pes import (address_of, data_field, has_pts, header_of, page_in, pts_in,
@@ -123,14 +121,6 @@ class PesLines:
                  f"{int(is_cut)} {number(last_pts)}")
 
 
-class Waiting(NamedTuple):
-    """A jump of the PCR that waits for its line: the PTS before and after it."""
-
-    jump: Jump
-    before: int | None
-    after: int | None
-
-
 class Teletext:
     """A PID with Teletext."""
 
@@ -152,7 +142,8 @@ class Teletext:
         # Next to other clocks.
         self.aheads, self.leads, self.picture = Seconds(), Seconds(), 0
         self.settled: int | None = None  # the last PTS before the last PCR
-        self.waiting: list[Waiting] = []
+        # Jumps of the PCR that wait for their lines, with the PTS before and after.
+        self.waiting: list[tuple[Jump, int | None, int | None]] = []
 
     def take(self, packet: Packet) -> int | None:
         """Take a TS packet of the PID; return the PTS that is now known."""
@@ -205,24 +196,24 @@ class Teletext:
             self.lines.read(self.part[:length])
 
     def mark(self) -> None:
-        """A gap marker, if something is missing after a PES packet."""
+        """Print a gap marker if something is missing after a PES packet."""
         if self.has_gap and self.lines.count:
             self.lines.gap(self.lost, self.scrambled_there)
         self.has_gap, self.lost, self.scrambled_there = False, 0, 0
 
     def time(self) -> int | None:
-        """The PTS of the PES packet that began last, once it is known."""
+        """Return the PTS of the PES packet that began last, once it is known."""
         if self.is_timed or not self.begins or self.part[:4] != PES_START or not has_pts(self.part):
             return None
         self.is_timed, self.last_pts = True, pts_in(self.part)
-        self.waiting = [one._replace(after=self.last_pts) if one.after is None else one
-                        for one in self.waiting]
+        self.waiting = [(jump, before, self.last_pts if after is None else after)
+                        for jump, before, after in self.waiting]
         return self.last_pts
 
     def note_pcr(self, jump: Jump | None) -> None:
-        """A PCR of the programme came."""
+        """Note a PCR of the programme."""
         if jump:
-            self.waiting.append(Waiting(jump, self.settled, None))
+            self.waiting.append((jump, self.settled, None))
             if len(self.waiting) > MOST_JUMPS:
                 self.print_jump()
         self.settled = self.last_pts
