@@ -215,7 +215,10 @@ class RecordingEnds(ProgrammeCase):
                 "the others"], "all 10 subtitles appeared 2 frames late"),
             ("the last one is cut off", 0, (100, 1050), [
                 "74: 1 of 10 subtitles was not recorded completely; --to 00:00:38:11 judges the "
-                "others"], "the recording ends before the last TCO")]
+                "others"], "the recording ends before the last TCO"),
+            ("the ninth one ends in the last frame", 0, (100, 960), [
+                "74: 1 of 10 subtitles was not recorded completely; --to 00:00:38:11 judges the "
+                "others"], "")]
         for name, frames, (first, last), hints, sentence in rows:
             sent = [(pts, some) for pts, some in self.sent
                     if first * TICKS <= pts <= last * TICKS]
