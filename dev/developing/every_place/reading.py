@@ -1,8 +1,8 @@
 """Parse subtitle files, PES packets and page headers as the standards say, and find their faults.
 
 EBU Tech 3264 is for subtitle files, EN 300 472 for PES packets, EN 300 706 for Teletext packets,
-docs/manual/reference.md for limits. Fault numbers are those of the manual's tables. Nothing here was
-written from the program's sources.
+docs/manual/reference.md for limits. Fault numbers are those of the manual's tables. Nothing here
+was written from the program's sources.
 """
 from __future__ import annotations
 

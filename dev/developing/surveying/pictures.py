@@ -84,7 +84,7 @@ class Video:
         if is_break or is_announced or packet.is_wrong:
             self.header = None
         self.lost += self.is_in_group and is_break and not is_announced \
-            and packet.payload != b""
+            and (packet.payload != b"" or before is not None and packet.counter == before.counter)
         self.scrambled += self.is_in_group and packet.is_scrambled
         self.stretch = Stretch(packet)
 
