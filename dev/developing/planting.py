@@ -116,7 +116,7 @@ class LoadedCopy:
         tempfile.tempdir = os.environ["TMPDIR"] = os.path.join(top, "temporary")
         os.makedirs(tempfile.tempdir, exist_ok=True)
         bench.BENCH.chosen = program
-        self.units = {unit_name(unit): unit for unit in runner.in_units(runner.found([]))}
+        self.units = {unit_name(unit): unit for unit in runner.group_tests(runner.find_tests([]))}
 
     def reload(self) -> None:
         """Load the tests, and what they import, again."""

@@ -192,7 +192,7 @@ class Members(unittest.TestCase):
                                    judged_file=SummedFile("a.cut.pes", 5, "sum"))
         for count in (0, 1, 1_000_000):
             many: Any = SimpleNamespace(verdict="refused", line="l", frames=3, transmissions=1,
-                                        count=count)
+                                        fault_count=count)
             words = JUDGED_PART.made(PartOf(dataclasses.replace(part, check_output=many), False))
             self.assertEqual((words["fault_count"], words["verdict"], words["line"]),
                              (count, "refused", "l"), count)

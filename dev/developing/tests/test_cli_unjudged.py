@@ -49,7 +49,7 @@ class UnjudgedPairs(Case):
         rows: list[tuple[str, str, str, str]] = [
             ("in use", "", "", "another call is writing the files of one"),
             ("an input", "", "--severity out/one.html", "is also an input: give another name"),
-            ("no result", "", "", "is no result of these tools"),
+            ("no result", "", "", "is not a result of these tools"),
             ("no pair", "none.ts", "", "none.ts: No such file")]
         before = os.getcwd()
         self.addCleanup(os.chdir, before)
@@ -99,7 +99,7 @@ class UnjudgedPairs(Case):
             self.must("in use", calls.start(item) and calls.in_use == {"one"})
         self.write("out/one.html", b"theirs")
         row = calls.start(item)
-        self.must("no result", row and "is no result" in row.line and not calls.in_use, row)
+        self.must("no result", row and "is not a result" in row.line and not calls.in_use, row)
 
     def test_runs_at_most_as_many_pairs_as_requested(self) -> None:
         for jobs, count in itertools.product((1, 2, 3), range(4)):
@@ -173,7 +173,7 @@ class UnjudgedPairs(Case):
             row = calls.finish(call)
             self.must(f"{verdict} {status} {is_over}", row.verdict == (
                 verdict if counts else "not judged") and call not in calls.over_limit and (
-                    "it took more than 7 seconds" in row.line) == (is_over and not counts) and
+                    "it used more than 7 seconds" in row.line) == (is_over and not counts) and
                 json.loads(self.read("out/one.json"))["verdict"] == row.verdict, row)
 
     def test_takes_the_last_message_as_the_reason(self) -> None:

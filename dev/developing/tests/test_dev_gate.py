@@ -169,7 +169,7 @@ class SelectedTests(Case):
         named = {one for one in modules if not one.endswith("__init__.py")}
         self.must("modules", {one for one in known if one.endswith(".py")} == named,
                   {one for one in known if one.endswith(".py")} ^ named)
-        everything = runner.found([])
+        everything = runner.find_tests([])
         classes = {runner.name_of(one).rpartition(".")[0] for one in everything}
         for module, tests in known.items():
             self.must(module, tests and {*tests} <= classes, {*tests} - classes)
@@ -177,8 +177,8 @@ class SelectedTests(Case):
                            ("tools/qc", "test_cli_earlier_results.")):
             self.must(name, any(test in one for one in table.tests_of(name)))
             self.must(f"{name}: those alone", {runner.name_of(one).rpartition(".")[0]
-                                               for one in runner.found([name])} ==
+                                               for one in runner.find_tests([name])} ==
                       {*table.tests_of(name)})
         self.must("by name", all("test_dev_gate" in one.id()
-                                 for one in runner.found(["test_dev_gate."])))
+                                 for one in runner.find_tests(["test_dev_gate."])))
         self.must("no module", not table.tests_of("subtitles.none"))

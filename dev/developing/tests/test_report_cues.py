@@ -125,7 +125,7 @@ class TextMarkup(Case):
         made: Any = SimpleNamespace(
             rows=[CueRow(at, look, [], [at]) for look in ("ok", "bad") for at in range(203)],
             part=SimpleNamespace(number=1), kinds=[], caption=lambda: "")
-        text = in_page(CueList.list_section(made))
+        text = markup_text(CueList.list_section(made))
         self.check("rows", (text.count('class="bad"'), text.count('class="bad more"')), (200, 3))
         self.must("texts", "203 right subtitles" in text and "and 3 more rows" in text, text[:900])
 

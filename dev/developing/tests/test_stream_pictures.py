@@ -247,7 +247,7 @@ class AnnouncedJumps(Case):
             packets = Packets(PID, [Run(at, 1, pts_of(frame, origin), 0, "-", "")
                                     for at, frame in enumerate(frames)], seams=[2, 3, 4, 5, 6])
             recording: Any = SimpleNamespace(is_stream=True, packets=packets)
-            part: Any = SimpleNamespace(recorded=(recording, None), pes=(0, 7))
+            part: Any = SimpleNamespace(judged_recording=(recording, None), pes=(0, 7))
             reported = find_late_jumps(part, Pace(REGULAR, apart))
             self.must(f"{origin} {apart}", reported == ([
                 (pts_of(one, origin), pts_of(other, origin)) for one, other in late], others),
