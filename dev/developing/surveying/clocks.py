@@ -116,5 +116,5 @@ class Counters:
         if any(one.pid != pid and one.first < jump.last and one.last > jump.first
                for one in self.breaks):
             return "broken"
-        return "whole" if any(other != pid and first < jump.first < self.last[other][1]
+        return "whole" if any(other != pid and first <= jump.first < self.last[other][1]
                               for other, first in self.first.items()) else "unknown"

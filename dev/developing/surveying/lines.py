@@ -22,10 +22,10 @@ def survey(data: bytes, page: Page, pid: int | None = None, size: int | None = N
     lines = ["survey 1", f"head {data[:HEAD_BYTES].hex()}".rstrip()]
     if data.startswith(START) and data[4:5] != b"\x47":
         return lines + pes_file_lines(data, page)
-    size = size or size_of(data)
+    size, is_short = (size, False) if size else size_of(data)
     if size is None:
         return [*lines, "nothing", f"over {len(data)} 0"]
-    return [*lines, f"size {size}", *Stream(page, pid, size).lines_of(data)]
+    return [*lines, f"size {size}", *Stream(page, pid, size).lines_of(data, is_short)]
 
 
 def pes_file_lines(data: bytes, page: Page) -> list[str]:
@@ -60,13 +60,15 @@ class Stream:
         self.place = 0  # of a TS packet
         self.counters = Counters()
         self.sections = {0: Sections()}
+        self.printed: dict[tuple[int, int], bytes] = {}  # sections of PMTs
         self.programmes: dict[int, Programme] = {}
         self.clocks: dict[int, Clock] = {}
         self.teletext: dict[int, Teletext] = {}
         self.video: dict[int, Video] = {}
         self.others: set[int] = set()  # PIDs without Teletext and video
 
-    def lines_of(self, data: bytes) -> list[str]:
+    def lines_of(self, data: bytes, is_short: bool) -> list[str]:
+        """Return the lines; in a short recording the last lines of `pes` come late."""
         if self.asked is not None:
             self.follow(self.asked)
         skipped = 0
@@ -77,13 +79,14 @@ class Stream:
                     teletext.stretch.is_hurt |= one.length >= UNSEEN * self.size
             else:
                 self.take(Packet(one.data))
+        if not is_short:
+            for teletext in self.teletext.values():
+                teletext.lines.flush()
         self.end()
         read = TIME_STAMP * (self.size == TIMED) + skipped + self.place * self.size
         return [*self.lines, f"over {skipped + max(0, len(data) - read)} {self.place}"]
 
     def end(self) -> None:
-        for teletext in self.teletext.values():
-            teletext.lines.flush()
         for teletext in self.teletext.values():
             while teletext.waiting:
                 teletext.print_jump()
@@ -129,10 +132,10 @@ class Stream:
         elif not data.startswith(START):
             self.others.add(packet.pid)
         elif len(data) > 9 and len(data) > 9 + data[8]:
-            if data[9 + data[8]] in DATA_IDENTIFIERS and self.asked is None:
-                self.follow(packet.pid)
-            else:
+            if data[9 + data[8]] not in DATA_IDENTIFIERS:
                 self.others.add(packet.pid)
+            elif self.asked is None:
+                self.follow(packet.pid)
 
     # Tables
 
@@ -140,10 +143,16 @@ class Stream:
         if pid == 0 and section[0] == PAT:
             for one in pids_in(section):
                 self.sections.setdefault(one, Sections())
-        elif pid != 0 and section[0] == PMT and self.sections[pid].is_new(section):
+        elif pid != 0 and section[0] == PMT and self.is_new(section):
             programme = programme_of(section)
             if programme:
                 self.take_programme(programme)
+
+    def is_new(self, section: bytes) -> bool:
+        key = int.from_bytes(section[3:5], "big"), section[6]
+        old = self.printed.get(key)
+        self.printed[key] = section
+        return old != section
 
     def take_programme(self, programme: Programme) -> None:
         self.say(f"programme {programme.number} {programme.clock}")
@@ -174,7 +183,7 @@ class Stream:
         if packet.pcr is None:
             return
         jump = clock.take(packet.pcr, self.place)
-        for pid, teletext in sorted(self.teletext.items()):
+        for pid, teletext in self.teletext.items():
             programme = self.programme_with(pid)
             if programme and programme.clock == clock.pid:
                 teletext.note_pcr(jump)

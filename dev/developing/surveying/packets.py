@@ -23,12 +23,15 @@ class Packet(TransportPacket):
         self.pcr = int.from_bytes(data[6:11], "big") >> 7 if flags & PCR and length >= 7 else None
 
 
-def size_of(data: bytes) -> int | None:
-    """Return the distance of the first five packets in a row, or of all packets up to the end."""
+def size_of(data: bytes) -> tuple[int | None, bool]:
+    """Return the distance of the first five packets in a row, or of all packets up to the end.
+
+    The second value is true if there are fewer than five up to the end.
+    """
     place = data.find(SYNC)
     while 0 <= place <= min(MOST_BYTES, len(data) - PACKET):
         for size in SIZES:
             if all(byte == SYNC for byte in data[place:place + size * IN_A_ROW:size]):
-                return size
+                return size, place + size * (IN_A_ROW - 1) >= len(data)
         place = data.find(SYNC, place + 1)
-    return None
+    return None, True

@@ -83,8 +83,7 @@ class Video:
         is_break = before is not None and packet.counter != (before.counter + 1) % 16
         if is_break or is_announced or packet.is_wrong:
             self.header = None
-        self.lost += self.is_in_group and is_break and not is_announced \
-            and (packet.payload != b"" or before is not None and packet.counter == before.counter)
+        self.lost += self.is_in_group and is_break and not is_announced
         self.scrambled += self.is_in_group and packet.is_scrambled
         self.stretch = Stretch(packet)
 

@@ -32,7 +32,6 @@ class Sections:
     def __init__(self) -> None:
         self.before: Packet | None = None
         self.part: bytes | None = None  # of a section that has begun
-        self.told: dict[tuple[int, int], bytes] = {}
 
     def take(self, packet: Packet) -> Iterator[bytes]:
         """Return the sections that end in a packet."""
@@ -66,12 +65,6 @@ class Sections:
             section, self.part = self.part[:length], self.part[length:]
             if length >= 12 and section[5] & CURRENT and crc(section) == 0:
                 yield section
-
-    def is_new(self, section: bytes) -> bool:
-        key = int.from_bytes(section[3:5], "big"), section[6]
-        old = self.told.get(key)
-        self.told[key] = section
-        return old != section
 
 
 def pids_in(section: bytes) -> Iterator[int]:

@@ -115,6 +115,7 @@ class PesLines:
 
     def end(self, packets: int = 0, scrambled: int = 0, refusal: int = 0, is_cut: bool = False,
             last_pts: int | None = None) -> None:
+        self.flush()
         for page, count in sorted(self.subtitles.items()):
             self.say(f"subs {self.pid} {page_name(*page)} {count}")
         self.say(f"end {self.pid} {self.count} {self.marks} {packets} {scrambled} {refusal} "
