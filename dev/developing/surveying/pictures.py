@@ -115,7 +115,7 @@ class Video:
         pts = pts_in(data) if has_times else None
         self.header = None
         if self.begin(pts, pts_in(data[5:]) if has_times and flags == 3 else pts):  # the DTS
-            self.first, self.kind = b"", self.kind_of(self.pid)
+            self.first = b""
             self.read_first(data[9 + data[8]:])
 
     def read_first(self, data: bytes) -> None:
@@ -133,6 +133,8 @@ class Video:
         if is_first:
             self.say(f"video {self.pid} {self.passed}")
             self.has_begun, self.flagged = True, pts
+            self.kind = self.kind_of(self.pid)
+            self.form = form_of(self.kind, b"")  # known before any byte if H.264
         self.passed += not self.has_begun
         if decoding is not None:
             self.decoding, self.number = decoding, self.count
