@@ -125,7 +125,7 @@ class Steps(Case):
                                        for number in range(1, count + 1)]), mock.Mock()
         verdict.request = request_for("one.stl", "one.pes", *words)
         return PairJudge(verdict, CommandWords("tools/qc", self.bench.program), Names(
-            "one", "", None), nothing, False)
+            "one", self.folder, None), nothing, False)
 
     def test_gives_each_part_its_subtitles_and_files(self) -> None:
         found = [TimedPart(at, at + 9, Clock(0, GIVEN), None, Between(at, at + 10))
