@@ -1,5 +1,4 @@
--- The system calls for an output file after the input was opened, for `open_and_create` and
--- `open_and_extract`.
+-- The system calls that create an output file after the input was opened.
 use Rattle.std.proofs.Common.{◌≡◌, ℕ, Bool, true, false, List, [], ◌∷◌, Option, Some, None}
 use Rattle.std.proofs.Common.{option_map, refl, ◌∙◌}
 use Rattle.sub_files.specs.Apart.{may_create}

@@ -16,8 +16,8 @@ is_apart (At device inode) (At other_device other_inode) =
     not ((device == other_device) && (inode == other_inode))
 is_apart input output = false
 
--- The output file differs from the file to which standard output goes: either is unknown or
--- missing, or they differ in device or inode.
+-- The output is not known to be the file to which standard output goes: either of them was not
+-- found, or they differ in device or inode.
 abbrev pub are_other_files : (standard_output output : Found) → Bool
 are_other_files (At device inode) (At output_device output_inode) =
     not ((device == output_device) && (inode == output_inode))

@@ -3,7 +3,7 @@ use Rattle.std.specs.Prelude.{◌≡◌}
 use Rattle.sub_io.specs.Closing.{Releases}
 use Rattle.sub_io.specs.Counted.{FileValue}
 
--- A written file of std, and the device that checks its size after closing.
+-- The model of a written file, and the device that checks its size after closing.
 pub record CheckedValue (W L : Type 0) : Type 0 where
   pub file : FileValue W
   pub lookup : L

@@ -1,5 +1,5 @@
--- The calls of a device that opens files, with their arguments, order and results. A device may
--- define its calls by `is_call`; otherwise it has `any_file_call`.
+-- The calls of a device that opens files, with their arguments, order and results. A device that
+-- does not define the relation `is_call` has the relation `any_file_call`.
 use Rattle.std.specs.Prelude.{◌≡◌, ℕ, List, [], ◌∷◌, Option}
 use Rattle.sub_files.specs.declared.apart.Found.{Found}
 
@@ -14,13 +14,13 @@ pub data FileCall (I O : Type 0) : Type 0 where
   Open : (name : List ℕ) → Option I → FileCall I O
   -- Creates a file for writing; `None` if the file can't be created.
   Create : (name : List ℕ) → Option O → FileCall I O
-  -- Takes back a file that was read, in the state in which it was left.
+  -- Releases a file that was read, in the state in which it was left.
   ReleaseInput : I → FileCall I O
-  -- Takes back a file that was written, in the state in which it was left.
+  -- Releases a file that was written, in the state in which it was left.
   ReleaseOutput : O → FileCall I O
 
--- The relation of calls of a device about which nothing is known: any state before and after any
--- call is possible.
+-- The call relation of a device about which nothing is known: a call may change any state into any
+-- other state.
 abbrev pub any_file_call : {I O D : Type 0} → D → FileCall I O → D → Type 0
 any_file_call old call new = Unit {0}
 

@@ -24,8 +24,8 @@ bytes_at name files =
     else if bytes_eq files.second.name.now name then Some files.second.bytes.now
     else None
 
--- The result of looking up a file with these bytes. Both files have the same device and inode, so
--- neither is overwritten.
+-- The lookup result for a file with these bytes, or for a missing file. All files in memory have
+-- the same device and inode, so an existing file is never overwritten.
 abbrev pub found_for_bytes : Option (List ℕ) → Found
 found_for_bytes (Some bytes) = At 0 0
 found_for_bytes None = Nothing
@@ -34,8 +34,9 @@ found_for_bytes None = Nothing
 abbrev pub empty_file_with : ℕ → Written
 empty_file_with room = record { bytes = []; room = room; failure_count = 0 }
 
--- The effect of each call. An input file is the list of its bytes still to be read, an output file
--- the bytes written to it. At most one file is created.
+-- The effect of each call on files in memory. An input file is the list of its bytes that are still
+-- to be read, and an output file is the list of the bytes written to it. At most one file is
+-- created.
 abbrev pub IsMemoryCall : MemFilesValue → FileCall (List ℕ) Written → MemFilesValue → Type 0
 IsMemoryCall old (LookUp name found) new = (new ≡ old) ×
     (found ≡ found_for_bytes (bytes_at name old))

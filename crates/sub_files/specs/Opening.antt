@@ -59,7 +59,7 @@ Opens (names.Extract recording output) calls result =
     OpensAndCreates Extract recording output calls result
 Opens _ _ _ = ⊥
 
--- The device made calls that opened the files of a request, or no files.
+-- The device made calls that open the files of a request, with this result.
 pub record OpensBy
     {I O : Type 0} (AreMade : List (FileCall I O) → Type 0) (names : FileNames)
     (result : Option (Opened I O))
@@ -87,7 +87,7 @@ IsUnopened AreMade names usage.Memory = AreMade []
 IsUnopened AreMade names usage.Open = OpensBy AreMade names None
 IsUnopened AreMade names _ = ⊥
 
--- No call of the opened files has failed yet: they are as the device opened and created them.
+-- No call of the opened files has failed yet.
 abbrev pub AreUnused : {I O : Type 0} → (I → ℕ) → (O → ℕ) → Opened I O → Type 0
 AreUnused reads writes Nothing = Unit {0}
 AreUnused reads writes (ReadStl stl) = reads stl ≡ 0

@@ -14,8 +14,8 @@ pub enum Found {
     Unknown,
 }
 
-/// Returns whether creating the output can't empty the input: the output does not exist yet, or is
-/// another file than the input, not only another name of it.
+/// Returns whether the output can be created without emptying the input file: the output does not
+/// exist, or both files were found and differ in device or inode.
 pub fn is_apart(input: Found, output: Found) -> bool
     ensures { result ≡ is_apart input output }
 {
@@ -29,8 +29,8 @@ pub fn is_apart(input: Found, output: Found) -> bool
     }
 }
 
-/// Returns whether the output is another file than the file to which standard output goes: either
-/// is unknown or missing, or they differ in device or inode.
+/// Returns `true` unless standard output goes to the output file: both were found, with the same
+/// device and inode.
 pub fn are_other_files(standard_output: Found, output: Found) -> bool
     ensures { result ≡ are_other_files standard_output output }
 {

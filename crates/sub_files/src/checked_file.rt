@@ -1,7 +1,8 @@
 //! A written file whose size is checked again after it was closed.
 //!
-//! Some file systems report only at closing that nothing was stored, and std ignores the result of
-//! closing. So a file that must be stored is closed, and then its size is looked up.
+//! Some file systems report a failed write only when the file is closed, and std ignores that
+//! result. So a file that must be stored is closed, and its size is then compared with the number
+//! of bytes written.
 ghost use Rattle.std.specs.Prelude.{◌≡◌, ℕ, [], Bool, None, OnOk, Some, false, is_none, length};
 ghost use Rattle.std.specs.Prelude.{true};
 ghost use Rattle.std.specs.Io.Iter.{u64_saturate};
@@ -15,11 +16,11 @@ use sub_io::{Close, Failed, Flush, IntoFile, Release, Sink, Store};
 
 /// A device that looks up the size of a file after the file was closed.
 pub trait SizeLookup {
-    // The relation of the device's state, the number of bytes, and the result of `has_all`.
+    // Relates the device's state and the expected number of bytes to the result of `has_all`.
     ghost is_size_lookup: { Self → ℕ → Bool → Type 0 };
 
-    /// Returns whether the system has this closed file with this many bytes. Returns `true` for a
-    /// pipe, a terminal or another device, which stores nothing.
+    /// Returns whether the closed file has this many bytes. Also returns `true` for a pipe, a
+    /// terminal or another device, which stores nothing.
     fn has_all<W: Write>(&self, file: &IntoFile<W>, length: u64) -> bool
         requires { file.now.device ≡ None }
         ensures { is_size_lookup self.now length result };
@@ -27,7 +28,7 @@ pub trait SizeLookup {
 
 /// A file that is written, stored and closed, and whose size is then checked.
 ///
-/// The model has the file, the device that checks the size, and the number of bytes written.
+/// The model consists of the file and the device that checks the size.
 #[derive(Drop)]
 pub struct CheckedFile<W, L> {
     file: IntoFile<W>,
@@ -48,7 +49,7 @@ impl<W, L> Model for CheckedFile<W, L> {
 }
 
 impl<W: Write, L: SizeLookup> CheckedFile<W, L> {
-    /// Creates a file for a writer of std to which nothing was written yet.
+    /// Creates a file from a writer of std to which nothing was written yet.
     pub fn new(writer: W, lookup: L) -> Self
         ensures { result ≡ record {
           file = record {
@@ -77,16 +78,15 @@ impl<W: Write, L: SizeLookup> Sink for CheckedFile<W, L> {
     ///
     /// # Errors
     ///
-    /// Returns `Failed` for each error of the writer, if the writer takes no byte, and after the
-    /// file was closed.
+    /// Returns `Failed` if the writer fails, if it accepts no byte, or if the file was closed.
     fn push(&mut self, from: &[u8]) -> Result<usize, Failed> {
         let n = self.file.push(from)?;
         self.count = self.count.saturating_add(n as u64);
         Ok(n)
     }
 
-    /// Returns the number of calls that have failed, that wrote no byte or lost bytes, or that came
-    /// after the file was closed.
+    /// Returns the number of failed calls, including calls that wrote no byte or lost bytes, and
+    /// calls after the file was closed.
     fn failures(&self) -> u64 {
         self.file.failures()
     }
@@ -100,7 +100,7 @@ impl<W: Write, L: SizeLookup> Flush for CheckedFile<W, L> {
     ///
     /// # Errors
     ///
-    /// Returns `Failed` for each error of the writer, and after the file was closed.
+    /// Returns `Failed` if the writer fails, or if the file was closed.
     fn flush(&mut self) -> Result<(), Failed> {
         self.file.flush()
     }
@@ -117,11 +117,11 @@ impl<W: Write + Release + Store, L: SizeLookup> Close for CheckedFile<W, L> {
     ///
     /// # Errors
     ///
-    /// Returns `Failed` for each error of the writer, if bytes are lost, if the system then has
-    /// another number of bytes, and after the file was closed.
+    /// Returns `Failed` if the writer fails, if bytes are lost, if the closed file has another
+    /// size, or if the file was closed before.
     fn store(&mut self) -> Result<(), Failed>
         requires { CanFail self.old.file.failure_count }
-        // The file was closed, and the check found all bytes that were written.
+        // On success, the file was closed, and all written bytes were found afterwards.
         ensures closed { OnOk result (self.new.file.device ≡ None) }
         ensures lookup { OnOk result (L.is_size_lookup self.new.lookup
             (u64_saturate (length self.new.file.taken)) true) }
@@ -136,7 +136,7 @@ impl<W: Write + Release + Store, L: SizeLookup> Close for CheckedFile<W, L> {
         if self.lookup.has_all(&self.file, self.count) {
             return Ok(());
         }
-        // After it was closed, the file returns an error for each call, and counts the error.
+        // A closed file returns an error for each call, and counts the error.
         self.file.flush()
     }
 

@@ -1,6 +1,6 @@
-//! Devices of std that print on standard error why a call failed.
+//! Wrappers for devices of std that print on standard error why a call failed.
 //!
-//! The messages are not specified, and change no result.
+//! No contract covers the messages; they do not affect any result.
 ghost use Rattle.std.specs.Prelude.{None};
 
 use std::fs::{Metadata, OpenFile};
@@ -17,7 +17,7 @@ pub struct ErrorReporter<'a, T, E> {
 }
 
 impl<'a, T, E: Eprint> ErrorReporter<'a, T, E> {
-    /// Creates the device, with the name to print for it.
+    /// Creates a reporter for a device, with the device's name for messages.
     pub fn new(inner: T, name: &'a str, errors: &'a E) -> Self {
         ErrorReporter {
             inner,
@@ -27,8 +27,8 @@ impl<'a, T, E: Eprint> ErrorReporter<'a, T, E> {
         }
     }
 
-    /// Creates standard output. If the reader of a pipe has ended, as `head` does, no message is
-    /// printed.
+    /// Creates a reporter for standard output. It prints no message if the reader of a pipe has
+    /// exited, as `head` does.
     pub fn standard_output(inner: T, errors: &'a E) -> Self {
         ErrorReporter {
             inner,
@@ -38,7 +38,7 @@ impl<'a, T, E: Eprint> ErrorReporter<'a, T, E> {
         }
     }
 
-    // Prints that the device could not do `what`.
+    // Prints which operation of the device failed, and the reason.
     fn explain(&self, what: &str, error: &io::Error) {
         if !self.is_standard_output || error.kind() != ErrorKind::BrokenPipe {
             explain(self.errors, what, self.name, error);
@@ -94,7 +94,7 @@ impl<T: OpenFile, E: Eprint> OpenFile for ErrorReporter<'_, T, E> {
         let answer = self.inner.sync_all();
         if let Err(error) = &answer {
             match error.kind() {
-                // A pipe or a device can't be stored, which is no error.
+                // A pipe or a device can't be synchronised to disk; this is not an error.
                 ErrorKind::InvalidInput | ErrorKind::Unsupported => {}
                 _ => self.explain("store", error),
             }

@@ -1,9 +1,9 @@
-//! Opens and creates files: the system, or a device that replaces it in a test.
+//! The interface for opening and creating files, implemented by the operating system and by files
+//! in memory.
 //!
-//! No contract of std says which file the system opens for a name. So clauses are about the calls
-//! of a `FileSystem`, their names and their order. A clause about bytes cannot show what happens to
-//! a file after the result of a command. So each file is returned (`into_inner` of buffers and
-//! readers), and released in the state in which the command left it.
+//! No contract of std says which file the system opens for a name, so clauses specify the calls of
+//! a `FileSystem`, their names and their order. Each file is released at the end, in the state in
+//! which the command left it, so clauses also cover a file after the command's result.
 ghost use Rattle.std.specs.Prelude.{◌≡◌, IfSome, Option};
 ghost use Rattle.sub_files.specs.FileCalls.{FileCall, any_file_call};
 
@@ -18,8 +18,8 @@ pub trait FileSystem {
     /// A file created for writing. The file is closed before or when it is dropped.
     type Output: Close + Drop;
 
-    // The relation of the device's state before a call, the call with its result, and the device's
-    // state after the call.
+    // Relates the device's state before a call, the call with its result, and the device's state
+    // after the call.
     ghost is_call: { Self → FileCall Self.Input Self.Output → Self → Type 0 } = { any_file_call };
 
     /// Looks up a file by its name.
@@ -42,12 +42,12 @@ pub trait FileSystem {
         ensures call { is_call self.old (FileCall.Create name.now result) self.new }
         ensures unused { IfSome result (λ file. Self.Output.failure_count file ≡ 0) };
 
-    /// Takes back a file that was opened for reading, and drops it. So the call shows the state in
-    /// which the file was left.
+    /// Drops a file that was opened for reading. The argument shows the state in which the command
+    /// left the file.
     fn release_input(&mut self, file: Self::Input)
         ensures { is_call self.old (FileCall.ReleaseInput file) self.new };
 
-    /// Takes back a file that was created for writing, and drops it.
+    /// Drops a file that was created for writing.
     fn release_output(&mut self, file: Self::Output)
         ensures { is_call self.old (FileCall.ReleaseOutput file) self.new };
 

@@ -1,7 +1,7 @@
-//! The opened files of a request, each with a type of its own.
+//! Opened files, with a separate type for each purpose.
 //!
-//! Subtitle files, files of PES packets and output files are created only here, from the names that
-//! a request has for each. So none of them can be taken for another.
+//! A subtitle file, a file of PES packets and an output file have different types, and only this
+//! module creates them, from the names in a request. So they cannot be confused.
 ghost use Rattle.std.specs.Prelude.{◌≡◌, IfSome, None, false, true};
 ghost use Rattle.sub_files.specs.Apart.{may_create};
 ghost use Rattle.sub_files.specs.FileCalls.{FileCall};
@@ -102,16 +102,16 @@ pub fn open_pes<D: FileSystem>(files: &mut D, pes: &PesInput<'_>) -> Option<PesF
 /// The results of the lookups before a file is created.
 #[derive(Clone, Copy)]
 pub struct LookedUp {
-    /// The file that has the name of the input.
+    /// The lookup result for the name of the input.
     pub input: Found,
-    /// The file that has the name of the output.
+    /// The lookup result for the name of the output.
     pub output: Found,
-    /// The file to which standard output goes.
+    /// The lookup result for standard output.
     pub standard_output: Found,
 }
 
 /// Creates a file for writing, if the lookups show that this empties neither the input nor the file
-/// to which standard output goes. Otherwise makes no call, and returns `None`.
+/// to which standard output goes. Otherwise returns `None` without a call.
 pub fn create_other_file<D: FileSystem>(
     files: &mut D,
     output: &Output<'_>,

@@ -1,7 +1,7 @@
-//! Files in memory, whose bytes are known to contracts.
+//! Files in memory, whose bytes contracts can refer to.
 //!
-//! The bytes of the system's files are unknown to contracts. So clauses about the bytes of files
-//! are shown for files in memory.
+//! Contracts know nothing about the bytes of the system's files, so clauses about bytes are proved
+//! for files in memory.
 ghost use Rattle.std.specs.Prelude.{◌≡◌, option_map};
 ghost use Rattle.sub_files.specs.MemoryFiles.{IsMemoryCall, bytes_at};
 
@@ -18,13 +18,13 @@ pub struct MemFile<'a> {
     pub bytes: &'a [u8],
 }
 
-/// Two files in memory, the most that a request reads, and room for one created file. Reading these
-/// files never fails.
+/// Two files in memory, since a request reads at most two, and memory for one created file. Reading
+/// these files never fails.
 #[derive(Drop)]
 pub struct MemFiles<'a> {
     first: MemFile<'a>,
     second: MemFile<'a>,
-    // The room for a created file; `None` after a file was created.
+    // The memory for a created file; `None` after a file was created.
     room: Option<&'a mut [u8]>,
 }
 
@@ -44,7 +44,7 @@ impl<'a> Model for MemFiles<'a> {
 impl<'a> MemFiles<'a> {
     ghost use Rattle.std.specs.Prelude.{Some, length};
 
-    /// Creates a device with these files, and with `room` for the bytes of a created file.
+    /// Creates a device with these files, and with `room` as the memory for a created file.
     pub fn new(first: MemFile<'a>, second: MemFile<'a>, room: &'a mut [u8]) -> Self
         ensures { result ≡ record {
           first = first.entry;

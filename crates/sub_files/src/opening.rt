@@ -1,7 +1,7 @@
 //! Opens the files that a request names.
 //!
-//! Callers get only the opened files, so no function that takes the files also has the device that
-//! opened them, or the lines of the output.
+//! The functions return only the opened files. So code that reads or writes these files has no
+//! access to the device that opened them.
 ghost use Rattle.std.specs.Prelude.{◌≡◌, ◌≤◌, [], ◌∷◌, IfSome, vec_len};
 ghost use Rattle.sub_files.specs.FileCalls.{CallsInOrder, FileCall};
 ghost use Rattle.sub_files.specs.Opening.{AreUnused, OpensBy, buffers_size};
@@ -13,7 +13,7 @@ use crate::files::{
 use std::alloc::Global;
 use sub_request::{FileNames, Output, PesInput, StlInput};
 
-/// The size of a buffer in bytes: the maximum that a system call reads or writes at once.
+/// The size of a buffer in bytes, which is the maximum for one system call.
 pub const BUFFER: usize = 0x1_0000;
 
 /// The opened files of a request.

@@ -21,8 +21,10 @@ pub const NAMES: usize = 2 * 4096;
 // The path of the link to the file to which standard output goes.
 const STANDARD_OUTPUT: &str = "/proc/self/fd/1";
 
-/// The files of the operating system. No contract says what the system returns, so each call is the
-/// call of `std::fs` with the same name, and prints on standard error why it failed.
+/// The files of the operating system.
+///
+/// No contract says what the system returns, so each method only calls the function of `std::fs`
+/// with the same name. If the call fails, the reason is printed on standard error.
 #[derive(Drop)]
 pub struct SystemFiles<'a, R> {
     rt: &'a R,
@@ -31,8 +33,8 @@ pub struct SystemFiles<'a, R> {
 }
 
 impl<'a, R: Files + Eprint> SystemFiles<'a, R> {
-    /// Creates a device for the files that this runtime opens. `names` has `NAMES` bytes, the room
-    /// for the files' names.
+    /// Creates a device for the files that this runtime opens. `names` provides `NAMES` bytes for
+    /// the names of the files.
     pub fn new(rt: &'a R, names: &'a mut [u8]) -> Self {
         SystemFiles {
             rt,
@@ -128,7 +130,7 @@ impl<'a, R: Files + Eprint> FileSystem for SystemFiles<'a, R> {
     }
 }
 
-// Converts the result of a lookup. If the lookup failed, the name is never treated as free.
+// Converts the result of a lookup. Only the error `NotFound` means that no file has this name.
 fn found_from_metadata(looked_up: io::Result<Metadata>) -> Found
     ensures there { IfOk looked_up (λ _. was_found result ≡ true) }
     ensures nothing { IfErr looked_up (λ error.
@@ -157,8 +159,8 @@ pub struct SystemSizeLookup<'a, R> {
 impl<R: Files + Eprint> SizeLookup for SystemSizeLookup<'_, R> {
     ghost is_size_lookup = { λ _ _ _. Unit {0} };
 
-    /// Also stores the folder of the file, if the folder can be opened, since a new file is found
-    /// through its folder.
+    /// Also synchronises the file's folder to disk, if the folder can be opened: a new file can't
+    /// be found if its entry in the folder is lost.
     fn has_all<W: Write>(&self, _file: &IntoFile<W>, length: u64) -> bool {
         if !self.is_file {
             return true;
@@ -196,8 +198,8 @@ fn length_of<R: Files>(rt: &R, name: &str) -> io::Result<u64> {
     }
 }
 
-// Stores the folder of a file on disk. Returns `true` if permission to open the folder is denied,
-// since the folder then can't be stored.
+// Synchronises the folder of a file to disk. Returns `true` if the folder can't be opened for lack
+// of permission, because it can't be synchronised then.
 fn is_folder_stored<R: Files + Eprint>(rt: &R, name: &str) -> bool {
     let folder = match Path::new(name).parent() {
         Some(folder) if !folder.as_str().is_empty() => folder.as_str(),

@@ -1,4 +1,4 @@
-//! Copies PES packets to a file, each as soon as it has come, and then the bytes that begin no PES
+//! Copies PES packets to a file, each as soon as it has arrived, and then any bytes that are no PES
 //! packet.
 ghost use Rattle.std.specs.Prelude.{◌≡◌, Err, IfOk, OnErr, OnOk, false, length, true};
 ghost use Rattle.std.specs.Io.KnownBytes.{Appends};
@@ -16,10 +16,10 @@ use ttx_pes::{PesPackets, REST_BUFFER_SIZE, Received, TakePesPacket, is_gap_mark
 // The size in bytes of the longest PES packet.
 const PES_PACKET_CAPACITY: usize = 1656;
 
-/// The device that failed while copying.
+/// The device that failed while PES packets were copied.
 #[derive(Clone, Copy)]
 pub enum CopyFault {
-    /// The device with the PES packets failed.
+    /// The source of the PES packets failed.
     Read,
     /// The output file failed.
     Write,
@@ -61,7 +61,7 @@ impl TakenPesPacket {
 }
 
 impl TakePesPacket for TakenPesPacket {
-    // Whether the PES packet is a gap marker.
+    // The answer is `true` if the PES packet is a gap marker.
     type Answer = bool;
 
     ghost is_take = { λ old pes_packet answer new. (new ≡ pes_packet) ×
@@ -100,7 +100,7 @@ fn put_and_flush<F: Flush>(file: &mut F, bytes: &[u8]) -> Result<(), CopyFault>
 ///
 /// # Errors
 ///
-/// Returns `Read` if the device with the PES packets failed; nothing was copied. Returns `Write` if
+/// Returns `Read` if the source of the PES packets failed; nothing was copied. Returns `Write` if
 /// the file failed; it received a prefix of the PES packet.
 pub fn copy_next<P: PesPackets, F: Flush>(
     pes_packets: &mut P,
@@ -138,13 +138,13 @@ pub fn copy_next<P: PesPackets, F: Flush>(
     }
 }
 
-/// Copies all remaining bytes, which begin no PES packet, and flushes the file as the bytes come.
-/// Reads at most 2^64 - 1 times.
+/// Copies all remaining bytes, which are no PES packet, and flushes the file after each read. Reads
+/// at most 2^64 - 1 times.
 ///
 /// # Errors
 ///
-/// Returns `Read` if the device with the PES packets failed, `Write` if the file did. A prefix of
-/// the bytes was copied.
+/// Returns `Read` if the source of the PES packets failed, and `Write` if the file failed. A prefix
+/// of the bytes was copied.
 pub fn copy_rest<P: PesPackets, F: Flush>(
     pes_packets: &mut P,
     file: &mut F,

@@ -1,5 +1,5 @@
-//! `extract TS PES`: writes the PES packets that the transport packets with a PID of a recording
-//! carry.
+//! `extract TS PES`: writes the PES packets that a recording carries in the transport packets of
+//! one PID.
 ghost use Rattle.std.specs.Prelude.{◌≡◌, ◌+◌, ◌<◌, IfErr, OnOk, false, true, if◌then◌else◌};
 ghost use Rattle.sub_io.specs.Device.{CountsIf, failed};
 ghost use Rattle.sub_listing.specs.DeviceCall.{CanFail, CountsFault, read_call, sink_call};
@@ -32,30 +32,30 @@ pub struct Extracted {
 /// The reason why `extract` wrote no file of PES packets, or only a part of one.
 #[derive(Clone, Copy)]
 pub enum ExtractFault {
-    /// The device with the PES packets failed.
+    /// The source of the PES packets failed.
     Read {
         /// The number of PES packets written before the failure, gap markers included.
         pes: u64,
     },
     /// The output file failed.
     Write,
-    /// The recording had no PES packet.
+    /// The recording contains no PES packet.
     Empty,
-    /// The bytes after the last PES packet begin no PES packet.
+    /// The bytes after the last PES packet are no PES packet.
     Refused {
-        /// The fault because of which the bytes begin no PES packet.
+        /// The reason why these bytes are no PES packet.
         fault: PesFault,
         /// The number of PES packets written before these bytes, gap markers included.
         pes: u64,
     },
 }
 
-/// Writes PES packets one after another, with gap markers if the packets come from a recording
-/// (ISO/IEC 13818-1; `RecordingPesPackets` of `mpeg_ts`). Prints the number of PES packets and of
-/// gap markers, or the reason why the output is no file of PES packets.
+/// Writes the PES packets of a source to a file, one after another. PES packets of a recording
+/// (ISO/IEC 13818-1) come with gap markers. Prints the number of PES packets and of gap markers, or
+/// the reason why the output is no complete file of PES packets.
 ///
-/// Each PES packet is flushed as soon as it has come, and the line is printed after the system has
-/// stored the file. Bytes that begin no PES packet are written too. Returns `Fault` if a device
+/// Each PES packet is flushed as soon as it has arrived, and the line is printed after the system
+/// has stored the file. Bytes that are no PES packet are also written. Returns `Fault` if a device
 /// failed.
 pub fn extract_packets<P: PesPackets, F: Close, K: Sink>(
     pes_packets: &mut P,
@@ -78,8 +78,8 @@ pub fn extract_packets<P: PesPackets, F: Close, K: Sink>(
         < P.failure_count pes_packets.new + F.failure_count file.new + K.failure_count out.new }
     ensures buffered { result ≡ Status.Done → F.buffered file.new ≡ 0 }
     ensures stored { result ≡ Status.Done → F.is_stored file.new ≡ true }
-    // Before a read from a device, which may fail, everything is flushed. So if the device failed,
-    // no PES packet is held back.
+    // The file is flushed before each read from a device, which may fail. So if a read fails, all
+    // PES packets before it have reached the file.
     ensures followed { F.buffered file.old ≡ 0
         → P.failure_count pes_packets.old < P.failure_count pes_packets.new
         → F.buffered file.new ≡ 0 }
@@ -125,7 +125,7 @@ fn write_pes_packets<P: PesPackets, F: Close>(
     }
 }
 
-// Copies all PES packets, and the bytes after the last one.
+// Copies all PES packets, and then any bytes that are no PES packet.
 fn copy_pes_packets<P: PesPackets, F: Flush>(
     pes_packets: &mut P,
     file: &mut F,
@@ -170,7 +170,7 @@ fn copy_pes_packets<P: PesPackets, F: Flush>(
     })
 }
 
-// Returns the number of gap markers after one more PES packet.
+// Returns the number of gap markers after the next PES packet was counted.
 fn counted(gaps: u64, is_gap_marker: bool) -> u64
     requires { gaps < u64.MAX }
     ensures { result ≡ gaps + (if is_gap_marker then 1 else 0) }

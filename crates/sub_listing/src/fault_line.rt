@@ -1,4 +1,4 @@
-//! The line of a fault, from which the exit status follows.
+//! The line of a fault, which also determines the exit status.
 ghost use Rattle.std.specs.Prelude.{◌≡◌};
 ghost use Rattle.sub_listing.specs.FaultLine.{status_of, counted_from};
 
@@ -6,14 +6,14 @@ use crate::status::Status;
 use sub_io::FaultCode;
 use sub_rules::FaultPlace;
 
-/// The kind of a fault, which is the first word of its line.
+/// The kind of a fault, printed as the first word of its line.
 #[derive(Clone, Copy)]
 pub enum Kind {
     /// `refused`: the input is rejected.
     Refused,
     /// `fault`: a device failed, memory ran out, or a file can't be opened.
     Fault,
-    /// `usage`: the arguments are no request.
+    /// `usage`: the arguments are invalid.
     Usage,
 }
 
@@ -31,8 +31,8 @@ pub struct FaultLine {
 }
 
 impl FaultLine {
-    /// Returns the line of the fault, if the first PES packet that is read has the number `first`
-    /// in its file.
+    /// Returns the line of the fault with PES packets counted from `first`, the number of the first
+    /// PES packet that is read.
     pub fn counted_from(self, first: u64) -> FaultLine
         ensures { result ≡ counted_from first self }
     {
@@ -50,7 +50,7 @@ impl FaultLine {
         }
     }
 
-    /// Returns the exit status for the line.
+    /// Returns the exit status that belongs to the line.
     pub fn status(&self) -> Status
         ensures { result ≡ status_of self.now.kind }
     {

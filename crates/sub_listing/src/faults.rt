@@ -1,4 +1,4 @@
-//! Makes the line of each fault.
+//! Converts faults to the lines that report them.
 ghost use Rattle.std.specs.Prelude.{◌≡◌};
 ghost use Rattle.ttx_pes.specs.Fault.{pes_code};
 ghost use Rattle.ttx_pes.specs.declared.fault.PesFault.TheVariants.{Read, Write};
@@ -20,8 +20,8 @@ use sub_request::UsageFault;
 use sub_rules::{CheckFault, FaultPlace};
 use ttx_pes::{FailedAt, PesFault};
 
-/// Returns the line of a fault of a subtitle file that is listed, at a TTI block: `refused`, unless
-/// the source failed.
+/// Returns the line of a fault at a block of a subtitle file: `refused`, or `fault` if the source
+/// failed.
 pub fn line_of_stl(fault: StlFault, block: u32) -> FaultLine
     ensures { result ≡ stl_line fault block }
 {
@@ -37,8 +37,8 @@ pub fn line_of_stl(fault: StlFault, block: u32) -> FaultLine
     }
 }
 
-/// Returns the line of a fault of a subtitle file and a PES file: `refused`, unless a device failed
-/// or memory ran out.
+/// Returns the line of a fault that a check found: `refused`, or `fault` if a device failed or
+/// memory ran out.
 pub fn line_of_check(fault: CheckFault) -> FaultLine
     ensures { result ≡ check_line fault }
 {
@@ -72,7 +72,7 @@ pub fn line_of_failed_read(at: FailedAt) -> FaultLine
     line_of_check(fault).counted_from(at.pes)
 }
 
-/// Returns the line for an output file of PES packets that failed.
+/// Returns the line for a failure of the output file of `extract`.
 pub fn line_of_file_write() -> FaultLine
     ensures { result ≡ line_as Kind.Fault (pes_code Write) Nowhere }
 {
@@ -117,7 +117,7 @@ pub fn line_of_usage(fault: &UsageFault) -> FaultLine
     nowhere(kind, fault.code())
 }
 
-// Returns the line of a fault without a place.
+// Returns the line of a fault that has no place.
 fn nowhere(kind: Kind, code: FaultCode) -> FaultLine
     ensures { result ≡ line_as kind code Nowhere }
 {

@@ -1,7 +1,7 @@
 //! Converts 16 bytes at once to lower case hexadecimal digits, one byte in each lane of a vector.
 //!
-//! Each half of a byte is the index of its digit in a table of 16. The digits of the upper and
-//! lower halves are then interleaved.
+//! Each half of a byte is an index into a table of 16 digits. The digits of the upper and lower
+//! halves are then interleaved.
 ghost use Rattle.std.specs.Prelude.{◌≡◌, ◌/◌, ◌%◌, map, slice_index};
 ghost use Rattle.hex.specs.Hex.{encode_lower, lower_digits};
 
@@ -10,7 +10,7 @@ use std::simd::prelude::*;
 /// The lower case hexadecimal digits, by value.
 const DIGITS: [u8; 16] = *b"0123456789abcdef";
 
-// Returns the first hexadecimal digit of each byte, that of its upper half.
+// Returns the first hexadecimal digit of each byte.
 #[inline(always)]
 fn first_digits(bytes: u8x16) -> u8x16
     ensures { result ≡ map (λ b. slice_index lower_digits (b / 16)) bytes }
@@ -18,7 +18,7 @@ fn first_digits(bytes: u8x16) -> u8x16
     u8x16::from_array(DIGITS).swizzle_dyn(bytes >> u8x16::splat(4))
 }
 
-// Returns the second hexadecimal digit of each byte, that of its lower half.
+// Returns the second hexadecimal digit of each byte.
 #[inline(always)]
 fn second_digits(bytes: u8x16) -> u8x16
     ensures { result ≡ map (λ b. slice_index lower_digits (b % 16)) bytes }

@@ -1,8 +1,8 @@
 //! Makes the lines that the program prints.
 //!
-//! A line is made in memory first and written to a device at once. Each function appends to an
-//! `ArrayVec`. The constants below give the size of each part of a line, and the proofs show that
-//! it suffices.
+//! A line is made in memory and then written to a device at once. Each function appends to an
+//! `ArrayVec`. The constants below are the maximum sizes of the parts of a line; the proofs show
+//! that no part is longer.
 ghost use Rattle.std.specs.Prelude.{◌≡◌, ◌+◌, ◌%◌, ◌≤◌, ◌<◌, ◌++◌, length, decimal};
 ghost use Rattle.arrayvec.specs.ArrayVec.{array_vec_len};
 ghost use Rattle.hex.specs.Hex.{encode_lower};
@@ -27,20 +27,20 @@ pub const NUMBER_CAPACITY: usize = 20;
 /// The maximum number of bytes of a subtitle's text in hexadecimal.
 pub const TEXT_DIGITS_CAPACITY: usize = 2016;
 
-/// The maximum number of bytes of a fault's number and name: a space between them, and 16 letters.
+/// The maximum number of bytes of a fault's number and name: the number, a space, and 16 letters.
 const CODE_CAPACITY: usize = NUMBER_CAPACITY + 17;
 
 /// The maximum number of bytes of a fault's place.
 const PLACE_CAPACITY: usize = 80;
 
-/// The maximum number of bytes of a line: the longest, `refused 72 Content` with its cell, has 117
-/// bytes.
+/// The maximum number of bytes of a line. The longest line, `refused 72 Content` with a cell as its
+/// place, has 117 bytes.
 pub const LINE_CAPACITY: usize = 128;
 
 /// A line to print.
 pub type Line = ArrayVec<u8, LINE_CAPACITY>;
 
-/// Appends a text to a line that has room for it.
+/// Appends a text to a line, which must have room for it.
 pub fn push_text<const N: usize>(line: &mut ArrayVec<u8, N>, text: &[u8])
     requires { array_vec_len line.old + length text.now ≤ N }
     ensures items { line.new.items ≡ line.old.items ++ text.now }
@@ -70,8 +70,8 @@ pub fn push_number<const N: usize>(line: &mut ArrayVec<u8, N>, word: &[u8], numb
     push_decimal(line, number);
 }
 
-/// Returns the number of a PES packet in its file, if the first PES packet that is read has the
-/// number `first`. The greatest number, 2^64 - 1, also stands for any greater number.
+/// Returns the number of a PES packet in its file, given the number `first` of the first PES packet
+/// that is read. A number above 2^64 - 1 is returned as 2^64 - 1.
 #[tactic(auto, unfolding(crate::specs::Lines::number_in_file))]
 pub fn number_in_file(first: u64, index: u32) -> u64
     ensures { result ≡ number_in_file first index }
@@ -88,7 +88,7 @@ pub fn push_lower_hex<const N: usize>(line: &mut ArrayVec<u8, N>, bytes: &[u8; 4
     let (blocks, _) = bytes.as_chunks::<16>();
     push_text(line, &digits_of_block(&blocks[0]));
     push_text(line, &digits_of_block(&blocks[1]));
-    // The last ten bytes are the end of a block of 16 bytes that begins six bytes earlier.
+    // The last ten bytes are the end of a block of 16 bytes that starts six bytes before them.
     push_text(line, &digits_of_block(bytes.last_chunk().unwrap())[12..]);
 }
 
@@ -136,7 +136,7 @@ pub fn push_text_digits<const N: usize>(line: &mut ArrayVec<u8, N>, text: &[u8])
     push_text(line, digits);
 }
 
-/// Returns the printed character of a cell's code.
+/// Returns the printed character for a cell's code.
 pub fn glyph(code: u8) -> u8
     ensures { result ≡ glyph code }
 {
@@ -162,8 +162,8 @@ pub fn push_fault_line<const N: usize>(line: &mut ArrayVec<u8, N>, reported: &Fa
     push_text(line, b"\n");
 }
 
-/// Appends the line of an event: of a fault, of a fault that ended, of skipped PES packets, or of
-/// trusted frames. The first PES packet that is read has the number `first` in its file.
+/// Appends the line of an event: a fault, the end of a fault, skipped PES packets, or clean frames.
+/// The first PES packet that is read has the number `first` in its file.
 pub fn push_event<const N: usize>(line: &mut ArrayVec<u8, N>, event: Event, first: u64)
     requires { array_vec_len line.old + LINE_CAPACITY ≤ N }
     ensures { line.new.items ≡ line.old.items ++ event_line first event }
@@ -176,7 +176,7 @@ pub fn push_event<const N: usize>(line: &mut ArrayVec<u8, N>, event: Event, firs
     }
 }
 
-// Appends the line of a fault that ended: the rule was broken up to this frame.
+// Appends the line for the end of a fault: the rule was broken up to this frame.
 fn push_ended<const N: usize>(line: &mut ArrayVec<u8, N>, rule: EndRule, frame: u32)
     requires { array_vec_len line.old + LINE_CAPACITY ≤ N }
     ensures { line.new.items ≡ line.old.items ++ ended_line rule frame }
@@ -187,7 +187,7 @@ fn push_ended<const N: usize>(line: &mut ArrayVec<u8, N>, rule: EndRule, frame: 
     push_text(line, b"\n");
 }
 
-// Appends the line of a run of skipped PES packets, which ended at the packet that the fault names.
+// Appends the line for the end of skipped PES packets, which the fault names.
 fn push_skipped<const N: usize>(line: &mut ArrayVec<u8, N>, fault: CheckFault, first: u64)
     requires { array_vec_len line.old + LINE_CAPACITY ≤ N }
     ensures { line.new.items ≡ line.old.items ++ skipped_line first fault }

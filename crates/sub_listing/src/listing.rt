@@ -1,4 +1,5 @@
-//! Lists a file: reads its parts one after another, and prints the lines of each part.
+//! Lists a file: reads its PES packets or subtitles one after another, and prints the lines of
+//! each.
 ghost use Rattle.std.specs.Prelude.{◌≡◌, ℕ, ◌+◌, ◌<◌, ◌≤◌, ◌++◌, [], None, Some, decimal, length};
 ghost use Rattle.std.specs.Prelude.{Bool, List, Option, false, true};
 ghost use Rattle.std.specs.Borrow.{GName};
@@ -21,41 +22,41 @@ use sub_io::Flush;
 /// The maximum number of bytes of the lines of one PES packet, or of one subtitle.
 pub const LINES_CAPACITY: usize = 7168;
 
-/// The lines of one part of a file: a PES packet or a subtitle.
+/// The lines of one PES packet or subtitle.
 pub type Text = ArrayVec<u8, LINES_CAPACITY>;
 
-/// A lister reads an input, a source or PES packets, and makes the lines of its parts.
+/// Makes the lines of an input, one PES packet or subtitle after another.
 pub trait Lister<I> {
-    /// The lister is not at the end of the input, and has met no fault.
+    /// The lister is not at the end of the input, and has found no fault.
     ghost ready: { Self → Type 0 };
 
-    /// The maximum number of parts that the lister can still give.
+    /// The maximum number of PES packets or subtitles that the lister can still list.
     ghost pes_packets: { Self → ℕ };
 
-    /// The listings that are possible from the lister's state on.
+    /// The listings that are possible from the lister's current state.
     ghost lists: { Self → ListingRelation };
 
-    /// A user can follow the lines while the source goes on: the lines are flushed before a read
+    /// Whether the output can be followed while the source is read: lines are flushed before a read
     /// that may block.
     ghost is_followed: { Bool };
 
-    // The bytes of an input that are still to come, if they are known.
+    // The remaining bytes of the input, if they are known.
     ghost known: { I → Option (List ℕ) };
 
-    // The bytes that the input's device still has, if they are known.
+    // The remaining bytes of the input's device, if they are known.
     ghost left: { I → Option (List ℕ) };
 
-    // The number of calls of the input's device that have failed.
+    // The number of failed calls of the input's device.
     ghost failure_count: { I → ℕ };
 
-    // The references through which the input has its device, the outermost first.
+    // The chain of references from the input to its device, the outermost first.
     ghost device: { I → List GName };
 
-    /// Makes the lines of the next part. Returns `None` if another part may follow, otherwise how
-    /// the listing ends.
+    /// Makes the lines of the next PES packet or subtitle. Returns `None` if another one may
+    /// follow, otherwise the status with which the listing ends.
     ///
-    /// The lister may flush the printer first, so that earlier lines are seen before the source has
-    /// to wait. If flushing fails, the sink has failed, and the new lines are not used.
+    /// The lister may first flush the printer, so that earlier lines are visible before a read
+    /// blocks. If flushing fails, the sink has failed, and the new lines are not used.
     fn next<K: Flush>(
         &mut self,
         input: &mut I,
@@ -93,10 +94,10 @@ pub trait Lister<I> {
             → IsAlone (K.buffered printer.new.out.now) text.new.items };
 }
 
-/// Lists a file, one part after another.
+/// Lists a file, one PES packet or subtitle after another.
 ///
-/// Lines before a rejection stay. Only one part is in memory at a time, and its lines are written
-/// at once.
+/// If the file is rejected, the lines printed before remain. Only one PES packet or subtitle is in
+/// memory at a time, and its lines are written at once.
 pub fn list<I, L: Lister<I>, K: Flush>(lister: &mut L, input: &mut I, out: &mut K) -> Status
     requires ready { L.ready lister.old }
     requires input { CanFail (L.failure_count input.old) }

@@ -15,8 +15,8 @@ use std::alloc::{Allocator, Global};
 use stl_file::{NormalFault, normal};
 use sub_io::{Close, Sink, Source};
 
-/// One byte more than the longest subtitle file has: a GSI block and 99,999 TTI blocks. No byte
-/// after it can change the result.
+/// One byte more than the longest subtitle file, which has a GSI block and 99,999 TTI blocks. Bytes
+/// after this limit can't change the result.
 const READ_LIMIT: usize = 12_800_897;
 
 /// The maximum number of bytes of one read from the input.
@@ -63,7 +63,7 @@ pub fn write_normal<S: Source, F: Close, K: Sink>(
     write(alloc, &NormalWork, b" subtitles\n", input, file, out)
 }
 
-/// The work of the command `normal`.
+/// Writes the output file of the command `normal`.
 #[derive(Drop)]
 pub struct NormalWork;
 
@@ -87,7 +87,7 @@ impl Work for NormalWork {
     }
 }
 
-// Writes the normal form of the file that begins with these bytes, and stores the file.
+// Writes the normal form of a subtitle file, given its first bytes, and stores the output file.
 fn put_normal<F: Close>(bytes: &[u8], file: &mut F) -> Result<u32, NormalFault>
     requires { CanFail (F.failure_count file.old) }
     ensures answer { (s : List ℕ) → bytes.now ≡ take read_limit s
@@ -105,8 +105,8 @@ fn put_normal<F: Close>(bytes: &[u8], file: &mut F) -> Result<u32, NormalFault>
     }
 }
 
-/// Reads the input of `normal` to its end, or as far as its bytes can change the result. Works with
-/// any allocator, so that a test can let an allocation fail.
+/// Reads the input of `normal` to its end, or up to the limit after which bytes can't change the
+/// result. Accepts any allocator, so that a test can make an allocation fail.
 ///
 /// # Errors
 ///
@@ -142,8 +142,8 @@ pub fn read_input<A: Allocator + Drop, S: Source>(
     Ok(bytes)
 }
 
-// Returns the number of the block that contains the byte with the index `len`: 0 for the first 1024
-// bytes, then one more for each 128 bytes.
+// Returns the number of the block that contains the byte at the index `len`: block 0 has 1024
+// bytes, each later block has 128 bytes.
 fn block_of_byte(len: usize) -> u32
     requires { len < read_limit }
     ensures { result ≡ block_of_byte len }

@@ -16,16 +16,16 @@ use bitflags::Flags;
 use sub_io::{FaultCode, Sink};
 use ttx_packet::{Control, Header, Packet, is_odd};
 
-// The maximum number of bytes of the line of an address.
+// The maximum number of bytes of the line with a packet's address.
 const ADDRESS_CAPACITY: usize = 64;
 
 // The maximum number of bytes of the names of all control bits.
 const CONTROL_CAPACITY: usize = 40;
 
-// The maximum number of bytes of the line of a page header.
+// The maximum number of bytes of the line for a page header.
 const HEADER_CAPACITY: usize = 80;
 
-// The maximum number of bytes of the line of 40 text bytes.
+// The maximum number of bytes of the line with 40 text bytes.
 const TEXT_CAPACITY: usize = 48;
 
 // The maximum number of bytes of the output for one packet.
@@ -59,10 +59,10 @@ impl PacketFault {
     }
 }
 
-/// Prints the address of a Teletext packet, its header and its text (EN 300 706, packets X/0 to
-/// X/31).
+/// Prints the address of a Teletext packet, its page header and its text (EN 300 706, packets X/0
+/// to X/31).
 ///
-/// Rejects a packet whose address or header can't be decoded.
+/// A packet whose address or header can't be decoded is rejected.
 pub fn show_packet<K: Sink>(bytes: &[u8; 42], out: &mut K) -> Status
     requires { CanFail (K.failure_count out.old) }
     ensures printed { PrintsOrFails (sink_call K.contents K.failure_count out.old out.new)

@@ -30,7 +30,7 @@ use ttx_pes::{
 /// Lists the PES packets of a file (EN 300 472), each with its number in the file, and then the
 /// number of listed packets, or the reason why the file is rejected.
 ///
-/// Lines before a rejection stay. Returns `Fault` if a device failed.
+/// If the file is rejected, the lines printed before remain. Returns `Fault` if a device failed.
 pub fn list_packets<P: NumberedPesPackets, K: Flush>(pes_packets: &mut P, out: &mut K) -> Status
     requires pes_packets { CanFail (P.failure_count pes_packets.old) }
     requires out { CanFail (K.failure_count out.old) }
@@ -44,8 +44,8 @@ pub fn list_packets<P: NumberedPesPackets, K: Flush>(pes_packets: &mut P, out: &
     ensures fault { result ≡ Status.Fault
         → P.failure_count pes_packets.old + K.failure_count out.old
         < P.failure_count pes_packets.new + K.failure_count out.new }
-    // Before a read from a device, which may fail, everything is flushed. So if the device failed,
-    // at most the line about the failure is held back.
+    // All lines are flushed before each read from a device, which may fail. So if a read fails, at
+    // most the line about the failure is still in the buffer.
     ensures followed { K.buffered out.old ≡ 0
         → P.failure_count pes_packets.old < P.failure_count pes_packets.new
         → BuffersLastLineOnly K.contents K.buffered K.is_push out.new }
@@ -56,7 +56,7 @@ pub fn list_packets<P: NumberedPesPackets, K: Flush>(pes_packets: &mut P, out: &
     }
 }
 
-/// A lister that makes the lines of PES packets.
+/// Lists PES packets and their Teletext units.
 #[derive(Drop)]
 pub struct PacketLister {
     reader: ComparingReader,

@@ -16,17 +16,16 @@ use sub_rules::{CheckFault, Event};
 
 /// A device that prints the line of each event at once, and counts the faults.
 ///
-/// The printer stops if its sink failed; the sink then received a prefix of the line.
+/// The printer stops when its sink fails; the sink then has received a prefix of the line.
 #[derive(Drop)]
 pub struct Printer<'a, K> {
     /// The sink to which the printer writes its lines.
     pub out: &'a mut K,
-    /// The number of faults counted; the greatest number, 2^64 - 1, also stands for any greater
-    /// number.
+    /// The number of faults so far, at most 2^64 - 1.
     pub refused: u64,
     /// Whether the sink failed.
     pub failed: bool,
-    /// Whether lines were written that the sink may still hold back.
+    /// Whether lines were written that are possibly still in the sink's buffer.
     pub pending: bool,
     /// The number, in its file, of the first PES packet that is read, counted from 0.
     pub first: u64,
@@ -81,8 +80,7 @@ impl<'a, K: Sink> Printer<'a, K> {
         ensures failed { OnOk result (self.new.failed ≡ self.old.failed) }
         ensures stopped { OnErr result (self.new.failed ≡ true) }
         ensures line { PutsLine K.contents K.is_push self.old.out.now lines.now self.new.out.now }
-        // The lines count as pending, since otherwise a live listing would hold them back until the
-        // sink's buffer is full.
+        // The lines count as pending, so a live listing flushes them before a read that may block.
         ensures has_pending { self.new.pending ≡ true }
     {
         self.pending = true;
@@ -115,7 +113,7 @@ impl<'a, K: Sink> Printer<'a, K> {
         Ok(())
     }
 
-    // Counts an event of a printer if the event is a fault.
+    // Counts an event if it is a fault.
     #[tactic(auto, unfolding(crate::specs::Printer::counted))]
     fn count(&mut self, event: Event)
         ensures { self.new ≡ record self.old {

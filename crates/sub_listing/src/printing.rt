@@ -28,7 +28,7 @@ pub fn print_done<K: Sink>(text: &[u8], out: &mut K) -> Status
     }
 }
 
-/// Prints the line of a fault, and returns the exit status for the line.
+/// Prints the line of a fault, and returns the exit status that belongs to the line.
 ///
 /// Returns `Fault` if the sink fails; it then received a prefix of the line.
 #[tactic(auto, unfolding(crate::specs::Listing::PrintsOrFails))]

@@ -58,18 +58,18 @@ pub fn write_schedule<S: Source, F: Close, K: Sink>(
     write(alloc, &work, b" transmissions\n", input, file, out)
 }
 
-/// The work of the command `schedule`.
+/// Writes the output file of the command `schedule`.
 #[derive(Drop)]
 pub struct ScheduleWork<'a> {
     /// The options of the schedule: the page, the repeat bound and the PTS of frame 0.
     pub options: &'a Options,
-    /// Whether the page headers are those of serial mode (C11 is set).
+    /// Whether the page headers have C11 set, for serial mode.
     pub serial: bool,
-    /// The national option of the subtitles' text.
+    /// The national option for the text of the subtitles.
     pub national: National,
-    /// The layout, which decides how the subtitles' text is drawn.
+    /// The layout for the text of the subtitles.
     pub layout: Layout,
-    /// The scope: the subtitles of the file to use.
+    /// The part of the subtitle file to use.
     pub scope: Scope,
 }
 

@@ -16,7 +16,7 @@ use sub_io::{Flush, Source};
 /// Lists the subtitles of a file (EBU Tech 3264), and then their number, or the reason why the file
 /// is rejected.
 ///
-/// Lines before a rejection stay. Returns `Fault` if a device failed.
+/// If the file is rejected, the lines printed before remain. Returns `Fault` if a device failed.
 pub fn list_subtitles<S: Source, K: Flush>(source: &mut S, out: &mut K) -> Status
     requires source { CanFail (S.failure_count source.old) }
     requires out { CanFail (K.failure_count out.old) }
@@ -32,11 +32,11 @@ pub fn list_subtitles<S: Source, K: Flush>(source: &mut S, out: &mut K) -> Statu
     list(&mut SubtitleLister::new(), source, out)
 }
 
-/// A lister that makes the lines of subtitles.
+/// Lists subtitles.
 #[derive(Drop)]
 pub struct SubtitleLister {
-    // The reader of the file; `None` before the GSI block is read, which is the first part and has
-    // no line.
+    // The reader of the subtitle file; `None` until the GSI block, for which no line is printed,
+    // was read.
     reader: Option<StlReader>,
     count: u32,
 }

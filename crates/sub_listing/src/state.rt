@@ -18,10 +18,10 @@ use arrayvec::ArrayVec;
 use sub_io::Sink;
 use ttx_page::{Page, Receiver};
 
-// The maximum number of bytes of the line of a row: 40 characters, and ten around them.
+// The maximum number of bytes of the line for a row: 40 characters, and ten bytes around them.
 const ROW_CAPACITY: usize = 50;
 
-// The maximum number of bytes of the lines of 24 rows.
+// The maximum number of bytes of the lines for 24 rows.
 const ROWS_CAPACITY: usize = 1200;
 
 const _: () = prove!(24 * ROW_CAPACITY <= ROWS_CAPACITY);
@@ -36,8 +36,8 @@ type Rows = ArrayVec<u8, ROWS_CAPACITY>;
 
 type Text = ArrayVec<u8, STATE_CAPACITY>;
 
-/// Prints whether a receiver has received its page, and the page or, if complete pages are
-/// required, its screen.
+/// Prints whether a receiver has received a header of its page, and the page or, if complete pages
+/// are required, the screen.
 pub fn print_state<R: Receiver, K: Sink>(
     receiver: &R,
     screen: &Option<Page>,
@@ -81,7 +81,7 @@ fn push_seen<R: Receiver>(text: &mut Text, receiver: &R, screen: &Option<Page>, 
     }
 }
 
-// Appends the lines of the rows of a page with a cell other than a space.
+// Appends a line for each row of a page that is not blank.
 fn push_page(text: &mut Text, page: &Page)
     requires { array_vec_len text.old + ROWS_CAPACITY ≤ STATE_CAPACITY }
     ensures items { text.new.items ≡ text.old.items ++ page_text page.now }
@@ -98,7 +98,7 @@ fn push_page(text: &mut Text, page: &Page)
     }
 }
 
-// Appends the line of a row, if it has a cell other than a space.
+// Appends the line of a row, unless the row is blank.
 fn push_row(rows: &mut Rows, row: u8, cells: &[u8; 40])
     requires { array_vec_len rows.old + ROW_CAPACITY ≤ ROWS_CAPACITY }
     ensures items { rows.new.items ≡ rows.old.items ++ row_text row cells.now }

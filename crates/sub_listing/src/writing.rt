@@ -1,4 +1,4 @@
-//! Writes a file, and prints a line about the result.
+//! Runs the commands that write a file, and prints a line about the result.
 ghost use Rattle.std.specs.Prelude.{◌≡◌, ◌≤◌, OnOk, length, true};
 ghost use Rattle.sub_io.specs.Device.{CountsIf, failed};
 ghost use Rattle.sub_listing.specs.Writing.{EndsWork, is_file_failure, is_input_failure};
@@ -21,7 +21,7 @@ use sub_plan::PlanFault;
 pub enum WriteFault {
     /// The input of `normal` was not read completely.
     Input(InputFault),
-    /// The input of `schedule` gives no programme.
+    /// The input of `schedule` can't be loaded as a programme.
     Load(LoadFault),
     /// The normal form of the subtitle file was not written.
     Normal(NormalFault),
@@ -29,13 +29,14 @@ pub enum WriteFault {
     Plan(PlanFault),
 }
 
-/// The work of a command that writes a file.
+/// A command that writes a file.
 pub trait Work {
-    /// The relation of the input, the output file and the result, each before and after the work.
+    /// Relates the bytes of the input and of the output file, before and after the call, to the
+    /// result.
     ghost has_worked: { Self → writing.Work };
 
-    /// Does the work of a command, and returns the number of items written. The input is read to
-    /// its end before anything is written, and the file is stored at the end.
+    /// Writes the output file of the command, and returns the number of items written. The input is
+    /// read to its end before anything is written, and the file is stored at the end.
     fn work<S: Source, F: Close>(
         &self,
         alloc: Global,
@@ -54,7 +55,7 @@ pub trait Work {
         ensures stored { OnOk result (F.is_stored file.new ≡ true) };
 }
 
-/// Does the work of a command, and prints its line: the number of items written, or the fault.
+/// Writes the output file of a command, and prints the number of items written, or the fault.
 pub fn write<W: Work, S: Source, F: Close, K: Sink>(
     alloc: Global,
     work: &W,

@@ -1,4 +1,3 @@
--- `open`: a request that reads a single file makes one call.
 use Rattle.std.proofs.Common.{◌∷◌, [], None, Some, refl}
 use Rattle.sub_files.specs.FileCalls.FileCall.{Open}
 use Rattle.sub_files.proofs.opening.open.Goals as goal

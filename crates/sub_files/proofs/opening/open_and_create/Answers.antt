@@ -1,5 +1,3 @@
--- `open_and_create`: one call if the input can't be opened; otherwise also the calls for the
--- output, by creates.
 use Rattle.std.proofs.Common.{◌∷◌, [], None, Some, refl}
 use Rattle.sub_files.specs.FileCalls.FileCall.{Open}
 use Rattle.sub_files.specs.declared.opening.Opened.TheVariants.{Write}

@@ -1,4 +1,3 @@
--- `open_both`: the calls for the two files, one after the other.
 use Rattle.std.proofs.Common.{◌∷◌, [], None, Some, refl}
 use Rattle.sub_files.specs.FileCalls.FileCall.{Open}
 use Rattle.sub_files.proofs.opening.open_both.Goals as goal
