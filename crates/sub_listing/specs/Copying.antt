@@ -1,4 +1,4 @@
--- One step of copying: a PES packet is read and written to a file. Only contracts of private
+-- One step of copying: a PES packet is read, and then written to a file. Only contracts of private
 -- functions use this file.
 use Rattle.std.specs.Prelude.{◌≡◌, ℕ, ◌<◌, List, [], Bool, true, false, length, take, drop}
 use Rattle.std.specs.Prelude.{Option, Some, Result, Ok, Err}
@@ -14,23 +14,22 @@ use Rattle.sub_listing.specs.Extracting.{most_pes_packets, refusal_at}
 use Rattle.sub_listing.specs.declared.copying.CopyFault.{CopyFault}
 use Rattle.sub_listing.specs.declared.copying.CopyFault.TheVariants as fault
 
--- The fault means that the device with the PES packets failed.
+-- The source of the PES packets failed.
 abbrev pub is_copy_read : CopyFault → Bool
 is_copy_read fault.Read = true
 is_copy_read fault.Write = false
 
--- The fault means that the output file failed.
+-- The output file failed.
 abbrev pub is_copy_write : CopyFault → Bool
 is_copy_write fault.Read = false
 is_copy_write fault.Write = true
 
--- The result of reading is a PES packet.
+-- A PES packet was read.
 abbrev pub is_pes_packet : {A : Type 0} → Received A → Bool
 is_pes_packet (PesPacket answer) = true
 is_pes_packet _ = false
 
--- The result of reading is a fault of the source, reported as the fault of unreadable bytes. This
--- never happens.
+-- The source failed, but the result reports unreadable bytes instead. Contracts rule this case out.
 abbrev pub reports_read : {A : Type 0} → Received A → Bool
 reports_read (Rest f) = is_read f
 reports_read _ = false
@@ -41,8 +40,8 @@ pub record HasCopied
   pub left_eq : left ≡ Some (drop read bytes)
   pub written : Appends old new (take read bytes)
 
--- The bytes that one step of copying wrote, by its result. At the end: nothing was left. For a PES
--- packet: the whole packet was written. For a failed file: a prefix was written.
+-- The bytes that one step of copying appended to the file: nothing at the end of the source, a
+-- complete PES packet, or a prefix if the file failed.
 abbrev pub CopiesNext :
     List ℕ → Option (List ℕ) → Option (List ℕ) → Option (List ℕ) → Result (Received Bool) CopyFault
     → Type 0
@@ -56,15 +55,15 @@ CopiesNext bytes left old new (Ok (Rest f)) =
 CopiesNext bytes left old new (Err fault.Read) = Keeps old new
 CopiesNext bytes left old new (Err fault.Write) = AppendsPrefix old new bytes
 
--- The bytes copied of a rest that begins no PES packet, by the result: all bytes, unless there are
--- too many; or a prefix, if a device failed.
+-- The bytes that were appended to the file after the last PES packet: all of them, unless there are
+-- too many; or a prefix if a device failed.
 abbrev pub CopiesRest :
     List ℕ → Option (List ℕ) → Option (List ℕ) → Result (Unit {0}) CopyFault → Type 0
 CopiesRest bytes old new (Ok u) =
     AppendsPrefix old new bytes × (length bytes < most_pes_packets → Appends old new bytes)
 CopiesRest bytes old new (Err f) = AppendsPrefix old new bytes
 
--- Exactly `pes_packets` PES packets were copied, `gaps` gap markers among them.
+-- Exactly `pes_packets` PES packets were copied, including `gaps` gap markers.
 pub record HasCopiedPesPackets
     (bytes : List ℕ) (left old new : Option (List ℕ)) (pes_packets gaps : ℕ) : Type 0 where
   pub left_eq : left ≡ Some (rest_after_pes_packets pes_packets bytes)

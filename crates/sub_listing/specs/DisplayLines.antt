@@ -1,5 +1,5 @@
 -- The lines that `listen` prints for a receiver: whether it has received a header of its page,
--- whether the page is open, and the rows of its page or screen that have a cell other than a space.
+-- whether the page is open, and each row of its page or screen that is not blank.
 use Rattle.std.specs.Prelude.{ℕ, zero, suc, ◌==◌, Bool, true, false, List, [], ◌++◌, codes, map}
 use Rattle.std.specs.Prelude.{length, Option, Some, None, IfSome, IsTrue, if◌then◌else◌}
 use Rattle.std.specs.List.{list_all}
@@ -12,7 +12,7 @@ abbrev pub row_line : ℕ → List ℕ → List ℕ
 row_line row cells =
     codes "row " ++ two_digits row ++ codes " |" ++ map glyph cells ++ codes "|\n"
 
--- The line of a row that has a cell other than a space; no line for a blank row.
+-- The line of a row; no line for a blank row.
 abbrev pub row_text : ℕ → List ℕ → List ℕ
 row_text row cells = if list_all (λ c. c == space) cells then [] else row_line row cells
 
@@ -25,12 +25,12 @@ rows_text (suc n) page = rows_text n page ++ row_text (suc n) (row_at page (suc 
 abbrev pub page_text : Rows → List ℕ
 page_text page = if length (rows_text 24 page) == 0 then codes "blank\n" else rows_text 24 page
 
--- The line that says whether the page is open.
+-- The line that reports whether the page is open.
 abbrev pub open_line : Bool → List ℕ
 open_line true = codes "open yes\n"
 open_line false = codes "open no\n"
 
--- The lines of a screen: those of the page shown, or the line `shown no` if no page was shown yet.
+-- The lines of the page on a screen, or the line `shown no` if the screen has shown no page yet.
 abbrev pub screen_text : Option Rows → List ℕ
 screen_text None = codes "shown no\n"
 screen_text (Some page) = page_text page
@@ -41,7 +41,7 @@ seen_text asks_complete d =
     if asks_complete then screen_text d.screen else page_text d.held.page
 
 -- The page to print: the receiver's page or, if complete pages are required, the page on its
--- screen, if there is one.
+-- screen, if any.
 abbrev pub seen_page : Bool → Display → Option Rows
 seen_page asks_complete d = if asks_complete then d.screen else Some d.held.page
 

@@ -1,5 +1,5 @@
--- The line that `check --all` prints for each event. `first` is the number, in its file, of the
--- first PES packet that is read.
+-- The line that `check --all` prints for each event. The argument `first` is the number of the
+-- first PES packet that is read, in its file.
 use Rattle.std.specs.Prelude.{ℕ, ◌+◌, List, [], ◌∷◌, ◌++◌, codes, map}
 use Rattle.stl_rows.specs.declared.fault.LoadFault.{LoadFault}
 use Rattle.sub_rules.specs.Fault.{check_code, place_of, rule_code}
@@ -12,17 +12,17 @@ use Rattle.sub_listing.specs.Faults.{check_line}
 use Rattle.sub_listing.specs.FaultLine.{clock_text, code_text, frame_text, line_of, place_text}
 use Rattle.sub_listing.specs.FaultLine.{counted_from}
 
--- The line of a fault that ended: the rule was broken up to this frame.
+-- The line for the end of a fault: the rule was broken up to this frame.
 abbrev pub ended_line : EndRule → ℕ → List ℕ
 ended_line rule frame =
     codes "ended " ++ code_text (rule_code rule) ++ frame_text frame ++ codes "\n"
 
--- The line of a run of skipped PES packets: the run ended at the packet that this fault names.
+-- The line for the end of skipped PES packets: the fault names the packet after them.
 abbrev pub skipped_line : ℕ → CheckFault → List ℕ
 skipped_line first f =
     codes "ended " ++ code_text (check_code f) ++ place_text first (place_of f) ++ codes "\n"
 
--- The line of trusted frames, from the first to the last.
+-- The line for a range of clean frames.
 abbrev pub trusted_line : ℕ → ℕ → List ℕ
 trusted_line from to =
     codes "trusted frames " ++ clock_text from ++ codes " " ++ clock_text to ++ codes "\n"
@@ -59,6 +59,6 @@ subtitle_event f = Reported (Subtitles f)
 abbrev pub subtitle_events : List LoadFault → List Event
 subtitle_events faults = map subtitle_event faults
 
--- The greatest count of faults, 2^64 - 1.
+-- The greatest number of faults that can be counted, 2^64 - 1.
 abbrev pub max_count : ℕ
 max_count = 0xFFFF_FFFF_FFFF_FFFF

@@ -1,5 +1,4 @@
--- The bytes that `extract` writes, and its report, for the bytes of a source: PES packets and gap
--- markers, one after another, and the rest.
+-- The bytes that `extract` writes, and the line that it prints.
 use Rattle.std.specs.Prelude.{◌≡◌, ℕ, zero, suc, ◌+◌, ◌<◌, ◌==◌, ◌&&◌, Bool}
 use Rattle.std.specs.Prelude.{true, false, List, [], ◌++◌, codes, decimal, length, take, drop}
 use Rattle.std.specs.Prelude.{Option, Some, None, Result, Ok, Err, if◌then◌else◌, ◌⊎◌}
@@ -34,40 +33,40 @@ use Rattle.sub_listing.specs.declared.status.Status.{Status}
 abbrev pub begins_with_gap_marker : ℕ → List ℕ → Bool
 begins_with_gap_marker size b = (size == payload_size) && is_filled (drop 6 (take size b))
 
--- The number of gap markers among the first n PES packets.
+-- The number of gap markers among the first `n` PES packets.
 unfoldable pub count_gap_markers : ℕ → List ℕ → ℕ
 count_gap_markers zero b = 0
 count_gap_markers (suc n) b =
     by_pes_packet (pes_packet_size b)
     (λ size. (if begins_with_gap_marker size b then 1 else 0) + count_gap_markers n (drop size b)) 0
 
--- The fault because of which the bytes begin no PES packet; `None` if there are no bytes.
+-- The reason why the bytes begin with no PES packet; `None` if there are no bytes.
 unfoldable pub refusal_at : List ℕ → Option PesFault
 refusal_at b = if length b == 0 then None else rest_fault b
 
--- The greatest count of PES packets, 2^64 - 1.
+-- The greatest number of PES packets that can be counted, 2^64 - 1.
 abbrev pub most_pes_packets : ℕ
 most_pes_packets = 0xFFFF_FFFF_FFFF_FFFF
 
 -- ---- the bytes that were written
 
--- The fault means that the source failed.
+-- The source failed.
 abbrev pub is_extract_read : ExtractFault → Bool
 is_extract_read (Read pes) = true
 is_extract_read _ = false
 
--- The fault is a failure of the source, reported as the fault of bytes that are no PES packet. This
--- never happens.
+-- The source failed, but the fault reports bytes that are no PES packet instead. Contracts rule
+-- this case out.
 abbrev pub reports_refused_read : ExtractFault → Bool
 reports_refused_read (Refused f pes) = is_read f
 reports_refused_read _ = false
 
--- The fault means that the output file failed.
+-- The output file failed.
 abbrev pub is_extract_write : ExtractFault → Bool
 is_extract_write Write = true
 is_extract_write _ = false
 
--- The bytes are `pes` PES packets, `gaps` gap markers among them, and all bytes were written to the
+-- The bytes consist of `pes` PES packets, including `gaps` gap markers, and were all written to the
 -- file.
 pub record AreExtracted (bytes : List ℕ) (old new : Option (List ℕ)) (pes gaps : ℕ) : Type 0 where
   pub pes_packets : count_pes_packets pes bytes ≡ pes
@@ -76,9 +75,8 @@ pub record AreExtracted (bytes : List ℕ) (old new : Option (List ℕ)) (pes ga
   pub some : 0 < pes
   pub written : Appends old new bytes
 
--- After `pes` PES packets, the bytes are rejected for the fault f, and all bytes were written to
--- the file. If there are more PES packets than can be counted, only a prefix of the bytes was
--- written.
+-- After `pes` PES packets, the bytes are rejected because of fault `f`. All bytes were written to
+-- the file, or only a prefix if the number of PES packets is too great to be counted.
 pub record AreRefused
     (bytes : List ℕ) (old new : Option (List ℕ)) (f : PesFault) (pes : ℕ) : Type 0 where
   pub pes_packets : count_pes_packets pes bytes ≡ pes
@@ -87,8 +85,8 @@ pub record AreRefused
   pub refused :
       length bytes < most_pes_packets → refusal_at (rest_after_pes_packets pes bytes) ≡ Some f
 
--- The source failed after `pes` PES packets. These packets were written to the file; of the bytes
--- after them only a prefix was written, and only if they begin no PES packet.
+-- The source failed after `pes` PES packets, which were written to the file. If the bytes after
+-- them are no PES packet, a prefix of these bytes was written too.
 pub record AreCut (bytes : List ℕ) (old new : Option (List ℕ)) (pes : ℕ) : Type 0 where
   pub pes_packets : count_pes_packets pes bytes ≡ pes
   pub following : Option (List ℕ)
@@ -98,8 +96,8 @@ pub record AreCut (bytes : List ℕ) (old new : Option (List ℕ)) (pes : ℕ) :
       ⊎ ((f : PesFault) × (refusal_at (rest_after_pes_packets pes bytes) ≡ Some f)
       × AppendsPrefix following new (rest_after_pes_packets pes bytes))
 
--- The bytes written to the file, by the result. If the file failed, it received a prefix of the
--- bytes.
+-- The bytes that were written to the file, for each result of `extract`. If the file failed, it
+-- received a prefix of the bytes.
 abbrev pub Extracts :
     Option (List ℕ) → Option (List ℕ) → Option (List ℕ) → Result Extracted ExtractFault → Type 0
 Extracts known old new (Ok e) = IfKnown known (λ bytes. AreExtracted bytes old new e.pes e.gaps)
@@ -110,14 +108,14 @@ Extracts known old new (Err Write) = IfKnown known (AppendsPrefix old new)
 
 -- ---- the output of extracting
 
--- The line of a successful `extract`: the number of PES packets, gap markers included, and the
--- number of gap markers.
+-- The line that a successful `extract` prints: the number of PES packets, including gap markers,
+-- and the number of gap markers.
 abbrev pub written_line : Extracted → List ℕ
 written_line e =
     codes "written " ++ decimal e.pes ++ codes " pes " ++ decimal e.gaps ++ codes " gaps\n"
 
--- The line of a fault of `extract`: the source or the file failed, or the bytes are no PES packet,
--- with the number of that PES packet.
+-- The line for a fault of `extract`: the source or the file failed, or the bytes after a PES packet
+-- are no PES packet.
 abbrev pub extract_line : ExtractFault → FaultLine
 extract_line (Read n) = counted_from n (check_line (check.Pes 0 pes.Read))
 extract_line Write = line_as kind.Fault (pes_code pes.Write) Nowhere
@@ -129,11 +127,11 @@ abbrev pub extract_listing : Result Extracted ExtractFault → Listing
 extract_listing (Ok e) = done (written_line e)
 extract_listing (Err f) = fault_listing (extract_line f)
 
--- The result of `extract`: the file was written from a source, and the line was printed.
+-- The result of `extract`: the file was written, and the line was printed.
 pub record EndsExtract (source : SourceCall) (file out : SinkCall) (status : Status) : Type 0 where
   pub answer : Result Extracted ExtractFault
   pub extracts : Extracts source.known file.old file.new answer
-  -- The counts of failures: the source and the file failed if and only if the result says so.
+  -- The source and the file failed exactly if the result reports it.
   pub source_count : CountRisesIf source.old_count (failed is_extract_read answer) source.new_count
   pub file_count : CountRisesIf file.old_count (failed is_extract_write answer) file.new_count
   pub printed : PrintsOrFails out (extract_listing answer) status

@@ -1,6 +1,5 @@
--- The line of a fault, which ends with a newline (own): whether the input is rejected, a device or
--- memory failed, or the arguments are no request; the fault's number and name; and its place. The
--- exit status follows from the line.
+-- The line of a fault (own format): the kind, which also determines the exit status; the number and
+-- the name of the fault; and its place.
 use Rattle.std.specs.Prelude.{ℕ, ◌%◌, List, [], ◌++◌, codes, decimal}
 use Rattle.sub_io.specs.FaultCode.{FaultCodeValue}
 use Rattle.stl_file.specs.TimeCode.{day}
@@ -13,12 +12,12 @@ use Rattle.sub_listing.specs.declared.fault_line.FaultLine.{FaultLine}
 use Rattle.sub_rules.specs.declared.fault_place.FaultPlace.{FaultPlace}
 use Rattle.sub_rules.specs.declared.fault_place.FaultPlace.TheVariants as place
 
--- The line of a fault with this kind, code and place, if the first PES packet that is read has the
--- number 0.
+-- The line of a fault with this kind, code and place, if PES packets are counted from 0.
 abbrev pub line_as : Kind → FaultCodeValue → FaultPlace → FaultLine
 line_as k c p = record { kind = k; code = c; place = p; first = 0 }
 
--- The line of a fault, if the first PES packet that is read has the number `first` in its file.
+-- The line of a fault, if PES packets are counted from `first`, the number of the first PES packet
+-- that is read.
 abbrev pub counted_from : ℕ → FaultLine → FaultLine
 counted_from first t = record t { first = first }
 
@@ -28,8 +27,8 @@ kind_text kind.Refused = codes "refused "
 kind_text kind.Fault = codes "fault "
 kind_text kind.Usage = codes "usage "
 
--- The time of a frame of the day. After a day the time starts again; no event of a file names such
--- a frame.
+-- The time of a frame of the day, as `HH:MM:SS:FF`. Frames beyond the end of the day, which no
+-- event contains, are counted from the start of the day.
 abbrev pub clock_text : ℕ → List ℕ
 clock_text frame = time_text (frame % day)
 
@@ -37,8 +36,8 @@ clock_text frame = time_text (frame % day)
 abbrev pub frame_text : ℕ → List ℕ
 frame_text frame = codes " frame " ++ clock_text frame
 
--- The text for a fault's place. The first PES packet that is read has the number `first` in its
--- file.
+-- The text for a fault's place. The argument `first` is the number of the first PES packet that is
+-- read, in its file.
 abbrev pub place_text : ℕ → FaultPlace → List ℕ
 place_text first place.Nowhere = []
 place_text first (place.Pes pes) = codes " pes " ++ decimal (number_in_file first pes)

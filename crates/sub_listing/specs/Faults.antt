@@ -1,5 +1,5 @@
--- The line of each fault: a failed device and a lack of memory are `fault`, wrong arguments are
--- `usage`, and everything else is `refused` (own).
+-- The line of each fault (own). The kind is `fault` for a failed device and for a lack of memory,
+-- `usage` for invalid arguments, and `refused` for any other fault.
 use Rattle.std.specs.Prelude.{ℕ, Bool, codes, if◌then◌else◌}
 use Rattle.sub_io.specs.FaultCode.{FaultCodeValue, fault_code}
 use Rattle.stl_file.specs.Fault.{is_file_read, normal_code, stl_code}
@@ -31,16 +31,16 @@ use Rattle.sub_request.specs.declared.request.UsageFault.TheVariants as usage
 abbrev pub kind_by : Bool → Kind
 kind_by fails = if fails then kind.Fault else kind.Refused
 
--- The line of a fault of a subtitle file and a PES file.
+-- The line of a fault that a check found in a subtitle file or a PES file.
 abbrev pub check_line : CheckFault → FaultLine
 check_line f = line_as (kind_by (is_failure f)) (check_code f) (place_of f)
 
--- The line of a fault of loading a subtitle file, at a TTI block. For a fault in a text, the line
--- also names the position in the text.
+-- The line of a fault at a TTI block that a command found while it loaded a subtitle file. For a
+-- fault in a text, the line also contains the position in the text.
 abbrev pub load_line : LoadFaultKind → ℕ → FaultLine
 load_line f block = check_line (check.Subtitles (record { kind = f; block = block }))
 
--- The line of a fault of a subtitle file that is listed, at a TTI block.
+-- The line of a fault at a TTI block that `show` or `normal` found in a subtitle file.
 abbrev pub stl_line : StlFault → ℕ → FaultLine
 stl_line f block = line_as (kind_by (is_file_read f)) (stl_code f) (place.Block block)
 
@@ -51,7 +51,7 @@ abbrev pub packet_code : PacketFault → FaultCodeValue
 packet_code packet.BadAddress = fault_code 3 (codes "BadAddress")
 packet_code packet.BadHeader = fault_code 4 (codes "BadHeader")
 
--- The line of a fault of a Teletext packet, without a place.
+-- The line of a fault of a Teletext packet.
 abbrev pub packet_line : PacketFault → FaultLine
 packet_line f = line_as kind.Refused (packet_code f) place.Nowhere
 
@@ -64,14 +64,14 @@ usage_kind usage.Open = kind.Fault
 usage_kind usage.Memory = kind.Fault
 usage_kind _ = kind.Usage
 
--- The line of a fault of the arguments, or of the program itself, without a place.
+-- The line of a fault of the arguments or of the program itself.
 abbrev pub usage_line : UsageFault → FaultLine
 usage_line f = line_as (usage_kind f) (usage_code f) place.Nowhere
 
 -- ---- faults of a file that is written
 
--- The line of a fault of a command that writes a file. Failed devices and a lack of memory are
--- `fault`.
+-- The line of a fault of a command that writes a file. The kind is `fault` for a failed device and
+-- for a lack of memory.
 abbrev pub write_line : WriteFault → FaultLine
 write_line (write.Input (input.Read block)) = stl_line stl.Read block
 write_line (write.Input input.Memory) = usage_line usage.Memory

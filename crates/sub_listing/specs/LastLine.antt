@@ -1,4 +1,4 @@
--- After the source of a listing failed, the only output that is not yet flushed is the line about
+-- The output if the source of a listing failed: everything was flushed except for the line about
 -- the failure.
 use Rattle.std.specs.Prelude.{◌≡◌, ℕ, Bool, List, Option}
 use Rattle.sub_io.specs.Calls.{PutsByPushes}
@@ -6,7 +6,8 @@ use Rattle.sub_io.specs.Device.{AppendsPrefix}
 use Rattle.sub_listing.specs.FaultLine.{line_of}
 use Rattle.sub_listing.specs.declared.fault_line.FaultLine.{FaultLine}
 
--- Only this line was written, if `ok`; otherwise the sink failed and received a prefix of the line.
+-- If `ok`, exactly this line was written; otherwise the sink failed and received a prefix of the
+-- line.
 pub record PutsLine
     {K : Type 0} (contents : K → Option (List ℕ)) (IsPush : K → List ℕ → Option ℕ → K → Type 0)
     (old : K) (line : List ℕ) (new : K) : Type 0 where
@@ -23,7 +24,7 @@ pub record BuffersLastLineOnly
   pub reported : FaultLine
   pub line : PutsLine contents IsPush before (line_of reported) new
 
--- The text is the last line of a listing, and everything before it was flushed.
+-- The text is the line of a fault, and everything before it was flushed.
 pub record IsAlone (buffered : ℕ) (text : List ℕ) : Type 0 where
   pub settled : buffered ≡ 0
   pub reported : FaultLine

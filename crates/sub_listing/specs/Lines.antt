@@ -13,7 +13,7 @@ use Rattle.stl_file.specs.Subtitle.{SubtitleValue}
 abbrev pub glyph : ℕ → ℕ
 glyph code = if nat_le 0x20 code && nat_le code 0x7E then code else 0x2E
 
--- The printed character of a text byte: that of its code, or `?` if its parity is even.
+-- The printed character of a text byte with odd parity, or `?` if its parity is even.
 abbrev pub text_glyph : ℕ → ℕ
 text_glyph byte = if is_odd byte then glyph (code_of byte) else 0x3F
 
@@ -25,11 +25,11 @@ hex_digit n = slice_index (codes "0123456789ABCDEF") n
 unfoldable pub hex_two : ℕ → List ℕ
 hex_two n = hex_digit (n / 16) ∷ hex_digit (n % 16) ∷ []
 
--- The printed number of a magazine, 1 to 8: number 0 is magazine 8.
+-- The printed number of a magazine, 1 to 8. Magazine 8 is coded as 0.
 abbrev pub shown_magazine : ℕ → ℕ
 shown_magazine magazine = if magazine == 0 then 8 else magazine
 
--- The line with a packet's magazine, 1 to 8, and its packet number.
+-- The line with the magazine, 1 to 8, and the packet number of a Teletext packet.
 abbrev pub address_line : ℕ → ℕ → List ℕ
 address_line magazine packet_number = codes "magazine " ++ decimal (shown_magazine magazine)
     ++ codes " packet " ++ decimal packet_number ++ codes "\n"
@@ -58,13 +58,13 @@ header_line h = codes "page " ++ hex_two h.page ++ codes " subcode "
     ++ hex_two (h.subcode / 256) ++ hex_two (h.subcode % 256)
     ++ codes " control" ++ control_list h ++ codes "\n"
 
--- The line with text bytes between bars.
+-- The line with the text of a Teletext packet between bars.
 abbrev pub text_line : List ℕ → List ℕ
 text_line bytes = codes "text |" ++ map text_glyph bytes ++ codes "|\n"
 
--- The number of a PES packet in its file, counted from 0: `index` is its number among the packets
--- that are read, the first of which has the number `first`. The greatest printed number, 2^64 - 1,
--- also stands for any greater number.
+-- The number of a PES packet in its file, counted from 0, given its index among the PES packets
+-- that are read and the number `first` of the first of these. A number above 2^64 - 1 is printed as
+-- 2^64 - 1.
 unfoldable pub number_in_file : ℕ → ℕ → ℕ
 number_in_file first index = min (first + index) 0xFFFF_FFFF_FFFF_FFFF
 
@@ -88,12 +88,12 @@ unfoldable pub time_text : ℕ → List ℕ
 time_text frame = two_digits (frame / 90000) ++ codes ":" ++ two_digits ((frame / 1500) % 60)
     ++ codes ":" ++ two_digits ((frame / 25) % 60) ++ codes ":" ++ two_digits (frame % 25)
 
--- The joined text of a subtitle in hexadecimal, or a hyphen if it is empty (own).
+-- The text of a subtitle in hexadecimal, or a hyphen if it is empty (own).
 unfoldable pub text_digits : List ℕ → List ℕ
 text_digits text = if length text == 0 then codes "-" else encode_lower text
 
--- The line of a subtitle: its number SN in five digits, the time codes in and out, the vertical
--- position, the justification code and the text in the file's code.
+-- The line of a subtitle: its number SN in five digits, the time codes TCI and TCO, the vertical
+-- position, the justification code and the bytes of its text.
 abbrev pub subtitle_line : SubtitleValue → List ℕ
 subtitle_line s = five_digits s.sn ++ codes " " ++ time_text s.tci ++ codes " " ++ time_text s.tco
     ++ codes " vp " ++ decimal s.vp ++ codes " jc " ++ decimal s.jc

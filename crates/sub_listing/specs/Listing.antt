@@ -29,7 +29,7 @@ done text = record { text = text; status = Done }
 abbrev pub fault_listing : FaultLine → Listing
 fault_listing t = record { text = line_of t; status = status_of t.kind }
 
--- A listing with more lines in front.
+-- A listing after some text.
 abbrev pub followed : List ℕ → Listing → Listing
 followed text more = record { text = text ++ more.text; status = more.status }
 
@@ -41,15 +41,15 @@ header_listing magazine packet None = fault_listing (packet_line BadHeader)
 header_listing magazine packet (Some h) =
     done (address_line magazine 0 ++ header_line h ++ text_line (drop 10 packet))
 
--- The listing of a packet X/1 to X/31 (EN 300 706): the rows 1 to 24 have 40 text bytes, the other
--- packets no text.
+-- The listing of a packet X/1 to X/31 (EN 300 706). Rows 1 to 24 have 40 text bytes, and packets 25
+-- to 31 have no text.
 abbrev pub row_listing : ℕ → ℕ → List ℕ → Listing
 row_listing magazine packet_number packet = if nat_le packet_number 24
     then done (address_line magazine packet_number ++ text_line (drop 2 packet))
     else done (address_line magazine packet_number)
 
--- The listing of a Teletext packet, given its magazine and packet number, if the address can be
--- decoded.
+-- The listing of a Teletext packet, given its magazine and packet number, or `None` if the address
+-- can't be decoded.
 abbrev pub addressed_listing : Option (ℕ × ℕ) → List ℕ → Listing
 addressed_listing None packet = fault_listing (packet_line BadAddress)
 addressed_listing (Some a) packet = if a.1 == 0
@@ -68,13 +68,14 @@ exit_code Done = 0
 exit_code Refused = 1
 exit_code Fault = 2
 
--- The listing ends with a failure of the source. If the sink failed before, the listing has no end.
+-- The listing ended because the source failed. A listing has no end, `None`, if the sink failed
+-- earlier.
 abbrev pub has_failed : Option Status → Bool
 has_failed (Some Fault) = true
 has_failed _ = false
 
--- A relation that gives the possible listings of a source, from the source's bytes before and after
--- the listing, and how the listing ends.
+-- The type of relations between the bytes of a source before and after it was listed, the way in
+-- which the listing ends, and the listing.
 abbrev pub ListingRelation : Type 1
 ListingRelation = Option (List ℕ) → Option (List ℕ) → Option Status → Listing → Type 0
 
@@ -89,9 +90,9 @@ PrintsOrFails out listing status =
     ⊎ ((out.new_count ≡ out.old_count + 1) × AppendsPrefix out.old out.new listing.text
     × (status ≡ Fault))
 
--- The listing belongs to an outcome of reading a source. If the bytes of the source are known and
--- the source did not fail, the bytes decide the outcome. If the source was read to the end of the
--- listing or failed, the consumed bytes decide the outcome, even if they are unknown.
+-- The listing shows the outcome of reading a source. If the bytes of the source are known and the
+-- source did not fail, they determine the outcome. Even if they are unknown, the bytes that were
+-- consumed determine it, unless the sink failed.
 pub record Lists
     {Outcome : Type 0} (listing_of : Outcome → Listing) (given : List ℕ → Outcome)
     (Takes : Bool → Option (List ℕ) → Outcome → Option (List ℕ) → Type 0)
@@ -102,8 +103,8 @@ pub record Lists
   pub exact : IfKnown known (λ bytes. has_failed ending ≡ false → outcome ≡ given bytes)
   pub taken : ending ≢ None → Takes (has_failed ending) known outcome left
 
--- A source was listed, even if it failed. The listing was printed, or the sink failed and received
--- a prefix of it.
+-- A source was listed. All of the listing was printed, or the sink failed and received a prefix of
+-- it.
 pub record PrintsListing
     (Lists : ListingRelation) (source : SourceCall) (out : SinkCall) (status : Status)
     : Type 0 where
@@ -114,8 +115,9 @@ pub record PrintsListing
   pub cut : ending ≡ None → out.new_count ≢ out.old_count
   pub printed : PrintsOrFails out listing status
 
--- One part of the input was read, and `text` has its lines. Either each possible listing of the
--- rest, of which there is at least one, comes after these lines; or these lines end the listing.
+-- The next PES packet or subtitle was read, and `text` contains its lines. Either any listing of
+-- the bytes after it, and there is at least one, may follow these lines; or the listing ends with
+-- these lines.
 abbrev pub YieldsResults : ListingRelation → ListingRelation
     → Option (List ℕ) → Option (List ℕ) → List ℕ → Option Status → Type 0
 YieldsResults Before After known left text None =
@@ -125,6 +127,6 @@ YieldsResults Before After known left text None =
 YieldsResults Before After known left text (Some status) =
     Before known left (Some status) (record { text = text; status = status })
 
--- The sink failed before a part was read completely, so the listing has no end.
+-- The sink failed before the next PES packet or subtitle was read, so the listing has no end.
 abbrev pub IsCut : ListingRelation → Option (List ℕ) → Option (List ℕ) → Type 0
 IsCut Lists known left = (more : Listing) × Lists known left None more

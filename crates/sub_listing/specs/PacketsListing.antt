@@ -10,23 +10,25 @@ use Rattle.sub_listing.specs.Listing.{ListingRelation, Lists, Listing, done, fol
 use Rattle.sub_listing.specs.Listing.{fault_listing}
 use Rattle.sub_listing.specs.FaultLine.{counted_from}
 
--- The lines of Teletext units, the first of which has this number in its PES packet.
+-- The lines of Teletext units. The first unit has this number in its PES packet.
 abbrev pub unit_lines : ℕ → List UnitValue → List ℕ
 unit_lines number [] = []
 unit_lines number (u ∷ units) = unit_line number u ++ unit_lines (number + 1) units
 
--- The lines of a PES packet with this number in its file, and of its Teletext units.
+-- The lines of a PES packet, with its number in the file, and of its Teletext units.
 abbrev pub frame_lines : ℕ → PesValue → List ℕ
 frame_lines number v = pes_line number v.pts ++ unit_lines 0 v.units
 
--- The output after `index` PES packets: the lines of each further packet, and at the end the number
--- of listed packets. The first PES packet that is read has the number `first` in its file.
+-- The output of `packets` after `index` PES packets: the lines of each further PES packet, and
+-- finally the number of listed packets. The first PES packet that is read has the number `first` in
+-- its file.
 abbrev pub pes_listing : ℕ → ℕ → PesOutcome → Listing
 pes_listing first index ends = done (decimal index ++ codes " pes\n")
 pes_listing first index (fails f) = fault_listing (counted_from first (check_line (Pes index f)))
 pes_listing first index (gives v more) =
     followed (frame_lines (number_in_file first index) v) (pes_listing first (index + 1) more)
 
--- The PES packets of a source are listed, the first with the number `first` in its file.
+-- The PES packets of a source are listed. The first PES packet that is read has the number `first`
+-- in its file.
 abbrev pub ListsPackets : ℕ → ListingRelation
 ListsPackets first = Lists (pes_listing first 0) (outcome_after 0) ReadsPackets

@@ -6,9 +6,9 @@ use Rattle.sub_io.specs.Device.{AppendsPrefix}
 use Rattle.sub_rules.specs.declared.event.Event.{Event}
 use Rattle.sub_listing.specs.EventLines.{event_line, event_lines, max_count, refusal, refusals}
 
--- The state of the printer: the contents of its sink, if known, and the sink's count of failures;
--- the number of faults counted; whether the sink failed while printing; and the number, in its
--- file, of the first PES packet.
+-- The state of the printer: the contents of its sink, if they are known, and the number of the
+-- sink's failed calls; the number of faults; whether the sink failed while printing; and the number
+-- of the first PES packet in its file.
 pub record PrinterValue : Type 0 where
   pub contents : Option (List ℕ)
   pub count : ℕ
@@ -26,17 +26,16 @@ printer_value contents count refused failed first = record {
   first = first;
 }
 
--- The count of failures is below 2^64 - 1, so it can rise by one.
+-- The number of failed calls is below 2^64 - 1, so it can still rise.
 abbrev pub can_fail : ℕ → Bool
 can_fail count = nat_lt count 0xFFFF_FFFF_FFFF_FFFF
 
--- The number of faults after more faults. The greatest number, 2^64 - 1, also stands for any
--- greater number.
+-- The number of faults after `more` further faults. A number above 2^64 - 1 is counted as 2^64 - 1.
 unfoldable pub counted : ℕ → ℕ → ℕ
 counted refused more = min (refused + more) max_count
 
--- An event was reported to a printer whose sink had not failed. The line was written and a fault
--- counted; or the sink failed once, and received a prefix of the line.
+-- An event was reported to a printer whose sink had not failed. Its line was written, and a fault
+-- was counted; or the sink failed once, and received a prefix of the line.
 pub record PrintsEvent (old : PrinterValue) (event : Event) (new : PrinterValue) : Type 0 where
   pub continues : old.failed ≡ false
   pub counts_from : new.first ≡ old.first
@@ -61,7 +60,7 @@ pub record PrintsEvents (old : PrinterValue) (events : List Event) (new : Printe
         → AppendsPrefix old.contents new.contents (event_lines old.first events)
     pub cut_count : new.failed ≡ true → new.count ≡ old.count + 1
 
--- Flushing the printer keeps the printed lines. If flushing was not possible, the sink failed once.
+-- The printed lines remain after the printer was flushed. If flushing failed, the sink failed once.
 pub record StaysPrinted (old new : PrinterValue) : Type 0 where
   pub kept : Keeps old.contents new.contents
   pub refused : new.refused ≡ old.refused
@@ -69,7 +68,7 @@ pub record StaysPrinted (old new : PrinterValue) : Type 0 where
   pub same : new.failed ≡ old.failed → new.count ≡ old.count
   pub risen : new.failed ≢ old.failed → (new.failed ≡ true) × (new.count ≡ old.count + 1)
 
--- The printer was asked to flush its sink, and did so if `ok`.
+-- The printer was flushed; `ok` if this succeeded.
 pub record FlushesLines (old : PrinterValue) (ok : Bool) (new : PrinterValue) : Type 0 where
   pub stays : StaysPrinted old new
   pub stopped : (new.failed || not (can_fail new.count)) ≡ not ok

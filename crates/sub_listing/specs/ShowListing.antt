@@ -16,9 +16,9 @@ use Rattle.sub_listing.specs.Lines.{subtitle_line}
 use Rattle.sub_listing.specs.Listing.{ListingRelation, Lists, Listing, done, followed}
 use Rattle.sub_listing.specs.Listing.{fault_listing}
 
--- The outcome of reading subtitles after `from` TTI blocks. At the end, only skipped blocks were
--- left. For a fault of the format, no file continues with these bytes. If the source failed, it
--- failed at the block of the fault.
+-- The outcome of reading the subtitles after the first `from` TTI blocks. At the end, only skipped
+-- blocks remain. A fault of the format is one that no continuation of the file can remove. If the
+-- source failed, the fault names the block that was being read.
 abbrev pub ReadsSubtitles : Bool → ℕ → Option (List ℕ) → Outcome → Option (List ℕ) → Type 0
 ReadsSubtitles failed from known ends left =
     (failed ≡ false) × (to : ℕ) × TakesSkipped from to known left
@@ -30,7 +30,8 @@ ReadsSubtitles failed from known (gives s block more) left =
     (following : Option (List ℕ)) × TakesSubtitle from block known following s
     × ReadsSubtitles failed block following more left
 
--- No GSI block was read: the source failed within the block, or no file begins with these bytes.
+-- No GSI block was read: the source failed within the block, or no subtitle file begins with these
+-- bytes.
 pub record ReadsNoGsi (failed : Bool) (known : Option (List ℕ)) (outcome : Outcome)
     (left : Option (List ℕ)) : Type 0 where
   pub fault : StlFault
@@ -40,33 +41,35 @@ pub record ReadsNoGsi (failed : Bool) (known : Option (List ℕ)) (outcome : Out
       failed ≡ true → (bytes : List ℕ) × (length bytes < gsi_size) × Consumes known left bytes
   pub refused : is_format fault ≡ true → RefusesOpening known left fault
 
--- The outcome of reading a file: a GSI block and the subtitles after it, or no GSI block.
+-- The outcome of reading a subtitle file: a GSI block and the subtitles after it, or a fault in the
+-- GSI block.
 abbrev pub ReadsFile : Bool → Option (List ℕ) → Outcome → Option (List ℕ) → Type 0
 ReadsFile failed known outcome left =
     ReadsNoGsi failed known outcome left
     ⊎ ((following : Option (List ℕ)) × (gsi : List ℕ) × IsGsi gsi × Consumes known following gsi
     × ReadsSubtitles failed 0 following outcome left)
 
--- The output after `count` subtitles: the line of each further subtitle, and at the end the number
--- of subtitles.
+-- The output of `show` after `count` subtitles: the line of each further subtitle, and finally the
+-- number of subtitles.
 abbrev pub subtitles_listing : ℕ → Outcome → Listing
 subtitles_listing count ends = done (decimal count ++ codes " subtitles\n")
 subtitles_listing count (fails f block) = fault_listing (stl_line f block)
 subtitles_listing count (gives s block more) =
     followed (subtitle_line s) (subtitles_listing (count + 1) more)
 
--- The subtitles of a file are listed.
+-- The subtitles of a file are listed from its start.
 abbrev pub ListsSubtitles : ListingRelation
 ListsSubtitles = Lists (subtitles_listing 0) outcome_of ReadsFile
 
--- The rest of a listing after `count` subtitles, given the reader; `None` before the GSI block is
--- read.
+-- The remaining listing after `count` subtitles, given the reader, or `None` if the GSI block was
+-- not read yet.
 abbrev pub ListsFrom : Option ReaderValue → ℕ → ListingRelation
 ListsFrom None count = Lists (subtitles_listing count) outcome_of ReadsFile
 ListsFrom (Some r) count =
     Lists (subtitles_listing count) (outcome_left r) (λ failed. ReadsSubtitles failed r.block)
 
--- The reader is not at the end of the file, and has met no fault; or no GSI block was read yet.
+-- Either the reader is not at the end of the file and has found no fault, or the GSI block was not
+-- read yet.
 abbrev pub IsReady : Option ReaderValue → ℕ → Type 0
 IsReady None count = count ≡ 0
 IsReady (Some r) count = (r.progress ≡ Reading) × (count ≤ r.block) × (r.block ≤ most_blocks)

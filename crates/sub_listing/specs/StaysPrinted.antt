@@ -1,5 +1,5 @@
--- Law of the printer: flushing its lines does not change which events were reported. No contract
--- uses these lemmas.
+-- Flushing the lines of the printer does not change which events were reported. No contract uses
+-- these lemmas.
 use Rattle.std.proofs.Common.{◌≡◌, ◌∙◌, ap, refl, sym, ℕ, ◌+◌, Bool, true, false}
 use Rattle.std.proofs.lemmas.Bool.{true≢false}
 use Rattle.std.proofs.KnownBytes.{Appends-kept}
@@ -9,7 +9,7 @@ use Rattle.sub_rules.specs.declared.event.Event.{Event}
 use Rattle.sub_listing.specs.EventLines.{event_line}
 use Rattle.sub_listing.specs.Printer.{PrinterValue, PrintsEvent, StaysPrinted}
 
--- If a printer's sink has not failed after flushing, the sink had not failed before.
+-- If the printer's sink works after flushing, it worked before.
 not_before : (b c : PrinterValue) (was : Bool) → b.failed ≡ was → StaysPrinted b c
     → c.failed ≡ false
     → b.failed ≡ false
@@ -34,7 +34,7 @@ cut_stays a b c e false is one on fails = (
       ∙ ap (λ (n : ℕ). n + 1) (one.put_count is),
 )
 
--- The line of a printed event stays printed when lines are flushed after it.
+-- After flushing, the line of an event is still printed.
 pub line_stays : (a b c : PrinterValue) (e : Event)
     → PrintsEvent a e b
     → StaysPrinted b c

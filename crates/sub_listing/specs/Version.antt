@@ -1,4 +1,4 @@
--- The name and version of the program, as `--version` prints them (own).
+-- The output of `--version` (own).
 use Rattle.std.specs.Prelude.{ℕ, List, codes}
 
 -- The line that `--version` prints.

@@ -1,5 +1,4 @@
--- The commands that write a file, `schedule` and `normal`: the contents of the file, and the
--- output.
+-- The commands `schedule` and `normal`: the file that each of them writes, and the output.
 use Rattle.std.specs.Prelude.{◌≡◌, ◌≢◌, ◌<◌, ℕ, List, [], ◌++◌, codes, decimal, length, Bool, true}
 use Rattle.std.specs.Prelude.{false, Option, Result, Ok, Err, IsOkAnd}
 use Rattle.std.specs.Io.KnownBytes.{Appends, Consumes, Keeps}
@@ -30,18 +29,18 @@ use Rattle.sub_listing.specs.declared.status.Status.{Status}
 
 -- ---- the result of writing, before its line is printed
 
--- The fault means that the source of `normal` failed.
+-- The source of `normal` failed.
 abbrev pub is_input_read : InputFault → Bool
 is_input_read (input.Read block) = true
 is_input_read input.Memory = false
 
--- The fault means that the input failed.
+-- The input failed.
 abbrev pub is_input_failure : WriteFault → Bool
 is_input_failure (write.Input f) = is_input_read f
 is_input_failure (write.Load f) = load_fault.is_load_read f
 is_input_failure _ = false
 
--- The fault means that the output file failed.
+-- The output file failed.
 abbrev pub is_file_failure : WriteFault → Bool
 is_file_failure (write.Normal f) = is_normal_write f
 is_file_failure (write.Plan f) = is_plan_write f
@@ -52,21 +51,21 @@ abbrev pub work_listing : List ℕ → Result ℕ WriteFault → Listing
 work_listing things (Ok count) = done (codes "written " ++ decimal count ++ things)
 work_listing things (Err f) = fault_listing (write_line f)
 
--- A relation between the bytes of the input before and after, the bytes of the output file before
--- and after, and the result of a command that writes a file.
+-- The type of relations between the bytes of the input before and after a command, the bytes of the
+-- output file before and after it, and the result of the command.
 abbrev pub Work : Type 1
 Work = Option (List ℕ) → Option (List ℕ) → Option (List ℕ) → Option (List ℕ)
     → Result ℕ WriteFault → Type 0
 
--- A command that writes a file has this result, the number of items in the file or a fault, and its
--- line was printed.
+-- A command that writes a file has a result, the number of items in the file or a fault, and
+-- printed its line.
 pub record EndsWork
     (input : SourceCall) (file out : SinkCall) (status : Status)
     (things : List ℕ) (HasWorked : Work)
     : Type 0 where
   pub answer : Result ℕ WriteFault
   pub has_worked : HasWorked input.known input.left file.old file.new answer
-  -- The counts of failures: the input and the file failed if and only if the result says so.
+  -- The input and the file failed exactly if the result reports it.
   pub input_count : CountRisesIf input.old_count (failed is_input_failure answer) input.new_count
   pub file_count : CountRisesIf file.old_count (failed is_file_failure answer) file.new_count
   pub printed : PrintsOrFails out (work_listing things answer) status
@@ -88,8 +87,9 @@ WritesSchedule programme o serial old new (Err Write) =
 WritesSchedule programme o serial old new (Err NoSubtitles) =
     Keeps old new × (programme.records ≡ [])
 
--- The file received the schedule of the input's programme. If the input gives no programme, nothing
--- was written and the fault is reported, with the block if the source failed.
+-- The file received the schedule of the programme in the input. If the input contains no programme,
+-- nothing was written, and the fault is reported; if the source failed, the fault contains the
+-- block.
 abbrev pub Schedules : Drawing → OptionsValue → Bool → Work
 Schedules drawing o serial known left old new (Ok count) =
     IfKnown known (λ bytes. IsOkAnd (loaded drawing bytes) (λ programme.
@@ -103,7 +103,7 @@ Schedules drawing o serial known left old new (Err (write.Load f)) =
     × Keeps old new
 Schedules drawing o serial known left old new answer = ⊥
 
--- The line about a lack of memory names the last block of a subtitle of the file.
+-- The line about a lack of memory names the last block of one of the file's subtitles.
 abbrev pub PrintsMemory :
     Drawing → Option (List ℕ) → Option (List ℕ) → Option (List ℕ) → Type 0
 PrintsMemory drawing known old new =
@@ -112,21 +112,20 @@ PrintsMemory drawing known old new =
 
 -- ---- the command `normal`
 
--- The maximum number of bytes to read: one more than the longest file has.
+-- The maximum number of bytes to read: one byte more than the longest subtitle file.
 abbrev pub read_limit : ℕ
 read_limit = 12800897
 
--- The fault of an input that was not read completely. `Read`: the source failed at a byte of this
--- block, after the consumed bytes. `Memory`: an allocation failed, which is only needed after at
--- least one byte was consumed.
+-- The fault of an input that was not read completely. `Read`: the source failed while this block
+-- was read. `Memory`: an allocation failed, which can only happen after at least one byte was read.
 abbrev pub ReportsRead : Option (List ℕ) → Option (List ℕ) → InputFault → Type 0
 ReportsRead old new (input.Read block) =
     (bytes : List ℕ) × Consumes old new bytes × (block ≡ block_of_byte (length bytes))
 ReportsRead old new input.Memory =
     (bytes : List ℕ) × Consumes old new bytes × (0 < length bytes)
 
--- The file received the normal form of the input, or a prefix if the file failed; or nothing, if
--- the input is rejected or was not read completely.
+-- The file received the normal form of the input, or a prefix of it if the file failed. The file
+-- received nothing if the input was rejected or not read completely.
 abbrev pub Normalizes : Work
 Normalizes known left old new (Ok count) =
     IfKnown known (λ bytes. NormalAnswers bytes old new (Ok count))
