@@ -38,16 +38,15 @@ use Rattle.sub_listing.specs.FaultLine.{line_of}
 use Rattle.sub_listing.specs.declared.status.Status.{Status}
 use Rattle.sub_listing.specs.declared.status.Status.TheVariants.{Fault}
 
--- The answer refuses the subtitle file, or reports that it could not be read. The answer is `Ok
--- None` if no transmission can be judged because of refused subtitles.
+-- The subtitle file was rejected or could not be read. The answer `Ok None` means that too many
+-- subtitles were rejected for a check of the PES file.
 abbrev pub is_of_subtitles : Result (Option Accepted) CheckFault → Bool
 is_of_subtitles (Ok None) = true
 is_of_subtitles (Ok (Some a)) = false
 is_of_subtitles (Err f) = is_subtitle_fault f
 
--- The events if the subtitle file can't be read on at this block: the faults found before the
--- block. If an allocation was refused, it was for a subtitle that ends at the block and has no
--- event.
+-- The events if reading the subtitle file stopped at this block: the faults found before the block.
+-- If memory ran out, it ran out at the end of a subtitle, for which there is no event.
 abbrev pub AreListedBefore : Drawing → List ℕ → List Event → ℕ → LoadFaultKind → Type 0
 AreListedBefore drawing file events block (File stl_fault.Read) =
     events ≡ subtitle_events (filter (is_reported_before block) (faults drawing file))
@@ -57,8 +56,8 @@ AreListedBefore drawing file events block Memory =
     (findings_for drawing.scope file)
 AreListedBefore drawing file events block kind = ⊥
 
--- The events of the PES file: of all its PES packets, whose frames are counted; or if its source
--- failed, of the PES packets before the failure.
+-- The events of the PES file: the events of all its PES packets, whose frames are counted; or, if
+-- its source failed, the events of the PES packets before the failure.
 abbrev pub AreListedOfPes :
     JudgedValue → OptionsValue → List ℕ → List Event → Result Accepted ℕ → Type 0
 AreListedOfPes judged options bytes events (Ok a) =
@@ -68,8 +67,8 @@ AreListedOfPes judged options bytes events (Err n) =
     (n ≤ length (pes_packet_file_of (clock_of options) bytes).pes_packets)
     × (events ≡ events_of_first_by judged options bytes n)
 
--- The events of both files, if a transmission can be judged by the subtitle file: all faults of the
--- subtitle file, followed by the events of the PES file, compared with the reliable subtitles.
+-- The events if the PES file can be checked against the subtitle file: all faults of the subtitle
+-- file, and then the events of the PES file, compared with the reliable subtitles.
 pub record IsListedOf
     (drawing : Drawing) (options : OptionsValue) (file : List ℕ) (pes : Option (List ℕ))
     (events : List Event) (answer : Result Accepted ℕ) : Type 0 where
@@ -79,8 +78,8 @@ pub record IsListedOf
   pub both : events ≡ subtitle_events (faults drawing file) ++ more
   pub listed : IfKnown pes (λ bytes. AreListedOfPes judged options bytes more answer)
 
--- The list has the events of both files: all faults of the subtitle file, followed by all events of
--- the PES file, if a transmission can be judged by the subtitle file.
+-- The events of both files: all faults of the subtitle file, and then, if the PES file can be
+-- checked against it, all events of the PES file.
 abbrev pub AreListed :
     Drawing → OptionsValue → List ℕ → Option (List ℕ) → List Event
     → Result (Option Accepted) CheckFault → Type 0
@@ -94,24 +93,24 @@ AreListed drawing options file pes events (Err (Pes n Read)) =
     IsListedOf drawing options file pes events (Err n)
 AreListed drawing options file pes events (Err f) = ⊥
 
--- The source of a subtitle file failed at the block that was being read: the first block after the
--- consumed bytes.
+-- The source of the subtitle file failed while this block was read, directly after the consumed
+-- bytes.
 pub record FailsAtBlock (known left : Option (List ℕ)) (block : ℕ) : Type 0 where
   pub bytes : List ℕ
   pub consumed : Consumes known left bytes
   pub block_eq : block ≡ block_of_byte (length bytes)
 
--- The answer is that of `check` for the bytes of a PES file, with any options; and if each header
--- of the page has to erase it, and the page has to be right at the end of each frame, also in terms
--- of the seven rules.
+-- The answer of `check` is correct for the bytes of a PES file, with any options. With options that
+-- require each header of the page to erase the page, and the expected page at the end of each
+-- frame, it is also correct by the seven rules.
 abbrev pub IsAnswer :
     ProgrammeValue → OptionsValue → List ℕ → Result Accepted CheckFault → Type 0
 IsAnswer programme options bytes answer =
     IsCheckedBy programme options bytes answer
     × (IsFalse options.keeps → options.within ≡ 0 → IsChecked programme options bytes answer)
 
--- If both files were read, the answer of `check`, which the first event decides, fits the bytes: an
--- accepted transmission is good and robust.
+-- The first event determines the answer of `check`, which is correct for the bytes of both files:
+-- an accepted transmission is good and robust.
 abbrev pub IsVerdict :
     Drawing → OptionsValue → List ℕ → List ℕ → List Event → Result (Option Accepted) CheckFault
     → Type 0
@@ -121,8 +120,8 @@ IsVerdict drawing options file bytes events (Ok (Some a)) =
     → IsAnswer programme options bytes (first_answer events a)
 IsVerdict drawing options file bytes events answer = ⊤
 
--- The line about refused memory is printed after the lines of the faults of the subtitle file that
--- were found before.
+-- The line about a lack of memory is printed after the lines of the faults found so far in the
+-- subtitle file.
 abbrev pub PrintsMemoryLast :
     Drawing → Option (List ℕ) → Option (List ℕ) → Option (List ℕ) → Type 0
 PrintsMemoryLast drawing known old new =
@@ -132,12 +131,12 @@ PrintsMemoryLast drawing known old new =
     × Appends old new (event_lines first events ++ line_of (load_line Memory block))
     × IfKnown known (λ file. AreListedBefore drawing file events block Memory)
 
--- The answer after the PES file was read completely, or after its source failed at PES packet n.
+-- The answer after the PES file was read completely, or after its source failed at PES packet `n`.
 abbrev pub read_answer : Result Accepted ℕ → Result (Option Accepted) CheckFault
 read_answer (Ok a) = Ok (Some a)
 read_answer (Err n) = Err (Pes n Read)
 
--- The events of the PES file were reported to a printer, and the answer is `given`, unless the
+-- The events of the PES file were reported to a printer. The answer is `given`, unless the
 -- printer's sink failed.
 pub record ReportsPes
     (judged : JudgedValue) (options : OptionsValue) (pes : SourceCall) (first : FirstNumber)
@@ -152,7 +151,7 @@ pub record ReportsPes
   pub count : CountRisesIf pes.old_count (is_err answer) pes.new_count
   pub read : (n : ℕ) → answer ≡ Err n → FailsAtPesPacket n pes.known pes.left
   pub cut : new.failed ≡ true → IsOk answer
-  -- If no subtitle was refused, the first event decides the answer of `check`.
+  -- If no subtitle was rejected, the first event determines the answer of `check`.
   pub checked :
       new.failed ≡ false
       → IfKnown pes.known (λ bytes.
@@ -162,9 +161,9 @@ pub record ReportsPes
       → IsAnswer programme options bytes (first_answer events a))
   pub listed : IfKnown pes.known (λ bytes. AreListedOfPes judged options bytes events answer)
 
--- What the answer says about the sources of both files: a failure is reported at the block that was
--- being read, or at the PES packet in which it happened. If the subtitle file is refused or can't
--- be read, no byte of the PES file is read.
+-- How the answer reports failures of the two sources: it names the block or the PES packet at which
+-- a source failed. If the subtitle file is rejected or can't be read, no byte of the PES file is
+-- read.
 abbrev pub ReportsBothSources :
     SourceCall → SourceCall → Type 0 → Result (Option Accepted) CheckFault → Type 0
 ReportsBothSources stl pes Untouched answer =
@@ -172,8 +171,8 @@ ReportsBothSources stl pes Untouched answer =
     pes.left)
     Untouched (is_of_subtitles answer) stl pes answer
 
--- The events of both files were reported to a printer, and the answer is `given`, unless the
--- printer's sink failed.
+-- The events of both files were reported to a printer. The answer is `given`, unless the printer's
+-- sink failed.
 pub record ReportsBoth
     (drawing : Drawing) (options : OptionsValue) (stl pes : SourceCall) (first : FirstNumber)
     (Untouched : Type 0) (old new : PrinterValue) (given : Result (Option Accepted) CheckFault)
@@ -198,32 +197,32 @@ pub record ReportsBoth
   pub listed :
       IfKnown stl.known (λ file. AreListed drawing options file pes.known events answer)
 
--- `check --all` prints events and has one answer; the bytes of both files decide the events and the
--- answer. `first` is the number of the first PES packet in its file; `Untouched` says that no byte
--- of the PES file was read.
+-- The command `check --all` prints events and has one answer; both depend only on the bytes of the
+-- two files. The argument `first` is the number of the first PES packet in its file. `Untouched`
+-- means that no byte of the PES file was read.
 pub record AnswersAll
     (drawing : Drawing) (options : OptionsValue) (stl pes : SourceCall) (first : FirstNumber)
     (Untouched : Type 0) (out : SinkCall) (status : Status)
     : Type 0 where
   pub events : List Event
   pub answer : Result (Option Accepted) CheckFault
-  -- PES packets are reported by their numbers in the file.
+  -- Faults name PES packets by their numbers in the file.
   pub number : ℕ
   pub starts : is_of_subtitles answer ≡ false → StartsAt first pes number
-  -- The lines of the events and the last line are printed, or `out` failed and has a prefix of
-  -- these lines.
+  -- The lines of the events and the last line were printed, or `out` failed and received a prefix
+  -- of them.
   pub printed : PrintsOrFails out (all_listing number events answer) status
   pub sources : ReportsBothSources stl pes Untouched answer
-  -- If the bytes of the files are known, they decide the events.
+  -- If the bytes of the files are known, they determine the events.
   pub listed :
       IfKnown stl.known (λ file. AreListed drawing options file pes.known events answer)
-  -- The PES file is left unread only if no transmission can be judged by the subtitle file.
+  -- The PES file is left unread only if it can't be checked against the subtitle file.
   pub unjudged :
       status ≢ Fault
       → answer ≡ Ok None
       → IfKnown stl.known (λ file. can_judge drawing file ≡ false)
-  -- Unless a device fails or an allocation is refused, the answer of `check` that belongs to the
-  -- events fits the bytes of both files.
+  -- Unless a device failed or memory ran out, the answer of `check`, which follows from the events,
+  -- is correct for the bytes of both files.
   pub checked :
       status ≢ Fault
       → IfKnown stl.known (λ file.

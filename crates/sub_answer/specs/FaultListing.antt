@@ -1,5 +1,5 @@
--- The output of `check --all`: a line for each event, and a last line. The first PES packet that is
--- read has the number `first` in its file.
+-- The output of `check --all`: a line for each event, and a last line. The argument `first` is the
+-- number of the first PES packet that is read, in its file.
 use Rattle.std.specs.Prelude.{ℕ, ◌==◌, min, List, ◌++◌, codes, decimal, Option, Some, None}
 use Rattle.std.specs.Prelude.{Result, Ok, Err, if◌then◌else◌}
 use Rattle.sub_checker.specs.declared.accepted.Accepted.{Accepted}
@@ -11,8 +11,8 @@ use Rattle.sub_listing.specs.Listing.{Listing, done, followed, fault_listing}
 use Rattle.sub_listing.specs.FaultLine.{counted_from}
 use Rattle.sub_listing.specs.declared.status.Status.TheVariants.{Refused}
 
--- The line of an accepted transmission: the number of frames of the day from the first PES packet's
--- frame to the greatest one, and the number of headers of the page.
+-- The line of an accepted transmission: the number of frames from the first to the last frame, and
+-- the number of headers of the page.
 abbrev pub accepted_line : Accepted → List ℕ
 accepted_line a = codes "accepted " ++ decimal a.frames ++ codes " frames "
     ++ decimal a.transmissions ++ codes " transmissions\n"
@@ -21,17 +21,17 @@ accepted_line a = codes "accepted " ++ decimal a.frames ++ codes " frames "
 abbrev pub faults_listing : ℕ → Listing
 faults_listing n = record { text = decimal n ++ codes " faults\n"; status = Refused }
 
--- The last line after `refused` faults: the line of a failed device or of refused memory; otherwise
--- the number of faults or, if there was none, the line of the accepted transmission. `None`: no
--- transmission could be judged by the subtitle file.
+-- The last line after `refused` faults: the line about a failed device or a lack of memory;
+-- otherwise the number of faults or, if there are none, the line of the accepted transmission.
+-- `None` means that the PES file can't be checked against the subtitle file.
 abbrev pub last_listing : ℕ → ℕ → Result (Option Accepted) CheckFault → Listing
 last_listing first refused (Err f) = fault_listing (counted_from first (check_line f))
 last_listing first refused (Ok None) = faults_listing refused
 last_listing first refused (Ok (Some a)) =
     if refused == 0 then done (accepted_line a) else faults_listing refused
 
--- The lines of all events, and the last line. A greater number of faults than can be counted is
--- printed as the greatest number.
+-- The output for all events, and the last line. A number of faults that is too great to be counted
+-- is printed as the greatest number.
 abbrev pub all_listing : ℕ → List Event → Result (Option Accepted) CheckFault → Listing
 all_listing first events answer =
     followed (event_lines first events)

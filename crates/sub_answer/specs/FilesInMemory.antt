@@ -1,5 +1,4 @@
--- What the status of `check` says about files in memory: the clauses about runs with files apply to
--- such files.
+-- The meaning of the exit status of `check` for files in memory.
 use Rattle.std.specs.Prelude.{◌≡◌, ◌≢◌, ◌↔◌, ⊤, ℕ, List, Some, true}
 use Rattle.sub_io.specs.Memory.{Written}
 use Rattle.stl_rows.specs.Layout.{drawing_within}
@@ -13,14 +12,15 @@ use Rattle.sub_listing.specs.declared.status.Status.TheVariants.{Done, Fault}
 use Rattle.sub_answer.specs.Ending.{Ends, FileObservations, Lines, file_observations}
 use Rattle.sub_answer.specs.Part.{through_range, through_stream}
 
--- The known properties of files in memory: all their bytes.
+-- The functions that describe files in memory: all their bytes are known, and reading them never
+-- fails.
 abbrev pub memory_observations : FileObservations (List ℕ) Written
 memory_observations =
     file_observations (λ left. Some left) (λ left. 0) (λ file. Some file.bytes)
     (λ file. file.failure_count) (λ file. true)
 
--- The status of a check is `Done` exactly if the bytes of the subtitle file that it names, and
--- those that it reads of the PES file, are accepted.
+-- The status of a check is `Done` exactly if the bytes of its subtitle file and the selected bytes
+-- of its PES file are accepted.
 abbrev pub DecidesAccepted : Request → MemFilesValue → Status → Type 0
 DecidesAccepted (ask.Check stl pes options national layout scope all) files status =
     (subtitles bytes read : List ℕ)
@@ -31,9 +31,9 @@ DecidesAccepted (ask.Check stl pes options national layout scope all) files stat
     ↔ IsAcceptedBy (drawing_within national layout scope) options subtitles read
 DecidesAccepted _ files status = ⊤
 
--- If a request was answered with files in memory by `open_and_answer`, whatever standard output is,
--- the status is `Done` exactly if the bytes are accepted, unless output fails or an allocation is
--- refused. So the clauses about the bytes of files apply to files that exist.
+-- If `open_and_answer` answered a request with files in memory, the status is `Done` exactly if
+-- their bytes are accepted, unless the output failed or memory ran out. This is true for any
+-- standard output. So the clauses about the bytes of files are not empty.
 abbrev pub LawOfFilesInMemory : (Lines → Type 0) → Type 0
 LawOfFilesInMemory IsAlone =
     (request : Request) (before after : MemFilesValue) (old new : Lines) (status : Status)

@@ -1,4 +1,4 @@
--- The output of `listen`: the state of a receiver at the end of its run, or the refusal.
+-- The output of `listen`: the state of a receiver at the end of its run, or a fault.
 use Rattle.std.specs.Prelude.{◌≡◌, ℕ, Bool, false, List, Option, None, Result, Ok, Err, IfOk}
 use Rattle.ttx_page.specs.Page.{IsCell, Rows, cell}
 use Rattle.ttx_page.specs.Screen.{Display}
@@ -17,32 +17,33 @@ use Rattle.sub_listen.specs.Fault.{listen_code}
 use Rattle.sub_rules.specs.declared.fault_place.FaultPlace.TheVariants as place
 use Rattle.sub_listen.specs.declared.listening.ListenFault.TheVariants as listen
 
--- The page has 3F in every cell (own). A receiver of `listen` starts with such an old page.
+-- The page has code 3F in every cell (own). A receiver of `listen` starts with this page.
 abbrev pub IsOldPage : Rows → Type 0
 IsOldPage page = (row column : ℕ) → IsCell row column → cell page row column ≡ 0x3F
 
--- The state of a receiver that was tuned with an old page, and shows nothing on its screen.
+-- The state of a receiver that was tuned while it had this page, and shows no page on its screen.
 abbrev pub tuned_with : Rows → Display
 tuned_with page = record {
   held = record { heard = false; is_open = false; page = page };
   screen = None;
 }
 
--- The line of a fault; a lost header is reported at its packet.
+-- The line of a fault of `listen`. A lost header is reported with the number of its Teletext
+-- packet.
 abbrev pub listen_line : ListenFault → FaultLine
 listen_line (listen.File f) = check_line f
 listen_line (listen.LostHeader frame packet) =
     line_as kind.Refused (listen_code (listen.LostHeader frame packet)) (place.Packet frame packet)
 
--- The output at the end of a run of `listen`. `first` is the number of the first PES packet in its
--- file.
+-- The output at the end of a run of `listen`. The argument `first` is the number of the first PES
+-- packet in its file.
 abbrev pub listing_of : ℕ → Bool → Display → Result (Unit {0}) ListenFault → Listing
 listing_of first asks_complete end (Ok _) = done (display_text asks_complete end)
 listing_of first asks_complete end (Err f) = fault_listing (counted_from first (listen_line f))
 
--- The output of `listen` for a file with these frames, and with the bytes `known` before and `left`
--- after the run: the page or screen of a receiver that was tuned with an old page and leaves the
--- code `leaves` in a cell whose byte has even parity; or the refusal.
+-- The output of `listen` for a file with these frames: the page or screen of a receiver that
+-- started with an old page, or a fault. The receiver stores the code `leaves` in a cell whose byte
+-- has even parity. The remaining bytes of the file are `known` before and `left` after the run.
 pub record Listens
     (leaves : ℕ → ℕ) (l : Listening) (first : ℕ) (frames : Transmission) (unread : Option Unread)
     (known left : Option (List ℕ)) (listing : Listing)

@@ -1,5 +1,5 @@
--- The PES packets of a file that a request reads: the PES packets of a PES file, or those that the
--- transport packets of a PID carry (ISO/IEC 13818-1); all of these or a range.
+-- The PES packets that a request reads of a file: all PES packets or a range of them, in a PES file
+-- or in the transport packets of a PID (ISO/IEC 13818-1).
 use Rattle.std.specs.Prelude.{◌≡◌, ℕ, List, Option, Some, None, option_map}
 use Rattle.mpeg_ts.specs.Carried.{carried}
 use Rattle.mpeg_ts.specs.PacketSize.{bytes_of}
@@ -10,11 +10,11 @@ use Rattle.sub_request.specs.declared.request.Request.TheVariants as ask
 use Rattle.sub_answer.specs.Answering.{InputCall}
 use Rattle.sub_answer.specs.declared.part.Part.{Part}
 
--- The part that is a complete file, which is no transport stream.
+-- A complete file that is not a transport stream.
 abbrev pub entire_file : Part
 entire_file = record { stream = None; range = None }
 
--- The part that a request reads of its PES file or recording.
+-- The part of its PES file or recording that a request reads.
 abbrev pub part_requested : Request → Part
 part_requested (ask.Packets pes) = record { stream = pes.stream; range = pes.range }
 part_requested (ask.Check stl pes options national layout scope all) =
@@ -29,18 +29,19 @@ abbrev pub through_stream : Option TransportStream → Option (List ℕ) → Opt
 through_stream None reported = reported
 through_stream (Some s) reported = option_map (carried s.pid (bytes_of s.packet_size)) reported
 
--- The bytes of the PES packets in a range, if a range is selected; otherwise all bytes.
+-- The bytes of the PES packets in a range, or all bytes if no range is selected.
 abbrev pub through_range : Option PesPacketRangeValue → Option (List ℕ) → Option (List ℕ)
 through_range None reported = reported
 through_range (Some r) reported = option_map (in_range r) reported
 
--- The number, in the file or the stream, of the first selected PES packet.
+-- The number of the first selected PES packet in the file or the stream.
 abbrev pub number_in : Option PesPacketRangeValue → Option (List ℕ) → Option ℕ
 number_in None reported = Some 0
 number_in (Some r) reported = option_map (first_index r) reported
 
--- The input is part `part` of the source `whole`, in a call that leaves this source in the state
--- `left`. The source is given by its remaining bytes and count of failures.
+-- The input is the part `part` of the source `whole`, and the call leaves this source in the state
+-- `left`. The source is given by the functions for its remaining bytes and its number of failed
+-- calls.
 pub record IsPartOf
     {D : Type 0} (part : Part) (remaining : D → Option (List ℕ)) (failure_count : D → ℕ)
     (whole left : D) (input : InputCall)
@@ -53,12 +54,13 @@ pub record IsPartOf
       ≡ number_in part.range (through_stream part.stream (remaining whole))
   pub old_count : input.call.old_count ≡ failure_count whole
   pub new_count : input.call.new_count ≡ failure_count left
-  -- If the input is the complete file, both have the same remaining bytes.
+  -- If the part is the complete file, the input and the source have the same remaining bytes.
   pub left_eq : part ≡ entire_file → input.call.left ≡ remaining left
 
--- The input is a range, or all, of the PES packets that another input gives, in a call that leaves
--- this other input in the state `new`. The other input is given by the bytes of the PES packets to
--- come, the bytes left in its device, and its count of failures.
+-- The input consists of all PES packets, or a range of the PES packets, of another input, and the
+-- call leaves this other input in the state `new`. The other input is given by the functions for
+-- the bytes of its remaining PES packets, the remaining bytes of its device, and its number of
+-- failed calls.
 pub record IsRangeOf
     {D : Type 0} (range : Option PesPacketRangeValue) (remaining left : D → Option (List ℕ))
     (failure_count : D → ℕ) (old new : D) (input : InputCall)

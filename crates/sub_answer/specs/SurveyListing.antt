@@ -10,15 +10,15 @@ use Rattle.sub_listing.specs.declared.status.Status.{Status}
 use Rattle.sub_listing.specs.declared.status.Status.TheVariants.{Done, Fault}
 use Rattle.ts_survey.specs.Listed.{IsSurveyed}
 
--- The text ends in the line of a fault, after the lines that were printed before.
+-- The text ends with the line of a fault.
 pub record EndsInFault (text : List ℕ) : Type 0 where
   pub before : List ℕ
   pub fault : FaultLine
   pub is_fault : status_of fault.kind ≡ Fault
   pub reported : text ≡ before ++ line_of fault
 
--- All lines were printed or, if the sink failed, a prefix. If the status is `Done` the lines are
--- those of the recording, surveyed as requested. Otherwise the status is `Fault`, and unless the
+-- All lines were printed, or a prefix of them if the sink failed. If the status is `Done`, the
+-- lines are the requested survey of the recording. Otherwise the status is `Fault`, and unless the
 -- sink failed, the last line reports the failure.
 pub record PrintsSurvey
     (options : SurveyOptions) (recording : Option (List ℕ)) (out : SinkCall) (status : Status)
@@ -30,7 +30,8 @@ pub record PrintsSurvey
   pub fault : status ≢ Done → status ≡ Fault
   pub line : status ≢ Done → out.new_count ≡ out.old_count → EndsInFault listing.text
 
--- The lines were printed for a recording, which was read to its end if the status is `Done`.
+-- The lines of a survey were printed, and the recording was read to its end if the status is
+-- `Done`.
 pub record Surveys
     (options : SurveyOptions) (recording : SourceCall) (out : SinkCall) (status : Status)
     : Type 0 where

@@ -1,5 +1,5 @@
--- The line of a fault (own format): the kind, which also determines the exit status; the number and
--- the name of the fault; and its place.
+-- The line of a fault (own): the kind, which also determines the exit status; the number and the
+-- name of the fault; and its place.
 use Rattle.std.specs.Prelude.{ℕ, ◌%◌, List, [], ◌++◌, codes, decimal}
 use Rattle.sub_io.specs.FaultCode.{FaultCodeValue}
 use Rattle.stl_file.specs.TimeCode.{day}
