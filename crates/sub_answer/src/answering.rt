@@ -1,8 +1,7 @@
-//! Answers a request.
+//! Passes a request to its command, and prints the line about invalid arguments.
 //!
-//! `sub_listing` has the commands that need no checker; each other command has a file in
-//! `answering/`. This module passes a request to its command, and prints the line for refused
-//! arguments.
+//! `sub_listing` implements the commands that need no checker. The files in `answering/` implement
+//! the other commands.
 
 mod check;
 mod check_all;
@@ -41,9 +40,9 @@ use ttx_pes::{FilePesPackets, NumberedPesPackets};
 /// Answers a request that `Request::parse` returned.
 ///
 /// `first` is the subtitle file or the only input, `second` the PES file of a check, `file` the
-/// output file and `out` the standard output. A source of PES packets gives all PES packets of its
-/// file. Devices that the request does not name are not used. Returns `Fault` if a device failed or
-/// memory ran out; everything printed before remains.
+/// output file, and `out` standard output. All PES packets of a file are read. Devices that the
+/// request does not name are not used. Returns `Fault` if a device failed or memory ran out;
+/// everything printed before remains.
 pub fn answer<S: Source, T: Source, F: Close, K: Flush>(
     alloc: Global,
     request: &Request<'_>,
@@ -57,7 +56,7 @@ pub fn answer<S: Source, T: Source, F: Close, K: Flush>(
     requires file { CanFail (F.failure_count file.old) }
     requires out { CanFail (K.failure_count out.old) }
 
-    // The output and the written file, command by command.
+    // The output and the output file, for each command.
     ensures answers { Answers request.now
         (entire_call S.remaining S.failure_count first.old first.new)
         (entire_call T.remaining T.failure_count second.old second.new)
@@ -82,16 +81,14 @@ pub fn answer<S: Source, T: Source, F: Close, K: Flush>(
     ensures buffered { FlushesWritten request.now result (F.buffered file.new) }
     ensures stored { StoresWritten request.now result (F.is_stored file.new) }
 
-    // All output has reached the device of `out` before the source of the PES file or recording may
-    // ask its device, which may fail. So if the source failed, only the line of its failure may
-    // still be in the buffer.
+    // All output is flushed before the device of a PES file or recording is read. So if this read
+    // fails, at most the line about the failure is still in the buffer.
     ensures followed { K.buffered out.old ≡ 0 → FlushesBefore request.now
         (S.failure_count first.old < S.failure_count first.new)
         (T.failure_count second.old < T.failure_count second.new)
         (BuffersLastLineOnly K.contents K.buffered K.is_push out.new) }
 
-    // All bytes written have reached the device of `file` before the source of a recording may ask
-    // its device.
+    // All bytes are written to the device of `file` before the recording's device is read.
     ensures written { F.buffered file.old ≡ 0 → WritesBefore request.now
         (S.failure_count first.old < S.failure_count first.new) (F.buffered file.new ≡ 0) }
 {
@@ -104,7 +101,7 @@ pub fn answer<S: Source, T: Source, F: Close, K: Flush>(
     answer_over(alloc, request, first, &mut pes_packets, file, out)
 }
 
-/// Returns whether the first input of a request gives PES packets that are listed, received or
+/// Returns whether the first input of a request contains PES packets, which are listed, received or
 /// written.
 pub fn reads_pes_packets(request: &Request<'_>) -> bool
     ensures { result ≡ reads_pes_packets request.now }
@@ -115,12 +112,11 @@ pub fn reads_pes_packets(request: &Request<'_>) -> bool
     }
 }
 
-/// Answers a request that `Request::parse` returned, like `answer`, with the PES packets that the
-/// request selects: from a file or a recording, all or some.
+/// Answers a request that `Request::parse` returned, with the PES packets that the request selects.
 ///
-/// `first` is the subtitle file, or the recording that is surveyed, and `pes` gives the PES packets
-/// that are listed, received, checked or written. Devices that the request does not name are not
-/// used. Returns `Fault` if a device failed or memory ran out; everything printed before remains.
+/// `first` is the subtitle file or the surveyed recording, and `pes` reads the PES packets that are
+/// listed, received, checked or written. Devices that the request does not name are not used.
+/// Returns `Fault` if a device failed or memory ran out; everything printed before remains.
 pub fn answer_over<S: Source, P: NumberedPesPackets, F: Close, K: Flush>(
     alloc: Global,
     request: &Request<'_>,
@@ -134,8 +130,8 @@ pub fn answer_over<S: Source, P: NumberedPesPackets, F: Close, K: Flush>(
     requires file { CanFail (F.failure_count file.old) }
     requires out { CanFail (K.failure_count out.old) }
 
-    // The output and the written file, command by command, and which output is flushed before a
-    // source has to wait.
+    // The output and the output file, for each command, and the output that is flushed before a
+    // read that may block.
     ensures answers { AnswersOver request.now
         (entire_call S.remaining S.failure_count first.old first.new)
         (pes_packets_call P.remaining P.left P.failure_count P.first P.skipped pes.old pes.new)
@@ -152,7 +148,7 @@ pub fn answer_over<S: Source, P: NumberedPesPackets, F: Close, K: Flush>(
     ensures device { P.device pes.new ≡ P.device pes.old }
     ensures file { writes_file (files_of request.now) ≡ false → file.new ≡ file.old }
 
-    // How often each device fails, given the status.
+    // Each device fails at most once, and only if the status is `Fault`.
     ensures fault { CountsFaults request.now
         (source_call S.remaining S.failure_count first.old first.new)
         (read_call P.remaining P.left P.failure_count pes.old pes.new)
@@ -186,7 +182,8 @@ pub fn answer_over<S: Source, P: NumberedPesPackets, F: Close, K: Flush>(
     }
 }
 
-// Returns how the texts of a subtitle file are drawn: as the request says, or by default.
+// Returns the national option, layout and scope for the texts of a subtitle file, from the request
+// or by default.
 fn drawing_of(request: &Request<'_>) -> Drawing
     ensures { result ≡ drawing_of request.now }
 {
@@ -207,9 +204,9 @@ fn drawing_of(request: &Request<'_>) -> Drawing
     }
 }
 
-/// Prints the line for a fault of the arguments, or for a file that can't be opened.
+/// Prints the line about invalid arguments or a file that can't be opened, and returns `Fault`.
 ///
-/// The status is `Fault`. If `out` fails, a prefix of the line has been printed.
+/// If `out` fails, it received a prefix of the line.
 pub fn print_usage_fault<K: Sink>(fault: &UsageFault, out: &mut K) -> Status
     requires { CanFail (K.failure_count out.old) }
     ensures printed { PrintsOrFails (sink_call K.contents K.failure_count out.old out.new)

@@ -1,8 +1,8 @@
-//! Answers a request with devices, closes the file and flushes the lines; or prints why there is no
-//! answer.
+//! Answers a request, closes the output file, and then flushes the output. If there is no request,
+//! prints the fault.
 //!
-//! A function for each kind of request passes an empty device for each device that the request does
-//! not name.
+//! Each kind of request has a function, which passes empty devices for the files that the request
+//! does not name.
 ghost use Rattle.std.specs.Prelude.{◌≡◌, ⊤, false, true, []};
 ghost use Rattle.sub_io.specs.Buffered.{Flushes, failures_and_refused};
 ghost use Rattle.sub_io.specs.Device.{CanFail};
@@ -129,11 +129,11 @@ pub fn answer_pes_packets<P: NumberedPesPackets, F: Close, O: FlushPending<F>>(
     answer_and_flush(alloc, request, &mut nothing, pes, file, out)
 }
 
-// Answers a request with these devices, closes the file as the answer left it, and then flushes the
-// lines.
+// Answers a request with these devices, closes the output file in the state in which the answer
+// left it, and then flushes the output.
 //
-// If the status is 0, the buffers of the file and of the lines are empty, and no call of either
-// sink has failed: the devices have all bytes, and an output file is stored.
+// If the status is `Done`, the buffers of the file and of the output are empty, and no call of
+// either sink has failed: the devices have received all bytes, and the output file is stored.
 fn answer_and_flush<S: Source, P: NumberedPesPackets, F: Close, O: FlushPending<F>>(
     alloc: Global,
     request: &Request<'_>,
@@ -163,7 +163,7 @@ fn answer_and_flush<S: Source, P: NumberedPesPackets, F: Close, O: FlushPending<
         × BuffersNothing O.buffer_state O.failure_count out.old out.new }
     ensures stored { StoresWritten request.now result (F.is_stored file.new.device) }
     ensures closed { F.is_closed file.new.device ≡ true }
-    // The lines were flushed when the file was in its last state, so after the file was closed.
+    // The output was flushed after the file was closed.
     ensures after { FlushesWithFile O.is_flushed file.new out.new result }
 {
     let status = answer_over(alloc, request, first, pes, file, out);
@@ -171,7 +171,7 @@ fn answer_and_flush<S: Source, P: NumberedPesPackets, F: Close, O: FlushPending<
     out.flush_pending(status, file)
 }
 
-/// Prints the line of a fault if no request is answered, and flushes the line.
+/// Prints and flushes the line about a fault of the arguments.
 pub fn print_and_flush_usage_fault<K: Sink>(
     fault: &UsageFault,
     out: &mut BufferedSink<'_, K>,

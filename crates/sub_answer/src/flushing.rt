@@ -14,15 +14,15 @@ use sub_listing::Status;
 /// If the system gave the program no standard output, the file may have got the number of standard
 /// output. So lines that are flushed while the file is open could be written to the file.
 pub trait FlushPending<F: Close>: Flush {
-    // The bytes that are still in the buffer of the lines.
+    // The bytes in the buffer of the output.
     ghost buffer_state: { Self → List ℕ };
 
-    // The relation of a flushing call: the lines before, the file at that time, the status of the
-    // answer, the lines afterwards, the status of the run.
+    // Relates the output before flushing, the output file, the status of the answer, the output
+    // afterwards, and the status of the run.
     ghost is_flushed: { Self → BufferState F → Status → Self → Status → Type 0 };
 
-    /// Flushes the lines for a run whose answer has the status `status`, and returns the status
-    /// with which the run ends.
+    /// Flushes the output of a run whose answer has the status `status`, and returns the status of
+    /// the run.
     fn flush_pending(&mut self, status: Status, file: &BufferedSink<'_, F>) -> Status
         requires count { CanFail (Self.failure_count self.old) }
         requires closed { F.is_closed file.now.device ≡ true }
@@ -31,7 +31,7 @@ pub trait FlushPending<F: Close>: Flush {
             (lines_in Self.contents buffer_state Self.failure_count self.old) status
             (lines_in Self.contents buffer_state Self.failure_count self.new) result };
 
-    // `buffered` counts the bytes in the buffer of the lines.
+    // The function `buffered` returns the number of bytes in the buffer of the output.
     ghost buffered_eq: { CountsBuffered Self.buffered buffer_state };
 }
 
@@ -43,14 +43,13 @@ impl<F: Close, K: Sink> FlushPending<F> for BufferedSink<'_, K> {
     ghost is_flushed = { λ old file status new result.
         F.is_closed file.device ≡ true };
 
-    /// Flushes the lines; the file does not matter.
+    /// Flushes the output, whatever the state of the file.
     fn flush_pending(&mut self, status: Status, _file: &BufferedSink<'_, F>) -> Status {
         flush_all(status, self)
     }
 }
 
-/// Flushes the lines for a run that ends with `status`, and returns the status; `Fault` if flushing
-/// fails.
+/// Flushes the output of a run, and returns its status, or `Fault` if flushing fails.
 pub fn flush_all<K: Sink>(status: Status, out: &mut BufferedSink<'_, K>) -> Status
     requires { CanFail (failures_and_refused
         (K.failure_count out.old.device) out.old.refused) }

@@ -1,9 +1,9 @@
-//! The program's answer to a request: its output, the file that it writes, and its status.
+//! Computes the program's answer to a request: the output, the output file, and the exit status.
 //!
 //! `answer` answers a `Request` of `sub_request` with any devices, and `print_usage_fault` prints
-//! why arguments make no request. `open_and_answer` opens the files that the request names, answers
-//! the request, and flushes the output. This crate uses all lower libraries except `sub_words`,
-//! which parses requests.
+//! the line about invalid arguments. `open_and_answer` opens the files that the request names,
+//! answers the request, and flushes the output. This crate uses all lower crates except
+//! `sub_words`, which parses requests.
 //!
 //! ```text
 //! let words = ["subttx", "check", "film.stl", "air.ts", "--pid", "257"];

@@ -1,5 +1,5 @@
-//! Opens the files that a request names, and answers the request with these files. There is a
-//! function for each combination of files.
+//! Opens the files that a request names, and answers the request with these files. Each combination
+//! of files has a function.
 ghost use Rattle.std.specs.Prelude.{◌≡◌, ◌⊎◌, ◌≤◌, ⊤, IfErr, IfOk, None, Some, false, length, true};
 ghost use Rattle.sub_io.specs.Buffered.{failures_and_refused};
 ghost use Rattle.sub_request.specs.Files.{files_of};
@@ -20,14 +20,14 @@ use sub_io::{BufferedSink, BufferedSource, MemSink, Sink};
 use sub_listing::Status;
 use sub_request::{Request, UsageFault};
 
-/// Opens the files that the request names, allocates their buffers, and answers the request; then
-/// flushes the lines, and releases the files as they were left. `files` is asked only for the files
-/// that the request names.
+/// Opens the files that the request names, allocates their buffers, and answers the request. Then
+/// flushes the output, and releases the files in the states in which the answer left them. `files`
+/// is called only for files that the request names.
 ///
 /// # Errors
 ///
 /// Returns `Memory` if memory runs out before a file is opened, and `Open` if a file can't be
-/// opened. Nothing is printed then.
+/// opened. In both cases nothing is printed.
 pub fn open_and_answer<D: FileSystem, K: Sink>(
     alloc: Global,
     files: &mut D,
@@ -59,8 +59,8 @@ pub fn open_and_answer<D: FileSystem, K: Sink>(
     }
 }
 
-// Answers a request with its files, each with a buffer, and releases the files. The buffers share
-// the allocated room.
+// Answers a request with its opened files, and releases the files. Each file has a buffer in the
+// allocated memory.
 fn answer_opened<D: FileSystem, K: Sink>(
     alloc: Global,
     files: &mut D,

@@ -5,7 +5,7 @@ ghost use Rattle.sub_answer.specs.Part as specs;
 use sub_request::{Request, TransportStream};
 use ttx_pes::PesPacketRange;
 
-/// The part of a file of PES packets, or of a recording, that is read.
+/// The part of a file of PES packets, or of a recording, that a request reads.
 #[derive(Clone, Copy)]
 pub struct Part {
     /// The PID and packet size of the transport packets that carry the PES packets; `None` if the
@@ -15,7 +15,7 @@ pub struct Part {
     pub range: Option<PesPacketRange>,
 }
 
-/// Returns the part that a request reads of its PES file or recording; any other file is read
+/// Returns the part of its PES file or recording that a request reads. Any other file is read
 /// completely.
 pub fn part_requested(request: &Request<'_>) -> Part
     ensures { result ≡ specs.part_requested request.now }
@@ -41,7 +41,7 @@ pub fn part_requested(request: &Request<'_>) -> Part
     }
 }
 
-/// Returns the part that is a complete file, which is no transport stream.
+/// Returns the part for a complete file that is not a transport stream.
 pub fn entire_file() -> Part
     ensures { result ≡ specs.entire_file }
 {

@@ -1,5 +1,5 @@
-//! Answers a request with a part of a source. The readers of PES packets, for a file or a
-//! recording, are created here.
+//! Answers a request with a part of a source. This module creates the readers of PES packets, for a
+//! file or a recording.
 ghost use Rattle.std.specs.Prelude.{◌≡◌, ◌⊎◌, ⊤, None, Some, [], false, true};
 ghost use Rattle.sub_io.specs.Buffered.{Flushes, failures_and_refused};
 ghost use Rattle.sub_io.specs.Device.{CanFail};
@@ -23,8 +23,8 @@ use ttx_pes::{
     PesPacketsAhead,
 };
 
-/// Answers a request that reads a part of one source, and may write a file; returns the source as
-/// it was left.
+/// Answers a request that reads a part of one source and may write a file. Returns the source in
+/// the state in which the answer left it.
 pub fn answer_part<S: Source + Drop, F: Close, O: FlushPending<F>>(
     alloc: Global,
     request: &Request<'_>,
@@ -67,8 +67,7 @@ pub fn answer_part<S: Source + Drop, F: Close, O: FlushPending<F>>(
     }
 }
 
-// Answers a request that reads the PES packets of a range, or all PES packets, and may write a
-// file.
+// Answers a request that reads all PES packets or a range of them, and may write a file.
 fn answer_range<P: NumberedPesPackets, F: Close, O: FlushPending<F>>(
     alloc: Global,
     request: &Request<'_>,
@@ -106,8 +105,8 @@ fn answer_range<P: NumberedPesPackets, F: Close, O: FlushPending<F>>(
     }
 }
 
-/// Answers a request that reads a source and a part of a second source; returns the second source
-/// as it was left.
+/// Answers a request that reads a source and a part of a second source. Returns the second source
+/// in the state in which the answer left it.
 pub fn answer_second_part<S: Source, T: Source + Drop, K: Sink>(
     alloc: Global,
     request: &Request<'_>,
@@ -143,8 +142,7 @@ pub fn answer_second_part<S: Source, T: Source + Drop, K: Sink>(
     }
 }
 
-// Answers a request that reads a source, and the PES packets of a range, or all PES packets, of a
-// second source.
+// Answers a request that reads a source, and all PES packets of a second source or a range of them.
 fn answer_second_range<S: Source, P: NumberedPesPackets, K: Sink>(
     alloc: Global,
     request: &Request<'_>,

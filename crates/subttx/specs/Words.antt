@@ -1,4 +1,4 @@
--- The arguments of the command line, as the system gives them (own).
+-- The arguments of the command line, as the system returns them (own).
 use Rattle.std.specs.Prelude.{◌≡◌, List, Result, Ok, Err, String, map, string_bytes}
 use Rattle.std.specs.IoError.{error_kind}
 use Rattle.std.specs.Vec.Iter.{into_iter_items}
@@ -10,18 +10,18 @@ use Rattle.clap.specs.Words.{Text}
 use Rattle.sub_request.specs.declared.request.UsageFault.{UsageFault}
 use Rattle.sub_request.specs.declared.request.UsageFault.TheVariants as usage
 
--- Why there are no arguments: memory ran out, or an argument is no text.
+-- The fault if the system returned no arguments: memory ran out, or an argument is not valid text.
 abbrev pub no_arguments : ErrorKind → UsageFault
 no_arguments OutOfMemory = usage.Memory
 no_arguments _ = usage.Words
 
--- The arguments as texts; or why there are none.
+-- The arguments as texts, or the fault if the system returned no arguments.
 abbrev pub arguments_given : {Z : Type 0}
     → Result (IntoIter (String Z) Z) Error → Result (List Text) UsageFault
 arguments_given (Ok arguments) = Ok (map string_bytes (into_iter_items arguments))
 arguments_given (Err error) = Err (no_arguments (error_kind error))
 
--- Why the arguments are not passed on: memory ran out, or the system gave none.
+-- The fault if the arguments are not parsed: memory ran out, or the system returned no arguments.
 abbrev pub IsLost : Result (List Text) UsageFault → UsageFault → Type 0
 IsLost (Ok arguments) fault = fault ≡ usage.Memory
 IsLost (Err why) fault = fault ≡ why

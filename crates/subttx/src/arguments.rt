@@ -9,12 +9,12 @@ use std::io;
 use std::io::ErrorKind;
 use sub_request::UsageFault;
 
-/// Returns all arguments of the command line in order.
+/// Returns the arguments of the command line.
 ///
 /// # Errors
 ///
-/// Returns `Memory` if memory ran out, and `Words` if the system gave no arguments. The system
-/// gives none if an argument is no text, which belongs to no command.
+/// Returns `Memory` if memory ran out, and `Words` if the system returned no arguments because one
+/// of them is not valid text.
 pub fn collect_arguments(alloc: Global, given: io::Result<Args>) -> Result<Vec<String>, UsageFault>
     ensures arguments { IfOk result (λ arguments.
         arguments_given given ≡ Ok (map (λ word. string_bytes word) arguments.items)) }

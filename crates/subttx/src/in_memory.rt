@@ -1,7 +1,7 @@
-//! The run of the program with files in memory, whose exit status implies the headline.
+//! Runs the program with files in memory, for which the exit status implies the headline.
 //!
-//! The bytes of the system's devices are unknown to contracts, so the clauses about bytes apply to
-//! files whose bytes are known.
+//! Contracts know nothing about the bytes of the system's files, so the clauses about bytes are
+//! proved for files in memory.
 ghost use Rattle.std.specs.Prelude.{◌≡◌};
 ghost use Rattle.sub_headline.specs.Headline.{DecidesAcceptance, ImpliesChosen, ImpliesComplete};
 ghost use Rattle.sub_headline.specs.Headline.{ImpliesDrawn, ImpliesDropping, ImpliesFiles};
@@ -18,16 +18,17 @@ use sub_files::MemFiles;
 use sub_headline::law_of_headline;
 use sub_io::Sink;
 
-/// Runs the program with files in memory, as `main` runs it with the files of the system.
+/// Runs the program with files in memory, in the same way as `main` runs it with the files of the
+/// system.
 ///
-/// If the arguments are `check STL PES`, the exit status 0 means that the headline holds for the
-/// subtitles and frames in the files. With `--page`, `--every`, `--origin`, `--pace`, `--complete`
-/// or `--all` after these arguments, in any order, 0 means that the headline holds with these
-/// options, also for receivers that drop hit rows and for the screens of all receivers; and that
-/// the bytes match their formats, and contain nothing else. Any code but 2 says whether the files
-/// are accepted. With `--pid`, `--packet-size`, `--pes`, `--from`, `--to` or `--open` all this
-/// applies to the selected parts of a recording and of a subtitle file; with `--option` or
-/// `--layout` the headline applies to subtitles drawn with this national option or layout.
+/// For the arguments `check STL PES`, exit status 0 means that the headline is true for the
+/// subtitles and frames in the files. If `--page`, `--every`, `--origin`, `--pace`, `--complete` or
+/// `--all` follow, 0 means that it is true with these options, also for receivers that drop damaged
+/// rows and for the screens of all receivers, and that the bytes match their formats and contain
+/// nothing else. Any status other than 2 decides whether the files are accepted. With `--pid`,
+/// `--packet-size`, `--pes`, `--from`, `--to` or `--open`, all this applies to the selected parts
+/// of a recording and of a subtitle file. With `--option` or `--layout`, the headline applies to
+/// subtitles drawn with this national option or layout.
 pub fn run_in_memory<K: Sink + Drop>(
     alloc: Global,
     given: io::Result<Args>,

@@ -1,7 +1,7 @@
 //! `subttx` reads and checks Teletext subtitles from the command line.
 //!
-//! This is the top crate: arguments become a `Request` (`sub_words`), which is answered with the
-//! files that it names, and ends in a `Status` (`sub_answer`).
+//! This is the top crate: `sub_words` parses the arguments as a `Request`, and `sub_answer` answers
+//! the request with the files that it names.
 #![tactic(auto)]
 
 mod arguments;
@@ -25,7 +25,7 @@ use sub_io::{BufferedSink, IntoWrite, Sink};
 use sub_request::{Request, UsageFault};
 use sub_words::{ParseArguments, explain_usage};
 
-// Room for the line that reports that memory ran out, in bytes.
+// The size in bytes of the buffer for the line that reports a lack of memory.
 const SMALL_BUFFER_SIZE: usize = 64;
 
 fn main(rt: HostRuntime) -> ExitCode {
@@ -43,7 +43,7 @@ fn main(rt: HostRuntime) -> ExitCode {
     ExitCode::from(run.code)
 }
 
-// Prints on standard error why the arguments are no command, if they are none.
+// If the arguments are invalid, prints the reason on standard error.
 fn explain_arguments(rt: &HostRuntime) {
     match env::args(rt) {
         Ok(arguments) => {
@@ -60,17 +60,17 @@ fn explain_arguments(rt: &HostRuntime) {
     }
 }
 
-/// The end of a run of the program.
+/// The result of a run of the program.
 #[derive(Drop)]
 pub(crate) struct Ended<K> {
     /// The program's exit status, 0 to 2.
     code: u8,
-    /// Standard output after the answer was printed.
+    /// Standard output after the run.
     standard_output: K,
 }
 
-// Runs the program: answers its arguments with its files and standard output, which is buffered and
-// returned, and returns the exit status.
+// Runs the program: answers its arguments with its files and buffered standard output. Returns the
+// exit status and standard output.
 fn run<D: FileSystem, K: Sink>(
     alloc: Global,
     given: io::Result<Args>,
@@ -106,7 +106,7 @@ fn run<D: FileSystem, K: Sink>(
     }
 }
 
-// Answers the arguments, or prints why they are not answered.
+// Answers the arguments, or prints the fault that prevents an answer.
 fn answer_or_print_fault<D: FileSystem, K: Sink>(
     alloc: Global,
     given: io::Result<Args>,
@@ -132,7 +132,7 @@ fn answer_or_print_fault<D: FileSystem, K: Sink>(
 //
 // # Errors
 //
-// Returns why the arguments are not answered.
+// Returns the fault that prevents an answer.
 fn answer_given<D: FileSystem, K: Sink>(
     alloc: Global,
     given: io::Result<Args>,

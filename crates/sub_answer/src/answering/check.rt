@@ -29,10 +29,10 @@ use ttx_pes::{NumberedPesPackets, PesFault};
 
 /// Checks a PES file against a subtitle file, and prints the line of the verdict.
 ///
-/// `stl` is read to its end before any byte of `pes`, and `pes` is not used if `stl` is refused.
-/// Returns `Done` if the files are accepted, and prints how many frames of the day the PES file
-/// covers and how many headers of the page it has; `Refused` with the first fault; `Fault` if a
-/// device failed or memory ran out.
+/// `stl` is read to its end before any byte of `pes`, and `pes` is not read if `stl` is rejected.
+/// Returns `Done` if the files are accepted, and prints the number of frames in the PES file and
+/// the number of headers of the page. Returns `Refused` and prints the first fault if the files are
+/// rejected, and `Fault` if a device failed or memory ran out.
 pub fn print_verdict<S: Source, P: NumberedPesPackets, K: Sink>(
     alloc: Global,
     stl: &mut S,
@@ -61,15 +61,14 @@ pub fn print_verdict<S: Source, P: NumberedPesPackets, K: Sink>(
     print_answer(answer.first, answer.result, out)
 }
 
-/// The answer of a check, and the number of its first PES packet in the file.
+/// The answer of a check, and the number of the first PES packet in its file.
 #[derive(Clone, Copy)]
 struct Answer {
     first: u64,
     result: Result<Accepted, CheckFault>,
 }
 
-// Loads a subtitle file, and checks a PES file against it, starting with the first PES packet that
-// `pes` gives.
+// Loads a subtitle file, and checks a PES file against it from the first PES packet of `pes`.
 fn check_files<S: Source, P: NumberedPesPackets>(
     alloc: Global,
     stl: &mut S,
@@ -112,7 +111,7 @@ fn check_files<S: Source, P: NumberedPesPackets>(
     }
 }
 
-// Checks a PES file against a programme, starting with the first PES packet that `pes` gives.
+// Checks a PES file against a programme from the first PES packet of `pes`.
 fn check_from<P: NumberedPesPackets>(
     programme: &Programme,
     pes: &mut P,
@@ -148,7 +147,8 @@ fn check_from<P: NumberedPesPackets>(
     }
 }
 
-// Prints the line of an answer. `first` is the number of the first PES packet in the file.
+// Prints the line of an answer. The argument `first` is the number of the first PES packet in its
+// file.
 fn print_answer<K: Sink>(first: u64, answer: Result<Accepted, CheckFault>, out: &mut K) -> Status
     requires { CanFail (K.failure_count out.old) }
     ensures printed { PrintsOrFails (sink_call K.contents K.failure_count out.old out.new)

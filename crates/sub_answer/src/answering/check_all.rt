@@ -26,14 +26,14 @@ use sub_listing::{
 use sub_plan::Options;
 use ttx_pes::{NumberedPesPackets, PesFault};
 
-/// Checks a PES file against a subtitle file. Prints a line for each fault, and one for the last
-/// frame at whose end a reported rule is broken, as they are found, starting with the faults of the
-/// subtitle file; then the number of faults, or the line of an accepted transmission.
+/// Checks a PES file against a subtitle file. Prints a line for each fault as soon as it is found,
+/// and a line for the last frame at whose end a reported rule is broken. The faults of the subtitle
+/// file are first. The last line is the number of faults, or the line of an accepted transmission.
 ///
-/// If subtitles are refused, the PES file is compared with the reliable subtitles; `pes` is not
-/// used if these do not suffice. Returns `Done` if the files are accepted; `Refused` if there is a
-/// fault; `Fault` if a device failed or memory ran out, with its line last. After `out` failed
-/// nothing more is read or printed.
+/// If subtitles are rejected, the PES file is compared with the reliable subtitles; `pes` is not
+/// read if this is impossible. Returns `Done` if the files are accepted, `Refused` if there is a
+/// fault, and `Fault` if a device failed or memory ran out, which the last line reports. Nothing
+/// more is read or printed after `out` failed.
 pub fn print_every_fault<S: Source, P: NumberedPesPackets, K: Flush>(
     alloc: Global,
     stl: &mut S,
@@ -55,8 +55,8 @@ pub fn print_every_fault<S: Source, P: NumberedPesPackets, K: Flush>(
     ensures device { P.device pes.new ≡ P.device pes.old }
     ensures pes_count { CountsFault P.failure_count pes.old result pes.new }
     ensures out_count { CountsFault K.failure_count out.old result out.new }
-    // All output is flushed before the source of the PES file may ask its device, which may fail.
-    // So if the source failed, only the line of its failure may still be in the buffer.
+    // All output is flushed before the device of the PES file is read. So if this read fails, at
+    // most the line about the failure is still in the buffer.
     ensures followed { K.buffered out.old ≡ 0
         → P.failure_count pes.old < P.failure_count pes.new
         → BuffersLastLineOnly K.contents K.buffered K.is_push out.new }
@@ -83,9 +83,9 @@ pub fn print_every_fault<S: Source, P: NumberedPesPackets, K: Flush>(
     print_end(first, refused, answer, out)
 }
 
-// Reports the faults of the subtitle file to a printer, and then those of the PES file, if a
-// transmission can be judged by the subtitle file. Returns `None` if it can't be judged or the
-// printer stopped the check, otherwise the counts of the PES file.
+// Reports the faults of the subtitle file to a printer, and then the events of the PES file, if it
+// can be checked against the subtitle file. Returns the counts of the PES file; `None` if it was
+// not checked, or if the printer stopped the check.
 fn report_every_fault<S: Source, P: NumberedPesPackets, K: Flush>(
     alloc: Global,
     stl: &mut S,
@@ -129,7 +129,7 @@ fn report_every_fault<S: Source, P: NumberedPesPackets, K: Flush>(
     }
 }
 
-// Flushes a device after the faults of a subtitle file, if lines may be pending.
+// Flushes a device that received the faults of a subtitle file, if lines may be pending.
 fn flush_reports<A: LiveAudience<LoadFault>>(audience: &mut A) -> Result<(), Stopped>
     requires { A.has_stopped audience.old ≡ false }
     ensures reported { KeepsReported A.is_reported A.has_pending_reports audience.old audience.new }
@@ -145,7 +145,7 @@ fn flush_reports<A: LiveAudience<LoadFault>>(audience: &mut A) -> Result<(), Sto
     audience.flush_pending()
 }
 
-// Reports to a printer the events of the PES file, compared with the reliable subtitles.
+// Reports the events of the PES file, compared with the reliable subtitles, to a printer.
 fn report_transmission<P: NumberedPesPackets, K: Flush>(
     judging: &Judging<'_>,
     pes: &mut P,
@@ -185,8 +185,8 @@ fn report_transmission<P: NumberedPesPackets, K: Flush>(
     }
 }
 
-// Prints the last line after `refused` faults, and returns the status. `first` is the number of the
-// first PES packet in its file.
+// Prints the last line after `refused` faults, and returns the status. The argument `first` is the
+// number of the first PES packet in its file.
 fn print_end<K: Sink>(
     first: u64,
     refused: u64,

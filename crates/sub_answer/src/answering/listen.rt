@@ -17,13 +17,13 @@ use sub_rules::FaultPlace;
 use ttx_page::{Blank, Keep, Page, Receiver};
 use ttx_pes::{NumberedPesPackets, PesPackets};
 
-/// Runs the requested receiver over the PES packets of a file up to TIME, and prints the page that
-/// it has received and shows, or why the file is refused (`listen` of `sub_listen`).
+/// Runs the requested receiver over the PES packets of a file up to TIME, and prints its page, or
+/// the reason why the file is rejected.
 ///
-/// The receiver is tuned to the page with an old page that has 3F in every cell. Nothing is printed
-/// before the last packet was received. If complete pages are required, the output is the
-/// receiver's screen: a page is put on it when a header of another page ends the page. Otherwise
-/// the receiver has no screen.
+/// The receiver is tuned to the page while it has an old page with 3F in every cell. Nothing is
+/// printed before the last packet was received. If complete pages are required, the output is the
+/// receiver's screen, which shows a page after a header of another page has ended it. Otherwise the
+/// receiver has no screen.
 pub fn print_listening<P: NumberedPesPackets, K: Sink>(
     pes: &mut P,
     listening: &Listening,
@@ -31,9 +31,9 @@ pub fn print_listening<P: NumberedPesPackets, K: Sink>(
 ) -> Status
     requires first { CanFail (P.failure_count pes.old) }
     requires out { CanFail (K.failure_count out.old) }
-    // If the bytes of the source are known and it does not fail, they are read as frames, and the
-    // output is the state of a receiver of these frames, or the refusal. A source that fails is
-    // reported at the PES packet in which it failed, after the packets that were received.
+    // If the bytes of the source are known and it does not fail, the output is the state of a
+    // receiver of the frames in these bytes, or the fault. If the source fails, the fault names the
+    // PES packet at which it failed, after the packets that were received.
     ensures exact { AnswersListen (left_by listening.now.receiver) listening.now
         (read_call P.remaining P.left P.failure_count pes.old pes.new)
         (first_number P.first P.skipped pes.old pes.new)
@@ -46,12 +46,12 @@ pub fn print_listening<P: NumberedPesPackets, K: Sink>(
         < P.failure_count pes.new + K.failure_count out.new }
 {
     match listening.receiver {
-        // A receiver that drops rows stores no row with a byte of even parity, so its choice for
-        // such bytes does not matter.
+        // A receiver that drops rows with a byte of even parity never stores such a byte, so its
+        // code for these bytes does not matter.
         ReceiverKind::Keep | ReceiverKind::DropRow => {
             print_state_of::<Keep, P, K>(pes, listening, out)
         }
-        // `listen` itself starts a receiver of any type again at a header.
+        // The function `listen` restarts a receiver of any type at a header.
         ReceiverKind::Blank | ReceiverKind::Anew => {
             print_state_of::<Blank, P, K>(pes, listening, out)
         }
@@ -131,7 +131,7 @@ fn old_row() -> [u8; 40]
     [0x3F; 40]
 }
 
-// Returns the line for a PES file that can't be received.
+// Returns the line for a fault of `listen`.
 fn line_of_listen(fault: ListenFault) -> FaultLine
     ensures { result ≡ listen_line fault }
 {

@@ -1,4 +1,4 @@
-//! `survey RECORDING`: lists facts about a recording.
+//! `survey RECORDING`: prints properties of a recording.
 ghost use Rattle.std.specs.Prelude.{◌≡◌, ◌<◌};
 ghost use Rattle.std.specs.Io.KnownBytes.{IsAtEnd};
 ghost use Rattle.sub_listing.specs.DeviceCall.{CanFail, CountsFault, sink_call};
@@ -13,7 +13,7 @@ use sub_request::UsageFault;
 use ts_survey::{SurveyFault, survey};
 use ttx_pes::FailedAt;
 
-/// Prints a line for each fact about a recording, which is read to its end.
+/// Prints a line for each property of a recording, which is read to its end.
 ///
 /// Returns `Fault` if a device failed or memory ran out; everything printed before remains.
 #[tactic(auto, using(crate::proofs::SurveyListingLemmas::surveys))]
@@ -31,8 +31,8 @@ pub fn print_survey<S: Source, K: Flush>(
     ensures ended { result ≡ Status.Done → IsAtEnd (S.remaining source.new) }
     ensures source_count { CountsFault S.failure_count source.old result source.new }
     ensures out_count { CountsFault K.failure_count out.old result out.new }
-    // All output is flushed before the source may ask its device, which may fail. So if the source
-    // failed, only the line of its failure may still be in the buffer.
+    // All output is flushed before the device of the source is read. So if this read fails, at most
+    // the line about the failure is still in the buffer.
     ensures followed { K.buffered out.old ≡ 0
         → S.failure_count source.old < S.failure_count source.new
         → BuffersLastLineOnly K.contents K.buffered K.is_push out.new }
