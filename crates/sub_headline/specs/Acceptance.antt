@@ -1,5 +1,5 @@
--- Acceptance if `within` is 0 and no repeat may keep the page, in general and in English with the
--- default layout.
+-- Which files `check` accepts with options that require the expected page at the end of each frame,
+-- and each header of the page to erase the page.
 use Rattle.std.specs.Prelude.{◌≡◌, ◌↔◌, ℕ, List, IsFalse}
 use Rattle.stl_rows.specs.Layout.{default_layout, drawing_by}
 use Rattle.stl_rows.specs.declared.layout.Drawing.{Drawing}
@@ -8,7 +8,7 @@ use Rattle.sub_plan.specs.Options.{OptionsValue}
 use Rattle.sub_check.specs.CheckedFiles.{IsAccepted, IsAcceptedBy}
 use Rattle.sub_headline.specs.PlainAcceptance.{IsPlainlyAccepted}
 
--- If `within` is 0 and no repeat may keep the page, files are accepted by the options exactly if
+-- If `within` is 0 and each header of the page has to erase the page, files are accepted exactly if
 -- they contain subtitles and a good transmission of these subtitles.
 abbrev pub LawOfPlainAcceptance : Type 0
 LawOfPlainAcceptance =
@@ -17,12 +17,13 @@ LawOfPlainAcceptance =
     → options.within ≡ 0
     → IsAcceptedBy drawing options stl pes ↔ IsAccepted drawing options stl pes
 
--- Subtitles are drawn in English with the default layout, and the subtitle file is read completely.
+-- Subtitles are drawn with the English national option and the default layout, and the subtitle
+-- file is read completely.
 abbrev pub default_drawing : Drawing
 default_drawing = drawing_by English default_layout
 
--- In English with the default layout, files are accepted by any options exactly if they are
--- accepted by the page and the rules for English.
+-- For English subtitles in the default layout, files are accepted exactly if they satisfy
+-- `IsPlainlyAccepted`.
 abbrev pub LawOfEnglishAcceptance : Type 0
 LawOfEnglishAcceptance =
     (options : OptionsValue) (stl pes : List ℕ)

@@ -11,8 +11,9 @@ use Rattle.sub_laws.specs.LostRows.{IsReceivedWithLosses}
 use Rattle.sub_headline.specs.EnglishPage.{english_due}
 use Rattle.sub_headline.specs.PlainHeadline.{Gets}
 
--- The headline holds for every receiver of the class. If the receiver drops rows, a space is
--- excused if any byte of its row was hit, or the row was lost.
+-- Every receiver of the class has the expected page, except for excused cells, which may contain a
+-- space. If the receiver drops rows, all cells of a row are excused if the row was lost or any of
+-- its bytes was received wrong.
 abbrev pub EachOfClassGets :
     ReceiverClass → PageIdValue → ℕ → List SubtitleValue → Transmission → Type 0
 EachOfClassGets class page every subtitles transmission =

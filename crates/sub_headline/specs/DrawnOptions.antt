@@ -1,5 +1,4 @@
--- The options that may follow `check STL RECORDING`, in any order, with the national option and the
--- layout among them.
+-- The options that may follow `check STL RECORDING`, including the national option and the layout.
 use Rattle.std.specs.Prelude.{◌≡◌, ◌<◌, ◌^◌, Bool, List, [], ◌∷◌, Some, codes, fold}
 use Rattle.std.specs.List.{flat_map}
 use Rattle.clap.specs.Words.{Text}
@@ -16,7 +15,7 @@ use Rattle.sub_headline.specs.RecordingOptions.{Portion, Reading, read_by, readi
 use Rattle.sub_headline.specs.RecordingOptions.{recording_requested}
 use Rattle.sub_headline.specs.RecordingOptions.{arguments_in}
 
--- A national option or a layout with the text of its value, or one of the other options.
+-- One option: a national option or a layout, with its text, or an option for a recording.
 pub data DisplayOption : Type 0 where
   Letters : (text : Text)
       → (national : National)
@@ -30,34 +29,34 @@ pub data DisplayOption : Type 0 where
       → DisplayOption
   Of : Portion → DisplayOption
 
--- The arguments of an option for a recording, a national option or a layout.
+-- The command-line arguments for an option.
 abbrev pub arguments_for : DisplayOption → List Text
 arguments_for (Letters text national name is) = codes "--option" ∷ text ∷ []
 arguments_for (Lines text layout name is) = codes "--layout" ∷ text ∷ []
 arguments_for (Of part) = arguments_in part
 
--- How a recording is read and subtitles are drawn.
+-- The settings for reading a recording and for drawing subtitles.
 pub record DisplayOptions : Type 0 where
   pub reading : Reading
   pub national : National
   pub layout : Layout
 
--- The settings for reading and drawing with one more option.
+-- The settings after one more option.
 abbrev pub displayed_by : DisplayOptions → DisplayOption → DisplayOptions
 displayed_by l (Letters text national name is) = record l { national = national }
 displayed_by l (Lines text layout name is) = record l { layout = layout }
 displayed_by l (Of part) = record l { reading = read_by l.reading part }
 
--- The settings that a list of options gives. English and the default layout are used unless the
--- list chooses others.
+-- The settings for a list of options. By default, subtitles are drawn with the English national
+-- option and the default layout.
 abbrev pub display_options_of : List DisplayOption → DisplayOptions
 display_options_of display_options =
     fold displayed_by
     (record { reading = reading_of []; national = English; layout = default_layout })
     display_options
 
--- The arguments `check STL RECORDING` and options, after the program's name, request a check of
--- these two files, read and drawn as the options say, and the PTS of frame 0 is less than 2^33.
+-- The arguments `check STL RECORDING` and these options request a check of the two files with the
+-- settings of the options, and the PTS of frame 0 is less than 2^33.
 abbrev pub LawOfDisplayArguments : Type 0
 LawOfDisplayArguments =
     (program stl recording : Text) (display_options : List DisplayOption) (request : Request)

@@ -1,4 +1,4 @@
--- The page of an English subtitle in the default layout: the cells of its text, and their places.
+-- The page for an English subtitle in the default layout.
 use Rattle.std.specs.Prelude.{◌≡◌, ◌≢◌, ◌⊎◌, ⊤, ℕ, ◌+◌, ◌-◌, ◌≤◌, Bool, true, false, List, []}
 use Rattle.std.specs.Prelude.{◌∷◌, All, IsTrue, Option, Some, None, ◌==◌, length}
 use Rattle.std.specs.Prelude.{nat_lt, if◌then◌else◌, map, slice_index_or}
@@ -9,8 +9,9 @@ use Rattle.stl_rows.specs.DuePage.{is_due}
 use Rattle.stl_rows.specs.Line.{is_double, prepared, row_of}
 use Rattle.stl_rows.specs.TextCode.{is_common, is_within, new_line}
 
--- The code of a byte of text (EBU Tech 3264, code table 00; EN 300 706, English sub-set): the same
--- number, or a place of the national sub-set.
+-- The Teletext code for a byte of text (EBU Tech 3264, code table 00; EN 300 706, English sub-set):
+-- the same number, except for the characters of the national sub-set. `None` if the byte has no
+-- code.
 unfoldable pub english_cell : ℕ → Option ℕ
 english_cell byte =
     if is_common byte then Some byte
@@ -21,55 +22,55 @@ english_cell byte =
     else (if 0x23 == byte then Some 0x5F  -- #
     else None)))))
 
--- The lines of a text with one more byte in front of them: the byte is a cell; the end of a line;
--- or nothing, for italics, underline and boxing.
+-- The lines of a text after a byte was put in front of it: the byte is a cell, or the end of a
+-- line, or has no cell because it is for italics, underline or boxing.
 abbrev pub put : Option ℕ → ℕ → List (List ℕ) → List (List ℕ)
 put (Some cell) byte lines = onto_first cell lines
 put None byte lines = if byte == new_line then [] ∷ lines else lines
 
--- The lines of a subtitle's text, as cells.
+-- The lines of a subtitle's text, as codes of cells.
 abbrev pub english_lines : List ℕ → List (List ℕ)
 english_lines [] = [] ∷ []
 english_lines (byte ∷ bytes) = put (english_cell byte) byte (english_lines bytes)
 
--- The byte is a cell, a new line, or the code for italics, underline or boxing. A text with any
--- other byte is not drawn completely.
+-- The byte is a cell, a new line, or a code for italics, underline or boxing. A text with any other
+-- byte is rejected.
 abbrev pub IsHandledByte : ℕ → Type 0
 IsHandledByte byte =
     (english_cell byte ≢ None) ⊎ (byte ≡ new_line) ⊎ (is_within 0x80 0x85 byte ≡ true)
 
--- A prepared line fits on a row, whether it is below a line of double height or not: it has at most
--- 40 cells; it is not below row 23, nor of double height in row 23, since row 24 is kept free; and
--- below a line of double height, which would hide it, it is empty.
+-- A line of a subtitle fits on the page. It has at most 40 cells. Row 24 remains free, so the line
+-- is not below row 23 and has no double height in row 23. It is empty if the line above it has
+-- double height.
 pub record LineFits (row : ℕ) (is_under_double : Bool) (line : List ℕ) : Type 0 where
   pub short : length line ≤ 40
   pub high : line ≢ [] → row ≤ 23
   pub double_not_in_row_23 : IsTrue (is_double line) → row ≢ 23
   pub seen : IsTrue is_under_double → line ≡ []
 
--- The prepared lines of a subtitle fit on the page if the first line is in row `row`.
+-- The lines of a subtitle fit on the page if the first of them is in row `row`.
 abbrev pub LinesFit : ℕ → Bool → List (List ℕ) → Type 0
 LinesFit row is_under_double [] = ⊤
 LinesFit row is_under_double (line ∷ lines) =
     LineFits row is_under_double line × LinesFit (row + 1) (is_double line) lines
 
--- The prepared lines of a subtitle: each line with cells is in a box.
+-- The lines of a subtitle. Each line that is not empty is in a box.
 abbrev pub boxed_lines : SubtitleValue → List (List ℕ)
 boxed_lines t = map prepared (english_lines t.text)
 
--- The text of a subtitle is drawn completely: each byte is handled, and its lines fit on the page
+-- The complete text of a subtitle can be drawn: each byte is valid, and the lines fit on the page
 -- from row VP on.
 pub record IsDrawnCompletely (t : SubtitleValue) : Type 0 where
   pub read : All IsHandledByte t.text
   pub fit : LinesFit t.vp false (boxed_lines t)
 
--- The line in a row of a subtitle's page: line 0 goes to row VP; rows above VP and below the last
+-- The line in a row of a subtitle's page. Line 0 is in row VP; rows above VP and below the last
 -- line are empty.
 abbrev pub english_line : SubtitleValue → ℕ → List ℕ
 english_line t row =
     if nat_lt row t.vp then [] else slice_index_or (boxed_lines t) (row - t.vp) []
 
--- The page of a subtitle: rows 1 to 24, each with its line, in a box, at the column that JC gives.
+-- The page of a subtitle: rows 1 to 24 with their lines, each at the column for JC.
 abbrev pub english_page : SubtitleValue → Rows
 english_page t = map (λ row. row_of t.jc (english_line t row)) (range_with_len 1 24)
 
@@ -78,7 +79,7 @@ abbrev pub page_or_blank : Option SubtitleValue → Rows
 page_or_blank None = blank
 page_or_blank (Some t) = english_page t
 
--- The page that is due at a frame: the page of the subtitle whose TCI is not after the frame and
--- whose TCO is after it; blank if there is no such subtitle.
+-- The expected page at a frame: the page of the subtitle with TCI <= frame < TCO, or a blank page
+-- if there is no such subtitle.
 abbrev pub english_due : List SubtitleValue → ℕ → Rows
 english_due subtitles frame = page_or_blank (find (is_due frame) subtitles)

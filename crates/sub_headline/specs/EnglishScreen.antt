@@ -13,12 +13,13 @@ use Rattle.sub_rules.specs.Transmission.{Transmission, first_frame, last_frame, 
 use Rattle.sub_laws.specs.LostRows.{IsReceivedWithLosses}
 use Rattle.sub_headline.specs.EnglishPage.{english_cell, english_due}
 
+-- The character SPACE, U+0020 of ISO/IEC 10646.
 abbrev pub space_character : ℕ
 space_character = 0x20
 
--- The character of a cell with this code (EN 300 706, Latin G0 primary set, Table 35, with the
--- English one of the Latin national option sub-sets, Table 36): a letter, digit or sign has its own
--- number, except at the places of the sub-set; a spacing attribute is a space.
+-- The character of a cell with this code (EN 300 706, Latin G0 set, Table 35, with the English
+-- national option sub-set, Table 36): the same number, except at the places of the sub-set. A
+-- spacing attribute is shown as a space.
 unfoldable pub english_character : ℕ → ℕ
 english_character code =
     if nat_lt code 0x20 then space_character
@@ -36,27 +37,27 @@ english_character code =
     else (if 0x7F == code then 0x25A0  -- ■
     else code))))))))))))
 
--- The character of a byte of text (EBU Tech 3264, code table 00): its own number, which includes
--- A3, the pound sign; A4 is a dollar, as 24 is; a control code is a space.
+-- The character of a byte of text (EBU Tech 3264, code table 00): the same number, except that A4
+-- is a dollar sign, as 24 is, and that a control code is a space.
 unfoldable pub text_character : ℕ → ℕ
 text_character byte =
     if nat_lt byte 0x20 then space_character else (if 0xA4 == byte then 0x24 else byte)
 
--- The cell of a byte of text shows the character of that byte. So a viewer of the due page reads
--- the text of the subtitle file.
+-- The cell for a byte of text shows the character of that byte. So a viewer of the expected page
+-- reads the text of the subtitle file.
 abbrev pub LawOfEnglishCharacters : Type 0
 LawOfEnglishCharacters =
     (byte code : ℕ)
     → english_cell byte ≡ Some code
     → english_character code ≡ text_character byte
 
--- The character in a cell of a page, if a decoder shows that cell, which it does inside a box.
+-- The character in a cell of a page. A decoder shows it only inside a box.
 abbrev pub seen : Rows → ℕ → ℕ → ℕ
 seen page row column = english_character (cell page row column)
 
--- The screen of every receiver, at the end of frame f, shows in each cell the character of the due
--- page, or a space if the cell is excused. The receiver is one of those of `EachOfClassGets`, and a
--- header of the page was sent since the receiver was switched on in frame g.
+-- At the end of frame f, each cell on the screen of every receiver shows the character of the
+-- expected page, or a space if the cell is excused. The receiver was switched on in frame g, and a
+-- header of the page was sent since then.
 abbrev pub EachScreenShows : PageIdValue → List SubtitleValue → Transmission → Type 0
 EachScreenShows page subtitles transmission =
     (class : ReceiverClass) (g j f : ℕ) (arrived : List Bool) (got : List (List ℕ))

@@ -1,4 +1,4 @@
--- What the exit code of `check` says about the contents of the subtitle file and the recording.
+-- What the exit code of `check` implies for the contents of the subtitle file and the recording.
 use Rattle.std.specs.Prelude.{◌≡◌, ◌≢◌, ◌↔◌, ℕ, List, [], ◌∷◌, Option, Some, Ok, Result, codes}
 use Rattle.std.specs.Prelude.{IsTrue}
 use Rattle.std.specs.List.{flat_map}
@@ -31,8 +31,8 @@ use Rattle.sub_headline.specs.PlainReading.{frames_by_place, subtitles_by_place,
 use Rattle.sub_headline.specs.PlainArguments.{IsName}
 use Rattle.sub_headline.specs.Run.{RunsProgram}
 
--- If the program was called with the arguments `check STL PES`, which do not begin with `-`, `IsSo`
--- holds for the contents of these two files.
+-- The statement `IsSo` is true for the contents of two files in a run with the arguments `check STL
+-- PES`, where STL and PES do not begin with `-`.
 abbrev pub OfCheck :
     Result (List Text) UsageFault → MemFilesValue → (List ℕ → List ℕ → Type 0) → Type 0
 OfCheck given files IsSo =
@@ -44,7 +44,7 @@ OfCheck given files IsSo =
     → bytes_at pes files ≡ Some bytes
     → IsSo file bytes
 
--- If the exit code is 0, the headline holds for page 888 with a repeat bound of 250 frames (10
+-- If the exit code is 0, the headline is true for page 888 with a repeat bound of 250 frames (10
 -- seconds). Frame 0 has the PTS 0.
 abbrev pub ImpliesHeadline : Result (List Text) UsageFault → MemFilesValue → ℕ → Type 0
 ImpliesHeadline given files code =
@@ -53,9 +53,8 @@ ImpliesHeadline given files code =
     code ≡ 0
     → Headline page_888 250 english_due (subtitles_by_place file) (frames_by_place 0 bytes))
 
--- If the program was called with `check STL PES`, followed by options for which `Choice` has a
--- constructor, in any order, `IsSo` holds for the chosen options and the contents of these two
--- files.
+-- The statement `IsSo` is true for the options and the contents of two files in a run with the
+-- arguments `check STL PES` and any of the options of type `Choice`, in any order.
 abbrev pub OfChosen :
     Result (List Text) UsageFault → MemFilesValue
     → (OptionsValue → List ℕ → List ℕ → Type 0) → Type 0
@@ -68,7 +67,7 @@ OfChosen given files IsSo =
     → bytes_at pes files ≡ Some bytes
     → IsSo (options_by choices) file bytes
 
--- If the exit code is 0, `IsSo` holds for the options, the subtitles of the subtitle file and the
+-- If the exit code is 0, `IsSo` is true for the options, the subtitles of the subtitle file and the
 -- frames of the PES file.
 abbrev pub OfAccepted :
     Result (List Text) UsageFault → MemFilesValue → ℕ
@@ -77,23 +76,24 @@ OfAccepted given files code IsSo =
     OfChosen given files
     (λ o file bytes. code ≡ 0 → IsSo o (subtitles_by_place file) (frames_by_place o.origin bytes))
 
--- If the exit code is 0, the headline holds with the chosen page and repeat bound.
+-- If the exit code is 0, the headline is true for the page and the repeat bound of the options.
 abbrev pub ImpliesChosen : Result (List Text) UsageFault → MemFilesValue → ℕ → Type 0
 ImpliesChosen given files code =
     OfAccepted given files code (λ o. Headline o.page o.every english_due)
 
--- If the exit code is 0, receivers that ignore each row with a byte of even parity get the due page
--- too; a cell is excused if any byte of its row was hit.
+-- If the exit code is 0, receivers that drop each row with a byte of even parity also have the
+-- expected page. All cells of a row are excused if any byte of the row was received wrong.
 abbrev pub ImpliesDropping : Result (List Text) UsageFault → MemFilesValue → ℕ → Type 0
 ImpliesDropping given files code =
     OfAccepted given files code (λ o. EachOfClassGets Dropping o.page o.every)
 
--- If the exit code is 0, each receiver of either class shows the characters of the due page.
+-- If the exit code is 0, the screen of each receiver of either class shows the characters of the
+-- expected page.
 abbrev pub ImpliesScreens : Result (List Text) UsageFault → MemFilesValue → ℕ → Type 0
 ImpliesScreens given files code = OfAccepted given files code (λ o. EachScreenShows o.page)
 
--- If the exit code is 0, both files match their formats: the subtitle file contains these subtitles
--- and the PES file these frames, and nothing else.
+-- If the exit code is 0, both files match their formats. The subtitle file contains these
+-- subtitles, the PES file contains these frames, and both contain nothing else.
 abbrev pub ImpliesFiles : Result (List Text) UsageFault → MemFilesValue → ℕ → Type 0
 ImpliesFiles given files code =
     OfChosen given files
@@ -102,17 +102,17 @@ ImpliesFiles given files code =
     → AreFilesOf whole o.origin file bytes (subtitles_by_place file)
     (frames_by_place o.origin bytes))
 
--- If the exit code is 0 and complete pages were required, receivers that show a page only when a
--- later header has ended it show the due page too.
+-- If the exit code is 0 and complete pages were required, receivers that show a page only after a
+-- later header has ended it also show the expected page.
 abbrev pub ImpliesComplete : Result (List Text) UsageFault → MemFilesValue → ℕ → Type 0
 ImpliesComplete given files code =
     OfAccepted given files code
     (λ o subtitles transmission.
     IsTrue o.asks_complete → EachDisplayShows o.page subtitles transmission)
 
--- If the program was called with `check STL RECORDING`, followed by options for which `Portion` has
--- a constructor, in any order, `IsSo` holds for how both files are read and for their contents.
--- RECORDING is a PES file or, with `--pid`, a transport stream.
+-- The statement `IsSo` is true for the settings and the contents of two files in a run with the
+-- arguments `check STL RECORDING` and any of the options of type `Portion`, in any order. RECORDING
+-- is a PES file or, with `--pid`, a transport stream.
 abbrev pub OfRecording :
     Result (List Text) UsageFault → MemFilesValue → (Reading → List ℕ → List ℕ → Type 0) → Type 0
 OfRecording given files IsSo =
@@ -124,7 +124,7 @@ OfRecording given files IsSo =
     → bytes_at recording files ≡ Some bytes
     → IsSo (reading_of parts) file bytes
 
--- If the exit code is 0, the headline holds for the subtitles and frames in the selected parts of
+-- If the exit code is 0, the headline is true for the subtitles and frames in the selected parts of
 -- both files.
 abbrev pub ImpliesRecording : Result (List Text) UsageFault → MemFilesValue → ℕ → Type 0
 ImpliesRecording given files code =
@@ -134,8 +134,8 @@ ImpliesRecording given files code =
     → Headline r.options.page r.options.every english_due (subtitles_within r.scope file)
     (frames_by_place r.options.origin (bytes_read r bytes)))
 
--- The promises to receivers that ignore damaged rows, for the characters on screens, and to
--- receivers that wait for complete pages.
+-- Further receivers also have the expected page: receivers that drop damaged rows, and receivers
+-- that wait for complete pages; and the screens of all receivers show its characters.
 pub record ServesOthers
     (o : OptionsValue) (subtitles : List SubtitleValue) (transmission : Transmission)
     : Type 0 where
@@ -143,8 +143,8 @@ pub record ServesOthers
   pub screens : EachScreenShows o.page subtitles transmission
   pub complete : IsTrue o.asks_complete → EachDisplayShows o.page subtitles transmission
 
--- If the exit code is 0, the promises of `ServesOthers` hold for the subtitles and frames in the
--- selected parts of both files.
+-- If the exit code is 0, `ServesOthers` is true for the subtitles and frames in the selected parts
+-- of both files.
 abbrev pub ImpliesRecordingToo : Result (List Text) UsageFault → MemFilesValue → ℕ → Type 0
 ImpliesRecordingToo given files code =
     OfRecording given files
@@ -154,8 +154,7 @@ ImpliesRecordingToo given files code =
     (frames_by_place r.options.origin (bytes_read r bytes)))
 
 -- If the exit code is 0, the selected bytes are a PES file that contains these frames and nothing
--- else; the subtitle file contains these subtitles, and other subtitles only outside of the
--- selected part.
+-- else. The subtitle file contains these subtitles in its selected part.
 abbrev pub ImpliesRecordingFiles : Result (List Text) UsageFault → MemFilesValue → ℕ → Type 0
 ImpliesRecordingFiles given files code =
     OfRecording given files
@@ -164,9 +163,8 @@ ImpliesRecordingFiles given files code =
     → AreFilesOf r.scope r.options.origin file (bytes_read r bytes) (subtitles_within r.scope file)
     (frames_by_place r.options.origin (bytes_read r bytes)))
 
--- If the program was called with `check STL RECORDING`, followed by options for which
--- `DisplayOption` has a constructor, in any order, `IsSo` holds for how both files are read, how
--- subtitles are drawn, and for the contents of the files.
+-- The statement `IsSo` is true for the settings and the contents of two files in a run with the
+-- arguments `check STL RECORDING` and any of the options of type `DisplayOption`, in any order.
 abbrev pub OfDisplay :
     Result (List Text) UsageFault → MemFilesValue → (DisplayOptions → List ℕ → List ℕ → Type 0) →
     Type 0
@@ -180,7 +178,7 @@ OfDisplay given files IsSo =
     → bytes_at recording files ≡ Some bytes
     → IsSo (display_options_of display_options) file bytes
 
--- If the exit code is 0, the headline holds with the due page drawn in the national option and the
+-- If the exit code is 0, the headline is true for subtitles drawn with the national option and the
 -- layout.
 abbrev pub ImpliesDrawn : Result (List Text) UsageFault → MemFilesValue → ℕ → Type 0
 ImpliesDrawn given files code =
@@ -191,17 +189,16 @@ ImpliesDrawn given files code =
     → Headline o.page o.every (due (drawing_by l.national l.layout))
     (subtitles_within l.reading.scope file) (frames_by_place o.origin (bytes_read l.reading bytes)))
 
--- Unless the exit code is 2 (a device failed or memory ran out), it is 0 exactly if the files are
--- acceptable by the chosen options: they contain at least one subtitle, and a good transmission of
--- the subtitles.
+-- Unless the exit code is 2 (a device failed or memory ran out), it is 0 exactly if the files
+-- contain at least one subtitle and a good transmission of their subtitles by the options.
 abbrev pub DecidesAcceptance : Result (List Text) UsageFault → MemFilesValue → ℕ → Type 0
 DecidesAcceptance given files code =
     OfChosen given files (λ o file bytes. code ≢ 2 → (code ≡ 0) ↔ IsPlainlyAccepted o file bytes)
 
--- All `Implies..` statements and `DecidesAcceptance` hold for the exit code of each run of the
--- program. The files are modelled in memory, and `before` has their contents when the program
--- starts. Standard output is any device, described by its contents, its failure count and its
--- calls. `given` is the command line, `code` the exit code.
+-- The exit code of each run of the program implies all these statements. The files are in memory,
+-- and `before` has their contents when the program starts. Standard output is any device, given by
+-- the functions for its contents and its number of failed calls, and by the relation for its calls.
+-- `given` are the arguments, and `code` is the exit code.
 abbrev pub LawOfHeadline :
     {K : Type 0}
     → (K → Option (List ℕ)) → (K → ℕ) → (K → List ℕ → Option ℕ → K → Type 0) → Type 0

@@ -1,4 +1,4 @@
--- The screens of receivers that show only complete pages, if complete pages were required.
+-- The screens of receivers that show only complete pages.
 use Rattle.std.specs.Prelude.{◌≡◌, ◌⊎◌, ℕ, Bool, IsTrue, List, Some}
 use Rattle.ttx_packet.specs.PageId.{PageIdValue}
 use Rattle.ttx_page.specs.Screen.{Display, ShowsBy}
@@ -13,9 +13,9 @@ use Rattle.sub_rules.specs.Transmission.{Transmission, first_frame, last_frame, 
 use Rattle.sub_laws.specs.LostRows.{IsReceivedWithLosses}
 use Rattle.sub_headline.specs.EnglishPage.{english_due}
 
--- Each receiver that shows a page only after it is complete shows a page after a header of the page
--- was sent since the receiver was switched on, whatever the receiver showed before: in each cell
--- the code of the due page or, if the cell is excused, a space.
+-- At the end of frame f, each receiver that shows only complete pages shows the expected page, or a
+-- space in an excused cell, if a header of the page was sent since the receiver was switched on.
+-- This is true for any page that the receiver showed before.
 abbrev pub EachDisplayShows : PageIdValue → List SubtitleValue → Transmission → Type 0
 EachDisplayShows page subtitles transmission =
     (class : ReceiverClass) (g j f : ℕ) (arrived : List Bool) (got : List (List ℕ))

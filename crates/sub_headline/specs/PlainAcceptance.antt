@@ -1,4 +1,4 @@
--- The files that `check STL PES` with choices accepts: the seven rules of `Good` for English
+-- The files that `check STL PES` accepts: the seven rules for a good transmission of English
 -- subtitles, in as few definitions as possible.
 use Rattle.std.specs.Prelude.{◌≡◌, ℕ, ◌<◌, ◌≤◌, IfSome, IsFalse, IsTrue, List, length}
 use Rattle.ttx_packet.specs.declared.header.Header.{Header}
@@ -19,10 +19,10 @@ use Rattle.sub_rules.specs.Transmission.{last_frame, on_air_until}
 use Rattle.sub_headline.specs.EnglishPage.{english_due}
 use Rattle.sub_headline.specs.PlainFiles.{AreFilesOf}
 
--- The control bits of the header of an English subtitle page: C4, erase page, is set; C5,
--- newsflash, is clear; C6, subtitle, is set; C7, suppress header, is set; C10, inhibit display, is
--- clear; C12 to C14 are clear, which means English. C8, update indicator, and C9, interrupted
--- sequence, may have any value.
+-- The control bits in the header of an English subtitle page: C4 (erase page), C6 (subtitle) and C7
+-- (suppress header) are set; C5 (newsflash) and C10 (inhibit display) are clear; C12 to C14 are
+-- clear, which selects English. C8 (update indicator) and C9 (interrupted sequence) may have any
+-- value.
 pub record IsEnglishHeader (h : Header) : Type 0 where
   pub erases : IsTrue (c4 h)
   pub no_newsflash : IsFalse (c5 h)
@@ -38,8 +38,8 @@ abbrev pub IsControlledInEnglish : PageIdValue → List ℕ → Type 0
 IsControlledInEnglish page packet =
     (h : Header) → kind page packet ≡ ThisPage h → IsEnglishHeader h
 
--- At the end of each frame from the first to the last, whether it has packets of its own or not,
--- the page that is due is shown.
+-- At the end of each frame from the first to the last, with or without packets in it, the
+-- transmitted page is the expected page.
 abbrev pub ShowsEnglishPages : PageIdValue → List SubtitleValue → Transmission → Type 0
 ShowsEnglishPages page subtitles transmission =
     (f row column : ℕ)
@@ -49,7 +49,7 @@ ShowsEnglishPages page subtitles transmission =
     → shown page (on_air_until transmission f) row column
     ≡ cell (english_due subtitles f) row column
 
--- A good transmission of the subtitles by the seven rules, on the page of the options.
+-- A good transmission of the subtitles on the page of the options, by seven rules.
 pub record IsEnglishGood
     (o : OptionsValue) (subtitles : List SubtitleValue) (transmission : Transmission)
     : Type 0 where
@@ -70,18 +70,16 @@ pub record IsEnglishGood
   -- 5. While the page is open, each row has odd parity and is repeated unchanged, and there is no
   -- packet X/25 to X/28 of its magazine.
   pub spans : HasCleanSpans o.page transmission
-  -- 6. The first frame contains a header of the page, and so does at least one of any `every`
-  --    consecutive frames.
+  -- 6. The first frame contains a header of the page, and so do any `every` consecutive frames.
   pub opens : HoldsHeader o.page transmission (first_frame transmission)
   pub repeats : Repeats o.page o.every transmission
-  -- 7. At the end of each frame, the page that is due is shown.
+  -- 7. At the end of each frame, the transmitted page is the expected page.
   pub content : ShowsEnglishPages o.page subtitles transmission
   -- If the options require it, PES packets are at most `pace` frames apart, and pages are complete.
   pub paced : KeepsPace o.pace transmission
   pub complete : IsTrue o.asks_complete → Complete transmission o
 
--- The bytes of both files are accepted: they contain some subtitles and a good transmission of
--- these subtitles.
+-- The files are accepted: they contain subtitles and a good transmission of these subtitles.
 pub record IsPlainlyAccepted (o : OptionsValue) (stl pes : List ℕ) : Type 0 where
   pub subtitles : List SubtitleValue
   pub transmission : Transmission

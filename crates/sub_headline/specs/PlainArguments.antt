@@ -10,9 +10,9 @@ use Rattle.sub_request.specs.declared.request.Request.{Request}
 use Rattle.sub_words.specs.Arguments.{PesRequested}
 use Rattle.sub_words.specs.Requests.{Requested, IsRequestOf, requested_by}
 
--- The default options: page 888; a header of the page within 250 frames, 10 seconds; frame 0 has
--- the PTS 0; neither complete pages nor a maximum distance of PES packets is required; the page has
--- to be right at the end of each frame; and each header of the page has to erase it.
+-- The default options: page 888, a header of the page every 250 frames (10 seconds), and the PTS 0
+-- for frame 0. Complete pages and a maximum distance of PES packets are not required. The expected
+-- page is required at the end of each frame, and each header of the page has to erase the page.
 abbrev pub default_options : OptionsValue
 default_options = record {
   page = page_888;
@@ -24,16 +24,15 @@ default_options = record {
   keeps = false;
 }
 
--- The argument does not begin with `-`, so it is no option.
+-- The argument does not begin with `-`, so it is not an option.
 abbrev pub IsName : Text → Type 0
 IsName word = slice_get word 0 ≢ Some 0x2D
 
--- The request for a complete PES file, by its name.
+-- The request to read a complete PES file with this name.
 abbrev pub entire_pes_file : Text → PesRequested
 entire_pes_file name = record { name = name; stream = None; range = None }
 
--- The arguments `check STL PES` alone, after the program's name, request a check of these two files
--- with the default options.
+-- The arguments `check STL PES` request a check of these two files with the default options.
 abbrev pub LawOfPlainArguments : Type 0
 LawOfPlainArguments =
     (program stl pes : Text) (request : Request)

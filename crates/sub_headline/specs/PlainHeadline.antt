@@ -1,5 +1,4 @@
--- The headline, in as few definitions as possible: which page every receiver has, if `check`
--- accepts the transmission.
+-- The headline: the page that every receiver has if `check` accepts the transmission.
 use Rattle.std.specs.Prelude.{◌≡◌, ◌⊎◌, ◌||◌, ℕ, ◌+◌, ◌≤◌, All, Bool, IsTrue, List}
 use Rattle.ttx_packet.specs.PageId.{PageIdValue}
 use Rattle.ttx_page.specs.LostRows.{IsHitOrLost, arrivals_of}
@@ -11,14 +10,14 @@ use Rattle.stl_file.specs.Subtitle.{SubtitleValue}
 use Rattle.sub_rules.specs.Transmission.{Transmission, first_frame, last_frame, on_air}
 use Rattle.sub_laws.specs.LostRows.{IsReceivedWithLosses}
 
--- The page that a receiver has at the end of frame f. The receiver was switched on in frame g, with
--- the state `old`, and observed at the end of frame f, with the state `new`. The packets `sent`
--- were on air between these two points.
+-- The page that a receiver has at the end of frame f. The receiver was switched on in frame g, in
+-- the state `old`. At the end of frame f it is in the state `new`. The packets `sent` were on air
+-- between these two times.
 --
--- If f is at least `every` frames after g, `sent` has a header of the page (`every` is the repeat
--- bound). The receiver has received a header of the page exactly if it had before or `sent` has
--- one. If `sent` has a header of the page, each cell has the code of the due page or, if the cell
--- is excused, a space.
+-- If f is at least `every` frames after g, `sent` contains a header of the page (`every` is the
+-- repeat bound). The receiver has received a header of the page exactly if it had one before or if
+-- `sent` contains one. If `sent` contains a header of the page, each cell has the code of the
+-- expected page, or a space if the cell is excused.
 pub record Gets
     (page : PageIdValue) (every : ℕ) (due : Rows) (g f : ℕ)
     (sent : List (List ℕ)) (IsExcused : ℕ → ℕ → Type 0) (old new : State)
@@ -32,15 +31,16 @@ pub record Gets
       → (cell new.page row column ≡ cell due row column)
       ⊎ ((cell new.page row column ≡ space) × IsExcused row column)
 
--- Every receiver of page `page` has the due page in the sense of `Gets`: wherever it is switched on
--- (before packet j of frame g) and observed (at the end of frame f) within the transmission;
--- whichever packets arrive, if all page headers arrive, and each packet that arrives has at most
--- one wrong bit in each byte; whatever page the receiver contained before, open or not, with or
--- without a header; and whatever the receiver chooses at bytes of even parity.
+-- Every receiver of page `page` has the expected page, as `Gets` specifies. This is true for every
+-- time at which the receiver is switched on (before packet j of frame g) and every time at which
+-- its page is examined (at the end of frame f); for any loss of packets other than page headers;
+-- for at most one wrong bit in each byte received; for any page that the receiver contained before,
+-- open or not, with or without a header; and for any code that the receiver stores for a byte of
+-- even parity.
 --
--- A cell is excused if a packet of its row was lost, or received with another byte in the cell's
--- column. Only packets of the page count that were sent since its last header, and before a header
--- that ended the page.
+-- A cell is excused if a packet of its row was lost, or received with a wrong byte in the cell's
+-- column. This concerns only packets of the page that were sent after its last header and before a
+-- header that ended the page.
 abbrev pub EachReceiverGets : PageIdValue → ℕ → (ℕ → Rows) → Transmission → Type 0
 EachReceiverGets page every due transmission =
     (g j f : ℕ) (arrived : List Bool) (got : List (List ℕ)) (old new : State)
@@ -51,7 +51,7 @@ EachReceiverGets page every due transmission =
     (IsHitOrLost page (on_air transmission g j f) (arrivals_of arrived got)) old new
 
 -- The headline for subtitles and a transmission. `every` is the repeat bound of the page's header
--- in frames, and `due` gives the page that is due at a frame.
+-- in frames, and `due` gives the expected page at each frame.
 pub record Headline
     (page : PageIdValue) (every : ℕ) (due : List SubtitleValue → ℕ → Rows)
     (subtitles : List SubtitleValue) (transmission : Transmission)
@@ -60,6 +60,5 @@ pub record Headline
   -- not before the TCO of any subtitle.
   pub covers :
       All (λ t. (first_frame transmission ≤ t.tci) × (t.tco ≤ last_frame transmission)) subtitles
-  -- From the first frame of the transmission to the last, every receiver has the due page in the
-  -- sense of `Gets`.
+  -- From the first frame of the transmission to the last, every receiver has the expected page.
   pub receivers : EachReceiverGets page every (due subtitles) transmission

@@ -1,6 +1,6 @@
 -- The options that may follow `check STL PES`, in any order, and their meaning. The definition of
--- how `clap` reads arguments has 700 lines. This list replaces that definition, and a proof shows
--- that the arguments request the options of the list.
+-- how the argument parser `clap` reads arguments has 700 lines; a reader needs only this list,
+-- since a proof shows that the arguments request these options.
 use Rattle.std.specs.Prelude.{◌≡◌, ◌<◌, ◌^◌, ℕ, Bool, true, List, [], ◌∷◌, Some, codes, fold}
 use Rattle.std.specs.List.{flat_map}
 use Rattle.clap.specs.Words.{Text}
@@ -16,7 +16,7 @@ use Rattle.sub_words.specs.Requests.{Requested, IsRequestOf, requested_by}
 use Rattle.sub_words.specs.Texts.{number_of_text}
 use Rattle.sub_headline.specs.PlainArguments.{IsName, default_options, entire_pes_file}
 
--- An option with the text of its value and the meaning of that text; or a flag.
+-- An option with the text of its value and the meaning of that text, or a flag.
 pub data Choice : Type 0 where
   Page : (text : Text) → (page : PageIdValue) → page_of_text text ≡ Some page → Choice
   Every : (text : Text) → (frames : ℕ) → number_of_text text ≡ Some frames → Choice
@@ -25,7 +25,7 @@ pub data Choice : Type 0 where
   Complete : Choice
   EveryFault : Choice
 
--- The arguments of a choice.
+-- The command-line arguments for an option.
 abbrev pub arguments_of_choice : Choice → List Text
 arguments_of_choice (Page text page is) = codes "--page" ∷ text ∷ []
 arguments_of_choice (Every text frames is) = codes "--every" ∷ text ∷ []
@@ -34,7 +34,7 @@ arguments_of_choice (Pace text frames is) = codes "--pace" ∷ text ∷ []
 arguments_of_choice Complete = codes "--complete" ∷ []
 arguments_of_choice EveryFault = codes "--all" ∷ []
 
--- The options with one more choice. `--all` lists each fault, and changes nothing else.
+-- The options after one more option. `--all` changes only the report.
 abbrev pub with_choice : OptionsValue → Choice → OptionsValue
 with_choice o (Page text page is) = record o { page = page }
 with_choice o (Every text frames is) = record o { every = frames }
@@ -43,12 +43,12 @@ with_choice o (Pace text frames is) = record o { pace = Some frames }
 with_choice o Complete = record o { asks_complete = true }
 with_choice o EveryFault = o
 
--- The options of a list of choices, starting from the default ones.
+-- The options for a list of options, starting from the default options.
 abbrev pub options_by : List Choice → OptionsValue
 options_by choices = fold with_choice default_options choices
 
--- The arguments `check STL PES` and choices, after the program's name, request a check of these two
--- files with the chosen options, and the PTS of frame 0 is less than 2^33.
+-- The arguments `check STL PES` and these options request a check of the two files with the
+-- options, and the PTS of frame 0 is less than 2^33.
 abbrev pub LawOfChosenArguments : Type 0
 LawOfChosenArguments =
     (program stl pes : Text) (choices : List Choice) (request : Request)

@@ -1,7 +1,7 @@
--- The subtitles, frames and packets in the bytes of both files, read from the fixed places of their
--- formats. These definitions test nothing; `AreFilesOf` states that the bytes match the formats and
--- contain nothing else. Fixed places spare a reader of the headline the grammars of both formats,
--- which were two fifths of the definitions to read.
+-- The subtitles, frames and packets in the bytes of both files, read from the fixed positions of
+-- their fields. These definitions do not check the bytes; `AreFilesOf` states that the bytes match
+-- the formats and contain nothing else. With fixed positions, a reader of the headline does not
+-- need the grammars of the two formats.
 use Rattle.std.specs.Prelude.{ℕ, zero, suc, ◌+◌, ◌-◌, ◌*◌, ◌/◌, ◌%◌, ◌^◌, Bool, not, ◌==◌, ◌||◌}
 use Rattle.std.specs.Prelude.{List}
 use Rattle.std.specs.Prelude.{[], ◌∷◌, length, take, drop, map, filter, slice_index, slice_index_or}
@@ -14,19 +14,19 @@ use Rattle.stl_file.specs.TimeCode.{frame_of}
 use Rattle.stl_file.specs.Tti.{before_unused}
 use Rattle.sub_rules.specs.Transmission.{SentFrame, Transmission}
 
--- The bytes cut into parts of one size; a rest that is too short is left out.
+-- Bytes cut into chunks of equal size. A shorter chunk at the end is left out.
 abbrev pub chunks_of : ℕ → List ℕ → List (List ℕ)
 chunks_of size bytes =
     map (λ k. take size (drop (size * k) bytes)) (range_with_len 0 (length bytes / size))
 
--- ---- reading a PES file by the places of its fields
+-- ---- fields of a PES file
 
--- The size of the first PES packet (ISO/IEC 13818-1): PES_packet_length, bytes 4 and 5, counts from
--- byte 6.
+-- The size of the first PES packet (ISO/IEC 13818-1). PES_packet_length, in bytes 4 and 5, is the
+-- number of bytes from byte 6 on.
 abbrev pub size_read : List ℕ → ℕ
 size_read b = 0x100 * slice_index b 4 + slice_index b 5 + 6
 
--- The PES packets of a file, one after another, at most as many as the first argument.
+-- The PES packets of a file, in order; the first argument limits their number.
 abbrev pub packets_read : ℕ → List ℕ → List (List ℕ)
 packets_read zero b = []
 packets_read (suc most) [] = []
@@ -51,28 +51,28 @@ packet_read unit =
     then map mirror (drop 4 unit) ∷ []
     else []
 
--- The frame of a PES packet, given the PTS of frame 0: its number, where a frame has 3600 ticks of
--- the PTS, which has 33 bits; and the Teletext packets of its data units (EN 300 472), 46 bytes
--- each from byte 46 on.
+-- The frame of a PES packet, given the PTS of frame 0: its number, with 3600 ticks of the 33-bit
+-- PTS per frame, and the Teletext packets of its data units (EN 300 472), which have 46 bytes each
+-- and start at byte 46.
 abbrev pub frame_read : ℕ → List ℕ → SentFrame
 frame_read origin b = record {
   frame = (pts_read b + (2 ^ 33 - origin)) % 2 ^ 33 / 3600;
   packets = flat_map packet_read (chunks_of 46 (drop 46 b));
 }
 
--- The frames of a PES file, given the PTS of frame 0. The file has at most as many PES packets as
--- bytes.
+-- The frames of a PES file, given the PTS of frame 0. The number of PES packets is at most the
+-- number of bytes.
 abbrev pub frames_by_place : ℕ → List ℕ → Transmission
 frames_by_place origin bytes = map (frame_read origin) (packets_read (length bytes) bytes)
 
--- ---- reading a subtitle file by the places of its fields
+-- ---- fields of a subtitle file
 
--- The block belongs to a subtitle (EBU Tech 3264, TTI block): it is neither user data (EBN, byte 3,
--- is FE) nor a comment (CF, byte 15, is 01).
+-- The block belongs to a subtitle (EBU Tech 3264, TTI block): it is not user data (EBN, byte 3, is
+-- FE) and not a comment (CF, byte 15, is 01).
 abbrev pub is_of_subtitle : List ℕ → Bool
 is_of_subtitle b = not ((slice_index b 3 == 0xFE) || (slice_index b 15 == 0x01))
 
--- The blocks of each subtitle: EBN, byte 3, of its last block is FF.
+-- The blocks grouped by subtitle: EBN, byte 3, is FF in the last block of each subtitle.
 abbrev pub groups_read : List (List ℕ) → List (List (List ℕ))
 groups_read [] = []
 groups_read (b ∷ blocks) =
@@ -80,7 +80,7 @@ groups_read (b ∷ blocks) =
     then (b ∷ []) ∷ groups_read blocks
     else onto_first b (groups_read blocks)
 
--- The frame of the day in the four bytes from `at` on: hours, minutes, seconds, frames.
+-- The frame of the day for the four bytes from `at` on: hours, minutes, seconds and frames.
 abbrev pub time_read : List ℕ → ℕ → ℕ
 time_read b at =
     frame_of (slice_index b at) (slice_index b (at + 1)) (slice_index b (at + 2))
@@ -102,15 +102,15 @@ subtitle_read group =
       text = flat_map (λ block. before_unused (drop 16 block)) group;
     }
 
--- The subtitles of a file. Its blocks, 128 bytes each, follow the GSI block, 1024 bytes.
+-- The subtitles of a file: blocks of 128 bytes after a GSI block of 1024 bytes.
 abbrev pub subtitles_by_place : List ℕ → List SubtitleValue
 subtitles_by_place bytes =
     map subtitle_read (groups_read (filter is_of_subtitle (chunks_of 128 (drop 1024 bytes))))
 
--- The subtitle begins in the requested part of the file, by its TCI.
+-- The TCI of the subtitle is in the selected part of the file.
 abbrev pub begins_in : Scope → SubtitleValue → Bool
 begins_in scope t = nat_le scope.from t.tci && nat_lt t.tci scope.to
 
--- The subtitles of the requested part of a file.
+-- The subtitles in the selected part of a file.
 abbrev pub subtitles_within : Scope → List ℕ → List SubtitleValue
 subtitles_within scope bytes = filter (begins_in scope) (subtitles_by_place bytes)

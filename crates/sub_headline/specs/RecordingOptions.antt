@@ -23,10 +23,9 @@ use Rattle.sub_words.specs.Texts.{frame_of_text}
 use Rattle.sub_headline.specs.PlainOptions.{Choice, with_choice, arguments_of_choice}
 use Rattle.sub_headline.specs.PlainArguments.{IsName, default_options}
 
--- An option with the text of its value and the meaning of that text: the PID of the transport
--- packets that carry PES packets, their size, the numbers of the PES packets; the frames from which
--- and up to which subtitles begin; whether the file may have open subtitles; or one of the choices
--- for any files.
+-- One option for a recording, with the text of its value and the meaning of that text: the PID and
+-- the size of the transport packets, the range of PES packets, the range of frames in which
+-- subtitles begin, or whether open subtitles are accepted; or an option for any files.
 pub data Portion : Type 0 where
   Pid : (text : Text) → (pid : ℕ) → pid_of_text text ≡ Some pid → Portion
   Size : (text : Text) → (size : PacketSize) → packet_size_of_text text ≡ Some size → Portion
@@ -37,7 +36,7 @@ pub data Portion : Type 0 where
   AlsoOpen : Portion
   Any : Choice → Portion
 
--- The arguments of an option for a recording.
+-- The command-line arguments for an option.
 abbrev pub arguments_in : Portion → List Text
 arguments_in (Pid text pid is) = codes "--pid" ∷ text ∷ []
 arguments_in (Size text size is) = codes "--packet-size" ∷ text ∷ []
@@ -47,9 +46,9 @@ arguments_in (To text frame name is) = codes "--to" ∷ text ∷ []
 arguments_in AlsoOpen = codes "--open" ∷ []
 arguments_in (Any choice) = arguments_of_choice choice
 
--- How both files are read: the options; the PID of the transport packets, if the recording is a
--- transport stream, and their size; the range of PES packets, if not all; and the part of the
--- subtitle file.
+-- The settings for reading both files: the options; the PID and the size of the transport packets,
+-- if the recording is a transport stream; the range of PES packets; and the part of the subtitle
+-- file.
 pub record Reading : Type 0 where
   pub options : OptionsValue
   pub pid : Option ℕ
@@ -57,7 +56,7 @@ pub record Reading : Type 0 where
   pub range : Option PesPacketRangeValue
   pub scope : Scope
 
--- The settings for reading with one more option.
+-- The settings after one more option.
 abbrev pub read_by : Reading → Portion → Reading
 read_by r (Pid text pid is) = record r { pid = Some pid }
 read_by r (Size text size is) = record r { size = size }
@@ -73,8 +72,8 @@ read_by r AlsoOpen = record r {
 }
 read_by r (Any choice) = record r { options = with_choice r.options choice }
 
--- The settings for reading that a list of options gives. A complete PES file and a complete
--- subtitle file are read with the default options, unless the list chooses otherwise.
+-- The settings for a list of options. By default, a complete PES file and a complete subtitle file
+-- are read with the default options.
 abbrev pub reading_of : List Portion → Reading
 reading_of parts =
     fold read_by
@@ -87,21 +86,22 @@ reading_of parts =
     })
     parts
 
--- The bytes of PES packets that the transport packets of a PID carry; all bytes if there is no PID.
+-- The bytes of the PES packets in the transport packets with a PID, or all bytes if no PID is
+-- given.
 abbrev pub carried_by : Option ℕ → PacketSize → List ℕ → List ℕ
 carried_by None size bytes = bytes
 carried_by (Some pid) size bytes = carried pid (bytes_of size) bytes
 
--- The bytes of the PES packets in a range; all bytes if there is no range.
+-- The bytes of the PES packets in a range, or all bytes if no range is given.
 abbrev pub numbered_by : Option PesPacketRangeValue → List ℕ → List ℕ
 numbered_by None bytes = bytes
 numbered_by (Some range) bytes = in_range range bytes
 
--- The bytes of PES packets that are selected from a recording.
+-- The bytes of the selected PES packets of a recording.
 abbrev pub bytes_read : Reading → List ℕ → List ℕ
 bytes_read r bytes = numbered_by r.range (carried_by r.pid r.size bytes)
 
--- The request for a recording, by its name and the settings for reading.
+-- The request to read a recording with this name and these settings.
 abbrev pub recording_requested : Text → Reading → PesRequested
 recording_requested name r = record {
   name = name;
@@ -109,8 +109,8 @@ recording_requested name r = record {
   range = r.range;
 }
 
--- The arguments `check STL RECORDING` and options, after the program's name, request a check of
--- these two files, read as the options say, and the PTS of frame 0 is less than 2^33.
+-- The arguments `check STL RECORDING` and these options request a check of the two files with the
+-- settings of the options, and the PTS of frame 0 is less than 2^33.
 abbrev pub LawOfPartArguments : Type 0
 LawOfPartArguments =
     (program stl recording : Text) (parts : List Portion) (request : Request)

@@ -1,5 +1,4 @@
--- How a run of the program ends, given its arguments: with the answer to a request, or with the
--- reason why no request is answered.
+-- The end of a run of the program: with the answer to a request, or with a fault of the arguments.
 use Rattle.std.specs.Prelude.{◌≡◌, ◌⊎◌, ℕ, List, [], Option, None, Result, Ok, Err, false}
 use Rattle.clap.specs.Words.{Text}
 use Rattle.sub_io.specs.Buffered.{BufferState}
@@ -16,8 +15,7 @@ use Rattle.sub_answer.specs.Ending.{BufferHoldsOneLineOnly, Ends, FileObservatio
 use Rattle.sub_answer.specs.Ending.{PrintsFault}
 use Rattle.sub_answer.specs.Ending.{lines_of}
 
--- The arguments made a request, which was answered. Files were opened and released by exactly the
--- calls that were made.
+-- The arguments are a request, which was answered. No other files were opened or released.
 pub record Answered
     {I O : Type 0} (AreMade : List (FileCall I O) → Type 0) (known : FileObservations I O)
     (IsClose : O → O → Type 0) (given : Result (List Text) UsageFault) (IsAlone : Lines → Type 0)
@@ -29,8 +27,8 @@ pub record Answered
   pub requested : IsRequestOf arguments request
   pub ends : Ends AreMade known IsClose request IsAlone old new result
 
--- Why arguments have no answer: files that they name could not be opened; or memory ran out, or the
--- arguments have the fault, and no file was opened.
+-- The fault that prevents an answer: a file could not be opened, memory ran out, or the arguments
+-- are invalid. In the last two cases no file was opened.
 abbrev pub IsRefusalReason :
     {I O : Type 0} → (List (FileCall I O) → Type 0) → List Text → UsageFault → Type 0
 IsRefusalReason AreMade arguments usage.Memory = AreMade []
@@ -38,14 +36,14 @@ IsRefusalReason AreMade arguments usage.Open =
     (request : Request) × IsRequestOf arguments request × OpensBy AreMade (files_of request) None
 IsRefusalReason AreMade arguments fault = IsFaultOf arguments fault × AreMade []
 
--- Why a run answers no request: because of its arguments, or because the system gave no arguments.
+-- The fault that prevents an answer, including that the system returned no arguments.
 abbrev pub IsCause :
     {I O : Type 0}
     → (List (FileCall I O) → Type 0) → Result (List Text) UsageFault → UsageFault → Type 0
 IsCause AreMade (Ok arguments) fault = IsRefusalReason AreMade arguments fault
 IsCause AreMade (Err why) fault = (fault ≡ why) × AreMade []
 
--- No request was answered, and a line with the fault was printed.
+-- No request was answered, and the line of the fault was printed.
 pub record IsUnanswered
     {I O : Type 0} (AreMade : List (FileCall I O) → Type 0) (given : Result (List Text) UsageFault)
     (old new : Lines) (result : Status)
@@ -54,9 +52,8 @@ pub record IsUnanswered
   pub cause : IsCause AreMade given fault
   pub says : PrintsFault fault old new result
 
--- How a run ends: the calls for files, the contents of the files and which of them were closed
--- without a failure, the printed lines, of which all were flushed except for the line of a fault,
--- and the status.
+-- The end of a run: the calls that opened and released files, the contents of the files, the
+-- printed lines, and the exit status. Everything except the line of a fault was flushed.
 abbrev pub EndsRun :
     {I O : Type 0}
     → (List (FileCall I O) → Type 0) → FileObservations I O → (O → O → Type 0)
@@ -65,9 +62,8 @@ EndsRun AreMade known IsClose given IsAlone old new result =
     Answered AreMade known IsClose given IsAlone old new result
     ⊎ IsUnanswered AreMade given old new result
 
--- A run of the program, from its arguments, its files and standard output to the exit status, and
--- standard output afterwards. Standard output has a buffer before it, which was empty, and no other
--- device; nothing else is printed.
+-- A run of the program: the arguments, the files, standard output before and after, and the exit
+-- code. Standard output is written through an initially empty buffer, and nothing else is printed.
 pub record RunsProgram
     {I O K : Type 0} (AreMade : List (FileCall I O) → Type 0) (known : FileObservations I O)
     (IsClose : O → O → Type 0) (given : Result (List Text) UsageFault)
@@ -79,7 +75,7 @@ pub record RunsProgram
   pub left_eq : left ≡ new.device
   pub status : Status
   pub code_eq : code ≡ exit_code status
-  -- The program answers its arguments, or memory ran out before they were read.
+  -- The program answers its arguments, unless memory runs out before they are read.
   pub ends :
       (let old : BufferState K =
       record { device = output; buffered = []; room = room; failed = false; refused = 0 } in

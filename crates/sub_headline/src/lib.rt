@@ -1,4 +1,4 @@
-//! The meaning of exit status 0 of `check`: from a run of the program to the headline.
+//! Proves what exit status 0 of `check` means for receivers and viewers.
 //!
 //! The functions have no body: their contracts are laws about the definitions of `specs/`.
 #![tactic(auto)]
