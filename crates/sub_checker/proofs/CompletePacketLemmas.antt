@@ -1,4 +1,4 @@
--- If the page is right at the end of a frame, no cell has an unexpected code (`none_unexpected`),
+-- If the page is correct at the end of a frame, no cell has an unexpected code (`none_unexpected`),
 -- and a few comparisons show that no fault is active (`fault_free_has_none_active`).
 use Rattle.std.proofs.lemmas.Bool.Decides.{nat_tests}
 use Rattle.std.proofs.Common.{◌≡◌, ℕ, zero, suc, ap, ◌+◌, ◌<◌, Bool, true, false}
@@ -15,7 +15,7 @@ use Rattle.sub_checker.specs.Checker.{undecided_now, unexpected_now}
 use Rattle.sub_rules.specs.Events.{no_active_faults, silent_for, was_due}
 use Rattle.sub_checker.proofs.UndecidedLemmas.{was-here}
 
--- A code that is due now was due within the last frames.
+-- A code that is expected now was expected within the last frames.
 due_now : (due : ℕ → Rows) (first f n row column code : ℕ)
     → (cell (due f) row column == code) ≡ true
     → was_due due first f n row column code ≡ true

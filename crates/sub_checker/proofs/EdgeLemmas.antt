@@ -1,4 +1,4 @@
--- The due page, and the checker's facts about it, stay the same until the next page change.
+-- The expected page, and the checker's facts about it, stay the same until the next page change.
 use Rattle.std.proofs.lemmas.Bool.Decides.{nat_tests}
 use Rattle.std.proofs.Common.{Option, Some, None, ◌≡◌, ℕ, zero, suc, ◌+◌, ◌-◌, ◌<◌, ◌≤◌, Bool, true}
 use Rattle.std.proofs.Common.{List, refl, ap, ◌∙◌, arith}
@@ -13,7 +13,7 @@ use Rattle.sub_plan.specs.Schedule.{due_in}
 use Rattle.sub_checker.specs.Checker.{CheckerValue, IsAtFrame, IsJudged, at_frame, is_before}
 use Rattle.sub_packets.specs.declared.listener.Listener.{Listener}
 
--- The due page stays the same until its next change.
+-- The expected page stays the same until its next change.
 due_until :
     (drawing : Drawing) (records : List SubtitleValue) (frame : ℕ) (edge : Option ℕ) (k : ℕ)
     → ReportsNextEdge records frame edge
@@ -46,7 +46,7 @@ next_cue_stays records frame f (Some edge) reports low before =
       least = λ e is l. reports.least e is (omega arith);
     }
 
--- `IsAtFrame` stays true until the next change of the due page.
+-- `IsAtFrame` stays true until the next change of the expected page.
 pub IsAtFrame-later :
     (p : ProgrammeValue) (every : ℕ) (s : Listener) (first latest last frame : ℕ)
     (edge : Option ℕ) (f : ℕ)
@@ -59,7 +59,7 @@ IsAtFrame-later p every s first latest last frame edge f small is low before =
     let k : frame + (f - frame) ≡ f = omega arith in
     grind (arith, nat_tests, due_until, next_cue_stays)
 
--- `IsJudged` stays true until the next change of the due page.
+-- `IsJudged` stays true until the next change of the expected page.
 pub IsJudged-later :
     (j : JudgedValue) (p : ProgrammeValue) (any_refused : Bool) (first within frame : ℕ)
     (edge : Option ℕ) (first_known_from f : ℕ)

@@ -60,7 +60,7 @@ module _ (g : Criteria) (frames : Transmission) (n : ℕ) (last : List (List ℕ
     within_eq : g.within ≡ c.within
     within_eq = ap (λ (t : Criteria). t.within) follows.known.criteria_are
 
-    -- The page is wrong at frame e but might still become right in a later frame, which the file
+    -- The page is wrong at frame e but might still become correct in a later frame, which the file
     -- does not contain.
     abbrev pends : ℕ → ℕ → ℕ → Bool
     pends w k e =

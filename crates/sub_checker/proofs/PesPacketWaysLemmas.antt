@@ -173,7 +173,7 @@ module _ (g : Criteria) (all : List PesPacket) where
     some_reported,
   )
 
-  -- If the last events were reported, all events were, and the counts are right; otherwise the
+  -- If the last events were reported, all events were, and the counts are correct; otherwise the
   -- device stopped the check, and a prefix of the events was reported.
   reported_end : {D : Type 0} {IsReported : D → Event → D → Type 0} (clock : Clock) (bytes : List ℕ)
       (a b c : D) (r : Option Accepted) (p : Relay)

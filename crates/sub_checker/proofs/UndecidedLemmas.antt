@@ -1,7 +1,6 @@
--- Whether the due page is known does not change between two page changes (`undecided_same`), and
--- the checker computes from which frame on it is known (`due_known_without_refusals`,
--- `due_unknown_after_day`, `due_known_up_to_last`,
--- `known_never`).
+-- Whether the expected page is known does not change between two page changes (`undecided_same`),
+-- and the checker computes from which frame on it is known (`due_known_without_refusals`,
+-- `due_unknown_after_day`, `due_known_up_to_last`, `known_never`).
 use Rattle.std.proofs.lemmas.Bool.Decides.{nat_tests}
 use Rattle.std.proofs.Common.{◌≡◌, ℕ, zero, suc, ◌+◌, ◌-◌, ◌<◌, ◌≤◌, ◌⊎◌, Bool, true, false, ◌&&◌}
 use Rattle.std.proofs.Common.{List, [], ◌∷◌, Option, Some, None, refl, sym, ap, ◌∙◌, arith}
@@ -103,7 +102,7 @@ module _ (undecided : ℕ → Bool) (first f : ℕ) where
           at (inr same) = absurd (omega (arith, l, same))
       by (inr l) rest = let nearer = rest l in grind (arith, nat_tests)
 
-  -- If `within` is 0, only the due page of the frame itself has to be known.
+  -- If `within` is 0, only the expected page of the frame itself has to be known.
   pub was-once : (n : ℕ) → n ≡ 0 → was_undecided undecided first f n ≡ undecided f
   unfolding was_undecided
   was-once n none = rw none refl

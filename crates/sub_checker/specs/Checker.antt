@@ -84,7 +84,7 @@ pub record CheckerValue : Type 0 where
   pub late_at : ℕ
   pub counts : Counts
 
--- The state of the checker moved to frame f, with the page that is due at f.
+-- The state of the checker moved to frame f, with the page expected at f.
 abbrev pub at_frame : ℕ → CheckerValue → CheckerValue
 at_frame f c = record c {
   frame = f;
@@ -101,7 +101,7 @@ checker_at_first f c = record (at_frame f c) { first = f; latest = f; late_at = 
 abbrev pub checker_at_next : ℕ → CheckerValue → CheckerValue
 checker_at_next f c = record (at_frame f c) { latest = max c.latest f }
 
--- The frame comes before the next change of the due page, if the page changes again.
+-- The frame comes before the next change of the expected page, if the page changes again.
 abbrev pub is_before : ℕ → Option ℕ → Bool
 is_before frame None = true
 is_before frame (Some edge) = nat_lt frame edge
@@ -135,28 +135,28 @@ pub record HasHeard
 
 -- ---- the end of the current frame
 
--- The page should have been right by the end of frame f. `first_unfinished` is the frame from which
--- on it has been wrong.
+-- The page should have been correct by the end of frame f. `first_unfinished` is the frame from
+-- which on it has been wrong.
 abbrev pub is_overdue_at : ProgrammeValue → ℕ → ℕ → Option ℕ → ℕ → Bool
 is_overdue_at programme within first None f = false
 is_overdue_at programme within first (Some first_unfinished) f =
     nat_le (first_unfinished + within) f || is_missed (tci_of_ending programme.records (f + 1))
     first first_unfinished
 
--- The due page is unknown at `frame`, because a subtitle was refused.
+-- The expected page is unknown at `frame`, because a subtitle was refused.
 abbrev pub is_undecided_by : CheckerValue → ℕ → Bool
 is_undecided_by c frame = is_due_undecided c.judging frame
 
--- The first cell that differs from the due page. `None` if the due page is unknown.
+-- The first cell that differs from the expected page. `None` if the expected page is unknown.
 abbrev pub differs_now : CheckerValue → Option (ℕ × ℕ)
 differs_now c = if is_undecided_by c c.frame then None else wrong_kept c.listener
 
--- The due page is unknown at the current frame or at one of the last `within` frames.
+-- The expected page is unknown at the current frame or at one of the last `within` frames.
 abbrev pub undecided_now : CheckerValue → Bool
 undecided_now c = was_undecided (is_undecided_by c) c.first c.frame c.within
 
--- The first cell whose code was due at none of the last `within` frames. `None` if the due page is
--- unknown at one of these frames.
+-- The first cell whose code was expected at none of the last `within` frames. `None` if the
+-- expected page is unknown at one of these frames.
 abbrev pub unexpected_now : CheckerValue → Option (ℕ × ℕ)
 unexpected_now c =
     if undecided_now c
@@ -171,7 +171,7 @@ is_unfinished_now c = is_some (differs_now c) || is_incomplete_kept c.listener
 abbrev pub first_unfinished_now : CheckerValue → Option ℕ
 first_unfinished_now c = unfinished_from c.first_unfinished (is_unfinished_now c) c.frame
 
--- The page has to be right by now: `within` is 0, or the page is overdue.
+-- The page has to be correct by now: `within` is 0, or the page is overdue.
 abbrev pub late_now : CheckerValue → Bool
 late_now c = c.within == 0 || is_overdue_at c.programme c.within c.first (first_unfinished_now c)
     c.frame
@@ -187,7 +187,7 @@ active_faults_of c = record {
 }
 
 -- A `GoesBack` step is needed: subtitles were refused, and the page may take more than one frame to
--- become right.
+-- become correct.
 abbrev pub goes_back_now : CheckerValue → Bool
 goes_back_now c = c.any_refused && not (c.within == 0)
 
@@ -216,7 +216,7 @@ pub record IsFaultFreeEnd (c : CheckerValue) : Type 0 where
   pub no_faults_now : active_faults_of c ≡ no_active_faults
   pub first_unfinished : first_unfinished_now c ≡ None
 
--- The page was wrong at the last end, but still has time to become right.
+-- The page was wrong at the last end, but still has time to become correct.
 abbrev pub is_pending_now : CheckerValue → Bool
 is_pending_now c =
     not (c.within == 0)
@@ -225,8 +225,9 @@ is_pending_now c =
 
 -- ---- the invariant of the checker
 
--- Until the due page changes next, the frames with an unknown due page within the last `within`
--- frames are exactly those below `first_known_from`. So one number is enough for all these frames.
+-- Until the expected page changes next, the frames with an unknown expected page within the last
+-- `within` frames are exactly those below `first_known_from`. So one number is enough for all these
+-- frames.
 abbrev pub IsKnownFrom : (ℕ → Bool) → ℕ → ℕ → ℕ → Option ℕ → ℕ → Type 0
 IsKnownFrom undecided first within frame edge first_known_from =
     (f : ℕ)
@@ -235,8 +236,8 @@ IsKnownFrom undecided first within frame edge first_known_from =
     → is_before f edge ≡ true
     → nat_lt f first_known_from ≡ was_undecided undecided first f within
 
--- The subtitles and the number `first_known_from` agree with `judging` until the due page changes
--- next.
+-- The subtitles and the number `first_known_from` agree with `judging` until the expected page
+-- changes next.
 pub record IsJudged
     (judging : JudgedValue) (programme : ProgrammeValue) (any_refused : Bool)
     (first within frame : ℕ) (edge : Option ℕ) (first_known_from : ℕ)
@@ -245,7 +246,7 @@ pub record IsJudged
   pub any_refused_eq : any_refused ≡ has_refused judging
   pub known_is : IsKnownFrom (is_due_undecided judging) first within frame edge first_known_from
 
--- The due page and its next change are those of `frame`, and no frame number can overflow.
+-- The expected page and its next change are those of `frame`, and no frame number can overflow.
 pub record IsAtFrame
     (programme : ProgrammeValue) (every : ℕ) (listener : Listener) (first latest last frame : ℕ)
     (edge : Option ℕ)

@@ -15,7 +15,7 @@ use Rattle.sub_rules.specs.declared.fault.CheckFault.TheVariants as fault
 
 -- The fault that is reported last: the fault that ended reading; otherwise that the file has no PES
 -- packet, or that the file ends too early (`late`: a subtitle ends after the last frame, or the
--- page is not right yet at the last frame).
+-- page is not correct yet at the last frame).
 abbrev pub last_fault_after : Option CheckFault → ℕ → ℕ → Bool → ℕ → Option CheckFault
 last_fault_after (Some f) frames pes late frame = Some f
 last_fault_after None zero zero late frame = Some fault.Empty

@@ -17,7 +17,7 @@ invalidated last late (Reported f) = invalidated_frame last late (fault_row f).i
     (fault_row f).place
 invalidated last late event = None
 
--- The event reports that the frames are not in rising order.
+-- The event reports that the frames are not in increasing order.
 unfoldable pub is_order : Event → Bool
 is_order (Reported (fault.Order pes)) = true
 is_order event = false
@@ -40,15 +40,15 @@ abbrev pub run_after : Option ℕ → Option ℕ → Option ℕ
 run_after run None = run
 run_after run (Some f) = None
 
--- The first frame of the run at whose end the page was right. The current frame f is part of the
--- run, and the page is right at f if `first_unfinished` is `None`.
+-- The first frame of the run at whose end the page was correct. The current frame f is part of the
+-- run, and the page is correct at f if `first_unfinished` is `None`.
 abbrev pub first_correct : Option ℕ → Option ℕ → ℕ → Option ℕ
 first_correct (Some whole) first_unfinished f = Some whole
 first_correct None None f = Some f
 first_correct None (Some first_unfinished) f = None
 
--- The first frame of the run at whose end the page was right, at the end of a frame f with which a
--- run continues or begins.
+-- The first frame of the run at whose end the page was correct, at the end of a frame f with which
+-- a run continues or begins.
 abbrev pub first_correct_in : Option ℕ → Option ℕ → Option ℕ → ℕ → Option ℕ
 first_correct_in None whole first_unfinished f = first_correct None first_unfinished f
 first_correct_in (Some from) whole first_unfinished f = first_correct whole first_unfinished f

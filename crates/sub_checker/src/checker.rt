@@ -1,4 +1,4 @@
-//! The state of the checker: the packets received so far, and the page that is due.
+//! The state of the checker: the packets received so far, and the expected page.
 ghost use Rattle.std.specs.Prelude.{◌≡◌, ℕ, ◌+◌, ◌<◌, ◌≤◌, List, [], Option, max};
 ghost use Rattle.stl_file.specs.TimeCode.{day};
 ghost use Rattle.sub_checker.specs.Checker.{is_before};
@@ -26,8 +26,8 @@ pub(crate) struct Checker<'a> {
     pub has_refused: bool,
     // The repeat bound in frames.
     pub every: u32,
-    // The number of frames within which the page has to become right; 0 if it has to be right at
-    // each frame.
+    // The number of frames within which the page has to become correct; 0 if it has to be correct
+    // at each frame.
     pub within: u32,
     // The maximum distance between PES packets in frames, if `--pace` is given.
     pub pace: Option<u32>,
@@ -36,16 +36,16 @@ pub(crate) struct Checker<'a> {
     pub first: u32,
     // The greatest frame of a PES packet so far.
     pub latest: u32,
-    // The current frame of the day; `listener` compares the received page with the page that is due
-    // at this frame.
+    // The current frame of the day; `listener` compares the received page with the page expected at
+    // this frame.
     pub frame: u32,
-    // The next frame at which the due page may change.
+    // The next frame at which the expected page may change.
     pub edge: Option<u32>,
-    // The number of a subtitle near `frame`, with which the search for the next due page starts.
-    // Contracts don't see this hint.
+    // The number of a subtitle near `frame`, with which the search for the next expected page
+    // starts. Contracts don't see this hint.
     pub near: usize,
-    // The first frame, up to the next change of the due page, at which the due page is known and
-    // was known for the last `within` frames.
+    // The first frame, up to the next change of the expected page, at which the expected page is
+    // known and was known for the last `within` frames.
     pub first_known_from: u64,
     // The frame whose end was checked last; `active_faults` holds the faults that were active at
     // that end.
@@ -136,8 +136,8 @@ impl<'a> Checker<'a> {
         }
     }
 
-    /// Moves the checker to frame `f`. Draws the due page again if `f` is an earlier frame, or if a
-    /// subtitle begins or ends on the way.
+    /// Moves the checker to frame `f`. Draws the expected page again if `f` is an earlier frame, or
+    /// if a subtitle begins or ends on the way.
     pub fn move_to(&mut self, f: u32)
         requires day { f < day }
         ensures { self.new ≡ at_frame f self.old }
@@ -149,7 +149,7 @@ impl<'a> Checker<'a> {
         }
     }
 
-    // Draws the page that is due at frame `f`. Not inlined into `move_to`, which would otherwise
+    // Draws the page expected at frame `f`. Not inlined into `move_to`, which would otherwise
     // reserve stack for a page at each frame.
     #[inline(never)]
     fn draw(&mut self, f: u32)
@@ -256,7 +256,8 @@ fn frame_count(frames: u32, first: u32, latest: u32) -> u64
     }
 }
 
-// Returns whether a frame comes before the next change of the due page, if the page changes again.
+// Returns whether a frame comes before the next change of the expected page, if the page changes
+// again.
 fn is_before(frame: u32, edge: Option<u32>) -> bool
     ensures { result ≡ is_before frame edge }
 {

@@ -42,7 +42,7 @@ pub(crate) struct EndWithin {
     pub active_faults: ActiveFaults,
     /// The first frame from which on the page has been wrong up to the end of this frame.
     pub first_unfinished: Option<u32>,
-    /// Whether the page is overdue: it has to be right by now.
+    /// Whether the page is overdue: it has to be correct by now.
     pub is_late: bool,
 }
 
@@ -85,8 +85,8 @@ impl<'a> Checker<'a> {
         }
     }
 
-    // Returns whether the due page is unknown at the current frame or at one of the last `within`
-    // frames.
+    // Returns whether the expected page is unknown at the current frame or at one of the last
+    // `within` frames.
     #[inline(always)]
     fn is_undecided(&self) -> bool
         ensures { result ≡ undecided_now self.now }
@@ -94,15 +94,15 @@ impl<'a> Checker<'a> {
         u64::from(self.frame) < self.first_known_from
     }
 
-    // Returns whether the due page is unknown at the current frame.
+    // Returns whether the expected page is unknown at the current frame.
     fn is_undecided_here(&self) -> bool
         ensures { result ≡ is_undecided_by self.now self.now.frame }
     {
         self.has_refused && self.judging.is_undecided(self.frame)
     }
 
-    // Returns the row (1 to 24) and column (0 to 39) of the first wrong cell, or `None` if the due
-    // page is unknown.
+    // Returns the row (1 to 24) and column (0 to 39) of the first wrong cell, or `None` if the
+    // expected page is unknown.
     fn first_wrong(&self, is_undecided: bool) -> Option<(u8, u8)>
         requires { is_undecided ≡ is_undecided_by self.now self.now.frame }
         ensures { result ≡ differs_now self.now }
@@ -134,7 +134,7 @@ impl<'a> Checker<'a> {
     }
 
     // Returns the state at the end of the current frame if `within` is not 0. Until the page is
-    // overdue, a cell may still have a code that was due within the last `within` frames.
+    // overdue, a cell may still have a code that was expected within the last `within` frames.
     fn end_now(&self) -> EndWithin
         requires within { 0 < self.now.within }
         ensures active_faults { result.active_faults ≡ active_faults_of self.now }
@@ -171,8 +171,9 @@ impl<'a> Checker<'a> {
         }
     }
 
-    // Returns the first cell with a code that was due at none of the last `within` frames; `None`
-    // if one of these due pages is unknown, or if no cell differs from the page that is due now.
+    // Returns the first cell with a code that was expected at none of the last `within` frames;
+    // `None` if one of these expected pages is unknown, or if no cell differs from the expected
+    // page.
     fn first_unexpected(&self, differing: Option<(u8, u8)>) -> Option<(u8, u8)>
         ensures { differing ≡ differs_now self.now → result ≡ unexpected_now self.now }
     {
@@ -187,8 +188,8 @@ impl<'a> Checker<'a> {
             .first_unexpected(self.programme, self.first, frame, self.within)
     }
 
-    /// Returns whether the page should have been right by the end of `frame`. `first_unfinished` is
-    /// the first frame from which on it has been wrong.
+    /// Returns whether the page should have been correct by the end of `frame`. `first_unfinished`
+    /// is the first frame from which on it has been wrong.
     pub fn is_overdue(&self, first_unfinished: Option<u32>, frame: u32) -> bool
         requires day { frame < day }
         ensures { result

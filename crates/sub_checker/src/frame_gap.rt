@@ -1,5 +1,5 @@
-//! Moves the checker to the frame of a PES packet: checks that frames rise, and ends the frames of
-//! the day before the new frame.
+//! Moves the checker to the frame of a PES packet: checks that frame numbers increase, and ends the
+//! frames of the day before the new frame.
 ghost use Rattle.std.specs.Prelude.{◌≡◌, ℕ, ◌<◌, List};
 ghost use Rattle.stl_file.specs.TimeCode.{day};
 ghost use Rattle.sub_rules.specs.Events.{gap_length, is_early};
@@ -94,7 +94,7 @@ impl<'a> Checker<'a> {
     }
 }
 
-// Returns whether a subtitle is due before `frame`, the frame of the first PES packet.
+// Returns whether a subtitle is expected before `frame`, the frame of the first PES packet.
 fn is_early(first_tci: Option<u32>, frame: u32) -> bool
     ensures { result ≡ is_early first_tci frame }
 {

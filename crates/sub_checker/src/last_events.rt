@@ -52,7 +52,7 @@ impl<'a> Checker<'a> {
     }
 
     // Returns whether the page was wrong at the end of the last frame, but still had time to become
-    // right in a frame that the file does not contain.
+    // correct in a frame that the file does not contain.
     fn is_pending(&self) -> bool
         ensures { result ≡ is_pending_now self.now }
     {

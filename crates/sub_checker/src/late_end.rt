@@ -22,9 +22,9 @@ pub(crate) fn unfinished_from(
     }
 }
 
-/// Returns whether the page should have been right by the end of `frame`: `within` frames have
+/// Returns whether the page should have been correct by the end of `frame`: `within` frames have
 /// passed since `first_unfinished`, from which on it has been wrong, or a subtitle has ended that
-/// was never shown right.
+/// was never shown correctly.
 pub(crate) fn is_overdue(
     programme: &Programme,
     within: u32,

@@ -1,4 +1,4 @@
-//! Tracks, step by step, the frames that may be trusted to be right on air.
+//! Tracks, step by step, the frames that may be trusted to be correct on air.
 ghost use Rattle.std.specs.Prelude.{◌≡◌, ◌≤◌, ◌&&◌, is_some};
 ghost use Rattle.sub_io.specs.Reporting.{first_alone};
 ghost use Rattle.sub_rules.specs.Trusted.{at_pes, trusted};
@@ -10,7 +10,7 @@ ghost use Rattle.sub_checker.specs.TrustTracker.{trusted_before};
 
 use sub_rules::{CheckFault, Event};
 
-/// The frames that may be trusted to be right on air.
+/// The frames that may be trusted to be correct on air.
 #[derive(Clone, Copy)]
 pub(crate) struct TrustTracker {
     /// The number of the current PES packet of the file; the checker itself counts only valid
@@ -18,13 +18,13 @@ pub(crate) struct TrustTracker {
     pub pes: u32,
     /// The frame of the header of the page with which the current run of clean frames began.
     pub run: Option<u32>,
-    /// The first frame of the current run at whose end the page was right.
+    /// The first frame of the current run at whose end the page was correct.
     pub whole: Option<u32>,
     /// The frame of the last PES packet; 0 before the first packet.
     pub last: u32,
-    /// Whether the frames of the PES packets have been in rising order so far.
+    /// Whether the frames of the PES packets have been in increasing order so far.
     pub rises: bool,
-    /// Whether the frames have been in rising order, and no packet of the current frame broke a
+    /// Whether the frames have been in increasing order, and no packet of the current frame broke a
     /// rule that receivers depend on.
     pub is_clean: bool,
     /// The first frame from which on the page has been wrong up to the last end, if `within` is not
@@ -112,7 +112,7 @@ impl TrustTracker {
         self.end_another(frame, has_beginning, none_active);
     }
 
-    // Returns whether the run of trusted frames continues with a right page, and no packet of the
+    // Returns whether the run of trusted frames continues with a correct page, and no packet of the
     // current frame broke a rule that receivers depend on.
     #[inline(always)]
     fn stays_correct(&self) -> bool
@@ -215,7 +215,7 @@ impl TrustTracker {
     }
 }
 
-// Returns the first frame of the run at whose end the page was right; `frame` is part of the run.
+// Returns the first frame of the run at whose end the page was correct; `frame` is part of the run.
 fn first_correct(whole: Option<u32>, first_unfinished: Option<u32>, frame: u32) -> Option<u32>
     ensures { result ≡ first_correct whole first_unfinished frame }
 {
@@ -257,7 +257,7 @@ fn invalidated(last: u32, late: Option<u32>, event: &Event) -> Option<u32>
     }
 }
 
-// Returns whether the event reports that the frames are not in rising order.
+// Returns whether the event reports that the frames are not in increasing order.
 #[tactic(auto, unfolding(crate::specs::TrustTracker::is_order))]
 fn is_order(event: &Event) -> bool
     ensures { result ≡ is_order event.now }

@@ -1,4 +1,4 @@
-//! From which frame on the due page is known, and has been known for the last `within` frames.
+//! From which frame on the expected page is known, and has been known for the last `within` frames.
 ghost use Rattle.std.specs.Prelude.{◌≡◌, ℕ, ◌+◌, ◌<◌, ◌≤◌, MatchOption, Option};
 ghost use Rattle.std.specs.Prelude.{false, true};
 ghost use Rattle.stl_rows.specs.DuePage.{ReportsNextEdge};
@@ -8,9 +8,10 @@ ghost use Rattle.sub_checker.specs.Checker.{IsKnownFrom};
 
 use stl_rows::Judging;
 
-/// Returns the first frame, up to the next change of the due page, at which the due page is known
-/// and was known at the `within` frames before (from `first` on). Returns a number above all frames
-/// if the due page is unknown at `frame`, and 0 if the due page was known all the time.
+/// Returns the first frame, up to the next change of the expected page, at which the expected page
+/// is known and was known at the `within` frames before (from `first` on). Returns a number above
+/// all frames if the expected page is unknown at `frame`, and 0 if the expected page was known all
+/// the time.
 pub(crate) fn first_known_from(
     judging: &Judging<'_>,
     any_refused: bool,
@@ -45,8 +46,8 @@ fn earliest(first: u32, frame: u32, within: u32) -> u32
     if from < first { first } else { from }
 }
 
-// Returns the last frame from `least` on and before `frame` at which the due page is unknown. The
-// due page is known at `frame`.
+// Returns the last frame from `least` on and before `frame` at which the expected page is unknown.
+// The expected page is known at `frame`.
 fn last_undecided(judging: &Judging<'_>, frame: u32, least: u32) -> Option<u32>
     requires known { is_undecided_in judging.now frame ≡ false }
     ensures { MatchOption result
@@ -64,7 +65,7 @@ fn last_undecided(judging: &Judging<'_>, frame: u32, least: u32) -> Option<u32>
     None
 }
 
-// Returns the last frame before `at` at which it may differ from `at` whether the due page is
+// Returns the last frame before `at` at which it may differ from `at` whether the expected page is
 // known; `None` if that frame is earlier than `least`.
 fn frame_before(judging: &Judging<'_>, at: u32, least: u32) -> Option<u32>
     ensures { MatchOption result

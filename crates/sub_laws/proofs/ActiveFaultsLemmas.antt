@@ -1,6 +1,6 @@
 -- The active faults at the end of a frame are exactly the broken rules: the first wrong cell
 -- (`first_wrong`, `none_wrong`), an exceeded repeat bound (`gap_decided`), an open page
--- (`incomplete_decided`), an unknown due page (`due_known_before`, `known_without_refusals`,
+-- (`incomplete_decided`), an unknown expected page (`due_known_before`, `known_without_refusals`,
 -- `unexpected_eq`); whether any fault is active (`fault_free_parts`), and rule by rule
 -- (`active_faults_exact`). Used for reports and trusted frames.
 use Rattle.std.proofs.Common.{◌≡◌, ◌↔◌, ℕ, zero, suc, ◌+◌, ◌-◌, ◌<◌, ◌≤◌, Bool, true, false, []}
@@ -143,7 +143,7 @@ module _ (g : Criteria) (frames : Transmission) (n f : ℕ) where
   is_wrong row column =
       not (is_right g.watched.keeps g.watched.page (packets_before frames n) (g.due f) row column)
 
-  -- The first wrong cell, whether the due page is known or not.
+  -- The first wrong cell, whether the expected page is known or not.
   abbrev other_cell : Option (ℕ × ℕ)
   other_cell = wrong_after g.watched.keeps g.watched.page (packets_before frames n) (g.due f)
 
@@ -252,7 +252,7 @@ module _ (g : Criteria) (frames : Transmission) (n f : ℕ) where
             λ h. let near = near_latest pace (suc m) (h pace is) in grind (arith, nat_tests),
           )
 
-  -- If the due page is known at the last m frames up to f, it is known at each of them.
+  -- If the expected page is known at the last m frames up to f, it is known at each of them.
   pub due_known_before : (first m : ℕ) → was_undecided g.undecided first f m ≡ false
       → (k : ℕ) → k ≤ f → f ≤ k + m → (first ≤ k) ⊎ (k ≡ f)
       → g.undecided k ≡ false

@@ -1,6 +1,6 @@
 -- If a transmission is refused for its content, every receiver has the wrong cell that is reported
--- (`different_everywhere`); if no repeat may keep the page, every receiver shows its wrong code
--- (`wrong_everywhere`). Used for `check`.
+-- (`different_everywhere`); if every repeat must have C4 (erase page) set, every receiver shows its
+-- wrong code (`wrong_everywhere`). Used for `check`.
 use Rattle.std.proofs.lemmas.Bool.Decides.{nat_tests}
 use Rattle.std.proofs.Common.{List, [], subst, ◌≡◌, ℕ, ◌-◌, ◌<◌, ◌≤◌, inl, inr, Bool, true}
 use Rattle.std.proofs.Common.{false, Option, Some, None, length, take, drop, refl, sym, ap}
@@ -106,7 +106,7 @@ module _ (programme : ProgrammeValue) (options : OptionsValue) (unread : Option 
   code_at n x = kept options.keeps options.page (packets_before frames n) x.0 x.1
 
   -- The cell x is wrong at the end of frame f; and if that end is not late, the code of x was not
-  -- due within the last frames.
+  -- expected within the last frames.
   record IsBroken (n f : ℕ) (x : ℕ × ℕ) : Type 0 where
     pub is_cell : IsCell x.0 x.1
     pub wrong : ShowsDue g frames n f x.0 x.1 → ⊥

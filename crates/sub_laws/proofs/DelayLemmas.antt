@@ -1,7 +1,7 @@
--- Receivers that may forget the page recover in a stretch of repeats (`law_of_repeated_stretch`).
--- If no repeat may keep the page and no frame may be late, receivers that keep the page recover,
--- too (`recovers_at_once`, `shown_at_once`, `law_of_trust_without_delay`). Used for the headline,
--- delays, schedules and trusted frames.
+-- Receivers that may forget the page recover in a range of frames of repeats
+-- (`law_of_repeated_stretch`). If every repeat must have C4 (erase page) set and no frame may be
+-- late, receivers that keep the page recover, too (`recovers_at_once`, `shown_at_once`,
+-- `law_of_trust_without_delay`). Used for the main theorem, delays, schedules and trusted frames.
 use Rattle.std.proofs.lemmas.Bool.Decides.{nat_tests}
 use Rattle.std.proofs.Common.{◌≡◌, ℕ, ◌≤◌, inl, inr, Bool, true, false, List}
 use Rattle.std.proofs.Common.{Option, option_map, unwrap_or, ap, sym, ◌∙◌, subst, arith}
@@ -214,7 +214,7 @@ module _ (programme : ProgrammeValue) (transmission : Transmission) (options : O
       (fresh_at (on_air transmission g j f) old.held holds) (whole f low is.listening.to)
       (ended_of_complete transmission options a b f complete low is.listening.to)
 
--- If `within` is 0, the promises of `MayBeTrustedBy` include those of `MayBeTrusted`.
+-- If `within` is 0, the guarantees of `MayBeTrustedBy` include those of `MayBeTrusted`.
 pub law_of_trust_without_delay : LawOfTrustWithoutDelay
 law_of_trust_without_delay programme transmission options a b none trusted = record {
   recovers = λ class.

@@ -1,4 +1,4 @@
--- The checker's search decides whether a code was due in a cell within the last frames
+-- The checker's search decides whether a code was expected in a cell within the last frames
 -- (`was_due_at`, `due_was`), which cell is the first with another code (`none_unexpected`,
 -- `unexpected_none`, `unexpected_found`), and which subtitle ends at a frame (`ending_eq`,
 -- `ending_at`). Used for `law_of_nothing_reported_repeats` and `law_of_trusted_repeats`.
@@ -22,8 +22,8 @@ use Rattle.sub_rules.specs.Events.{unexpected_after, was_due}
 use Rattle.sub_laws.proofs.ActiveFaultsLemmas.{cell_found, cell_none, no_cell}
 
 module _ (due : ℕ → Rows) (first f row column code : ℕ) where
-  -- The code was due in the cell at frame f, or at one of the n frames before f, but not before
-  -- `first`.
+  -- The code was expected in the cell at frame f, or at one of the n frames before f, but not
+  -- before `first`.
   abbrev pub WasDue : ℕ → Type 0
   WasDue n =
       (e : ℕ)
@@ -68,12 +68,12 @@ module _ (keeps : Bool) (page : PageIdValue) (packets : List (List ℕ)) (due : 
   abbrev code_at : ℕ → ℕ → ℕ
   code_at row column = kept keeps page packets row column
 
-  -- The kept code of a cell is a space, or a code that was due.
+  -- The kept code of a cell is a space, or a code that was expected.
   abbrev pub MayShow : ℕ → ℕ → Type 0
   MayShow row column =
       (code_at row column ≡ space) ⊎ WasDue due first f row column (code_at row column) n
 
-  -- The kept code of a cell is neither a space nor a code that was due.
+  -- The kept code of a cell is neither a space nor a code that was expected.
   abbrev is_unexpected : ℕ → ℕ → Bool
   is_unexpected row column =
       not (code_at row column == space)

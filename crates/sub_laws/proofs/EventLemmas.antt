@@ -354,7 +354,7 @@ module _ (g : Criteria) (frames : Transmission) (Named : CheckFault → Type 0)
         found_so_far (events_of_first g frames) (frame_events g frames) (FrameOk g frames) n refl
         (λ i. refl) (λ i below past. frame_reported i past (omega arith))
 
-  -- No subtitle is due after the last frame, and the page is right at its end.
+  -- No subtitle is expected after the last frame, and the page is correct at its end.
   abbrev IsNothingDueAfterEnd : Type 0
   IsNothingDueAfterEnd =
       ((last : ℕ) → g.last_tco ≡ Some last → last ≤ end_frame frames)

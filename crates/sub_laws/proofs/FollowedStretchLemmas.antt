@@ -1,4 +1,4 @@
--- A stretch in which each packet may follow those before it has what recovery needs
+-- A range of frames in which each packet may follow those before it has what recovery needs
 -- (`law_of_followed_stretch`), and each of its frames has an end (`end_of`). Used for reports and
 -- trusted frames.
 use Rattle.std.proofs.lemmas.Bool.Decides.{nat_tests}

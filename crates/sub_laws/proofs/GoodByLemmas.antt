@@ -1,7 +1,7 @@
--- A transmission that is good by the options keeps its promises (`law_of_good_repeats`). If
--- `within` is 0 and no repeat may keep the page, it is good exactly if it is good by the options
--- (`law_of_no_delay`). A schedule is good by any options (`law_of_plan_repeats`). Used for delays,
--- schedules and reports.
+-- A transmission that is good by the options keeps its guarantees (`law_of_good_repeats`). If
+-- `within` is 0 and every repeat must have C4 (erase page) set, it is good exactly if it is good by
+-- the options (`law_of_no_delay`). A schedule is good by any options (`law_of_plan_repeats`). Used
+-- for delays, schedules and reports.
 use Rattle.std.proofs.lemmas.Bool.Decides.{nat_tests}
 use Rattle.std.proofs.Common.{◌≡◌, ℕ, ◌-◌, ◌<◌, ◌≤◌, inl, inr, Bool, true, false}
 use Rattle.std.proofs.Common.{length, get_or, option_map, IsTrue, ap, subst, arith}
@@ -80,7 +80,7 @@ first_to_last transmission some rising =
     )
 
 -- A good transmission is sufficient in all its frames, and a good transmission of a programme keeps
--- its promises.
+-- its guarantees.
 pub law_of_good_repeats : LawOfGoodRepeats
 law_of_good_repeats keeps programme transmission options good =
     let law =
@@ -154,7 +154,7 @@ module _ (programme : ProgrammeValue) (transmission : Transmission) (options : O
           (le_refl (last_frame transmission));
     }
 
-  -- If `within` is 0 and no repeat may keep the page, `GoodBy` implies `Good`.
+  -- If `within` is 0 and every repeat must have C4 (erase page) set, `GoodBy` implies `Good`.
   good_at_once :
       options.within ≡ 0
       → GoodBy false programme transmission options

@@ -103,7 +103,7 @@ pub continues_some : (within : ℕ) (sent : Transmission) (s : SentFrame)
     → ((within == 0) ≡ false) × (0 < length sent)
 continues_some within sent s h1 = grind (arith, nat_tests)
 
--- There are at most as many frames so far as in the whole transmission.
+-- There are at most as many frames so far as in the entire transmission.
 pub grows_length : (sent frames : Transmission) → Grows sent frames
     → length sent ≤ length frames
 grows_length sent frames is = grind (arith, nat_tests, length-append, with_packets-length)

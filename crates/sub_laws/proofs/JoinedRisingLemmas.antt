@@ -1,5 +1,5 @@
--- If frames rise, PES packets are never merged, whatever `within` is (`joined-rising`). Used for
--- `check`.
+-- If frame numbers increase, PES packets are never merged, whatever `within` is (`joined-rising`).
+-- Used for `check`.
 use Rattle.std.proofs.lemmas.Bool.Decides.{nat_tests}
 use Rattle.std.proofs.Common.{◌≡◌, ℕ, zero, suc, ◌-◌, ◌<◌, ◌==◌, ◌&&◌, Bool, false, not}
 use Rattle.std.proofs.Common.{[], ◌∷◌, ◌++◌, length, refl, sym, ap, ◌∙◌, subst, arith, append_assoc}

@@ -1,6 +1,6 @@
--- If no repeat may keep the page and no frame may be late, the sufficient conditions for repeats
--- are those for the headline (`sufficient_of`). So `law_of_unreported_stretch` is a case of the law
--- for repeats. Used for reports and trusted frames.
+-- If every repeat must have C4 (erase page) set and no frame may be late, the sufficient conditions
+-- for repeats are those for the main theorem (`sufficient_of`). So `law_of_unreported_stretch` is a
+-- case of the law for repeats. Used for reports and trusted frames.
 use Rattle.std.proofs.lemmas.Bool.Decides.{nat_tests}
 use Rattle.std.proofs.Common.{◌≡◌, ℕ, Bool, false, Option, IsTrue, subst, arith, refl}
 use Rattle.stl_rows.specs.Programme.{ProgrammeValue}
@@ -36,7 +36,7 @@ sufficient_of programme transmission options a b none at_once enough =
           (of.whole at_once f low high row column named);
     }
 
--- If the page is open at no end in a clean stretch, pages are complete in the stretch.
+-- If the page is open at no end in a clean range of frames, pages are complete in the frame range.
 pub complete_unreported :
     (programme : ProgrammeValue) (transmission : Transmission) (options : OptionsValue)
     → (unread : Option Unread) (any_refused : Bool) (undecided : ℕ → Bool) (a b : ℕ)

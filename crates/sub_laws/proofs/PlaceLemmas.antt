@@ -1,7 +1,8 @@
 -- A transmission keeps rules 1 to 6, and no fault is active at any end, exactly if it meets all
--- requirements (`Rules-from_holds`, `holds-from_rules`). If no repeat may keep the page and
--- `within` is 0, it is then good, with complete pages if these are required (`Good-from_holds`,
--- `Complete-from_holds`, `holds-from_good`). Used for reports and trusted frames.
+-- requirements (`Rules-from_holds`, `holds-from_rules`). If every repeat must have C4 (erase page)
+-- set and `within` is 0, it is then good, with complete pages if these are required
+-- (`Good-from_holds`, `Complete-from_holds`, `holds-from_good`). Used for reports and trusted
+-- frames.
 use Rattle.std.proofs.lemmas.Bool.Decides.{nat_tests}
 use Rattle.std.proofs.Common.{◌≡◌, ℕ, ◌+◌, ◌-◌, ◌<◌, ◌≤◌, inl, inr, true, false, List, [], ◌∷◌}
 use Rattle.std.proofs.Common.{◌++◌, Option, Some, None, length, take, get_or, refl, sym, ap, ◌∙◌}

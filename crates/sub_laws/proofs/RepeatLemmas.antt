@@ -1,8 +1,9 @@
--- A transmission whose repeats may keep the page, and that keeps the rules, is a stretch of repeats
--- (`repeated_stretch`). If each header erases the page, the transmission is good whether repeats
--- may keep the page or not (`law_of_may_keep`, `law_of_none_keeps`); if repeats may not keep the
--- page, the rules are those of `Good` (`law_of_no_repeats`). A good transmission stays good with a
--- greater `within` (`law_of_longer_repeats`).
+-- A transmission whose repeats may have C4 (erase page) clear, and that keeps the rules, is a range
+-- of frames of repeats (`repeated_stretch`). If each header erases the page, the transmission is
+-- good whether or not repeats may have C4 (erase page) clear (`law_of_may_keep`,
+-- `law_of_none_keeps`); if repeats must have C4 (erase page) set, the rules are those of `Good`
+-- (`law_of_no_repeats`). A good transmission stays good with a greater `within`
+-- (`law_of_longer_repeats`).
 use Rattle.std.proofs.lemmas.Bool.Decides.{nat_tests}
 use Rattle.std.proofs.Common.{◌≡◌, ℕ, zero, suc, ◌+◌, ◌≤◌, inl, inr, Bool, true, false}
 use Rattle.std.proofs.Common.{List, [], ◌∷◌, length, take, find, option_map, unwrap_or, All}

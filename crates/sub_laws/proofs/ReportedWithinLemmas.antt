@@ -1,5 +1,5 @@
--- A transmission has no events exactly if it is good by the options, whether repeats may keep the
--- page or not (`none_reported_repeats`). Used for `law_of_nothing_reported_repeats`.
+-- A transmission has no events exactly if it is good by the options, whether or not repeats may
+-- have C4 (erase page) clear (`none_reported_repeats`). Used for `law_of_nothing_reported_repeats`.
 use Rattle.std.proofs.lemmas.Bool.Decides.{nat_tests}
 use Rattle.std.proofs.Common.{◌≡◌, ℕ, ◌+◌, ◌-◌, ◌<◌, ◌≤◌, ◌⊎◌, inl, inr, Bool, true, false, ◌&&◌}
 use Rattle.std.proofs.Common.{◌||◌, ◌==◌, nat_le, nat_lt, Option, Some, None, is_some, length}

@@ -1,5 +1,5 @@
--- A stretch without reports that a receiver depends on has what recovery needs apart from its text,
--- whatever `within` is (`repeated_unreported`). Used for reports and trusted frames.
+-- A range of frames without reports that a receiver depends on has what recovery needs apart from
+-- its text, whatever `within` is (`repeated_unreported`). Used for reports and trusted frames.
 use Rattle.std.proofs.lemmas.Bool.Decides.{nat_tests}
 use Rattle.std.proofs.Common.{◌≡◌, ℕ, ◌+◌, ◌-◌, ◌<◌, ◌≤◌, ◌⊎◌, inl, inr, List, [], length}
 use Rattle.std.proofs.Common.{slice_index, slice_index_or, Option, refl, sym, ap, ◌∙◌}

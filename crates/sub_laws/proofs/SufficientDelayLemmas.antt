@@ -1,7 +1,7 @@
--- If the requirements at the ends of frames are met, the text of these frames was due, even if
+-- If the requirements at the ends of frames are met, the text of these frames was expected, even if
 -- frames may be late, and the frames are finished in time (`codes`, `again`, `subtitle`). So a
--- stretch without reports that a receiver depends on is sufficient (`law_of_unreported_repeats`).
--- Used for `law_of_nothing_reported_repeats` and trusted frames.
+-- range of frames without reports that a receiver depends on is sufficient
+-- (`law_of_unreported_repeats`). Used for `law_of_nothing_reported_repeats` and trusted frames.
 use Rattle.std.proofs.lemmas.Bool.Decides.{nat_tests}
 use Rattle.std.proofs.Common.{◌≡◌, ℕ, ◌+◌, ◌-◌, ◌<◌, ◌≤◌, inr, Bool, true, false, ◌&&◌}
 use Rattle.std.proofs.Common.{◌||◌, ◌==◌, nat_le, nat_lt, None, Option, Some, get_or, length, refl}
@@ -34,7 +34,7 @@ use Rattle.sub_laws.proofs.SoundUnreportedLemmas.{repeated_unreported}
 use Rattle.sub_laws.proofs.ActiveFaultsLemmas.{always_late, due_known_at, none_wrong, unexpected_eq}
 use Rattle.sub_laws.proofs.UnfinishedLemmas.{finished_from, first_unfinished_some, unfinished_at}
 
--- In the frames a to b the content at each end is as required, and the due page is known; the
+-- In the frames a to b the content at each end is as required, and the expected page is known; the
 -- frames of the list rise.
 pub record IsStill (g : Criteria) (t : Transmission) (a b : ℕ) : Type 0 where
   pub up : RiseTo t (length t)
@@ -95,7 +95,7 @@ module _ (programme : ProgrammeValue) (options : OptionsValue) (unread : Option 
     codes_early n f end low high early row column named =
         grind (arith, nat_tests, unexpected_none, unexpected_eq, first-same)
 
-    -- At the end of each frame the kept code of a cell is a space or was due within the last
+    -- At the end of each frame the kept code of a cell is a space or was expected within the last
     -- `within` frames.
     pub codes : KeepsDueCodes options.keeps programme t options a b
     codes f row column low high named =

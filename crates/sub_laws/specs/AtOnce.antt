@@ -1,5 +1,5 @@
--- If no frame may be late and no repeat may keep the page, `GoodBy` is `Good`, and the promises are
--- those of the headline.
+-- If no frame may be late and every repeat must have C4 (erase page) set, `GoodBy` is `Good`, and
+-- the guarantees are those of the main theorem.
 use Rattle.std.specs.Prelude.{◌≡◌, ◌↔◌, ℕ, false, IsTrue}
 use Rattle.stl_rows.specs.Programme.{IsProgramme, ProgrammeValue}
 use Rattle.sub_plan.specs.Options.{OptionsValue}
@@ -21,8 +21,8 @@ LawOfNoDelay =
     ↔ (Good programme transmission options
     × (IsTrue options.asks_complete → Complete transmission options))
 
--- If `within` is 0 and no repeat may keep the page, a stretch that may be trusted by the options
--- may be trusted: the promises are the same.
+-- If `within` is 0 and every repeat must have C4 (erase page) set, a range of frames that may be
+-- trusted by the options may be trusted: the guarantees are the same.
 abbrev pub LawOfTrustWithoutDelay : Type 0
 LawOfTrustWithoutDelay =
     (programme : ProgrammeValue) (transmission : Transmission) (options : OptionsValue) (a b : ℕ)

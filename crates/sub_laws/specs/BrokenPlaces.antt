@@ -33,7 +33,7 @@ pub record WrongFirst (g : Criteria) (frames : Transmission) (n f row column : �
   pub before : (k : ℕ) → k < column → ShowsDue g frames n f row k
 
 -- What each rule for the end of a frame requires at the end of frame f, after n frames of the list.
--- If the due page is unknown, any code may be in any cell.
+-- If the expected page is unknown, any code may be in any cell.
 abbrev pub IsKept : EndRule → Criteria → Transmission → ℕ → ℕ → Type 0
 IsKept end.Content g frames n f =
     IsFalse (g.undecided f)
@@ -116,9 +116,9 @@ LawOfNothingReportedRepeats =
     × GoodBy options.keeps programme (joined options.within (frames_of pes_packets)) options
     × (unread ≡ None))
 
--- If no repeat may keep the page and `within` is 0, a PES file has no event exactly if none of its
--- PES packets is skipped, its frames are good, with complete pages if these are required, and the
--- file was read to its end.
+-- If every repeat must have C4 (erase page) set and `within` is 0, a PES file has no event exactly
+-- if none of its PES packets is skipped, its frames are good, with complete pages if these are
+-- required, and the file was read to its end.
 abbrev pub LawOfNothingReported : Type 0
 LawOfNothingReported =
     (programme : ProgrammeValue) (options : OptionsValue) (unread : Option Unread)

@@ -1,5 +1,5 @@
--- A clean stretch: frames in rising order without reports of faults that a receiver depends on,
--- whatever else is reported in the stretch or elsewhere.
+-- A clean range of frames: frames in increasing order without reports of faults that a receiver
+-- depends on, whatever else is reported in the frame range or elsewhere.
 use Rattle.std.specs.Prelude.{Bool, None, Option, IsFalse, IsTrue}
 use Rattle.std.specs.Prelude.{◌≡◌, ℕ, ◌-◌, ◌<◌, ◌≤◌, ◌⊎◌, List, [], ◌++◌, length, take}
 use Rattle.std.specs.Prelude.{slice_index_or}
@@ -60,10 +60,10 @@ pub record IsStretch (frames : Transmission) (a b : ℕ) : Type 0 where
 abbrev pub is_needed : PacketRule → Bool
 is_needed r = (fault_row (packet_fault r 0 0)).invalidates
 
--- The stretch has no report that a receiver depends on: the frames of the whole transmission rise;
--- no packet of the stretch breaks a rule that receivers depend on; at no end in the stretch wrong
--- content or a missing header is active, whether reported in the stretch or before; and at each end
--- the due page is known, and was known at the `within` frames before.
+-- The frame range has no report that a receiver depends on: the frames of the entire transmission
+-- rise; no packet of the frame range breaks a rule that receivers depend on; at no end in the frame
+-- range wrong content or a missing header is active, whether reported in the frame range or before;
+-- and at each end the expected page is known, and was known at the `within` frames before.
 pub record IsUnreported (g : Criteria) (frames : Transmission) (a b : ℕ) : Type 0 where
   pub stretch : IsStretch frames a b
   pub rising : IsRising frames
@@ -81,19 +81,19 @@ NoneOpen g frames a b =
     AtEnds (λ n f. IsFalse (active_faults_at g frames n f).incomplete) frames a b
 
 -- The criteria of a programme and options, if subtitles of the file may have been refused
--- (`any_refused`) and the due page is unknown at the frames `undecided` for that reason.
+-- (`any_refused`) and the expected page is unknown at the frames `undecided` for that reason.
 abbrev pub criteria_unsure :
     ProgrammeValue → OptionsValue → Option Unread → Bool → (ℕ → Bool) → Criteria
 criteria_unsure programme options unread any_refused undecided =
     record (criteria_of programme options unread)
     { any_refused = any_refused; undecided = undecided }
 
--- If no repeat may keep the page and `within` is 0, a stretch without reports that a receiver
--- depends on has the sufficient parts of the rules, so it may be trusted (`LawOfStretch`). If
--- complete pages are required, and the page is open at no end in the stretch, its pages are
--- complete, so the due page is on screens, too. So the reports of a refused transmission show which
--- part may still be trusted: frames in rising order, from the first header of the page in a
--- stretch.
+-- If every repeat must have C4 (erase page) set and `within` is 0, a range of frames without
+-- reports that a receiver depends on has the sufficient parts of the rules, so it may be trusted
+-- (`LawOfStretch`). If complete pages are required, and the page is open at no end in the frame
+-- range, its pages are complete, so the expected page is on screens, too. So the reports of a
+-- refused transmission show which part may still be trusted: frames in increasing order, from the
+-- first header of the page in a range of frames.
 abbrev pub LawOfUnreportedStretch : Type 0
 LawOfUnreportedStretch =
     (programme : ProgrammeValue) (transmission : Transmission) (options : OptionsValue)

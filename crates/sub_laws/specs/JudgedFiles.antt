@@ -28,9 +28,9 @@ LawOfJudgedParts =
     × (can_judge drawing (gsi ++ concat blocks)
     ≡ can_judge (of_day drawing) (gsi ++ concat (kept_blocks drawing.scope None blocks)))
 
--- If two subtitle files agree on the reliable subtitles, on the frames whose due page is unknown,
--- and on whether subtitles were refused, the events for a PES file are the same. So neither the
--- texts nor the times of refused subtitles matter otherwise.
+-- If two subtitle files agree on the reliable subtitles, on the frames whose expected page is
+-- unknown, and on whether subtitles were refused, the events for a PES file are the same. So
+-- neither the texts nor the times of refused subtitles matter otherwise.
 abbrev pub LawOfEqualReports : Type 0
 LawOfEqualReports =
     (one other : JudgedValue) (options : OptionsValue) (unread : Option Unread)

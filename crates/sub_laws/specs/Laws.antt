@@ -1,4 +1,4 @@
--- The laws of the headline: a good transmission keeps its promises.
+-- The laws of the main theorem: a good transmission keeps its guarantees.
 use Rattle.std.specs.Prelude.{◌↔◌, ℕ, ◌+◌, ◌≤◌, All, Bool, IsTrue, List}
 use Rattle.ttx_page.specs.PacketKind.{kind}
 use Rattle.ttx_page.specs.Span.{holds_header}
@@ -23,7 +23,8 @@ LawOfWindow =
 
 -- A good transmission is robust, also with lost rows. Receivers of both classes recover whatever
 -- they contained before, so earlier transmissions and errors no longer matter after the next
--- header. If the pages of the transmission are complete, the due page is on the receivers' screens.
+-- header. If the pages of the transmission are complete, the expected page is on the receivers'
+-- screens.
 abbrev pub LawOfGood : Type 0
 LawOfGood =
     (programme : ProgrammeValue) (transmission : Transmission) (options : OptionsValue)

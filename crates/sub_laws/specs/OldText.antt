@@ -1,5 +1,5 @@
 -- When old text is gone from a receiver that contained it before the receiver was tuned in, if
--- repeats may keep the page: at the latest when text ends or changes.
+-- repeats may have C4 (erase page) clear: at the latest when text ends or changes.
 use Rattle.std.specs.Prelude.{◌≡◌, ◌≢◌, ℕ, ◌+◌, ◌-◌, ◌<◌, ◌≤◌, Bool, List, IsTrue}
 use Rattle.ttx_page.specs.DroppedRows.{ExcusedBy}
 use Rattle.ttx_page.specs.LostRows.{IsHitOrLost, arrivals_of}
@@ -17,8 +17,9 @@ use Rattle.sub_rules.specs.Transmission.{packets_between}
 use Rattle.sub_laws.specs.LostRows.{IsReceivedWithLosses}
 use Rattle.sub_laws.specs.Robust.{HoldsDuePage}
 
--- Text ends or changes in a cell at frame e: the same code other than a space is due in that cell
--- in each of the `within` + 1 frames before e, and in none of the `within` + 1 frames from e on.
+-- Text ends or changes in a cell at frame e: the same code other than a space is expected in that
+-- cell in each of the `within` + 1 frames before e, and in none of the `within` + 1 frames from e
+-- on.
 pub record TextEnds (programme : ProgrammeValue) (within e row column code : ℕ) : Type 0 where
   pub is_cell : IsCell row column
   pub is_text : code ≢ space
@@ -27,8 +28,8 @@ pub record TextEnds (programme : ProgrammeValue) (within e row column code : ℕ
   pub gone : (f : ℕ) → e ≤ f → f ≤ e + within → cell (due_in programme f) row column ≢ code
 
 -- The contents of a receiver's page at the end of frame f: each cell has a space, or a code that is
--- due in that cell in frame f or in one of the `within` frames before. If the page is right or
--- `within` is 0, each cell has the code of the due page or an excused space.
+-- expected in that cell in frame f or in one of the `within` frames before. If the page is correct
+-- or `within` is 0, each cell has the code of the expected page or an excused space.
 pub record HoldsWhatIsDue
     (keeps : Bool) (programme : ProgrammeValue) (transmission : Transmission)
     (options : OptionsValue) (f : ℕ) (IsExcused : ℕ → ℕ → Type 0) (new : State)
@@ -45,7 +46,7 @@ pub record HoldsWhatIsDue
 -- If text ends or changes at frame e of a good transmission, a header that begins the text of the
 -- page is sent in that frame, or, if `within` is not 0, at most `within` frames before or after it.
 -- So old text is gone by then: a receiver that was tuned in before these frames, whatever it
--- contained, has the contents that are due from the end of the last of these frames on.
+-- contained, has the contents that are expected from the end of the last of these frames on.
 abbrev pub LawOfOldText : Type 0
 LawOfOldText =
     (keeps : Bool) (programme : ProgrammeValue) (transmission : Transmission)

@@ -32,10 +32,10 @@ abbrev pub Complete : Transmission → OptionsValue → Type 0
 Complete transmission options =
     CompleteWithin transmission options (first_frame transmission) (last_frame transmission)
 
--- Receivers of the class show the due page in the frames from a to b: wherever a receiver starts
--- and stops, whatever it receives, whatever it contained and showed before, and whatever it
--- chooses, its screen has a page after a header of the page was sent. That page is the due page,
--- except for spaces that are excused as in `RecoversWithin`.
+-- Receivers of the class show the expected page in the frames from a to b: wherever a receiver
+-- starts and stops, whatever it receives, whatever it contained and showed before, and whatever it
+-- chooses, its screen has a page after a header of the page was sent. That page is the expected
+-- page, except for spaces that are excused as in `RecoversWithin`.
 abbrev pub ShownWithin :
     ReceiverClass → ProgrammeValue → Transmission → OptionsValue → ℕ → ℕ → Type 0
 ShownWithin class programme transmission options a b =

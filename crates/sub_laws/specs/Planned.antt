@@ -12,7 +12,7 @@ use Rattle.sub_rules.specs.Transmission.{SentFrame, Transmission}
 use Rattle.sub_rules.specs.Good.{Good}
 use Rattle.sub_rules.specs.PesReading.{pes_file_of}
 
--- The frame f with a page transmission of the page that is due at f.
+-- The frame f with a page transmission of the page expected at f.
 abbrev pub planned_at : (ℕ → Rows) → OptionsValue → National → Bool → ℕ → SentFrame
 planned_at due o national serial f =
     record { frame = f; packets = sending o.page national serial (due f) }
@@ -26,7 +26,7 @@ planned programme o serial =
 -- The schedule of a programme with at least one subtitle is a good transmission of the programme,
 -- in both transmission modes, unless the required maximum distance of PES packets is less than the
 -- repeat bound. So a checker with the same options accepts the schedule, and every receiver shows
--- the due page.
+-- the expected page.
 abbrev pub LawOfPlan : Type 0
 LawOfPlan =
     (programme : ProgrammeValue) (options : OptionsValue) (serial : Bool)

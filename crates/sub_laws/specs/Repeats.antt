@@ -1,8 +1,8 @@
--- The promises if frames may be late and repeats may keep the page, for receivers that may forget
--- the page at a header that does not erase it: wherever they start, whatever bits are wrong and
--- whatever rows are lost. If repeats may not keep the page, each header erases it: the first header
--- removes what a receiver contained before (`IsFresh`), and receivers that keep the page are among
--- these receivers (`LawOfForgetting`).
+-- The guarantees if frames may be late and repeats may have C4 (erase page) clear, for receivers
+-- that may forget the page at a header that does not erase it: wherever they start, whatever bits
+-- are wrong and whatever rows are lost. If repeats must have C4 (erase page) set, each header
+-- erases it: the first header removes what a receiver contained before (`IsFresh`), and receivers
+-- that keep the page are among these receivers (`LawOfForgetting`).
 use Rattle.std.specs.Prelude.{◌≡◌, ℕ, ◌+◌, ◌-◌, ◌<◌, ◌≤◌, ◌||◌, All, Bool, false, List, [], Some}
 use Rattle.std.specs.Prelude.{not, IfSome, IsTrue}
 use Rattle.ttx_page.specs.DroppedRows.{ExcusedBy}
@@ -29,9 +29,9 @@ use Rattle.sub_laws.specs.Robust.{HoldsDuePage}
 
 -- ---- receivers that may forget the page
 
--- The promise to a receiver that may forget the page, or starts again at each header (`anew`). The
--- receiver listened from frame g to the end of frame f, the packets `sent` were sent, and its state
--- went from `old` to `new`.
+-- The guarantee to a receiver that may forget the page, or starts again at each header (`anew`).
+-- The receiver listened from frame g to the end of frame f, the packets `sent` were sent, and its
+-- state went from `old` to `new`.
 pub record IsServedForgetting
     (keeps anew : Bool) (programme : ProgrammeValue) (transmission : Transmission)
     (options : OptionsValue) (g f : ℕ) (sent : List (List ℕ)) (IsExcused : ℕ → ℕ → Type 0)
@@ -47,15 +47,15 @@ pub record IsServedForgetting
       IsTrue (holds_header (kind options.page) sent || not old.is_open)
       → new.is_open ≡ is_open_after (kind options.page) sent
   -- After a header was sent and the receiver's old contents are gone, each cell has a space, or a
-  -- code that is due in that cell in frame f or in one of the `within` frames before.
+  -- code that is expected in that cell in frame f or in one of the `within` frames before.
   pub codes :
       IsTrue (holds_header (kind options.page) sent)
       → IsFresh keeps anew options.page sent old
       → (row column : ℕ)
       → IsCell row column
       → IsDueWithin programme transmission options f row column (cell new.page row column)
-  -- If each cell of the page is right at the end of frame f, each cell of the receiver has the code
-  -- of the due page, or an excused space.
+  -- If each cell of the page is correct at the end of frame f, each cell of the receiver has the
+  -- code of the expected page, or an excused space.
   pub cells :
       IsTrue (holds_header (kind options.page) sent)
       → IsFresh keeps anew options.page sent old
@@ -64,7 +64,7 @@ pub record IsServedForgetting
 
 -- Receivers of the class that may forget the page, or start again at each header, recover in the
 -- frames from a to b: wherever a receiver starts and stops in these frames, whatever it receives,
--- and whatever it chooses, the promise `IsServedForgetting` holds. A space is excused only if its
+-- and whatever it chooses, the guarantee `IsServedForgetting` holds. A space is excused only if its
 -- byte was hit or its row lost since the last header; for a receiver that drops rows, if any byte
 -- of its row was hit, or the row lost.
 --
@@ -81,9 +81,9 @@ RecoversForgetting keeps anew class programme transmission options a b =
     (IsHitOrLost options.page (on_air transmission g j f) (arrivals_of arrived got)))
     old new
 
--- At the end of each frame, receivers that may forget the page have the due page: after a header of
--- the page was sent and their old contents are gone, each cell has the code of the due page, or a
--- space that is excused as in `RecoversForgetting`.
+-- At the end of each frame, receivers that may forget the page have the expected page: after a
+-- header of the page was sent and their old contents are gone, each cell has the code of the
+-- expected page, or a space that is excused as in `RecoversForgetting`.
 abbrev pub HoldsForgetting :
     Bool → Bool → ReceiverClass → ProgrammeValue → Transmission → OptionsValue → ℕ → ℕ → Type 0
 HoldsForgetting keeps anew class programme transmission options a b =
@@ -97,8 +97,8 @@ HoldsForgetting keeps anew class programme transmission options a b =
     (IsHitOrLost options.page (on_air transmission g j f) (arrivals_of arrived got)))
     new.page
 
--- At the end of each frame at which each cell is right and the page has ended, the due page is on
--- the screens of receivers that may forget the page.
+-- At the end of each frame at which each cell is correct and the page has ended, the expected page
+-- is on the screens of receivers that may forget the page.
 abbrev pub ShownForgetting :
     Bool → Bool → ReceiverClass → ProgrammeValue → Transmission → OptionsValue → ℕ → ℕ → Type 0
 ShownForgetting keeps anew class programme transmission options a b =
@@ -144,9 +144,9 @@ pub record FinishesInTimeBy
       → SomeFinishedBy keeps programme transmission options a (t.tco - 1))
       programme.records
 
--- The promises for the frames from a to b to receivers of both classes, whether repeats may keep
--- the page or not. The receivers may forget the page at a header that does not erase it, or start
--- again at each header.
+-- The guarantees for the frames from a to b to receivers of both classes, whether or not repeats
+-- may have C4 (erase page) clear. The receivers may forget the page at a header that does not erase
+-- it, or start again at each header.
 pub record MayBeTrustedBy
     (keeps : Bool) (programme : ProgrammeValue) (transmission : Transmission)
     (options : OptionsValue) (a b : ℕ)
@@ -156,20 +156,20 @@ pub record MayBeTrustedBy
   pub recovers :
       (anew : Bool) (class : ReceiverClass)
       → RecoversForgetting keeps anew class programme transmission options a b
-  -- Receivers have the due page on their screens at the end of each frame at which the page is
-  -- right and has ended.
+  -- Receivers have the expected page on their screens at the end of each frame at which the page is
+  -- correct and has ended.
   pub shown :
       (anew : Bool) (class : ReceiverClass)
       → ShownForgetting keeps anew class programme transmission options a b
-  -- Each page becomes right within the allowed number of frames.
+  -- Each page becomes correct within the allowed number of frames.
   pub finishes : FinishesInTimeBy keeps programme transmission options a b
-  -- If no frame may be late, receivers have the due page at the end of each frame.
+  -- If no frame may be late, receivers have the expected page at the end of each frame.
   pub at_once :
       options.within ≡ 0
       → (anew : Bool) (class : ReceiverClass)
       → HoldsForgetting keeps anew class programme transmission options a b
 
--- The promises for a whole transmission: the promises of `MayBeTrustedBy` for all its frames.
+-- The guarantees for a entire transmission: the guarantees of `MayBeTrustedBy` for all its frames.
 abbrev pub HasPromisesBy : Bool → ProgrammeValue → Transmission → OptionsValue → Type 0
 HasPromisesBy keeps programme transmission options =
     MayBeTrustedBy keeps programme transmission options (first_frame transmission)
@@ -178,7 +178,7 @@ HasPromisesBy keeps programme transmission options =
 -- ---- sufficient conditions for the promises
 
 -- What recovery needs of the frames from a to b, apart from their text. Packets in earlier frames
--- may be anything, but the frames rise.
+-- may be anything, but the frame numbers increase.
 pub record IsRepeatedStretch
     (keeps : Bool) (transmission : Transmission) (options : OptionsValue) (a b : ℕ)
     : Type 0 where
@@ -220,17 +220,17 @@ pub record IsFollowedStretch
       × (f < start + options.every)
       × HoldsHeader options.page transmission f
 
--- A stretch in which each packet may follow those before it has what recovery needs. So recovery
--- depends only on the packets of a stretch, one after another.
+-- A range of frames in which each packet may follow those before it has what recovery needs. So
+-- recovery depends only on the packets of a range of frames, one after another.
 abbrev pub LawOfFollowedStretch : Type 0
 LawOfFollowedStretch =
     (keeps : Bool) (transmission : Transmission) (options : OptionsValue) (a b : ℕ)
     → IsFollowedStretch keeps transmission options a b
     → IsRepeatedStretch keeps transmission options a b
 
--- In a stretch of repeats whose text is due, receivers of both classes recover, and the due page is
--- on their screens, also for receivers that start again at each header. If the frames of the
--- stretch are finished in time, the stretch may be trusted.
+-- In a range of frames of repeats whose text is expected, receivers of both classes recover, and
+-- the expected page is on their screens, also for receivers that start again at each header. If the
+-- frames of the frame range are finished in time, the frame range may be trusted.
 abbrev pub LawOfRepeatedStretch : Type 0
 LawOfRepeatedStretch =
     (keeps : Bool) (programme : ProgrammeValue) (transmission : Transmission)
@@ -243,9 +243,9 @@ LawOfRepeatedStretch =
     × (FinishesInTimeBy keeps programme transmission options a b
     → MayBeTrustedBy keeps programme transmission options a b)
 
--- In all frames of a transmission that is good by the options, whether repeats may keep the page or
--- not, receivers recover, and the due page is on their screens. If it is a transmission of a
--- programme, it keeps all promises.
+-- In all frames of a transmission that is good by the options, whether or not repeats may have C4
+-- (erase page) clear, receivers recover, and the expected page is on their screens. If it is a
+-- transmission of a programme, it keeps all guarantees.
 abbrev pub LawOfGoodRepeats : Type 0
 LawOfGoodRepeats =
     (keeps : Bool) (programme : ProgrammeValue) (transmission : Transmission)
@@ -259,8 +259,8 @@ LawOfGoodRepeats =
     × (IsProgramme programme.drawing programme.records
     → HasPromisesBy keeps programme transmission options)
 
--- A transmission that is good with some `within` is good with any greater `within`, whether repeats
--- may keep the page or not.
+-- A transmission that is good with some `within` is good with any greater `within`, whether or not
+-- repeats may have C4 (erase page) clear.
 abbrev pub LawOfLongerRepeats : Type 0
 LawOfLongerRepeats =
     (keeps : Bool) (programme : ProgrammeValue) (transmission : Transmission)
@@ -270,9 +270,9 @@ LawOfLongerRepeats =
     → GoodBy keeps programme transmission (record options { within = more })
 
 -- The schedule of a programme with at least one subtitle is good for any `within`, in both
--- transmission modes, whether repeats may keep the page or not, unless the required maximum
--- distance of PES packets is less than the repeat bound. So a checker with the same options accepts
--- the schedule.
+-- transmission modes, whether or not repeats may have C4 (erase page) clear, unless the required
+-- maximum distance of PES packets is less than the repeat bound. So a checker with the same options
+-- accepts the schedule.
 abbrev pub LawOfPlanRepeats : Type 0
 LawOfPlanRepeats =
     (keeps : Bool) (programme : ProgrammeValue) (options : OptionsValue) (serial : Bool)
@@ -285,8 +285,8 @@ LawOfPlanRepeats =
 -- If a transmission keeps rules 1 to 6 and no bit is wrong, a receiver that keeps its page at
 -- repeats, and started at the first packet, has the kept code in each cell at the end of each
 -- frame. This holds if the receiver's page was blank and closed, and for every receiver after a
--- header has erased the page. So if the kept code is not the due code, the receiver shows a wrong
--- code.
+-- header has erased the page. So if the kept code is not the expected code, the receiver shows a
+-- wrong code.
 abbrev pub LawOfKeptOnAir : Type 0
 LawOfKeptOnAir =
     (keeps : Bool) (programme : ProgrammeValue) (transmission : Transmission)

@@ -1,4 +1,5 @@
--- The promises for frames without reports that a receiver depends on, if repeats may keep the page.
+-- The guarantees for frames without reports that a receiver depends on, if repeats may have C4
+-- (erase page) clear.
 use Rattle.std.specs.Prelude.{◌≡◌, ℕ, ◌≤◌, Bool, Option}
 use Rattle.stl_rows.specs.Programme.{IsProgramme, ProgrammeValue}
 use Rattle.sub_plan.specs.Options.{OptionsValue}
@@ -8,17 +9,17 @@ use Rattle.sub_rules.specs.Transmission.{Transmission}
 use Rattle.sub_laws.specs.CleanStretch.{IsUnreported, NoneOpen, criteria_unsure}
 use Rattle.sub_laws.specs.Repeats.{FinishesInTimeBy, IsRepeatedStretch}
 
--- The conditions that suffice for the promises in the frames from a to b.
+-- The conditions that suffice for the guarantees in the frames from a to b.
 pub record IsSufficientRepeats
     (keeps : Bool) (programme : ProgrammeValue) (transmission : Transmission)
     (options : OptionsValue) (a b : ℕ)
     : Type 0 where
-  -- The stretch has what recovery needs (`LawOfRepeatedStretch`).
+  -- The frame range has what recovery needs (`LawOfRepeatedStretch`).
   pub stretch : IsRepeatedStretch keeps transmission options a b
-  -- At the end of each frame the code of a cell is a space, or was due in that cell within the last
-  -- `within` frames.
+  -- At the end of each frame the code of a cell is a space, or was expected in that cell within the
+  -- last `within` frames.
   pub codes : KeepsDueCodes keeps programme transmission options a b
-  -- If `within` is 0, each cell is right at the end of each frame.
+  -- If `within` is 0, each cell is correct at the end of each frame.
   pub whole :
       options.within ≡ 0
       → (f : ℕ)
@@ -26,10 +27,10 @@ pub record IsSufficientRepeats
       → f ≤ b
       → IsCorrectPage keeps programme options.page transmission f
 
--- A stretch without reports that a receiver depends on is sufficient, whatever `within` is; and if
--- the page is open at no end in the stretch, its frames are finished in time. So the reports of a
--- refused transmission show which part may still be trusted: from the first header in a stretch
--- that begins the text of the page, whatever a receiver contained before.
+-- A range of frames without reports that a receiver depends on is sufficient, whatever `within` is;
+-- and if the page is open at no end in the frame range, its frames are finished in time. So the
+-- reports of a refused transmission show which part may still be trusted: from the first header in
+-- a range of frames that begins the text of the page, whatever a receiver contained before.
 abbrev pub LawOfUnreportedRepeats : Type 0
 LawOfUnreportedRepeats =
     (programme : ProgrammeValue) (transmission : Transmission) (options : OptionsValue)

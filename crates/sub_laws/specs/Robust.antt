@@ -22,7 +22,7 @@ pub record IsListening (transmission : Transmission) (a b g j f : ℕ) : Type 0 
   pub to : f ≤ b
   pub in_frame : j ≤ length (packets_of transmission g)
 
--- Each cell of a page has the code of the page that is due at the frame, or an excused space.
+-- Each cell of a page has the code of the page expected at the frame, or an excused space.
 abbrev pub HoldsDuePage : ProgrammeValue → ℕ → (ℕ → ℕ → Type 0) → Rows → Type 0
 HoldsDuePage programme f IsExcused page =
     (row column : ℕ)
@@ -30,7 +30,7 @@ HoldsDuePage programme f IsExcused page =
     → (cell page row column ≡ cell (due_in programme f) row column)
     ⊎ ((cell page row column ≡ space) × IsExcused row column)
 
--- The promise to a receiver that listened from frame g to the end of frame f. The packets `sent`
+-- The guarantee to a receiver that listened from frame g to the end of frame f. The packets `sent`
 -- were sent, and the receiver's state went from `old` to `new`.
 pub record IsServed
     (programme : ProgrammeValue) (options : OptionsValue) (g f : ℕ)
@@ -40,7 +40,7 @@ pub record IsServed
   pub in_time : g + options.every ≤ f → IsTrue (holds_header (kind options.page) sent)
   -- The receiver has received a header of the page exactly if it had before or a header was sent.
   pub heard : new.heard ≡ (old.heard || holds_header (kind options.page) sent)
-  -- After a header was sent, each cell has the code of the due page, or an excused space.
+  -- After a header was sent, each cell has the code of the expected page, or an excused space.
   pub cells :
       IsTrue (holds_header (kind options.page) sent)
       → HoldsDuePage programme f IsExcused new.page
@@ -52,7 +52,7 @@ pub record IsServed
 
 -- A robust transmission: wherever a receiver starts and stops, whatever it receives with at most
 -- one wrong bit in each byte, whatever old page it contains before its first header, and whatever
--- it chooses, the promise `IsServed` holds, and a space is excused only if its byte was hit.
+-- it chooses, the guarantee `IsServed` holds, and a space is excused only if its byte was hit.
 abbrev pub Robust : ProgrammeValue → Transmission → OptionsValue → Type 0
 Robust programme transmission options =
     (g j f : ℕ) (got : List (List ℕ)) (old new : State)

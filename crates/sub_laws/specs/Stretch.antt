@@ -1,4 +1,4 @@
--- The promises for a stretch of frames, and for a whole transmission.
+-- The guarantees for a range of frames, and for a entire transmission.
 use Rattle.std.specs.Prelude.{ℕ}
 use Rattle.ttx_page.specs.Receiver.{ReceiverClass}
 use Rattle.ttx_page.specs.Receiver.ReceiverClass.{Storing}
@@ -16,28 +16,28 @@ pub record MayBeTrusted
     : Type 0 where
   -- Receivers recover in the frames from a to b.
   pub recovers : (class : ReceiverClass) → RecoversWithin class programme transmission options a b
-  -- If the pages of the stretch are complete, the due page is on the receivers' screens.
+  -- If the pages of the frame range are complete, the expected page is on the receivers' screens.
   pub shown :
       CompleteWithin transmission options a b
       → (class : ReceiverClass)
       → ShownWithin class programme transmission options a b
 
--- The promises for a whole transmission.
+-- The guarantees for a entire transmission.
 pub record HasPromises
     (programme : ProgrammeValue) (transmission : Transmission) (options : OptionsValue)
     : Type 0 where
-  -- The headline: the transmission is robust.
+  -- The main theorem: the transmission is robust.
   pub robust : Robust programme transmission options
   -- The transmission is robust to lost rows, too.
   pub to_loss : RobustToAnyLoss programme transmission options
-  -- In all frames receivers recover whatever they contained before; if pages are complete, the due
-  -- page is on the receivers' screens.
+  -- In all frames receivers recover whatever they contained before; if pages are complete, the
+  -- expected page is on the receivers' screens.
   pub trusted :
       MayBeTrusted programme transmission options (first_frame transmission)
       (last_frame transmission)
 
--- The headline, with lost rows or without, follows from recovery in all frames alone. So a proof
--- that receivers recover in a stretch proves the headline for the stretch.
+-- The main theorem, with lost rows or without, follows from recovery in all frames alone. So a
+-- proof that receivers recover in a range of frames proves the main theorem for the frame range.
 abbrev pub LawOfWholeRecovery : Type 0
 LawOfWholeRecovery =
     (programme : ProgrammeValue) (transmission : Transmission) (options : OptionsValue)
@@ -46,7 +46,7 @@ LawOfWholeRecovery =
     → Robust programme transmission options
     × RobustToAnyLoss programme transmission options
 
--- If all frames of a transmission may be trusted, the transmission keeps all promises.
+-- If all frames of a transmission may be trusted, the transmission keeps all guarantees.
 abbrev pub LawOfWholeStretch : Type 0
 LawOfWholeStretch =
     (programme : ProgrammeValue) (transmission : Transmission) (options : OptionsValue)

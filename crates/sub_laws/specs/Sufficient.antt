@@ -1,4 +1,4 @@
--- The parts of the seven rules that suffice for the headline, in a stretch of frames or in all
+-- The parts of the seven rules that suffice for the main theorem, in a range of frames or in all
 -- frames. The other parts of the rules have purposes of their own.
 use Rattle.std.specs.Prelude.{◌≡◌, ℕ, ◌+◌, ◌<◌, ◌≤◌}
 use Rattle.ttx_page.specs.Noise.{IsSound}
@@ -12,8 +12,8 @@ use Rattle.sub_rules.specs.Transmission.{on_air_until}
 use Rattle.sub_rules.specs.Good.{Good, HoldsHeader}
 use Rattle.sub_laws.specs.Stretch.{MayBeTrusted}
 
--- What the headline needs of the frames from a to b, apart from their text. Packets in earlier
--- frames may be anything, but the frames rise.
+-- What the main theorem needs of the frames from a to b, apart from their text. Packets in earlier
+-- frames may be anything, but the frame numbers increase.
 pub record IsSoundStretch (transmission : Transmission) (options : OptionsValue) (a b : ℕ) : Type 0
   where
     pub first : first_frame transmission ≤ a
@@ -33,12 +33,12 @@ pub record IsSoundStretch (transmission : Transmission) (options : OptionsValue)
         × (f < start + options.every)
         × HoldsHeader options.page transmission f
 
--- What the headline needs of the frames from a to b.
+-- What the main theorem needs of the frames from a to b.
 pub record IsSufficient
     (programme : ProgrammeValue) (transmission : Transmission) (options : OptionsValue) (a b : ℕ)
     : Type 0 where
   pub stretch : IsSoundStretch transmission options a b
-  -- At the end of each frame the due page is shown.
+  -- At the end of each frame the expected page is shown.
   pub content :
       (f row column : ℕ)
       → a ≤ f
@@ -47,14 +47,15 @@ pub record IsSufficient
       → shown options.page (on_air_until transmission f) row column
       ≡ cell (due_in programme f) row column
 
--- A stretch with the sufficient parts of the rules may be trusted, whatever was on air before.
+-- A range of frames with the sufficient parts of the rules may be trusted, whatever was on air
+-- before.
 abbrev pub LawOfStretch : Type 0
 LawOfStretch =
     (programme : ProgrammeValue) (transmission : Transmission) (options : OptionsValue) (a b : ℕ)
     → IsSufficient programme transmission options a b
     → MayBeTrusted programme transmission options a b
 
--- A good transmission has the sufficient parts of the rules in all its frames. So the headline
+-- A good transmission has the sufficient parts of the rules in all its frames. So the main theorem
 -- holds without the other parts of the rules.
 abbrev pub LawOfSufficientParts : Type 0
 LawOfSufficientParts =

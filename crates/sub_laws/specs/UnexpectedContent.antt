@@ -18,9 +18,9 @@ use Rattle.sub_rules.specs.WrongContent.{AreReadUpTo}
 
 -- At the end of frame f the cell (row, column) is wrong, given the frames read up to f. A receiver
 -- that keeps its page at repeats, and starts at the first packet without bit errors, has the kept
--- code in that cell if its page was blank and closed or a header has erased it; if no repeat may
--- keep the page, every receiver has. So if the kept code is not the due code, the screen is wrong;
--- if it is the due code, the row was not sent again.
+-- code in that cell if its page was blank and closed or a header has erased it; if every repeat
+-- must have C4 (erase page) set, every receiver has. So if the kept code is not the expected code,
+-- the screen is wrong; if it is the expected code, the row was not sent again.
 pub record IsDifferentEverywhere
     (programme : ProgrammeValue) (options : OptionsValue) (frames : Transmission)
     (f row column : ℕ)
@@ -37,8 +37,8 @@ pub record IsDifferentEverywhere
       → IsFresh options.keeps false options.page (on_air_until read f) old
       → cell new.page row column
       ≡ kept options.keeps options.page (on_air_until read f) row column
-  -- If the page still has time to become right, the kept code is not a space, and was not due in
-  -- the cell in frame f or in one of the `within` frames before.
+  -- If the page still has time to become correct, the kept code is not a space, and was not
+  -- expected in the cell in frame f or in one of the `within` frames before.
   pub unexpected :
       IsFalse (is_late (criteria_of programme options None) read (length read) f)
       → IsDueWithin programme read options f row column

@@ -32,61 +32,61 @@ pub fn law_of_window()
 {}
 
 /// A good transmission is robust: for every start, every old page, every receiver, and at most one
-/// wrong bit in each byte, each cell has the code of the due page or, if its byte was hit, a space.
-/// The same holds if packets other than page headers are lost, where a cell of a lost row counts as
-/// hit; whatever a receiver contained before; for receivers that drop rows, if a byte of the cell's
-/// row was hit; and for the screens of receivers that show a page only after a later header has
-/// ended it, if pages are complete.
+/// wrong bit in each byte, each cell has the code of the expected page or, if its byte was hit, a
+/// space. The same holds if packets other than page headers are lost, where a cell of a lost row
+/// counts as hit; whatever a receiver contained before; for receivers that drop rows, if a byte of
+/// the cell's row was hit; and for the screens of receivers that show a page only after a later
+/// header has ended it, if pages are complete.
 pub fn law_of_good()
     ensures { LawOfGood }
 {}
 
-/// A good transmission has the sufficient parts of the rules: frames rise; code words have no wrong
-/// bit; headers erase the page; rows have odd parity and are repeated unchanged; a header is
-/// repeated within the repeat bound; the due page is shown.
+/// A good transmission has the sufficient parts of the rules: frame numbers increase; code words
+/// have no wrong bit; headers erase the page; rows have odd parity and are repeated unchanged; a
+/// header is repeated within the repeat bound; the expected page is shown.
 #[tactic(auto, using(crate::proofs::RobustLemmas::suffices))]
 pub fn law_of_sufficient_parts()
     ensures { LawOfSufficientParts }
 {}
 
-/// If a stretch of frames has the sufficient parts of the rules, every receiver that starts in the
-/// stretch recovers, whatever was on air before; and if pages are complete in the stretch, the due
-/// page is on the receiver's screen.
+/// If a range of frames has the sufficient parts of the rules, every receiver that starts in the
+/// frame range recovers, whatever was on air before; and if pages are complete in the frame range,
+/// the expected page is on the receiver's screen.
 #[tactic(auto, using(crate::proofs::StretchLemmas::law_of_stretch))]
 pub fn law_of_stretch()
     ensures { LawOfStretch }
 {}
 
-/// If `within` is 0 and no repeat may keep the page, a transmission is good by the options exactly
-/// if it is good and, if complete pages are required, its pages are complete.
+/// If `within` is 0 and every repeat must have C4 (erase page) set, a transmission is good by the
+/// options exactly if it is good and, if complete pages are required, its pages are complete.
 pub fn law_of_no_delay()
     ensures { LawOfNoDelay }
 {}
 
-/// If `within` is 0 and no repeat may keep the page, a stretch that may be trusted by the options
-/// may be trusted.
+/// If `within` is 0 and every repeat must have C4 (erase page) set, a range of frames that may be
+/// trusted by the options may be trusted.
 #[tactic(auto, using(crate::proofs::DelayLemmas::law_of_trust_without_delay))]
 pub fn law_of_trust_without_delay()
     ensures { LawOfTrustWithoutDelay }
 {}
 
 /// If the bytes of a PES file carry a good transmission with some `within`, they carry it with any
-/// greater `within`, and it is good with that `within`, too. This holds whether repeats may keep
-/// the page or not.
+/// greater `within`, and it is good with that `within`, too. This holds whether or not repeats may
+/// have C4 (erase page) clear.
 pub fn law_of_longer_delay_of_files()
     ensures { LawOfLongerDelayOfFiles }
 {}
 
-/// A stretch without reports that a receiver depends on is sufficient, whatever else is reported in
-/// the stretch or elsewhere, also if repeats may keep the page. If the page is open at no end in
-/// the stretch, its frames are finished in time.
+/// A range of frames without reports that a receiver depends on is sufficient, whatever else is
+/// reported in the frame range or elsewhere, also if repeats may have C4 (erase page) clear. If the
+/// page is open at no end in the frame range, its frames are finished in time.
 pub fn law_of_unreported_repeats()
     ensures { LawOfUnreportedRepeats }
 {}
 
-/// If repeats may not keep the page, a stretch without reports that a receiver depends on has the
-/// sufficient parts of the rules. If the page is open at no end in the stretch, its pages are
-/// complete.
+/// If repeats must have C4 (erase page) set, a range of frames without reports that a receiver
+/// depends on has the sufficient parts of the rules. If the page is open at no end in the frame
+/// range, its pages are complete.
 pub fn law_of_unreported_stretch()
     ensures { LawOfUnreportedStretch }
 {}
@@ -96,7 +96,7 @@ pub fn law_of_whole_recovery()
     ensures { LawOfWholeRecovery }
 {}
 
-/// If all frames of a transmission may be trusted, the transmission keeps all promises.
+/// If all frames of a transmission may be trusted, the transmission keeps all guarantees.
 #[tactic(auto, using(crate::proofs::StretchLemmas::law_of_whole_stretch))]
 pub fn law_of_whole_stretch()
     ensures { LawOfWholeStretch }
@@ -146,73 +146,78 @@ pub fn law_of_first_reported()
 {}
 
 /// A PES file has no event exactly if none of its PES packets is skipped, their frames are good by
-/// the options, whether repeats may keep the page or not, and the file was read to its end.
+/// the options, whether or not repeats may have C4 (erase page) clear, and the file was read to its
+/// end.
 #[tactic(auto, using(crate::proofs::NothingReportedLemmas::law_of_nothing_reported_repeats))]
 pub fn law_of_nothing_reported_repeats()
     ensures { LawOfNothingReportedRepeats }
 {}
 
-/// If repeats may not keep the page and `within` is 0, a PES file has no event exactly if it
-/// carries a good transmission, with complete pages if these are required.
+/// If repeats must have C4 (erase page) set and `within` is 0, a PES file has no event exactly if
+/// it carries a good transmission, with complete pages if these are required.
 #[tactic(auto, using(crate::proofs::NothingReportedLemmas::law_of_nothing_reported))]
 pub fn law_of_nothing_reported()
     ensures { LawOfNothingReported }
 {}
 
-/// If repeats may keep the page, a stretch whose repeats send the same text as before serves every
-/// receiver, whatever the receiver does at a header that does not erase the page. Receivers recover
-/// from any header if they start again at each header or if their page was blank when they were
-/// tuned in, and otherwise from the next header that erases the page; and the due page is on their
-/// screens. If the frames of the stretch are finished in time, the stretch may be trusted; if no
-/// frame may be late, receivers have the due page at the end of each frame.
+/// If repeats may have C4 (erase page) clear, a range of frames whose repeats send the same text as
+/// before serves every receiver, whatever the receiver does at a header that does not erase the
+/// page. Receivers recover from any header if they start again at each header or if their page was
+/// blank when they were tuned in, and otherwise from the next header that erases the page; and the
+/// expected page is on their screens. If the frames of the frame range are finished in time, the
+/// frame range may be trusted; if no frame may be late, receivers have the expected page at the end
+/// of each frame.
 pub fn law_of_repeated_stretch()
     ensures { LawOfRepeatedStretch }
 {}
 
-/// A transmission that is good by the options, whether repeats may keep the page or not, keeps its
-/// promises. After a receiver's old contents are gone, its page has only spaces, and codes that are
-/// due or were due at most `within` frames ago. At the end of at least one of any `within` + 1
-/// frames, and of one frame of each subtitle, the receiver has the due page.
+/// A transmission that is good by the options, whether or not repeats may have C4 (erase page)
+/// clear, keeps its guarantees. After a receiver's old contents are gone, its page has only spaces,
+/// and codes that are expected or were expected at most `within` frames ago. At the end of at least
+/// one of any `within` + 1 frames, and of one frame of each subtitle, the receiver has the expected
+/// page.
 pub fn law_of_good_repeats()
     ensures { LawOfGoodRepeats }
 {}
 
-/// If repeats may not keep the page, a cell is right exactly if it shows the due code.
+/// If repeats must have C4 (erase page) set, a cell is correct exactly if it shows the expected
+/// code.
 pub fn law_of_right_cells()
     ensures { LawOfRightCells }
 {}
 
-/// If repeats may not keep the page, rules 1 to 6 are those of a good transmission.
+/// If repeats must have C4 (erase page) set, rules 1 to 6 are those of a good transmission.
 pub fn law_of_no_repeats()
     ensures { LawOfNoRepeats }
 {}
 
-/// A transmission that is good if repeats may not keep the page is also good if repeats may keep
-/// it.
+/// A transmission that is good if repeats must have C4 (erase page) set is also good if repeats may
+/// keep it.
 pub fn law_of_may_keep()
     ensures { LawOfMayKeep }
 {}
 
-/// A transmission that is good if repeats may keep the page, but in which no header keeps it, is
-/// good if repeats may not keep the page. So all promises of a good transmission hold for it.
+/// A transmission that is good if repeats may have C4 (erase page) clear, but in which no header
+/// keeps it, is good if repeats must have C4 (erase page) set. So all guarantees of a good
+/// transmission hold for it.
 pub fn law_of_none_keeps()
     ensures { LawOfNoneKeeps }
 {}
 
-/// A transmission that is good with some `within` is good with any greater `within`, whether
-/// repeats may keep the page or not.
+/// A transmission that is good with some `within` is good with any greater `within`, whether or not
+/// repeats may have C4 (erase page) clear.
 pub fn law_of_longer_repeats()
     ensures { LawOfLongerRepeats }
 {}
 
 /// The schedule of a programme with at least one subtitle is good for any `within`, in both
-/// transmission modes, whether repeats may keep the page or not.
+/// transmission modes, whether or not repeats may have C4 (erase page) clear.
 pub fn law_of_plan_repeats()
     ensures { LawOfPlanRepeats }
 {}
 
-/// A stretch in which each packet may follow the packets sent before it, whatever these are, has
-/// what recovery needs, also if repeats may keep the page.
+/// A range of frames in which each packet may follow the packets sent before it, whatever these
+/// are, has what recovery needs, also if repeats may have C4 (erase page) clear.
 pub fn law_of_followed_stretch()
     ensures { LawOfFollowedStretch }
 {}
@@ -238,7 +243,7 @@ pub fn law_of_judged_parts()
     law_of_scope();
 }
 
-/// Two subtitle files with the same reliable subtitles, and the same frames whose due page is
+/// Two subtitle files with the same reliable subtitles, and the same frames whose expected page is
 /// unknown, give the same events for a PES file.
 pub fn law_of_equal_reports()
     ensures { LawOfEqualReports }

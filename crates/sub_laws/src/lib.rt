@@ -1,5 +1,5 @@
-//! The laws of transmissions: a good transmission is robust (the headline), and how rules, broken
-//! places and reports are related.
+//! The laws of transmissions: a good transmission is robust (the main theorem), and how rules,
+//! broken places and reports are related.
 //!
 //! `sub_rules` defines the rules, and `ttx_page` defines receivers and noise. This crate contains
 //! no program: `specs/` defines what every receiver makes of a transmission, such as `Robust`, and

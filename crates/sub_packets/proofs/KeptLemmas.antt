@@ -1,4 +1,4 @@
--- If repeats may keep the page, one more packet changes the last header of the page as
+-- If repeats may have C4 (erase page) clear, one more packet changes the last header of the page as
 -- `last_header-push` and `last_header-append` say, the rows received since that header as
 -- `has_row-push` says, and the first packet of each row since the text began as `first_of_row-push`
 -- says. Each code other than a space came in a row (`row_of_code`).
@@ -106,8 +106,8 @@ any_found test [] code e = grind (arith, nat_tests)
 any_found test (p ∷ ps) code e =
     let rest = any_found test ps code in grind (arith, nat_tests)
 
--- Each code other than a space came in a row since the last header, if repeats may not keep the
--- page.
+-- Each code other than a space came in a row since the last header, if repeats must have C4 (erase
+-- page) set.
 pub row_of_code :
     (keeps : Bool) (page : PageIdValue) (heard : List (List ℕ)) (row column : ℕ)
     → keeps ≡ false

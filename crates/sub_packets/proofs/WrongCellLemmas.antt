@@ -1,5 +1,5 @@
 -- The page that a listener stores is the one that the packets show (`shown_is`), so its first wrong
--- cell is the first wrong cell by the rules (`wrong_eq`; if repeats may keep the page,
+-- cell is the first wrong cell by the rules (`wrong_eq`; if repeats may have C4 (erase page) clear,
 -- `wrong_keeping`).
 use Rattle.std.proofs.lemmas.Bool.Decides.{nat_tests}
 use Rattle.std.proofs.Common.{◌≡◌, ℕ, ◌+◌, ◌-◌, ◌<◌, ◌≤◌, ◌⊎◌, ◌||◌, ◌==◌, Bool, true, false, not}
@@ -218,12 +218,12 @@ earlier_found : (ta tb : ℕ → ℕ → Bool) (a b : Option (ℕ × ℕ))
 earlier_found ta tb a b na nb = grind (arith, nat_tests, first_alone, first_of)
 
 module _ (s : Listener) where
-  -- The stored cell has another code than the due page.
+  -- The stored cell has another code than the expected page.
   abbrev other : ℕ → ℕ → Bool
   other row column =
       not (cell s.comparison.page row column == cell s.comparison.due row column)
 
-  -- The cell has due text, and its row did not come since the last header.
+  -- The cell has expected text, and its row did not come since the last header.
   abbrev lacks : ℕ → ℕ → Bool
   lacks row column =
       not (cell s.comparison.due row column == space || get_or s.again (row - 1) false)

@@ -1,4 +1,4 @@
--- The page that is shown, and the page that is due. In other crates, only contracts of private
+-- The page that is shown, and the expected page. In other crates, only contracts of private
 -- functions use this record.
 use Rattle.std.specs.Prelude.{◌≡◌, ℕ, ◌+◌, ◌-◌, IfSome, Option, Some, None}
 use Rattle.ttx_page.specs.Differing.{differing}
@@ -9,7 +9,7 @@ pub record ComparisonValue : Type 0 where
   pub due : Rows
 
 -- `wrong`, if known, and `blank_wrong` are the numbers of cells in which the page that is shown and
--- the blank page differ from the due page.
+-- the blank page differ from the expected page.
 pub record IsCounted (page due : Rows) (wrong : Option ℕ) (blank_wrong : ℕ) : Type 0 where
   pub wrong_eq : IfSome wrong (λ n. n ≡ differing page due)
   pub blank_is : blank_wrong ≡ differing blank due

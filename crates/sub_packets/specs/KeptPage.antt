@@ -5,8 +5,9 @@ use Rattle.ttx_page.specs.Page.{Rows, cell, space}
 use Rattle.sub_rules.specs.Events.{first_cell, was_due}
 use Rattle.sub_packets.specs.declared.listener.Listener.{Listener}
 
--- A cell of the stored page is right: it has the due code, and, if repeats may keep the page and
--- the due code is no space, its row came since the last header of the page.
+-- A cell of the stored page is correct: it has the expected code, and, if repeats may have C4
+-- (erase page) clear and the expected code is no space, its row came since the last header of the
+-- page.
 abbrev pub is_right_kept : Listener → ℕ → ℕ → Bool
 is_right_kept s row column =
     cell s.comparison.page row column == cell s.comparison.due row column
@@ -18,8 +19,8 @@ is_right_kept s row column =
 unfoldable pub wrong_kept : Listener → Option (ℕ × ℕ)
 wrong_kept s = first_cell (λ row column. not (is_right_kept s row column))
 
--- The first cell of the stored page whose code is neither a space nor due in that cell at frame f
--- or at one of the n frames before f. Frames before `first` do not count.
+-- The first cell of the stored page whose code is neither a space nor expected in that cell at
+-- frame f or at one of the n frames before f. Frames before `first` do not count.
 unfoldable pub unexpected_kept : Listener → (ℕ → Rows) → ℕ → ℕ → ℕ → Option (ℕ × ℕ)
 unexpected_kept s due first f n =
     first_cell

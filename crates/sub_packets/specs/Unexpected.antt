@@ -1,15 +1,15 @@
--- A page in which each code that was due is replaced by a space. In other crates, only contracts of
--- private functions use these definitions.
+-- A page in which each code that was expected is replaced by a space. In other crates, only
+-- contracts of private functions use these definitions.
 use Rattle.std.specs.Prelude.{◌≡◌, ℕ, if◌then◌else◌, ◌==◌}
 use Rattle.ttx_page.specs.Page.{IsCell, Rows, cell, space}
 use Rattle.sub_rules.specs.Events.{was_due}
 
--- The code `shown`, or a space if `shown` is the due code.
+-- The code `shown`, or a space if `shown` is the expected code.
 abbrev pub unless_due : ℕ → ℕ → ℕ
 unless_due due shown = if due == shown then space else shown
 
--- `left` has the codes of `shown`, with a space for each code that was due in its cell at frame f
--- or at one of the n frames before f. Frames before `first` do not count.
+-- `left` has the codes of `shown`, with a space for each code that was expected in its cell at
+-- frame f or at one of the n frames before f. Frames before `first` do not count.
 abbrev pub IsLeft : (ℕ → Rows) → ℕ → ℕ → ℕ → Rows → Rows → Type 0
 IsLeft due first f n shown left =
     (row column : ℕ)

@@ -78,7 +78,7 @@ impl Listener {
     }
 
     // Returns whether a header of the page erases the page, or repeats the last header if repeats
-    // may keep the page.
+    // may have C4 (erase page) clear.
     fn may_follow_as_header(&self, header: &Header) -> bool
         ensures { (heard : List (List ℕ)) → Knows heard self.now
             → result ≡ may_follow_as_header self.now.watched heard header.now }

@@ -1,5 +1,4 @@
-//! The page that the packets show, the page that is due, and the number of cells in which they
-//! differ.
+//! The page that the packets show, the expected page, and the number of cells in which they differ.
 ghost use Rattle.std.specs.Prelude.{◌≡◌, ◌↔◌, ℕ, ◌-◌, ◌≤◌, ◌==◌, not, IfSome, IsTrue, MatchOption};
 ghost use Rattle.std.specs.Prelude.{Some, slice_set};
 ghost use Rattle.ttx_page.specs.Differing.{row_differing};
@@ -17,7 +16,7 @@ use stl_rows::Programme;
 use ttx_packet::Packet;
 use ttx_page::{Page, differing_columns};
 
-/// The page that is shown, and the page that is due.
+/// The page that is shown, and the expected page.
 ///
 /// After another page becomes due, the number of differing cells is unknown up to the next header.
 /// From there on each row updates it.
@@ -25,12 +24,12 @@ use ttx_page::{Page, differing_columns};
 pub struct Comparison {
     page: Page,
     due: Page,
-    // The number of cells in which the page that is shown differs from the due page, 0 to 960.
+    // The number of cells in which the page that is shown differs from the expected page, 0 to 960.
     // `None` after another page became due, up to the next header, which usually comes before the
     // number is needed.
     wrong: Option<u16>,
-    // The number of cells in which a blank page differs from the due page: the value of `wrong`
-    // after a header.
+    // The number of cells in which a blank page differs from the expected page: the value of
+    // `wrong` after a header.
     blank_wrong: u16,
 }
 
@@ -45,7 +44,7 @@ impl Model for Comparison {
 }
 
 impl Comparison {
-    /// Returns the comparison of a blank page with the page that is due.
+    /// Returns the comparison of a blank page with the expected page.
     pub(crate) fn new(due: Page) -> Self
         ensures { result ≡ record { page = blank; due = due } }
     {
@@ -58,7 +57,7 @@ impl Comparison {
         }
     }
 
-    /// Draws the page that is due at a frame, and returns what `Programme::draw_due` returns.
+    /// Draws the page expected at a frame, and returns what `Programme::draw_due` returns.
     pub(crate) fn draw_due(
         &mut self,
         programme: &Programme,
@@ -107,8 +106,8 @@ impl Comparison {
         differing_columns(self.page.row(row), &text_codes(packet)) != 0
     }
 
-    /// Returns whether the count shows that no cell differs from the due page. `false` if the count
-    /// is unknown.
+    /// Returns whether the count shows that no cell differs from the expected page. `false` if the
+    /// count is unknown.
     #[inline(always)]
     #[tactic(auto, using(ttx_page::proofs::DifferingLemmas::cells_same))]
     pub(crate) fn is_known_right(&self) -> bool
@@ -125,15 +124,15 @@ impl Comparison {
         &self.page
     }
 
-    /// Returns the page that is due.
+    /// Returns the expected page.
     pub(crate) fn due(&self) -> &Page
         ensures { result.now ≡ self.now.due }
     {
         &self.due
     }
 
-    /// Returns the row (1 to 24) and column (0 to 39) of the first cell that differs from the due
-    /// page. If the count is known to be 0, no cell is compared.
+    /// Returns the row (1 to 24) and column (0 to 39) of the first cell that differs from the
+    /// expected page. If the count is known to be 0, no cell is compared.
     #[tactic(auto, using(ttx_page::proofs::DifferingLemmas::cells_same))]
     pub(crate) fn first_wrong(&self) -> Option<(u8, u8)>
         ensures { MatchOption result

@@ -36,11 +36,11 @@ use ttx_pes::SentUnits;
 ///
 /// Which rules a packet breaks depends on the packets before it: on the first page header, whether
 /// the page is open, the subcode of its last header, and the rows received since its text began.
-/// The listener stores these facts, the page that the packets show, and the page that is due.
+/// The listener stores these facts, the page that the packets show, and the expected page.
 #[derive(Drop)]
 pub struct Listener {
     /// The page, its national option, whether complete pages are required, and whether repeats may
-    /// keep the page.
+    /// have C4 (erase page) clear.
     pub watched: Watched,
     // C11 (magazine serial) of the first page header; `None` before a header was received.
     pub(crate) serial: Option<bool>,
@@ -53,7 +53,7 @@ pub struct Listener {
     pub(crate) sent: [bool; 24],
     // The rows received since the last header of the page; row 1 is at index 0.
     pub(crate) again: [bool; 24],
-    /// The page that the packets show, and the page that is due.
+    /// The page that the packets show, and the expected page.
     pub comparison: Comparison,
     /// Whether the text of the page begins with one of the packets of the last frame.
     pub begun: bool,
@@ -79,7 +79,7 @@ impl Listener {
     ghost use Rattle.sub_packets.specs.Listener.{begins_frame};
     ghost use Rattle.sub_packets.specs.Listener.{is_skipped_header, rule_set};
 
-    /// Returns the state before the first packet. `due` is the page that is due.
+    /// Returns the state before the first packet. `due` is the expected page.
     pub fn new(watched: Watched, due: Page) -> Self
         ensures watched { result.watched ≡ watched }
         ensures due { result.comparison.due ≡ due }
@@ -98,7 +98,7 @@ impl Listener {
         }
     }
 
-    /// Draws the page that is due at a frame, and returns what `Programme::draw_due` returns.
+    /// Draws the page expected at a frame, and returns what `Programme::draw_due` returns.
     pub fn draw_due(
         &mut self,
         programme: &Programme,

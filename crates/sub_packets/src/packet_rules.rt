@@ -131,7 +131,7 @@ pub(crate) fn is_erasing(header: &Header) -> bool
 }
 
 /// Returns whether the text of the page begins with a packet of this kind: a header that erases the
-/// page, or any header of the page if repeats may not keep the page.
+/// page, or any header of the page if repeats must have C4 (erase page) set.
 pub(crate) fn begins_text(keeps: bool, found: &PacketKind) -> bool
     ensures { result ≡ begins_text keeps found.now }
 {

@@ -1,4 +1,4 @@
-//! Cells with a code that was due in none of the last frames.
+//! Cells with a code that was expected in none of the last frames.
 ghost use Rattle.std.specs.Prelude.{◌≡◌, ℕ, ◌+◌, ◌-◌, ◌<◌, ◌≤◌, ◌==◌, MatchOption};
 ghost use Rattle.std.specs.Prelude.{if◌then◌else◌, slice_index};
 ghost use Rattle.ttx_page.specs.Page.{AreCodes, IsCell, IsPage, IsRow, blank_row, cell};
@@ -13,12 +13,12 @@ impl Listener {
     ghost use Rattle.sub_packets.specs.KeptPage.{unexpected_kept};
 
     /// Returns the row (1 to 24) and column (0 to 39) of the first cell whose code is neither a
-    /// space nor due in that cell at `frame` or at one of the `within` frames before `frame`.
+    /// space nor expected in that cell at `frame` or at one of the `within` frames before `frame`.
     /// Frames before `first` do not count.
     ///
     /// This search is only needed at the end of a frame if the page is wrong and still has time to
-    /// become right. So nothing is stored for the search: the due pages are drawn again, each once,
-    /// without allocating memory.
+    /// become correct. So nothing is stored for the search: the expected pages are drawn again,
+    /// each once, without allocating memory.
     pub fn first_unexpected(
         &self,
         programme: &Programme,
@@ -39,7 +39,7 @@ impl Listener {
     }
 }
 
-// Returns the page with a space for each code that was due in its cell within the last frames.
+// Returns the page with a space for each code that was expected in its cell within the last frames.
 fn left_of(shown: &Page, programme: &Programme, first: u32, frame: u32, within: u32) -> Page
     ensures { IsLeft (due_in programme.now) first frame within shown.now result }
 {
@@ -64,7 +64,7 @@ fn earliest(first: u32, frame: u32, within: u32) -> u32
     if from < first { first } else { from }
 }
 
-// Returns the last frame before `at` at which another page may be due; `None` if that frame is
+// Returns the last frame before `at` at which another page may be expected; `None` if that frame is
 // earlier than `least`.
 fn frame_before(programme: &Programme, at: u32, least: u32) -> Option<u32>
     ensures { MatchOption result
@@ -78,7 +78,7 @@ fn frame_before(programme: &Programme, at: u32, least: u32) -> Option<u32>
     if edge > least { Some(edge - 1) } else { None }
 }
 
-// Replaces each cell of the page that has the due code by a space.
+// Replaces each cell of the page that has the expected code by a space.
 fn excuse(left: &mut Page, due: &Page)
     ensures { (row column : ℕ) → IsCell row column → cell left.new row column
         ≡ unless_due (cell due.now row column) (cell left.old row column) }
@@ -88,8 +88,8 @@ fn excuse(left: &mut Page, due: &Page)
     }
 }
 
-/// Replaces each cell of a row that has the due code by a space. A blank row, the usual case, is
-/// not copied.
+/// Replaces each cell of a row that has the expected code by a space. A blank row, the usual case,
+/// is not copied.
 pub(crate) fn excuse_row(left: &mut Page, due: &Page, row: u8)
     requires { IsRow row }
     ensures { (r column : ℕ) → IsCell r column → cell left.new r column
@@ -112,7 +112,7 @@ fn spaces() -> [u8; 40]
     [0x20; 40]
 }
 
-// Returns the codes of a row, with a space in each cell that has the due code.
+// Returns the codes of a row, with a space in each cell that has the expected code.
 fn excused(shown: &[u8; 40], due: &[u8; 40]) -> [u8; 40]
     requires { AreCodes shown.now }
     ensures value { (column : ℕ) → column < 40 → slice_index result column
@@ -126,7 +126,7 @@ fn excused(shown: &[u8; 40], due: &[u8; 40]) -> [u8; 40]
     codes
 }
 
-// Returns the code `shown`, or a space if `shown` is the due code.
+// Returns the code `shown`, or a space if `shown` is the expected code.
 #[inline(always)]
 fn unless_due(due: u8, shown: u8) -> u8
     ensures { result ≡ unless_due due shown }

@@ -1,5 +1,5 @@
-//! Finds the first wrong cell of the page. If repeats may keep the page, each row with due text has
-//! to come again after a repeat.
+//! Finds the first wrong cell of the page. If repeats may have C4 (erase page) clear, each row with
+//! expected text has to come again after a repeat.
 ghost use Rattle.std.specs.Prelude.{◌≡◌, ℕ, ◌-◌, ◌==◌, IsTrue, None, false};
 ghost use Rattle.std.specs.Prelude.{if◌then◌else◌, slice_index_or};
 ghost use Rattle.ttx_page.specs.Page.{IsCell, cell, space};
@@ -12,8 +12,8 @@ use ttx_page::Page;
 impl Listener {
     ghost use Rattle.sub_packets.specs.KeptPage.{wrong_kept};
 
-    /// Returns whether each cell is known to be right without a comparison. The result is `false`
-    /// if repeats may keep the page, since rows may not have come again.
+    /// Returns whether each cell is known to be correct without a comparison. The result is `false`
+    /// if repeats may have C4 (erase page) clear, since rows may not have come again.
     #[inline(always)]
     pub fn is_known_right(&self) -> bool
         ensures { IsTrue result → wrong_kept self.now ≡ None }
@@ -22,8 +22,8 @@ impl Listener {
     }
 
     /// Returns the row (1 to 24) and column (0 to 39) of the first wrong cell: a cell that differs
-    /// from the due page or, if repeats may keep the page, a cell with due text whose row has not
-    /// come since the last header of the page.
+    /// from the expected page or, if repeats may have C4 (erase page) clear, a cell with expected
+    /// text whose row has not come since the last header of the page.
     pub fn first_wrong(&self) -> Option<(u8, u8)>
         ensures { result ≡ wrong_kept self.now }
     {
@@ -35,7 +35,8 @@ impl Listener {
         earlier(differing, missing.first_difference(&Page::blank()))
     }
 
-    // Returns the due page, with spaces in the rows that came since the last header of the page.
+    // Returns the expected page, with spaces in the rows that came since the last header of the
+    // page.
     fn missing(&self) -> Page
         ensures { (row column : ℕ) → IsCell row column → cell result row column
             ≡ (if slice_index_or self.now.again (row - 1) false

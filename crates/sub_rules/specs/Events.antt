@@ -76,20 +76,20 @@ first_cell test =
     (λ above. option_map (λ column. (above + 1, column)) (first_below 40 (test (above + 1))))
     (first_below 24 (λ above. is_some (first_below 40 (test (above + 1)))))
 
--- After these packets, the cell is right for the due page: `IsRight` as a test.
+-- After these packets, the cell is correct for the expected page: `IsRight` as a test.
 abbrev pub is_right : Bool → PageIdValue → List (List ℕ) → Rows → ℕ → ℕ → Bool
 is_right keeps page packets due row column =
     kept keeps page packets row column == cell due row column
     && (cell due row column == space || has_row page packets row)
 
--- The first cell that, after these packets, is not right for the due page; `None` if all cells are
--- right.
+-- The first cell that, after these packets, is not correct for the expected page; `None` if all
+-- cells are correct.
 unfoldable pub wrong_after : Bool → PageIdValue → List (List ℕ) → Rows → Option (ℕ × ℕ)
 wrong_after keeps page packets due =
     first_cell (λ row column. not (is_right keeps page packets due row column))
 
--- The first cell that is not right at the end of frame f, after n frames of the transmission. If
--- the due page is unknown, any cell may have any code.
+-- The first cell that is not correct at the end of frame f, after n frames of the transmission. If
+-- the expected page is unknown, any cell may have any code.
 abbrev pub wrong_cell : Criteria → Transmission → ℕ → ℕ → Option (ℕ × ℕ)
 wrong_cell g frames n f =
     if g.undecided f
@@ -115,7 +115,7 @@ is_incomplete g frames n =
 -- ---- the number of frames within which the page must be right
 
 -- At the end of frame f, after n frames of the transmission, the page is unfinished: a cell is not
--- right, or complete pages are required and the page is open.
+-- correct, or complete pages are required and the page is open.
 abbrev pub is_unfinished : Criteria → Transmission → ℕ → ℕ → Bool
 is_unfinished g frames n f = is_some (wrong_cell g frames n f) || is_incomplete g frames n
 
@@ -186,7 +186,7 @@ is_missed None first first_unfinished = false
 is_missed (Some tci) first first_unfinished = nat_le first_unfinished tci ||
     (first_unfinished == first && nat_lt tci first)
 
--- At the end of frame f, the page must be right by now: it has been unfinished since
+-- At the end of frame f, the page must be correct by now: it has been unfinished since
 -- `first_unfinished`, and either the permitted number of frames has passed, or a subtitle ends
 -- unfinished. A finished page is not overdue.
 abbrev pub is_overdue : Criteria → ℕ → Option ℕ → ℕ → Bool
@@ -200,16 +200,16 @@ unfoldable pub is_late : Criteria → Transmission → ℕ → ℕ → Bool
 is_late g frames n f =
     g.within == 0 || is_overdue g (frame_at frames 0) (unfinished_run_start g frames n f) f
 
--- The code was due in the cell at frame f or at one of the n frames before f, but not before the
--- frame `first`.
+-- The code was expected in the cell at frame f or at one of the n frames before f, but not before
+-- the frame `first`.
 unfoldable pub was_due : (ℕ → Rows) → ℕ → ℕ → ℕ → ℕ → ℕ → ℕ → Bool
 was_due due first f zero row column code = cell (due f) row column == code
 was_due due first f (suc n) row column code =
     was_due due first f n row column code
     || (nat_le (first + suc n) f && (cell (due (f - suc n)) row column == code))
 
--- The first cell that, after these packets, has neither a space nor a code that was due at frame f
--- or at one of the n frames before f, but not before the frame `first`.
+-- The first cell that, after these packets, has neither a space nor a code that was expected at
+-- frame f or at one of the n frames before f, but not before the frame `first`.
 unfoldable pub unexpected_after :
     Bool → PageIdValue → List (List ℕ) → (ℕ → Rows) → ℕ → ℕ → ℕ → Option (ℕ × ℕ)
 unexpected_after keeps page packets due first f n =
@@ -218,20 +218,20 @@ unexpected_after keeps page packets due first f n =
     not (kept keeps page packets row column == space)
     && not (was_due due first f n row column (kept keeps page packets row column)))
 
--- The due page is unknown at frame f or at one of the n frames before f, but not before the frame
--- `first`.
+-- The expected page is unknown at frame f or at one of the n frames before f, but not before the
+-- frame `first`.
 unfoldable pub was_undecided : (ℕ → Bool) → ℕ → ℕ → ℕ → Bool
 was_undecided undecided first f zero = undecided f
 was_undecided undecided first f (suc n) =
     was_undecided undecided first f n || (nat_le (first + suc n) f && undecided (f - suc n))
 
--- The due page is unknown at frame f or at one of the `within` frames before f.
+-- The expected page is unknown at frame f or at one of the `within` frames before f.
 abbrev pub undecided_within : Criteria → Transmission → ℕ → Bool
 undecided_within g frames f = was_undecided g.undecided (frame_at frames 0) f g.within
 
--- The first cell with a code that was not due at frame f or at one of the `within` frames before f,
--- after n frames of the transmission. `None` if the due page is unknown at one of these frames,
--- since any code may have been due.
+-- The first cell with a code that was not expected at frame f or at one of the `within` frames
+-- before f, after n frames of the transmission. `None` if the expected page is unknown at one of
+-- these frames, since any code may have been expected.
 abbrev pub unexpected_cell : Criteria → Transmission → ℕ → ℕ → Option (ℕ × ℕ)
 unexpected_cell g frames n f =
     if undecided_within g frames f
@@ -242,8 +242,8 @@ unexpected_cell g frames n f =
     f g.within
 
 -- The first cell with a fault at the end of frame f, after n frames of the transmission. If the
--- page must be right by now, each cell must be right; otherwise each cell must have a space or a
--- code that was due at frame f or at one of the `within` frames before f.
+-- page must be correct by now, each cell must be correct; otherwise each cell must have a space or
+-- a code that was expected at frame f or at one of the `within` frames before f.
 abbrev pub broken_cell : Criteria → Transmission → ℕ → ℕ → Option (ℕ × ℕ)
 broken_cell g frames n f =
     if is_late g frames n f then wrong_cell g frames n f else unexpected_cell g frames n f
@@ -309,7 +309,7 @@ events_at_end g frames i n f =
 
 -- ---- events of a PES packet
 
--- A subtitle is due before this frame: the first TCI is earlier.
+-- A subtitle is expected before this frame: the first TCI is earlier.
 abbrev pub is_early : Option ℕ → ℕ → Bool
 is_early None frame = false
 is_early (Some first_tci) frame = nat_lt first_tci frame
@@ -381,7 +381,7 @@ is_short None frame = false
 is_short (Some last_tco) frame = nat_lt frame last_tco
 
 -- At the last end, the page is unfinished, but that is no fault yet: the page could have become
--- right in a frame that is missing.
+-- correct in a frame that is missing.
 unfoldable pub is_pending : Criteria → Transmission → Bool
 is_pending g frames =
     let n = length frames in

@@ -49,7 +49,7 @@ pub record Criteria : Type 0 where
   pub unread : Option Unread
 
 -- The page to check: its identifier from the options, the national option of the programme, whether
--- complete pages are required, and whether repeats may keep the page.
+-- complete pages are required, and whether repeats may have C4 (erase page) clear.
 abbrev pub watched_of : ProgrammeValue → OptionsValue → Watched
 watched_of programme options = record {
   page = options.page;
@@ -59,7 +59,7 @@ watched_of programme options = record {
 }
 
 -- The criteria for a programme without rejected subtitles, for this page, repeat bound, number of
--- frames until the page must be right, and pace.
+-- frames until the page must be correct, and pace.
 abbrev pub criteria_with : ProgrammeValue → Watched → ℕ → ℕ → Option ℕ → Option Unread → Criteria
 criteria_with programme watched every within pace unread = record {
   watched = watched;
@@ -81,7 +81,7 @@ criteria_of programme options unread =
     criteria_with programme (watched_of programme options) options.every options.within options.pace
     unread
 
--- The due page is unknown at this frame, because subtitles of the file were rejected.
+-- The expected page is unknown at this frame, because subtitles of the file were rejected.
 abbrev pub is_due_undecided : JudgedValue → ℕ → Bool
 is_due_undecided j frame = has_refused j && is_undecided_in j frame
 
@@ -114,7 +114,7 @@ end_frame frames = frame_at frames (length frames - 1)
 abbrev pub HasHeader : Criteria → Transmission → ℕ → Type 0
 HasHeader g frames i = holds_header (kind g.watched.page) (packets_of_frame frames i) ≡ true
 
--- At the end of frame f of the day, after n entries of the transmission, the cell is right.
+-- At the end of frame f of the day, after n entries of the transmission, the cell is correct.
 abbrev pub ShowsDue : Criteria → Transmission → ℕ → ℕ → ℕ → ℕ → Type 0
 ShowsDue g frames n f row column =
     IsRight g.watched.keeps g.watched.page (packets_before frames n) (g.due f) row column

@@ -1,6 +1,6 @@
 -- The seven rules of a good transmission. The rules apply to the packets as they are transmitted.
 --
--- Complete pages are not required by these rules: the headline holds without them, and real
+-- Complete pages are not required by these rules: the main theorem holds without them, and real
 -- transmissions do not always have complete pages. The option `--complete` requires them.
 use Rattle.std.specs.Prelude.{◌≡◌, ℕ, ◌+◌, ◌<◌, ◌≤◌, List, Some, length, take}
 use Rattle.std.specs.Prelude.{All, IfSome, IsTrue, IsFalse, Option}
@@ -97,7 +97,7 @@ KeepsPace pace transmission =
     × (f < frame_at transmission j + frames)
 
 -- At the end of each frame from the first to the last, even without packets of its own, each cell
--- shows the code of the due page.
+-- shows the code of the expected page.
 abbrev pub ShowsDuePages : ProgrammeValue → PageIdValue → Transmission → Type 0
 ShowsDuePages programme page transmission =
     (f row column : ℕ)
@@ -110,8 +110,9 @@ ShowsDuePages programme page transmission =
 pub record KeepsRules
     (programme : ProgrammeValue) (transmission : Transmission) (options : OptionsValue)
     : Type 0 where
-  -- Rule 1: there is at least one frame, the frames are in rising order, and packets have 42 bytes.
-  -- The first frame is not after the first TCI, and the last frame is not before the last TCO.
+  -- Rule 1: there is at least one frame, the frames are in increasing order, and packets have 42
+  -- bytes. The first frame is not after the first TCI, and the last frame is not before the last
+  -- TCO.
   pub not_empty : 0 < length transmission
   pub rising : IsRising transmission
   pub whole : EachPacket (λ packet. length packet ≡ 42) transmission
@@ -141,5 +142,5 @@ pub record Good
     : Type 0 where
   -- Rules 1 to 6 of a good transmission.
   pub rules : KeepsRules programme transmission options
-  -- Rule 7: at the end of each frame, the due page is shown.
+  -- Rule 7: at the end of each frame, the expected page is shown.
   pub content : ShowsDuePages programme options.page transmission

@@ -1,6 +1,6 @@
--- The requirements on a cell and a header if repeats may keep the page: inserters set C4, erase
--- page, when the text changes, and many clear C4 when they repeat the same page. A repeat must then
--- contain the whole page, unchanged.
+-- The requirements on a cell and a header if repeats may have C4 (erase page) clear: inserters set
+-- C4, erase page, when the text changes, and many clear C4 when they repeat the same page. A repeat
+-- must then contain the whole page, unchanged.
 use Rattle.std.specs.Prelude.{◌≡◌, ◌≢◌, ◌↔◌, ℕ, ◌⊎◌, Bool, false, List, [], ◌∷◌}
 use Rattle.std.specs.Prelude.{Option, Some, None, IsTrue, IsFalse}
 use Rattle.std.specs.List.{list_any}
@@ -28,16 +28,16 @@ abbrev pub has_row : PageIdValue → List (List ℕ) → ℕ → Bool
 has_row page packets row =
     list_any (λ packet. is_row row (kind page packet)) (span (kind page) packets)
 
--- The cell is right after these packets: it has the code of the due page, and unless that code is a
--- space, its row was sent after the last header of the page.
+-- The cell is correct after these packets: it has the code of the expected page, and unless that
+-- code is a space, its row was sent after the last header of the page.
 pub record IsRight
     (keeps : Bool) (page : PageIdValue) (packets : List (List ℕ)) (due : Rows) (row column : ℕ)
     : Type 0 where
   pub kept_eq : kept keeps page packets row column ≡ cell due row column
   pub again : cell due row column ≢ space → IsTrue (has_row page packets row)
 
--- If repeats must not keep the page, a cell is right if and only if it shows the due code. So
--- `Good` is the requirement for pages that each header erases.
+-- If repeats must have C4 (erase page) set, a cell is correct if and only if it shows the expected
+-- code. So `Good` is the requirement for pages that each header erases.
 abbrev pub LawOfRightCells : Type 0
 LawOfRightCells =
     (page : PageIdValue) (packets : List (List ℕ)) (due : Rows) (row column : ℕ)
@@ -85,7 +85,8 @@ IsOfSubtitle national page packet =
     (h : Header) → kind page packet ≡ ThisPage h → HasSubtitleBits national h
 
 -- The rule for a header of the page, sent after the packets `before`: the header has the control
--- bits of a subtitle, and it erases the page or, if repeats may keep the page, repeats it.
+-- bits of a subtitle, and it erases the page or, if repeats may have C4 (erase page) clear, repeats
+-- it.
 pub record IsControlledBy (w : Watched) (before : List (List ℕ)) (packet : List ℕ) : Type 0 where
   pub control : IsOfSubtitle w.national w.page packet
   pub erases : IsFalse w.keeps → ErasesPage w.page packet

@@ -48,13 +48,14 @@ KeepsRule rule.Mode w before p =
     → first_header before ≡ Some first
     → c11 h ≡ c11 first
 -- Control: a header of the page has the control bits of a subtitle, and it erases the page or, if
--- repeats may keep the page, repeats it.
+-- repeats may have C4 (erase page) clear, repeats it.
 KeepsRule rule.Control w before p = IsControlledBy w before p
 -- Parity: while the page is open, its rows have 40 bytes of odd parity.
 KeepsRule rule.Parity w before p =
     IsTrue (is_open_after (kind w.page) before) → IsOddRow w.page p
 -- RowChanged: while the page is open, a row equals each packet of the same row since the last
--- header of the page; if repeats may keep the page, since the last header that erases it.
+-- header of the page; if repeats may have C4 (erase page) clear, since the last header that erases
+-- it.
 KeepsRule rule.RowChanged w before p =
     IsTrue (is_open_after (kind w.page) before)
     → (row : ℕ)

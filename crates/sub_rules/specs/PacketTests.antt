@@ -74,8 +74,8 @@ repeats_page complete page before h =
     is_same_subcode (last_header page before) h
     && not (complete && is_open_after (kind page) before)
 
--- The header h of the page, sent after these packets, erases the page or, if repeats may keep the
--- page, repeats it.
+-- The header h of the page, sent after these packets, erases the page or, if repeats may have C4
+-- (erase page) clear, repeats it.
 abbrev pub may_follow_as_header : Watched → List (List ℕ) → Header → Bool
 may_follow_as_header w before h = c4 h || (w.keeps && repeats_page w.complete w.page before h)
 

@@ -19,7 +19,8 @@ pub record IsSentAs (origin : ℕ) (pes : PesValue) (s : SentFrame) : Type 0 whe
   pub packets : s.packets ≡ map (λ (u : UnitValue). u.packet) pes.units
 
 -- The bytes are a PES file with this transmission: valid PES packets, joined, at most as many as a
--- day has frames. Given the PTS of frame 0, each PES packet carries one frame, and the frames rise.
+-- day has frames. Given the PTS of frame 0, each PES packet carries one frame, and the frame
+-- numbers increase.
 pub record Carries (origin : ℕ) (bytes : List ℕ) (frames : Transmission) : Type 0 where
   pub values : List PesValue
   pub packets : List (List ℕ)
@@ -37,7 +38,7 @@ pub record IsReadAs (clock : Clock) (pes : PesValue) (s : SentFrame) : Type 0 wh
 
 -- The bytes are a PES file with this transmission, read by a clock: valid PES packets, joined, at
 -- most as many as a day has frames. The clock converts each PTS to a frame, consecutive PES packets
--- of the same frame are merged, and the frames rise.
+-- of the same frame are merged, and the frame numbers increase.
 pub record CarriesBy
     (clock : Clock) (within : ℕ) (bytes : List ℕ) (frames : Transmission)
     : Type 0 where

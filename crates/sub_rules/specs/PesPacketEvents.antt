@@ -34,7 +34,7 @@ use Rattle.sub_rules.specs.declared.fault_place.FaultPlace.TheVariants as place
 -- ---- the ends of frames
 
 -- The checker needs `GoesBack` steps: subtitles were rejected, and the page may take some frames to
--- become right.
+-- become correct.
 abbrev pub goes_back : Criteria → Bool
 goes_back g = g.any_refused && not (g.within == 0)
 

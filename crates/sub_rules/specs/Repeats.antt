@@ -1,11 +1,11 @@
--- A good transmission if the page may take some frames to become right, as many as the options
+-- A good transmission if the page may take some frames to become correct, as many as the options
 -- allow, and if repeats may or may not keep the page. Packets may come that late, and a page may be
 -- sent in parts over some frames. Inserters set C4, erase page, when the text changes, and many
 -- clear C4 when they repeat the same page; a repeat must then contain the whole page, unchanged.
 --
--- `keeps` means that repeats may keep the page. If `keeps` is false, rules 1 to 6 are those of
--- `Good`. If `within` is also 0, rule 7 is that of `Good` too, with complete pages if the options
--- require them.
+-- `keeps` means that repeats may have C4 (erase page) clear. If `keeps` is false, rules 1 to 6 are
+-- those of `Good`. If `within` is also 0, rule 7 is that of `Good` too, with complete pages if the
+-- options require them.
 use Rattle.std.specs.Prelude.{◌≡◌, ◌↔◌, ℕ, ◌+◌, ◌-◌, ◌<◌, ◌≤◌, ◌⊎◌, Bool, true, false, []}
 use Rattle.std.specs.Prelude.{length, take, slice_index_or, All, IfSome, IsTrue, IsFalse}
 use Rattle.ttx_packet.specs.PageHeader.{HasExactCodeWords}
@@ -26,8 +26,8 @@ use Rattle.sub_rules.specs.Transmission.{last_frame, on_air_until}
 
 -- ---- the page at the ends of frames
 
--- At the end of frame f, each cell is right. If repeats must not keep the page, a right cell is one
--- that shows the due code (`LawOfRightCells`).
+-- At the end of frame f, each cell is correct. If repeats must have C4 (erase page) set, a correct
+-- cell is one that shows the expected code (`LawOfRightCells`).
 abbrev pub IsCorrectPage : Bool → ProgrammeValue → PageIdValue → Transmission → ℕ → Type 0
 IsCorrectPage keeps programme page transmission f =
     (row column : ℕ)
@@ -39,9 +39,9 @@ abbrev pub HasEndedPage : PageIdValue → Transmission → ℕ → Type 0
 HasEndedPage page transmission f =
     IsFalse (is_open_after (kind page) (on_air_until transmission f))
 
--- The code is allowed in the cell at the end of frame f: it is a space, or the code that is due in
--- the cell at frame f or at one of the `within` frames before f, but not before the first frame of
--- the transmission.
+-- The code is allowed in the cell at the end of frame f: it is a space, or the code that is
+-- expected in the cell at frame f or at one of the `within` frames before f, but not before the
+-- first frame of the transmission.
 abbrev pub IsDueWithin : ProgrammeValue → Transmission → OptionsValue → ℕ → ℕ → ℕ → ℕ → Type 0
 IsDueWithin programme transmission options f row column code =
     (code ≡ space)
@@ -51,8 +51,8 @@ IsDueWithin programme transmission options f row column code =
     × (f ≤ e + options.within)
     × (code ≡ cell (due_in programme e) row column))
 
--- At the end of each frame f from a to b, each cell has a space or a code that was due in the cell
--- at frame f or at one of the `within` frames before f.
+-- At the end of each frame f from a to b, each cell has a space or a code that was expected in the
+-- cell at frame f or at one of the `within` frames before f.
 abbrev pub KeepsDueCodes :
     Bool → ProgrammeValue → Transmission → OptionsValue → ℕ → ℕ → Type 0
 KeepsDueCodes keeps programme transmission options a b =
@@ -79,7 +79,7 @@ pub record KeepsRulesBy
   pub exact : EachPacket HasExactCodeWords transmission
   pub serial : EachPacket (λ one. EachPacket (IsInOneMode one) transmission) transmission
   -- Rule 4: each header of the page has the control bits of a subtitle. It erases the page or, if
-  -- repeats may keep the page, repeats it.
+  -- repeats may have C4 (erase page) clear, repeats it.
   pub control : EachPacket (IsOfSubtitle programme.drawing.national options.page) transmission
   pub erases : IsFalse keeps → EachPacket (ErasesPage options.page) transmission
   pub keeping :
@@ -101,7 +101,7 @@ pub record KeepsRulesBy
   pub repeats : Repeats options.page options.every transmission
   pub paced : KeepsPace options.pace transmission
 
--- Frame f of the day is finished: at its end each cell is right and, if complete pages are
+-- Frame f of the day is finished: at its end each cell is correct and, if complete pages are
 -- required, the page is not open.
 pub record IsFinishedBy
     (keeps : Bool) (programme : ProgrammeValue) (transmission : Transmission)
@@ -124,7 +124,7 @@ FinishesAgainBy keeps programme transmission options a b =
     → start + options.within ≤ b
     → SomeFinishedBy keeps programme transmission options start (start + options.within)
 
--- A good transmission of a programme if the page may take as many frames to become right as the
+-- A good transmission of a programme if the page may take as many frames to become correct as the
 -- options allow, with repeats that may or may not keep the page.
 pub record GoodBy
     (keeps : Bool) (programme : ProgrammeValue) (transmission : Transmission)
@@ -132,9 +132,10 @@ pub record GoodBy
     : Type 0 where
   -- Rules 1 to 6 of the transmission.
   pub rules : KeepsRulesBy keeps programme transmission options
-  -- Rule 7: at the end of each frame, each cell has a space or a code that was due in the cell at
-  -- that frame or at one of the `within` frames before. Of any `within` + 1 consecutive frames at
-  -- least one is finished; so is at least one of the frames of each subtitle, and the last frame.
+  -- Rule 7: at the end of each frame, each cell has a space or a code that was expected in the cell
+  -- at that frame or at one of the `within` frames before. Of any `within` + 1 consecutive frames
+  -- at least one is finished; so is at least one of the frames of each subtitle, and the last
+  -- frame.
   pub codes :
       KeepsDueCodes keeps programme transmission options (first_frame transmission)
       (last_frame transmission)
@@ -146,23 +147,23 @@ pub record GoodBy
       programme.records
   pub ends : IsFinishedBy keeps programme transmission options (last_frame transmission)
 
--- If repeats must not keep the page, rules 1 to 6 are those of `Good`.
+-- If repeats must have C4 (erase page) set, rules 1 to 6 are those of `Good`.
 abbrev pub LawOfNoRepeats : Type 0
 LawOfNoRepeats =
     (programme : ProgrammeValue) (transmission : Transmission) (options : OptionsValue)
     → KeepsRulesBy false programme transmission options
     ↔ KeepsRules programme transmission options
 
--- A transmission that is good if repeats must not keep the page is also good if repeats may keep
--- the page.
+-- A transmission that is good if repeats must have C4 (erase page) set is also good if repeats may
+-- have C4 (erase page) clear.
 abbrev pub LawOfMayKeep : Type 0
 LawOfMayKeep =
     (programme : ProgrammeValue) (transmission : Transmission) (options : OptionsValue)
     → GoodBy false programme transmission options
     → GoodBy true programme transmission options
 
--- If a transmission is good when repeats may keep the page, and each header of the page erases the
--- page, the transmission is also good when repeats must not keep the page.
+-- If a transmission is good when repeats may have C4 (erase page) clear, and each header of the
+-- page erases the page, the transmission is also good when repeats must have C4 (erase page) set.
 abbrev pub LawOfNoneKeeps : Type 0
 LawOfNoneKeeps =
     (programme : ProgrammeValue) (transmission : Transmission) (options : OptionsValue)

@@ -5,16 +5,17 @@
 -- of their ends. All definitions are about the steps so far, `past`, the latest first.
 --
 -- A frame is fault-free if its packets have no fault that affects receivers, and no fault is active
--- at its end. If frames do not rise, no later frame is fault-free. A later PES packet, or bytes
--- that cannot be read, may belong to the last frame before them, so that frame is not trusted
--- either. In each run of fault-free frames, the trusted frames begin with the first frame that has
--- a header of the page; if repeats may keep the page, with the first frame that has a header that
--- erases it. Trusted frames are reported at the end of the run, before the event that ends the run.
+-- at its end. If frame numbers do not increase, no later frame is fault-free. A later PES packet,
+-- or bytes that cannot be read, may belong to the last frame before them, so that frame is not
+-- trusted either. In each run of fault-free frames, the trusted frames begin with the first frame
+-- that has a header of the page; if repeats may have C4 (erase page) clear, with the first frame
+-- that has a header that erases it. Trusted frames are reported at the end of the run, before the
+-- event that ends the run.
 --
--- If the page need not be right at each frame end, the run is trusted only if the page was right at
--- one of the ends; and if the run ends with a page that is wrong for too long, the frames since
--- which the page is wrong are not trusted. If subtitles were rejected, this applies to every end of
--- a run, since the next due page is unknown.
+-- If the page need not be correct at each frame end, the run is trusted only if the page was
+-- correct at one of the ends; and if the run ends with a page that is wrong for too long, the
+-- frames since which the page is wrong are not trusted. If subtitles were rejected, this applies to
+-- every end of a run, since the next expected page is unknown.
 use Rattle.std.specs.Prelude.{ℕ, suc, ◌-◌, ◌&&◌, ◌||◌, Bool, true, false, not, List, [], ◌∷◌}
 use Rattle.std.specs.Prelude.{◌++◌, Option, Some, None, is_none, is_some, nat_lt, unwrap_or}
 use Rattle.std.specs.Prelude.{if◌then◌else◌}
@@ -40,7 +41,7 @@ pub data CheckStep : Type 0 where
   -- whether that is a fault.
   AtEnd : ℕ → Option ℕ → Bool → CheckStep
   -- A frame with PES packets ends: its number; whether it has a header of the page (if repeats may
-  -- keep the page, a header that erases it); and whether no fault is active.
+  -- have C4 (erase page) clear, a header that erases it); and whether no fault is active.
   Ends : ℕ → Bool → Bool → CheckStep
   -- The file ends: whether there are unread bytes, which may belong to the last frame, and whether
   -- trusted frames are reported even without an event.
@@ -103,8 +104,8 @@ unfoldable pub reports_order_fault : CheckStep → Bool
 reports_order_fault (Emits (Reported (fault.Order pes))) = true
 reports_order_fault m = false
 
--- The current frame is fault-free so far: frames have risen up to it, and no fault since its
--- beginning affects receivers.
+-- The current frame is fault-free so far: frame numbers have increased up to it, and no fault since
+-- its beginning affects receivers.
 unfoldable pub stays_fault_free : List CheckStep → Bool
 stays_fault_free [] = true
 stays_fault_free (Begins f ∷ past) = not (list_any reports_order_fault past)
@@ -118,8 +119,8 @@ has_no_active_faults s = not (list_any (λ rule. is_some (broken_at rule s)) end
 -- ---- runs of fault-free frames
 
 -- The first frame of the current run of fault-free frames that has a header of the page (if repeats
--- may keep the page, a header that erases it); `None` if there is no such frame. A frame without a
--- PES packet belongs to the run around it; an event at its end may end the run.
+-- may have C4 (erase page) clear, a header that erases it); `None` if there is no such frame. A
+-- frame without a PES packet belongs to the run around it; an event at its end may end the run.
 unfoldable pub run_of : List CheckStep → Option ℕ
 run_of [] = None
 run_of (Emits e ∷ past) = if is_none (invalidated_by past e) then run_of past else None
@@ -130,11 +131,11 @@ run_of (Ends f has_beginning none ∷ past) =
 run_of (Closes are_left more ∷ past) = None
 run_of (m ∷ past) = run_of past
 
--- The frame f, if the page was right at its end.
+-- The frame f, if the page was correct at its end.
 abbrev pub correct_at : ℕ → Option ℕ → Option ℕ
 correct_at f first_unfinished = if is_none first_unfinished then Some f else None
 
--- The first frame of the current run, from its first header on, at whose end the page was right.
+-- The first frame of the current run, from its first header on, at whose end the page was correct.
 -- Meaningless without a current run.
 unfoldable pub first_correct_of : List CheckStep → Option ℕ
 first_correct_of [] = None
@@ -147,7 +148,7 @@ first_correct_of (m ∷ past) = first_correct_of past
 
 -- ---- trusted frames, and when they are reported
 
--- The event for the frames from a run's first header to before frame f, if the page was right at
+-- The event for the frames from a run's first header to before frame f, if the page was correct at
 -- the end of one of these frames; `whole` is the first such frame.
 abbrev pub trusted : Option ℕ → Option ℕ → ℕ → List Event
 trusted (Some from) (Some whole) f = if nat_lt whole f then Trusted from (f - 1) ∷ [] else []

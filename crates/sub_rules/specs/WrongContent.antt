@@ -21,7 +21,7 @@ pub record AreReadUpTo (frames : Transmission) (f : ℕ) (read : Transmission) :
   pub next : n < length frames → (last_frame read ≡ f) ⊎ (f < frame_at frames n)
 
 -- Every receiver that starts at the first packet, gets no wrong bits and has any old page, shows in
--- this cell at the end of frame f another code than the due page.
+-- this cell at the end of frame f another code than the expected page.
 pub record IsWrongEverywhere
     (programme : ProgrammeValue) (options : OptionsValue) (frames : Transmission)
     (f row column : ℕ)

@@ -14,7 +14,7 @@ pub struct ActiveFaults {
     pub gap: bool,
     /// Whether complete pages are required, and the page is open.
     pub incomplete: bool,
-    /// Whether the due page is unknown, since a subtitle was rejected.
+    /// Whether the expected page is unknown, since a subtitle was rejected.
     pub undecided: bool,
     /// Whether no PES packet has come for as many frames as the pace.
     pub silent: bool,

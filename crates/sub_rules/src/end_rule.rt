@@ -7,13 +7,13 @@ use sub_io::FaultCode;
 /// frames.
 #[derive(Clone, Copy, Debug, PartialEq, Eq)]
 pub enum EndRule {
-    /// At the end of the frame, the page that is shown is the due page.
+    /// At the end of the frame, the page that is shown is the expected page.
     Content,
     /// At the end of the frame, the page has had a header within the repeat bound.
     Gap,
     /// At the end of the frame, the page is not open, if complete pages are required.
     Incomplete,
-    /// At the end of the frame, the due page is known: no rejected subtitle may be due.
+    /// At the end of the frame, the expected page is known: no rejected subtitle may be expected.
     Undecided,
     /// At the end of the frame, a PES packet has come within the maximum distance, if one is
     /// required.

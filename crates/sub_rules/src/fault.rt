@@ -38,7 +38,7 @@ pub enum CheckFault {
         /// The number of the PES packet, counted from 0.
         pes: u32,
     },
-    /// A subtitle is due before the first frame of the transmission.
+    /// A subtitle is expected before the first frame of the transmission.
     Early {
         /// The first frame of the transmission.
         frame: u32,
@@ -99,9 +99,10 @@ pub enum CheckFault {
         /// The first frame of the transmission.
         frame: u32,
     },
-    /// At the end of a frame, a cell of the page differs from the due page. If the page may take
-    /// some frames to become right, this is checked only at an end at which the page must be right;
-    /// at any other end, a cell must have a space or a code that was due within these frames.
+    /// At the end of a frame, a cell of the page differs from the expected page. If the page may
+    /// take some frames to become correct, this is checked only at an end at which the page must be
+    /// correct; at any other end, a cell must have a space or a code that was expected within these
+    /// frames.
     Content {
         /// The frame at whose end the cell is wrong.
         frame: u32,
@@ -116,16 +117,17 @@ pub enum CheckFault {
         frame: u32,
     },
     /// At the end of a frame, complete pages are required and the page is open: no later header has
-    /// ended the page. If the page may take some frames to become right, this is checked only at an
-    /// end at which the page must be right.
+    /// ended the page. If the page may take some frames to become correct, this is checked only at
+    /// an end at which the page must be correct.
     Incomplete {
         /// The frame at whose end the page is open.
         frame: u32,
     },
-    /// At the end of a frame, the due page is unknown, since a subtitle was rejected. If the page
-    /// may take some frames to become right, also if the due page was unknown within these frames.
+    /// At the end of a frame, the expected page is unknown, since a subtitle was rejected. If the
+    /// page may take some frames to become correct, also if the expected page was unknown within
+    /// these frames.
     Undecided {
-        /// The frame at whose end the due page is unknown.
+        /// The frame at whose end the expected page is unknown.
         frame: u32,
     },
     /// At the end of a frame, no PES packet has come for as many frames as the pace.
@@ -133,8 +135,8 @@ pub enum CheckFault {
         /// The last of the frames without a PES packet.
         frame: u32,
     },
-    /// The last TCO is after the last frame. If the page may take some frames to become right, also
-    /// if the page is not right at the end of the last frame but still had time.
+    /// The last TCO is after the last frame. If the page may take some frames to become correct,
+    /// also if the page is not correct at the end of the last frame but still had time.
     Late {
         /// The last frame of the transmission.
         frame: u32,

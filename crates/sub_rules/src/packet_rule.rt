@@ -26,7 +26,7 @@ pub enum PacketRule {
 }
 
 /// The page to check, the national option of its headers, whether complete pages are required, and
-/// whether repeats may keep the page.
+/// whether repeats may have C4 (erase page) clear.
 ///
 /// `check` derives these parameters from the options and the programme; its contract names them.
 #[derive(Clone, Copy)]
@@ -37,6 +37,7 @@ pub struct Watched {
     pub national: National,
     /// Whether complete pages are required.
     pub complete: bool,
-    /// Whether repeats may keep the page: their headers may have C4, erase page, clear.
+    /// Whether repeats may have C4 (erase page) clear: their headers may have C4, erase page,
+    /// clear.
     pub keeps: bool,
 }

@@ -1,6 +1,6 @@
--- The steps at the end of a frame within a stretch that can stay (`ending_leads`), and at the end
--- of the file (`closing_reported`), report the stretch as trusted or keep it pending. Used for
--- `law_of_all_trusted`.
+-- The steps at the end of a frame within a range of frames that can stay (`ending_leads`), and at
+-- the end of the file (`closing_reported`), report the frame range as trusted or keep it pending.
+-- Used for `law_of_all_trusted`.
 use Rattle.std.proofs.lemmas.Bool.Decides.{nat_tests}
 use Rattle.std.proofs.Common.{◌≡◌, ℕ, suc, ◌+◌, ◌-◌, ◌<◌, ◌≤◌, inl, inr, Bool, true, false}
 use Rattle.std.proofs.Common.{◌||◌, List, [], ◌∷◌, ◌++◌, length, map, Option, Some, None, is_some}
@@ -98,7 +98,7 @@ module _ (g : Criteria) (frames : Transmission) (a b i : ℕ)
   OpenHere n t = Open g frames a b i fits n (packets_of_frame frames n) t
 
   -- The end of frame n was checked, and the tracker's state still has the run that will report the
-  -- stretch.
+  -- frame range.
   record Finishing (n : ℕ) (t : List CheckStep) : Type 0 where
     follows : Follow n (frame_at frames n + 1) t
     clean : i ≤ n → stays_fault_free t ≡ true

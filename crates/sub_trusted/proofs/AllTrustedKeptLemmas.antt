@@ -1,6 +1,6 @@
--- Within a stretch that can stay, the state of the tracker has a run from the end of a frame with a
--- header on (`Follows`), which is reported once a frame is in doubt (`follows_emits`) or at the end
--- (`end_leads`). Used for `law_of_all_trusted`.
+-- Within a range of frames that can stay, the state of the tracker has a run from the end of a
+-- frame with a header on (`Follows`), which is reported once a frame is in doubt (`follows_emits`)
+-- or at the end (`end_leads`). Used for `law_of_all_trusted`.
 use Rattle.std.proofs.lemmas.Bool.Decides.{nat_tests}
 use Rattle.std.proofs.Common.{◌≡◌, ℕ, ◌+◌, ◌-◌, ◌<◌, ◌≤◌, inl, inr, Bool, true, false, ◌==◌}
 use Rattle.std.proofs.Common.{List, map, Option, Some, None, is_some, refl, sym, ◌∙◌, arith}
@@ -82,7 +82,7 @@ module _ (g : Criteria) (frames : Transmission) (a b i : ℕ)
       → Follows n p u
   follows_emitted n p t u es follows so orders none = grind (arith, nat_tests)
 
-  -- If a frame after the stretch is in doubt, the stretch is reported.
+  -- If a frame after the frame range is in doubt, the frame range is reported.
   pub invalidation_reported : (n p : ℕ) (t : List CheckStep) (es : List Event) (x : ℕ) → Follows n p
       t → i < n
       → invalidation_of t es ≡ Some x
@@ -114,8 +114,8 @@ module _ (g : Criteria) (frames : Transmission) (a b i : ℕ)
             (λ l. absurd (omega arith)))
       ]
 
-  -- If the page has been wrong up to the end before a frame after the stretch, it was first wrong
-  -- in a frame after the stretch.
+  -- If the page has been wrong up to the end before a frame after the frame range, it was first
+  -- wrong in a frame after the frame range.
   pub back_after : (n f r : ℕ) (u : List CheckStep) → WrongSince g frames n f u → 0 < n
       → IsEnd (rising_part frames) n (f - 1)
       → b < f
@@ -168,7 +168,7 @@ module _ (g : Criteria) (frames : Transmission) (a b i : ℕ)
             | inr (none, here) ↦ omega arith
           ]
 
-  -- The reports at an end after the stretch cast doubt only on frames after the stretch.
+  -- The reports at an end after the frame range cast doubt only on frames after the frame range.
   pub end_past : (n m f x : ℕ) (t u : List CheckStep) → ChecksFrameEnd g frames m f t u
       → WrongSince g frames n f u
       → 0 < n

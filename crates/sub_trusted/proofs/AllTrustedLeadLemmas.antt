@@ -1,5 +1,6 @@
--- Defines steps that report a stretch as trusted, or leave a state that will report it (`Leads`). A
--- run is reported when a frame is in doubt (`emitted_reported`). Used for `law_of_all_trusted`.
+-- Defines steps that report a range of frames as trusted, or leave a state that will report it
+-- (`Leads`). A run is reported when a frame is in doubt (`emitted_reported`). Used for
+-- `law_of_all_trusted`.
 use Rattle.std.proofs.lemmas.Bool.Decides.{nat_tests}
 use Rattle.std.proofs.Common.{◌≡◌, ℕ, ◌-◌, ◌<◌, ◌≤◌, ◌⊎◌, inl, inr, List, [], ◌∷◌, ◌++◌, map}
 use Rattle.std.proofs.Common.{Contains, Option, Some, None, refl, sym, subst, arith, ◌∙◌}
@@ -16,7 +17,7 @@ use Rattle.sub_rules.specs.Trusted.{CheckStep, at_pes, back_of, invalidated_by, 
 use Rattle.sub_rules.specs.Trusted.{reported_after, reported_at, trusted, trusted_up_to}
 use Rattle.sub_rules.specs.Trusted.{first_correct_of}
 
--- If the page was right in a run, the frames of the run before frame x are reported as trusted.
+-- If the page was correct in a run, the frames of the run before frame x are reported as trusted.
 pub put_reported : (run whole : Option ℕ) (x from w : ℕ) → run ≡ Some from → whole ≡ Some w → w < x
     → Contains (trusted run whole x) (Trusted from (x - 1))
 put_reported run whole x from w run_eq first_correct_eq l =

@@ -1,5 +1,5 @@
--- Each stretch that can stay is reported as trusted from a header of the page in the stretch on
--- (`law_of_all_trusted`).
+-- Each frame range that can stay is reported as trusted from a header of the page in the frame
+-- range on (`law_of_all_trusted`).
 use Rattle.std.proofs.lemmas.Bool.Decides.{nat_tests}
 use Rattle.std.proofs.Common.{◌≡◌, ◌≢◌, ℕ, ◌<◌, ◌≤◌, ◌⊎◌, inl, inr, Bool, true}
 use Rattle.std.proofs.Common.{false, ◌||◌, not, List, [], ◌∷◌, ◌++◌, Contains}

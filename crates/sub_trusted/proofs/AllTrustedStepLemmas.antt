@@ -1,6 +1,6 @@
--- The steps of a frame within a stretch that can stay report the stretch as trusted or keep it
--- pending: before the packets of the frame (`arrival_leads`), for its packets (`more_leads`), and
--- for a skipped PES packet (`skipped_leads`). Used for `law_of_all_trusted`.
+-- The steps of a frame within a range of frames that can stay report the frame range as trusted or
+-- keep it pending: before the packets of the frame (`arrival_leads`), for its packets
+-- (`more_leads`), and for a skipped PES packet (`skipped_leads`). Used for `law_of_all_trusted`.
 use Rattle.std.proofs.lemmas.Bool.Decides.{nat_tests}
 use Rattle.std.proofs.Common.{◌≡◌, ℕ, zero, suc, ◌+◌, ◌-◌, ◌<◌, ◌≤◌, ◌⊎◌, inl, inr, Bool, true}
 use Rattle.std.proofs.Common.{false, List, [], ◌∷◌, ◌++◌, length, map, take, get_or, Option, Some}

@@ -1,5 +1,5 @@
--- The frames of a stretch of the rising part that can stay have the properties `Fits` (`fits`).
--- Used for `law_of_all_trusted`.
+-- The frames of a range of frames of the rising part that can stay have the properties `Fits`
+-- (`fits`). Used for `law_of_all_trusted`.
 use Rattle.std.proofs.lemmas.Bool.Decides.{nat_tests}
 use Rattle.std.proofs.Common.{◌≡◌, ℕ, suc, ◌+◌, ◌-◌, ◌<◌, ◌≤◌, true, false, List, [], ◌++◌, drop}
 use Rattle.std.proofs.Common.{length, take, get_or, Some, None, sym, ap, ◌∙◌, subst, arith}
@@ -66,7 +66,7 @@ module _ (frames : Transmission) where
         (subst (IsEnd (rising_part frames) (suc (n - 1))) at (own_in (n - 1) (omega arith)))
   ]
 
--- Frame i of the list is in a stretch that can stay.
+-- Frame i of the list is in a range of frames that can stay.
 pub record Fits (g : Criteria) (frames : Transmission) (a b i : ℕ) : Type 0 where
   pub there : i < risen frames
   pub low : a ≤ frame_at frames i
@@ -144,8 +144,8 @@ module _ (g : Criteria) (pes_packets : List PesPacket) (a b : ℕ) (can : CanSta
         sym (ap (λ (fs : Transmission). unfinished_run_start g fs n f) (take-append-drop m frames))
         ∙ unfinished_run_start-prefix g g.unread part (drop m frames) n f (omega arith)
 
-    -- If `within` is 0, the last frame of the stretch is finished, since no fault is active at its
-    -- end.
+    -- If `within` is 0, the last frame of the frame range is finished, since no fault is active at
+    -- its end.
     at_once_finished : (n f : ℕ) → (g.within == 0) ≡ true
         → active_faults_at g part n f ≡ no_active_faults
         → is_unfinished g part n f ≡ false

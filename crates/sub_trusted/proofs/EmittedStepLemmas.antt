@@ -20,7 +20,7 @@ use Rattle.sub_rules.specs.Trusted.{current_pes, run_of, first_unfinished_of, st
 use Rattle.sub_rules.specs.Trusted.{reports_order_fault, reported_after}
 use Rattle.sub_rules.specs.Trusted.{reported_at, trusted, trusted_up_to, first_correct_of}
 
--- The frames have risen in all steps so far.
+-- The frame numbers have increased in all steps so far.
 abbrev pub has_risen : List CheckStep → Bool
 has_risen t = not (list_any reports_order_fault t)
 
@@ -46,7 +46,7 @@ back_to_after t x b past h = grind (arith, nat_tests)
 abbrev pub kept : Option ℕ → Option ℕ → Option ℕ
 kept run d = if is_none d then run else None
 
--- The event reports that frames are not in rising order.
+-- The event reports that frames are not in increasing order.
 unfoldable pub is_order : Event → Bool
 is_order e = reports_order_fault (Emits e)
 

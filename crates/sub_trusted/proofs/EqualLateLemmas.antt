@@ -1,7 +1,7 @@
--- If two sets of criteria agree whenever the first set knows the due page, and it knew the due page
--- at the last frames, an end is late for both sets or for neither (`late_same`), and if no fault is
--- active for the first set, no fault is active for the second (`equal_fault_free`). Used for
--- `law_of_equal_trust`.
+-- If two sets of criteria agree whenever the first set knows the expected page, and it knew the
+-- expected page at the last frames, an end is late for both sets or for neither (`late_same`), and
+-- if no fault is active for the first set, no fault is active for the second (`equal_fault_free`).
+-- Used for `law_of_equal_trust`.
 use Rattle.std.proofs.lemmas.Bool.Decides.{nat_tests}
 use Rattle.std.proofs.Common.{◌≡◌, ℕ, ◌+◌, ◌-◌, ◌≤◌, inl, inr, Bool, true, false}
 use Rattle.std.proofs.Common.{◌&&◌, ◌||◌, ◌==◌, nat_le, Option, Some, None, length, refl, sym, ap}
@@ -27,8 +27,8 @@ use Rattle.sub_laws.proofs.UnfinishedLemmas.{first_unfinished_end, first_unfinis
 use Rattle.sub_laws.proofs.UnfinishedLemmas.{first_unfinished_some}
 use Rattle.sub_laws.proofs.UnfinishedLemmas.{unfinished_at}
 
--- The criteria that know the due page at each frame: the due pages, the TCI of the subtitle whose
--- TCO is a frame, the first TCI and the last TCO.
+-- The criteria that know the expected page at each frame: the expected pages, the TCI of the
+-- subtitle whose TCO is a frame, the first TCI and the last TCO.
 abbrev pub criteria_known : Criteria → (ℕ → Rows) → (ℕ → Option ℕ) → Option ℕ → Option ℕ → Criteria
 criteria_known g due ending first_tci last_tco =
     record g {
@@ -40,7 +40,7 @@ criteria_known g due ending first_tci last_tco =
       undecided = λ frame. false;
     }
 
--- The two sets of criteria agree at each frame whose due page the first set knows.
+-- The two sets of criteria agree at each frame whose expected page the first set knows.
 pub record HasSameCriteria (g : Criteria) (due : ℕ → Rows) (ending : ℕ → Option ℕ) : Type 0 where
   pub due_eq : (f : ℕ) → g.undecided f ≡ false → due f ≡ g.due f
   pub ending_eq : (f : ℕ) → g.undecided f ≡ false → ending (f + 1) ≡ g.ending (f + 1)
@@ -78,7 +78,7 @@ module _ (g : Criteria) (due : ℕ → Rows) (ending : ℕ → Option ℕ) (firs
     unfinished_end_of_more : (f : ℕ) → un f ≡ true → un_known f ≡ true
     unfinished_end_of_more f e = grind (arith, nat_tests, unfinished_end_same, or_true)
 
-    -- The due page is known at the last `within` frames up to f, and at f.
+    -- The expected page is known at the last `within` frames up to f, and at f.
     abbrev pub IsDueKnownUpTo : ℕ → Type 0
     IsDueKnownUpTo f = (e : ℕ) → first ≤ e → e ≤ f → f ≤ e + g.within → g.undecided e ≡ false
 

@@ -1,4 +1,4 @@
--- If the packets that were read are on air in a stretch of frames, and its first frame has a header
+-- If the packets that were read are on air in a range of frames, and its first frame has a header
 -- that begins the text of the page, the sufficient conditions hold for the packets on air, too
 -- (`sufficient_in_other`), and the frames are finished in time (`finishes_in_other`). Used for
 -- `law_of_trusted` and `law_of_trusted_repeats`.

@@ -38,8 +38,8 @@ use Rattle.sub_rules.specs.Trusted.{has_no_active_faults, stays_fault_free, repo
 use Rattle.sub_rules.specs.Trusted.{reported_at, correct_at}
 use Rattle.sub_rules.specs.Trusted.{first_correct_of}
 
--- If a run has a frame at whose end the page was right, that frame is the current one or was known
--- before.
+-- If a run has a frame at whose end the page was correct, that frame is the current one or was
+-- known before.
 correct_ended : (run whole first_unfinished : Option ℕ) (f w : ℕ)
     → option_or (if is_none run then None else whole) (correct_at f first_unfinished) ≡ Some w
     → ((first_unfinished ≡ None) × (f ≡ w)) ⊎ ((whole ≡ Some w) × (is_some run ≡ true))

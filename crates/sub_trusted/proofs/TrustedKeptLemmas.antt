@@ -49,7 +49,7 @@ pub correct_found : (whole first_unfinished : Option ℕ) (f w : ℕ)
 correct_found whole first_unfinished f w e = grind (arith, nat_tests)
 
 -- No end is checked for lateness since `within` is 0: no frame is noted from which on the page has
--- been wrong, and in each run the page was right.
+-- been wrong, and in each run the page was correct.
 pub record ChecksNoLateness (t : List CheckStep) : Type 0 where
   pub first_unfinished : first_unfinished_of t ≡ None
   pub late : late_of t ≡ None
@@ -60,7 +60,7 @@ pub correct_some : (whole first_unfinished : Option ℕ) (f : ℕ) → first_unf
 correct_some whole first_unfinished f none = grind (arith, nat_tests)
 
 module _ (g : Criteria) (frames : Transmission) where
-  -- If `within` is not 0, the page was right at the end of frame w, which is not before the first
+  -- If `within` is not 0, the page was correct at the end of frame w, which is not before the first
   -- frame of the run.
   pub record IsCorrectFrom (from w : ℕ) : Type 0 where
     pub low : from ≤ w
@@ -69,7 +69,7 @@ module _ (g : Criteria) (frames : Transmission) where
     pub rises : RiseTo frames n
     pub finished : seen_unfinished g frames n w ≡ None
 
-  -- The frames `from` to `to` may stay, and at the end of one of them the page was right.
+  -- The frames `from` to `to` may stay, and at the end of one of them the page was correct.
   pub record MayStayCorrect (from to : ℕ) : Type 0 where
     pub stays : StaysTo g frames from to
     pub w : ℕ
@@ -81,14 +81,14 @@ module _ (g : Criteria) (frames : Transmission) where
   IsAfterFrames base from = (i : ℕ) → i < base → frame_at frames i < from
 
   -- The frames `from` to `to` may stay; they are after the first `base` frames of the list, and if
-  -- all frames rise they are before frame `late`.
+  -- all frame numbers increase they are before frame `late`.
   pub record MayStayBetween (base late from to : ℕ) : Type 0 where
     pub may_stay_correct : MayStayCorrect from to
     pub above : IsAfterFrames base from
     pub early : RiseTo frames (length frames) → to < late
 
-  -- A run may be trusted up to the frame before y; if all frames rise, up to the frame before
-  -- `late`.
+  -- A run may be trusted up to the frame before y; if all frame numbers increase, up to the frame
+  -- before `late`.
   pub record MayEnd (late n x y : ℕ) : Type 0 where
     pub within : n ≤ length frames
     pub low : y ≤ x
@@ -139,7 +139,8 @@ module _ (g : Criteria) (frames : Transmission) where
   end_few n rises m f (some, within, inr (there, high, low)) l =
       let up = rises_to frames n rises m (n - 1) (omega arith) (omega arith) in omega arith
 
-  -- If a run continues, the frames rise up to frame n, and frame n - 1 is the latest one.
+  -- If a run continues, the frame numbers increase up to frame n, and frame n - 1 is the latest
+  -- one.
   pub record RunFacts (n : ℕ) : Type 0 where
     pub some : 0 < n
     pub last : latest frames n ≡ frame_at frames (n - 1)
@@ -164,8 +165,8 @@ module _ (g : Criteria) (frames : Transmission) where
         ),
       )
 
-  -- Frame n can belong to a run: frames rise up to it, its packets keep the rules, and no fault is
-  -- active at its end.
+  -- Frame n can belong to a run: frame numbers increase up to it, its packets keep the rules, and
+  -- no fault is active at its end.
   pub record FaultFree (n : ℕ) : Type 0 where
     pub rises : RiseTo frames (suc n)
     pub kept : KeepsAll g.watched (packets_before frames n) (packets_of_frame frames n)

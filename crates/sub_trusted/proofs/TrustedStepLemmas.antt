@@ -56,8 +56,8 @@ use Rattle.sub_rules.specs.Trusted.{has_no_active_faults, stays_fault_free, repo
 use Rattle.sub_rules.specs.Trusted.{reported_at, first_correct_of}
 
 module _ (g : Criteria) (frames : Transmission) (base : ℕ) where
-  -- Trusted frames may stay: from frame `base` of the list on and, if all frames rise, before the
-  -- last frame.
+  -- Trusted frames may stay: from frame `base` of the list on and, if all frame numbers increase,
+  -- before the last frame.
   abbrev pub Passes : ℕ → ℕ → Type 0
   Passes = MayStayBetween g frames base (end_frame frames)
 

@@ -12,20 +12,20 @@ use Rattle.sub_rules.specs.declared.event.Event.TheVariants.{Trusted}
 use Rattle.sub_laws.specs.CleanStretch.{AtEnds, criteria_unsure}
 use Rattle.sub_trusted.specs.TrustedFrames.{rising_of}
 
--- The subtitle is due only at frames whose due page is unknown.
+-- The subtitle is expected only at frames whose expected page is unknown.
 pub record IsDueAmong (undecided : ℕ → Bool) (t : SubtitleValue) : Type 0 where
   pub times : t.tci < t.tco
   pub within : (f : ℕ) → t.tci ≤ f → f < t.tco → IsTrue (undecided f)
 
 -- The list has the subtitles `judged`, in order, and among them others that are each due only at
--- frames whose due page is unknown.
+-- frames whose expected page is unknown.
 abbrev pub HasOtherSubtitles : (ℕ → Bool) → List SubtitleValue → List SubtitleValue → Type 0
 HasOtherSubtitles undecided judged [] = judged ≡ []
 HasOtherSubtitles undecided judged (t ∷ all) =
     ((rest : List SubtitleValue) × (judged ≡ t ∷ rest) × HasOtherSubtitles undecided rest all)
     ⊎ (IsDueAmong undecided t × HasOtherSubtitles undecided judged all)
 
--- The page is right at the end of frame b.
+-- The page is correct at the end of frame b.
 abbrev pub IsCorrectAt : Criteria → List PesPacket → ℕ → Type 0
 IsCorrectAt g pes_packets b =
     AtEnds (λ n f. IsFalse (is_unfinished g (rising_of g pes_packets) n f))
@@ -41,9 +41,9 @@ AreTrusted g pes_packets from to =
     × Contains (all_of_pes_packets g pes_packets) (Trusted first last)
 
 -- Frames that are reported as trusted although subtitles were refused are also reported, in one
--- event, for a file with any other subtitles in place of the refused ones, if these are due only at
--- frames whose due page was unknown; or nothing at all is reported. If the page may be late, this
--- holds up to each frame at whose end the page is right.
+-- event, for a file with any other subtitles in place of the refused ones, if these are expected
+-- only at frames whose expected page was unknown; or nothing at all is reported. If the page may be
+-- late, this holds up to each frame at whose end the page is correct.
 abbrev pub LawOfEqualTrust : Type 0
 LawOfEqualTrust =
     (programme : ProgrammeValue) (options : OptionsValue) (unread : Option Unread)

@@ -1,5 +1,5 @@
--- The promises for the frames that are reported as trusted, whatever is broken elsewhere, and that
--- no other frames could be trusted.
+-- The guarantees for the frames that are reported as trusted, whatever is broken elsewhere, and
+-- that no other frames could be trusted.
 use Rattle.std.specs.Prelude.{◌≡◌, ◌≢◌, ℕ, zero, suc, ◌+◌, ◌<◌, ◌≤◌, ◌==◌, ◌&&◌, nat_lt, Bool}
 use Rattle.std.specs.Prelude.{List, [], ◌∷◌, ◌++◌, ◌⊎◌, Contains, length, take, Option, Some}
 use Rattle.std.specs.Prelude.{IsFalse, IsTrue, if◌then◌else◌, true}
@@ -45,7 +45,7 @@ abbrev pub rising_of : Criteria → List PesPacket → Transmission
 rising_of g pes_packets = rising_part (sent_by_pes_packets g pes_packets)
 
 -- Frame i of the list has a header with which the text of the page begins: any header of the page,
--- or, if repeats may keep the page, a header that erases it.
+-- or, if repeats may have C4 (erase page) clear, a header that erases it.
 abbrev pub BeginsText : Criteria → Transmission → ℕ → Type 0
 BeginsText g frames i =
     holds_beginning g.watched.keeps (kind g.watched.page) (packets_of_frame frames i) ≡ true
@@ -89,7 +89,7 @@ pub record StaysAsRead
 -- The frames `from` to `to` may stay on air as they are, given the packets up to frame `to`. Frame
 -- `from` has a header of the page, so a receiver that is tuned in at one of the frames recovers
 -- whatever it contained before; and if complete pages are required, the pages of these frames are
--- complete, so the due page is on screens.
+-- complete, so the expected page is on screens.
 pub record MayStay
     (programme : ProgrammeValue) (transmission : Transmission) (options : OptionsValue)
     (from to : ℕ)
@@ -98,11 +98,11 @@ pub record MayStay
   pub trusted : MayBeTrusted programme transmission options from to
   pub complete : IsTrue options.asks_complete → CompleteWithin transmission options from to
 
--- If no repeat may keep the page and `within` is 0, frames of a PES file that are reported as
--- trusted may stay, as read from the part in which frames rise, whatever is broken and whatever is
--- on air elsewhere. So someone who repairs a transmission need not touch these frames. If subtitles
--- were refused, this law holds for the programme of the reliable subtitles, whatever is due at
--- frames whose due page is unknown.
+-- If every repeat must have C4 (erase page) set and `within` is 0, frames of a PES file that are
+-- reported as trusted may stay, as read from the part in which frame numbers increase, whatever is
+-- broken and whatever is on air elsewhere. So someone who repairs a transmission need not touch
+-- these frames. If subtitles were refused, this law holds for the programme of the reliable
+-- subtitles, whatever is expected at frames whose expected page is unknown.
 abbrev pub LawOfTrusted : Type 0
 LawOfTrusted =
     (programme : ProgrammeValue) (options : OptionsValue) (unread : Option Unread)
@@ -116,7 +116,7 @@ LawOfTrusted =
     to
     (λ on_air. MayStay programme on_air options from to)
 
--- At each trusted frame the due page is known, and it was known at each of the `within` frames
+-- At each trusted frame the expected page is known, and it was known at each of the `within` frames
 -- before, from the first frame that was read.
 abbrev pub LawOfTrustedKnown : Type 0
 LawOfTrustedKnown =
@@ -154,9 +154,9 @@ pub record CanStay (g : Criteria) (pes_packets : List PesPacket) (a b : ℕ) : T
 abbrev pub IsAnythingReported : Criteria → List PesPacket → Type 0
 IsAnythingReported g pes_packets = (all_of_pes_packets g pes_packets ≢ []) ⊎ IsTrue g.any_refused
 
--- If anything is reported, the frames of a stretch that may be trusted are reported as trusted, in
--- one event, from a frame that begins the text of the page on. So every frame that may stay is
--- reported, except, if `within` is not 0, the frames after the last finished one.
+-- If anything is reported, the frames of a range of frames that may be trusted are reported as
+-- trusted, in one event, from a frame that begins the text of the page on. So every frame that may
+-- stay is reported, except, if `within` is not 0, the frames after the last finished one.
 abbrev pub LawOfAllTrusted : Type 0
 LawOfAllTrusted =
     (g : Criteria) (pes_packets : List PesPacket) (a b i : ℕ)

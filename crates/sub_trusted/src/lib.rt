@@ -1,7 +1,7 @@
 //! The frames of a faulty transmission that may stay on air: the frames that are reported as
 //! trusted.
 //!
-//! `sub_laws` defines the promises for a stretch of frames, and `sub_rules` defines the reports.
+//! `sub_laws` defines the guarantees for a range of frames, and `sub_rules` defines the reports.
 //! This crate contains no program: each function is a law.
 //!
 //! ```text

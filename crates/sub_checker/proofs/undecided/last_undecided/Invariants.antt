@@ -1,4 +1,4 @@
--- The due page is known from the frame that was examined last up to the current frame.
+-- The expected page is known from the frame that was examined last up to the current frame.
 use Rattle.std.proofs.Common.{◌≡◌, ℕ, ◌≤◌, false}
 use Rattle.stl_rows.specs.Judged.{is_undecided_in}
 use Rattle.sub_checker.proofs.undecided.last_undecided.Given as goal

@@ -1,4 +1,5 @@
--- In the rows examined so far, each due code is replaced by a space; the other rows are unchanged.
+-- In the rows examined so far, each expected code is replaced by a space; the other rows are
+-- unchanged.
 use Rattle.std.proofs.Common.{◌≡◌, ℕ, ◌<◌, ◌≤◌}
 use Rattle.ttx_page.specs.Page.{IsCell, cell}
 use Rattle.sub_packets.specs.Unexpected.{unless_due}

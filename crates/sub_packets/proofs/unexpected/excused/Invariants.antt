@@ -1,4 +1,4 @@
--- In the columns examined so far, each due code is replaced by a space.
+-- In the columns examined so far, each expected code is replaced by a space.
 use Rattle.std.proofs.Common.{◌≡◌, ℕ, ◌<◌, length, slice_index}
 use Rattle.ttx_page.specs.Page.{AreCodes}
 use Rattle.sub_packets.specs.Unexpected.{unless_due}

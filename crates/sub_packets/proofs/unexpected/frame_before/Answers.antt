@@ -1,4 +1,4 @@
--- Between two page changes the due page stays the same: due_same.
+-- Between two page changes the expected page stays the same: due_same.
 use Rattle.std.proofs.Common.{arith}
 use Rattle.sub_packets.proofs.UnexpectedLemmas.{due_same}
 use Rattle.sub_packets.proofs.unexpected.frame_before.Goals as goal

@@ -1,4 +1,4 @@
--- The checker moves to the first frame, and reports a fault if a subtitle was due before this
+-- The checker moves to the first frame, and reports a fault if a subtitle was expected before this
 -- frame.
 use Rattle.std.proofs.Common.{sym, subst}
 use Rattle.sub_checker.specs.CheckedFrames.{AfterEnd, BeforePackets}

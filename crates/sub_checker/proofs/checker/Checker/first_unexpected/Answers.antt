@@ -1,4 +1,4 @@
--- If no cell differs from the due page, no cell is unexpected.
+-- If no cell differs from the expected page, no cell is unexpected.
 use Rattle.std.proofs.Common.{◌≡◌, subst}
 use Rattle.sub_plan.specs.Schedule.{due_in}
 use Rattle.sub_checker.specs.Checker.{CheckerValue}
