@@ -1,10 +1,10 @@
--- What a multiplexer sends in the transport packets of a PID: PES packets one after another, each
--- in the payloads of consecutive transport packets (ISO/IEC 13818-1, payload_unit_start_indicator,
+-- The TS packets of a PID as a multiplexer sends them: PES packets one after another, each in the
+-- payloads of consecutive TS packets (ISO/IEC 13818-1, payload_unit_start_indicator,
 -- continuity_counter, discontinuity_indicator).
 --
--- The items of a multiplex are units of a recording, or units with what became of them; `packet_of`
--- gives the transport packet of an item. So one grammar describes both what was sent and what is
--- recorded.
+-- The items of a multiplex are units of a recording, or units with the outcome of recording them;
+-- `packet_of` returns the TS packet of an item. So the same definitions describe both what was sent
+-- and what was recorded.
 use Rattle.std.specs.Prelude.{◌≡◌, ◌⊎◌, ℕ, ◌+◌, ◌≤◌, ◌==◌, ◌&&◌, ◌||◌, not, Bool, true, false, List}
 use Rattle.std.specs.Prelude.{[], ◌∷◌, ◌++◌, length, map, take, drop, slice_index, Option, ⊤}
 use Rattle.std.specs.List.{AllByRecursion, concat, flat_map, list_any}
@@ -15,21 +15,21 @@ use Rattle.mpeg_ts.specs.PacketsInStep.{lead_size, most_bytes}
 use Rattle.mpeg_ts.specs.TransportPacket.{packet_size, sync_byte, pid, begins, is_wrong}
 use Rattle.mpeg_ts.specs.TransportPacket.{has_payload, announces_jump, payload}
 
--- ---- transport packets of a PID
+-- ---- TS packets of a PID
 
--- The transport packet has another PID, or is usable and has no payload.
+-- The TS packet has another PID, or it is usable and has no payload.
 abbrev pub is_irrelevant : ℕ → List ℕ → Bool
 is_irrelevant number p = not (pid p == number) || (not (is_wrong p) && not (has_payload p))
 
--- The transport packet has the PID, is usable and has a payload.
+-- The TS packet has the PID, is usable and has a payload.
 abbrev pub carries : ℕ → List ℕ → Bool
 carries number p = (pid p == number) && (not (is_wrong p) && has_payload p)
 
--- The transport packet has the PID and announces a jump of the counter.
+-- The TS packet has the PID and announces a jump of the continuity counter.
 abbrev pub announces : ℕ → List ℕ → Bool
 announces number p = (pid p == number) && announces_jump p
 
--- The transport packet q repeats the packet p, and announces a jump only if p does.
+-- The TS packet `q` repeats the packet `p`, and announces a jump only if `p` does.
 pub record IsRepetition (number : ℕ) (p q : List ℕ) : Type 0 where
   pub carries : carries number q ≡ true
   pub same : is_same p q ≡ true
@@ -37,16 +37,15 @@ pub record IsRepetition (number : ℕ) (p q : List ℕ) : Type 0 where
 
 -- ---- the grammar of a multiplex
 
--- A carrier: a transport packet with a payload, and the items that are sent before the next such
--- packet: packets without payload, and possibly the repeat of the carrier's packet among them.
+-- A carrier: a TS packet with payload, and the items up to the next TS packet with payload. These
+-- items are packets without payload and at most one repeat of the first packet.
 pub record Carrier (A : Type 0) : Type 0 where
   pub packet : A
   pub before : List A
   pub again : Option A
   pub after : List A
 
--- A PES packet, and the transport packets with payload (carriers) in which it is sent, at least
--- one.
+-- A PES packet, and the TS packets with payload (carriers) in which it is sent, at least one.
 pub record SentPes (A : Type 0) : Type 0 where
   pub bytes : List ℕ
   pub first : Carrier A
@@ -57,16 +56,15 @@ pub record Multiplex (A : Type 0) : Type 0 where
   pub lead : List A
   pub sent : List (SentPes A)
 
--- The transport packets with payload (carriers) of a PES packet, in order.
+-- The TS packets with payload (carriers) of a PES packet, in order.
 abbrev pub carriers_of_pes : {A : Type 0} → SentPes A → List (Carrier A)
 carriers_of_pes s = s.first ∷ s.others
 
--- The transport packets with payload (carriers) of a list of PES packets, in order.
+-- The TS packets with payload (carriers) of all PES packets in a list, in order.
 abbrev pub carriers_of : {A : Type 0} → List (SentPes A) → List (Carrier A)
 carriers_of sent = flat_map carriers_of_pes sent
 
--- The items of a carrier in order: its transport packet, and the items before the next packet with
--- payload.
+-- The TS packet of a carrier, followed by the items up to the next TS packet with payload.
 abbrev pub items_of_carrier : {A : Type 0} → Carrier A → List A
 items_of_carrier c = c.packet ∷ (c.before ++ (option_to_list c.again ++ c.after))
 
@@ -74,9 +72,9 @@ items_of_carrier c = c.packet ∷ (c.before ++ (option_to_list c.again ++ c.afte
 abbrev pub items_of_multiplex : {A : Type 0} → Multiplex A → List A
 items_of_multiplex m = m.lead ++ flat_map items_of_carrier (carriers_of m.sent)
 
--- The value c is a carrier of the PID: a transport packet with payload, and the items before the
--- next such packet. `first` says whether a PES packet begins with it. No jump is announced between
--- the packet and its repeat.
+-- Requirements for a carrier of the PID: a TS packet with payload, and the items up to the next TS
+-- packet with payload. The packet starts a PES packet exactly if `first` is true. No jump is
+-- announced between the packet and its repeat.
 pub record IsCarrier {A : Type 0} (packet_of : A → List ℕ) (number : ℕ) (first : Bool)
     (c : Carrier A) : Type 0 where
   pub carries : carries number (packet_of c.packet) ≡ true
@@ -88,9 +86,8 @@ pub record IsCarrier {A : Type 0} (packet_of : A → List ℕ) (number : ℕ) (f
       (option_to_list c.again)
   pub after : AllByRecursion (λ x. is_irrelevant number (packet_of x) ≡ true) c.after
 
--- A PES packet is sent in its transport packets: it begins with the first byte of the first
--- packet's payload, no other of these packets begins a PES packet, and its bytes are their joined
--- payloads.
+-- A PES packet is sent in its TS packets: it starts with the payload of the first of them, no other
+-- of them starts a PES packet, and its bytes are their joined payloads.
 pub record IsSentPes {A : Type 0} (packet_of : A → List ℕ) (number : ℕ) (s : SentPes A)
     : Type 0 where
   pub is_pes_packet : IsPesPacket s.bytes
@@ -98,17 +95,17 @@ pub record IsSentPes {A : Type 0} (packet_of : A → List ℕ) (number : ℕ) (s
   pub others : AllByRecursion (IsCarrier packet_of number false) s.others
   pub joined : concat (map (λ c. payload (packet_of c.packet)) (carriers_of_pes s)) ≡ s.bytes
 
--- A jump of the counter is announced between the packets of the carriers c and d: by a packet
--- without payload, or by the packet of d. The packet of d cannot be taken for a repeat of the
--- packet of c, since c has a repeat or the two packets differ.
+-- A jump of the continuity counter is announced between the packets of the carriers `c` and `d`, by
+-- a packet without payload or by the packet of `d`. A receiver can't take the packet of `d` for a
+-- repeat, since `c` already has a repeat or the two packets differ.
 abbrev pub IsJump : {A : Type 0} → (A → List ℕ) → ℕ → Carrier A → Carrier A → Type 0
 IsJump packet_of number c d =
     (list_any (λ x. announces number (packet_of x)) c.after ≡ true)
     ⊎ ((announces_jump (packet_of d.packet) ≡ true)
     × ((is_some c.again || not (is_same (packet_of c.packet) (packet_of d.packet))) ≡ true))
 
--- The packet of carrier d may follow the packet of carrier c: its counter is the next, or a jump is
--- announced. No jump is announced within a PES packet.
+-- The packet of carrier `d` may follow the packet of carrier `c`: it has the next continuity
+-- counter, or a jump is announced. No jump is announced within a PES packet.
 pub record IsNextCarrier {A : Type 0} (packet_of : A → List ℕ) (number : ℕ) (c d : Carrier A)
     : Type 0 where
   pub counter :
@@ -118,44 +115,44 @@ pub record IsNextCarrier {A : Type 0} (packet_of : A → List ℕ) (number : ℕ
       → (list_any (λ x. announces number (packet_of x)) c.after ≡ false)
       × (announces_jump (packet_of d.packet) ≡ false)
 
--- Each transport packet with payload may follow the packet before it; the first of the list follows
--- the packet of c.
+-- Each TS packet with payload in the list may follow the one before it, and the first may follow
+-- the packet of `c`.
 abbrev pub AreNextCarriers : {A : Type 0} → (A → List ℕ) → ℕ → Carrier A → List (Carrier A) → Type 0
 AreNextCarriers packet_of number c [] = ⊤
 AreNextCarriers packet_of number c (d ∷ more) =
     IsNextCarrier packet_of number c d × AreNextCarriers packet_of number d more
 
--- Each transport packet with payload of the list may follow the packet before it.
+-- Each TS packet with payload in the list may follow the one before it.
 abbrev pub AreInSequence : {A : Type 0} → (A → List ℕ) → ℕ → List (Carrier A) → Type 0
 AreInSequence packet_of number [] = ⊤
 AreInSequence packet_of number (c ∷ more) = AreNextCarriers packet_of number c more
 
--- The PES packets and items of m form a multiplex that a multiplexer may send.
+-- A multiplexer may send these PES packets and items.
 pub record IsMultiplex {A : Type 0} (packet_of : A → List ℕ) (number : ℕ) (m : Multiplex A)
     : Type 0 where
   pub lead : AllByRecursion (λ x. is_irrelevant number (packet_of x) ≡ true) m.lead
   pub sent : AllByRecursion (IsSentPes packet_of number) m.sent
   pub linked : AreInSequence packet_of number (carriers_of m.sent)
 
--- The bytes of the PES packets of a multiplex.
+-- The bytes of the PES packets in a multiplex.
 abbrev pub sent_pes_packets : {A : Type 0} → Multiplex A → List (List ℕ)
 sent_pes_packets m = map (λ s. s.bytes) m.sent
 
 -- ---- recordings of a multiplex
 
--- The transport packet of a unit: 188 bytes, after the time stamp if the unit has one.
+-- The TS packet of a unit: 188 bytes, after the time stamp if the recording has time stamps.
 abbrev pub packet_in : ℕ → List ℕ → List ℕ
 packet_in distance unit = take packet_size (drop (lead_size distance) unit)
 
--- A unit of a recording with this distance of packets: a transport packet, and the bytes that the
--- recorder adds before or after it.
+-- A unit of a recording in which TS packets are `distance` bytes apart: a TS packet, and the bytes
+-- that the recorder adds before or after it.
 pub record IsRecordedUnit (distance : ℕ) (unit : List ℕ) : Type 0 where
   pub long : lead_size distance + packet_size ≤ length unit
   pub short : length unit ≤ distance
   pub sync : slice_index (packet_in distance unit) 0 ≡ sync_byte
 
--- Consecutive units of a recording. The bytes that the recorder adds after the last packet may be
--- missing.
+-- Consecutive units of a recording. The bytes that the recorder adds after the last TS packet may
+-- be missing.
 abbrev pub AreRecordedUnits : ℕ → List (List ℕ) → Type 0
 AreRecordedUnits distance [] = ⊤
 AreRecordedUnits distance (unit ∷ more) =
@@ -163,14 +160,14 @@ AreRecordedUnits distance (unit ∷ more) =
     × ((more ≡ []) ⊎ (length unit ≡ distance))
     × AreRecordedUnits distance more
 
--- The recording consists of the bytes of these units.
+-- The recording consists of these units.
 pub record IsRecording (distance : ℕ) (units : List (List ℕ)) (recording : List ℕ) : Type 0 where
   pub each : AreRecordedUnits distance units
   pub joined : recording ≡ concat units
   pub few : length recording ≤ most_bytes
 
--- The recording contains all that a multiplexer sent: these PES packets in transport packets of the
--- PID.
+-- The recording contains everything that a multiplexer sent: these PES packets in the TS packets of
+-- the PID.
 pub record IsMultiplexed (number distance : ℕ) (packets : List (List ℕ)) (recording : List ℕ)
     : Type 0 where
   pub multiplex : Multiplex (List ℕ)

@@ -1,6 +1,6 @@
--- How far apart in time the PES packets of a PID are sent and read, so that no loss of any length
--- goes unnoticed. Counters alone cannot show a loss of any length, since they repeat after 16
--- packets (ISO/IEC 13818-1, continuity_counter).
+-- Time distances of the PES packets of a PID, as they were sent and as they were read, for the law
+-- of pace. Continuity counters alone do not show every loss, since they repeat after 16 packets
+-- (ISO/IEC 13818-1, continuity_counter).
 use Rattle.std.specs.Prelude.{ℕ, ◌+◌, ◌<◌, ◌≤◌, List, [], ◌∷◌, length, take, ⊤}
 use Rattle.mpeg_ts.specs.TransportPacket.{payload}
 use Rattle.recording_laws.specs.Losses.{Fated, sent_packet}
@@ -10,37 +10,39 @@ use Rattle.recording_laws.specs.Multiplex.{SentPes, carriers_of_pes}
 abbrev pub up_to_pts : List ℕ → List ℕ
 up_to_pts packet = take 14 packet
 
--- The frame of a PES packet, by a function of its bytes up to its PTS.
+-- The frame of a PES packet, computed by `frame_of` from the bytes up to its PTS.
 abbrev pub frame_by : (List ℕ → ℕ) → List ℕ → ℕ
 frame_by frame_of packet = frame_of (up_to_pts packet)
 
--- The first transport packet of a PES packet contains its PTS.
+-- The first TS packet of a PES packet contains its PTS.
 --
--- Otherwise a PES packet that was never sent could be read: nine bytes of a PES packet arrive in
--- its first transport packet, 16 packets of the PID are lost, and the next packet is from the
--- middle of another PES packet. Its bytes are then read as a PTS, whose frame may happen to fit.
+-- Without this assumption, a PES packet that was never sent could be read: nine bytes of a PES
+-- packet arrive in its first TS packet, 16 packets of the PID are lost, and the next packet is from
+-- the middle of another PES packet. Its bytes are then read as a PTS, whose frame may happen to
+-- fit.
 abbrev pub HoldsPts : ℕ → SentPes Fated → Type 0
 HoldsPts distance s = 14 ≤ length (payload (sent_packet distance s.first.packet))
 
--- ---- distances of the PES packets sent
+-- ---- distances of PES packets as sent
 
--- The PES packets begin `between` transport packets with payload after a PES packet with this
--- frame. Those that begin 16 or more packets after it are more than `pace` frames later.
+-- The first of the PES packets starts `between` TS packets with payload after a PES packet with
+-- this frame. PES packets that start 16 or more TS packets after it are more than `pace` frames
+-- later.
 abbrev pub AreFarFrom : (List ℕ → ℕ) → ℕ → ℕ → ℕ → List (SentPes Fated) → Type 0
 AreFarFrom frame_of pace frame between [] = ⊤
 AreFarFrom frame_of pace frame between (s ∷ more) =
     (16 ≤ between → frame + pace < frame_by frame_of s.bytes)
     × AreFarFrom frame_of pace frame (between + length (carriers_of_pes s)) more
 
--- Any two PES packets that begin 16 or more transport packets with payload apart are more than
--- `pace` frames apart, and the later one has the greater frame.
+-- Any two PES packets that start 16 or more TS packets with payload apart are more than `pace`
+-- frames apart, in rising order.
 abbrev pub AreFarApart : (List ℕ → ℕ) → ℕ → List (SentPes Fated) → Type 0
 AreFarApart frame_of pace [] = ⊤
 AreFarApart frame_of pace (s ∷ more) =
     AreFarFrom frame_of pace (frame_by frame_of s.bytes) (length s.others) more
     × AreFarApart frame_of pace more
 
--- ---- distances of the PES packets read
+-- ---- distances of PES packets as read
 
 -- Each PES packet is at most `pace` frames later than the PES packet before it, and the first is at
 -- most `pace` frames later than `frame`.

@@ -1,4 +1,4 @@
--- Laws that compare a transmission that `check` accepts from a recording with what was sent.
+-- The law for recordings that `check --pace` accepts.
 use Rattle.std.specs.Prelude.{◌≡◌, ℕ, List, [], ◌∷◌, ◌++◌, drop, Some, unwrap_or}
 use Rattle.std.specs.List.{AllByRecursion, concat}
 use Rattle.ttx_pes.specs.PesPackets.{IsPesPacket}
@@ -14,13 +14,13 @@ use Rattle.sub_rules.specs.PesFrames.{CarriesBy}
 use Rattle.sub_rules.specs.Repeats.{GoodBy}
 use Rattle.sub_rules.specs.Transmission.{Transmission}
 
--- The frame of a PES packet by the clock of the options, from its bytes up to its PTS; 0 if the
--- clock gives no frame.
+-- The frame of a PES packet, computed from the bytes up to its PTS with the clock of the options; 0
+-- if the clock gives no frame for the PTS.
 abbrev pub frame_by_clock : OptionsValue → List ℕ → ℕ
 frame_by_clock options prefix = unwrap_or (clock_of options (pts_bits (drop 6 prefix))) 0
 
--- `packets` is a nonempty run of the PES packets that were sent, and none is missing between them.
--- Each is as it was sent; the last is as it was sent up to its PTS.
+-- The PES packets of the list `packets`, at least one, were sent one after another, and none
+-- between them is missing. All have the bytes that were sent, the last of them only up to its PTS.
 pub record WereSent (sent packets : List (List ℕ)) : Type 0 where
   pub run : List (List ℕ)
   pub last : List ℕ
@@ -31,13 +31,12 @@ pub record WereSent (sent packets : List (List ℕ)) : Type 0 where
   pub sent_bytes_eq : sent ≡ earlier ++ (run ++ (next ∷ later))
   pub last_is : up_to_pts next ≡ up_to_pts last
 
--- The law of `check` with `--pace`. Assumptions: the first transport packet of each PES packet
--- contains its PTS, and two PES packets are more than `pace` frames apart by the clock of the
--- options if their first transport packets are 16 or more packets with payload of the PID apart. If
--- what a recording carries, or a run of its PES packets, is a transmission that is good by options
--- with that maximum distance, these PES packets were sent one after another, however many transport
--- packets were lost. `check` with `--pace` accepts only such transmissions. So if it accepts a
--- recording, no loss of any length went unnoticed.
+-- The law of `check --pace`. Assumptions: the first TS packet of each PES packet contains its PTS,
+-- and two PES packets are more than `pace` frames apart by the clock of the options if they start
+-- 16 or more TS packets with payload apart. If all PES packets in a recording, or a range of them,
+-- form a good transmission by options with this maximum distance, they were sent one after another,
+-- for any number of lost TS packets. `check --pace` accepts only such transmissions. So if it
+-- accepts a recording, no loss went unnoticed.
 abbrev pub LawOfPacedCheck : Type 0
 LawOfPacedCheck =
     (number distance pace : ℕ) (m : Multiplex Fated) (recording : List ℕ)

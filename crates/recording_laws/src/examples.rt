@@ -1,16 +1,16 @@
-//! Examples of complete recordings: one of all that a multiplexer sends, and one with losses.
+//! Examples of complete recordings: one without losses and one with losses.
 //!
-//! The examples show that the laws are not empty. The functions do nothing.
+//! The examples show that the assumptions of the laws can be satisfied. The functions do nothing.
 ghost use Rattle.recording_laws.specs.Examples.{ExampleOfLosses, ExampleOfMultiplex};
 
-/// A recording of two PES packets, as a multiplexer sends them, satisfies the grammar of a
-/// multiplex.
+/// A recording of two PES packets satisfies the definition of a complete recording.
 #[tactic(auto, using(crate::proofs::ExampleLemmas::example_of_multiplex))]
 pub fn example_of_multiplex()
     ensures { ExampleOfMultiplex }
 {}
 
-/// A recording of four PES packets, of which two arrive, is a recording with losses.
+/// A recording of four PES packets, of which two arrive, satisfies the definition of a recording
+/// with losses.
 #[tactic(auto, using(crate::proofs::ExampleLemmas::example_of_losses))]
 pub fn example_of_losses()
     ensures { ExampleOfLosses }

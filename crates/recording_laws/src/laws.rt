@@ -1,4 +1,4 @@
-//! Laws of what a recording carries of a multiplex, and of what `check` accepts.
+//! Laws that relate the PES packets in a recording to the PES packets that a multiplexer sent.
 //!
 //! The functions do nothing: the contract of each function is a law about the definitions in
 //! `specs/`.
@@ -6,42 +6,41 @@ ghost use Rattle.recording_laws.specs.Laws.{LawOfLosses, LawOfMultiplex, LawOfNe
 ghost use Rattle.recording_laws.specs.Laws.{LawOfPace, LawOfCompleteFile};
 ghost use Rattle.recording_laws.specs.PacedCheck.{LawOfPacedCheck};
 
-/// The transport packets of a PID carry exactly the PES packets that a multiplexer sent in them.
+/// The TS packets of a PID carry exactly the PES packets that a multiplexer sent in them.
 #[tactic(auto, using(crate::proofs::MultiplexLemmas::law_of_multiplex))]
 pub fn law_of_multiplex()
     ensures { LawOfMultiplex }
 {}
 
-/// If units are missing or damaged, the recording carries the PES packets that arrive as they were
-/// sent, in order, and no other PES packets. If a PES packet is missing between two of them, a gap
-/// marker is between them.
+/// If TS packets are missing or damaged, the recording carries exactly the PES packets that arrive,
+/// unchanged and in order. If a PES packet is missing between two of them, there is a gap marker
+/// between these two.
 #[tactic(auto, using(crate::proofs::ArrivingLaw::law_of_losses))]
 pub fn law_of_losses()
     ensures { LawOfLosses }
 {}
 
-/// PES packets that are carried without a gap marker between them were sent one after another: no
-/// PES packet is missing between the first and the last of them.
+/// PES packets in a recording with no gap marker between them were sent one after another: no PES
+/// packet between the first and the last of them is missing.
 pub fn law_of_neighbours()
     ensures { LawOfNeighbours }
 {}
 
-/// Assume that the multiplexer sends PES packets more than `pace` frames apart if they begin 16 or
-/// more transport packets with payload apart. If PES packets are read at most `pace` frames apart,
-/// without a gap marker among them, they were sent one after another, however many packets were
-/// lost.
+/// Assume that PES packets that start 16 or more TS packets with payload apart are sent more than
+/// `pace` frames apart. Then PES packets that are read at most `pace` frames apart, with no gap
+/// marker between them, were sent one after another, for any number of lost TS packets.
 pub fn law_of_pace()
     ensures { LawOfPace }
 {}
 
-/// If `check` accepts PES packets of a recording, no gap marker is among them: all PES packets that
-/// were sent between the first and the last of them are recorded.
+/// If `check` accepts PES packets of a recording, there is no gap marker among them, and all PES
+/// packets that were sent between the first and the last of them are recorded.
 pub fn law_of_complete_file()
     ensures { LawOfCompleteFile }
 {}
 
-/// If `check` accepts PES packets of a recording with a maximum distance, they were sent one after
-/// another: none between the first and the last of them is missing, however many packets were lost.
+/// If `check --pace` accepts PES packets of a recording, they were sent one after another: none
+/// between the first and the last of them is missing, for any number of lost TS packets.
 pub fn law_of_paced_check()
     ensures { LawOfPacedCheck }
 {}

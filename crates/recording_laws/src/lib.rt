@@ -1,14 +1,13 @@
-//! The laws of recordings: what a multiplexer sends is returned, no loss creates a PES packet, and
-//! if a recording is accepted with a maximum distance of PES packets, no loss of any length went
-//! unseen.
+//! Laws about recordings: the PES packets that a multiplexer sends are read again, no loss creates
+//! a PES packet, and no loss goes unnoticed in a recording that `check --pace` accepts.
 //!
-//! `mpeg_ts` defines what the packets of a PID carry, and `sub_rules` the rules for a transmission.
-//! This crate contains no program: `specs/` defines what a multiplexer sends and what may be lost
-//! of it, and each function is a law.
+//! `mpeg_ts` defines what the TS packets of a PID carry, and `sub_rules` the rules for a
+//! transmission. This crate contains no program: `specs/` defines what a multiplexer sends and
+//! which losses are possible, and each function is a law.
 //!
 //! ```text
 //! law_of_multiplex: IsMultiplexed number distance packets recording
-//!                   → carried number distance recording ≡ concat packets
+//! → carried number distance recording ≡ concat packets
 //! ```
 #![tactic(auto)]
 

@@ -1,5 +1,5 @@
--- The answer of `check --all` follows from the events that were reported to a printer, and each
--- source fails at most once. Main lemmas: answers_cut, answers_end, counts.
+-- Lemmas for the answer of `check --all`, which follows from the events reported to a printer. Each
+-- source fails at most once.
 use Rattle.std.proofs.Common.{◌≡◌, ◌≢◌, ◌∙◌, ap, refl, sym, subst, arith, inl, inr, ℕ, ◌+◌, ◌==◌}
 use Rattle.std.proofs.Common.{List, [], ◌++◌, Bool, true, false, Option, Some, None, Result, Ok}
 use Rattle.std.proofs.Common.{Err, min, ◌∷◌}
@@ -191,7 +191,8 @@ done-exactly drawing options file bytes pes first events (Ok (Some a)) Means kno
           cc,
     )
 
--- If the sink failed while events were reported, `check --all` answers with a prefix of its lines.
+-- If the sink failed while events were reported, it received a prefix of the output of `check
+-- --all`.
 pub answers_cut :
     (drawing : Drawing) (options : OptionsValue) (stl pes : SourceCall) (first : FirstNumber)
     (Untouched : Type 0) (old new : PrinterValue) (given : Result (Option Accepted) CheckFault)
@@ -202,8 +203,8 @@ pub answers_cut :
 answers_cut drawing options stl pes first Untouched old new given t failing =
     grind (arith, nat_tests, printed-cut)
 
--- If all events were reported, `check --all` answers with all lines, or with a prefix of them if
--- the sink failed at the last line.
+-- If all events were reported, the complete output of `check --all` was printed, or the sink failed
+-- at the last line and received a prefix of it.
 pub answers_end :
     (drawing : Drawing) (options : OptionsValue) (stl pes : SourceCall) (first : FirstNumber)
     (Untouched : Type 0) (old new : PrinterValue) (given : Result (Option Accepted) CheckFault)

@@ -1,5 +1,4 @@
--- The answer of a check follows from the contract of `check_files` (answer_of_check_files), and its
--- status is Done exactly if the files are accepted (`done-exactly`).
+-- Lemmas for the answer of a check: its status is `Done` exactly if the files are accepted.
 use Rattle.std.proofs.lemmas.Bool.Decides.{nat_tests}
 use Rattle.std.proofs.Common.{◌≡◌, ◌≢◌, ◌↔◌, ℕ, List, Some, Result, Ok, Err, true, false}
 use Rattle.std.proofs.Common.{ap, arith, refl, sym, subst, Bool}

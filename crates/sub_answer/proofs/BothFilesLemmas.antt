@@ -1,5 +1,4 @@
--- The status of a check, which belongs to the printed lines, agrees with the bytes of both files.
--- Main lemmas: status-reported, exactly-accepted, exactly-accepted_by.
+-- Lemmas for the status of a check, which agrees with the bytes of both files.
 use Rattle.std.proofs.Common.{◌≡◌, ◌≢◌, ◌↔◌, ◌∙◌, ap, arith, refl, sym, ℕ, List, Bool, true}
 use Rattle.std.proofs.Common.{false, Result, Ok, Err}
 use Rattle.std.specs.Prelude.{IsFalse, IsOk}
@@ -73,7 +72,7 @@ memory-fault (Err (fault.Subtitles f)) fails read fine =
 memory-fault (Err (fault.Pes pes pes_fault.Read)) fails read fine = cc
 memory-fault (Err f) fails read fine = cc
 
--- If the subtitle file gives a programme, an answer without a failed device is `Ok` exactly if the
+-- If no device failed and the subtitle file contains a programme, the answer is `Ok` exactly if the
 -- files are accepted.
 pub record AcceptsExactly
     (drawing : Drawing) (file : List ℕ) (answer : Result Accepted CheckFault) (Means : Type 0)

@@ -1,5 +1,5 @@
--- The end of a run still holds with weaker properties of its devices (ends_weaker); all bytes were
--- written and flushed before a source failed (written_before, followed_before).
+-- Lemmas for the end of a run: the statement about its end also holds with weaker properties of its
+-- devices, and all bytes were written and flushed before a source failed.
 use Rattle.std.proofs.lemmas.Bool.Decides.{nat_tests}
 use Rattle.std.proofs.Common.{arith}
 use Rattle.std.proofs.Common.{◌≡◌, ◌∙◌, ap, refl, subst, ℕ, List, [], ◌∷◌, ◌++◌}

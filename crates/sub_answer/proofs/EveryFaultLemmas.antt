@@ -1,5 +1,5 @@
--- The events of a subtitle file, and those of a PES file after it, are reported to a printer, and
--- decide the answer. Main lemmas: after_error, after_faults, after_unhanded, after_judged.
+-- Lemmas for the events of a subtitle file and then of a PES file: they are reported to a printer,
+-- and they determine the answer.
 use Rattle.std.proofs.lemmas.Bool.Decides.{nat_tests}
 use Rattle.std.proofs.Common.{◌≡◌, ◌∙◌, ap, refl, sym, subst, arith, inl, inr, ℕ, ◌<◌, ◌≤◌}
 use Rattle.std.proofs.Common.{List, [], ◌∷◌, take, length, Bool, true, false, Option}
@@ -295,8 +295,8 @@ module _ (drawing : Drawing) (options : OptionsValue) (stl pes : SourceCall) (fi
     listed = listed;
   }
 
-  -- If the subtitle file gives a programme, its events are none, so the events of the PES file
-  -- decide the answer of `check`.
+  -- If the subtitle file contains a programme, it has no events, so the events of the PES file
+  -- determine the answer of `check`.
   verdict : (events : List Event) (a : Accepted)
       → IfKnown pes.known (λ bytes.
       (programme : ProgrammeValue)

@@ -1,5 +1,5 @@
--- If the source of the PES file failed, its failure is reported last, after the events of the PES
--- packets before. Main lemmas: reports_none, cut_reads, last_line.
+-- Lemmas for a failed source of the PES file: the failure is reported last, after the events of
+-- earlier PES packets.
 use Rattle.std.proofs.lemmas.Bool.Decides.{nat_tests}
 use Rattle.std.proofs.Common.{◌≡◌, refl, sym, subst, arith, ℕ, ◌<◌}
 use Rattle.std.proofs.Common.{List, [], Bool, true, Option}

@@ -1,4 +1,4 @@
--- The files that were opened for a request are those that its file names request: fits.
+-- The files opened for a request are of the kinds that the request names.
 use Rattle.std.proofs.lemmas.Bool.Decides.{nat_tests}
 use Rattle.std.proofs.Common.{◌≡◌, ℕ, Bool, List, Some, arith, subst, sym}
 use Rattle.sub_request.specs.declared.files.FileNames.{FileNames}

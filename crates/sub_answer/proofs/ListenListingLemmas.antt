@@ -1,4 +1,4 @@
--- The output of `listen` follows from the run of its receiver, or from the fault of the run.
+-- Lemmas for the output of `listen`, which follows from the run of its receiver.
 use Rattle.std.proofs.lemmas.Bool.Decides.{nat_tests}
 use Rattle.std.specs.Prelude.{IfOk}
 use Rattle.std.proofs.Common.{◌≡◌, ◌∙◌, ℕ, ◌+◌, List, arith, refl, subst, sym, Bool, Option}

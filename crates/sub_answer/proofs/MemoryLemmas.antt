@@ -1,5 +1,5 @@
--- If a check was answered with files in memory, its status is Done exactly if their bytes are
--- accepted: law_of_files_in_memory.
+-- If a check was answered with files in memory, its status is `Done` exactly if their bytes are
+-- accepted.
 use Rattle.std.proofs.lemmas.Bool.Decides.{nat_tests}
 use Rattle.std.proofs.Common.{arith}
 use Rattle.std.proofs.Common.{◌≡◌, ◌≢◌, ◌↔◌, ◌∙◌, ap, sym, subst, ℕ, true, false, List}
@@ -45,7 +45,7 @@ both_opened :
     → BothOpened stl pes before opened
 both_opened stl pes before after calls more opened made opens = grind (arith, nat_tests)
 
--- An input that reads a file in memory, or a part of it, has the bytes of the file or of that part.
+-- An input that reads a part of a file in memory has the bytes of that part.
 read_reported : (part : Part) (file : List ℕ) (left : Option (List ℕ)) (input : InputCall)
     → IsSourceOf memory_observations part (Some file) left input
     → input.call.known ≡ through_range part.range (through_stream part.stream (Some file))

@@ -1,6 +1,4 @@
--- A part of a source has the bytes of the selected PES packets, for each way in which the part can
--- be selected. Main lemmas: all_of_source, file_of_source, stream_of_source, all_of_pes_packets,
--- range_of_pes_packets.
+-- Lemmas for a part of a source: its bytes are those of the selected PES packets.
 use Rattle.std.proofs.lemmas.Bool.Decides.{nat_tests}
 use Rattle.std.proofs.Common.{◌≡◌, ◌∙◌, ap, arith, ℕ, List, Option, Some, None, true, false}
 use Rattle.std.specs.Prelude.{◌⊎◌, option_map}

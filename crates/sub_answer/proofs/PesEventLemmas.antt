@@ -1,5 +1,5 @@
--- The events of a PES file are reported to a printer, and decide the answer. Main lemmas:
--- after_pes, all_answers.
+-- Lemmas for the events of a PES file: they are reported to a printer, and they determine the
+-- answer.
 use Rattle.std.proofs.Common.{◌≡◌, ◌∙◌, ap, refl, sym, subst, arith, ℕ, ◌+◌, ◌≤◌}
 use Rattle.std.proofs.Common.{zero, suc, List, take, length, Bool, true, false, Option}
 use Rattle.std.proofs.Common.{Some, None, Result, Ok, Err, ◌-◌}
@@ -85,8 +85,8 @@ some_counts page frames (suc n) is =
       },
     )
 
--- If the source of the PES file failed, the fault names the PES packet in which the failure
--- happened. A separate lemma, since `cc` is slow to refute its cases when more is known.
+-- If the source of the PES file failed, the fault names the PES packet at which it failed. This is
+-- a separate lemma because the tactic `cc` is slow when more facts are known.
 read_at : (f : CheckFault)
     → is_pes_read f ≡ true
     → (n : ℕ) × (f ≡ fault.Pes n pes_fault.Read)

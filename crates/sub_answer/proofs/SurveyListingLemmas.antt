@@ -1,5 +1,5 @@
--- The output of `survey` is complete (printed-done), cut off by the sink (printed-cut), or ends in
--- the line of a fault (printed-reported).
+-- Lemmas for the output of `survey`: it is complete, or a prefix because the sink failed, or it
+-- ends with the line of a fault.
 use Rattle.std.proofs.Common.{◌≡◌, ◌≢◌, ℕ, ◌+◌, List, ◌++◌, Option, refl, ◌∙◌, ap, arith, inl, inr}
 use Rattle.std.proofs.KnownBytes.{Appends-trans}
 use Rattle.mpeg_ts.specs.declared.survey_options.SurveyOptions.{SurveyOptions}
@@ -84,5 +84,5 @@ printed-reported _ _ out mid _ reported status grows same (inr p) is_fault other
   };
 }
 
--- Lemmas for `print_survey`, which it uses by `using(crate::proofs::SurveyListingLemmas::surveys)`.
+-- The lemmas that the proof of `print_survey` uses.
 pub ruleset surveys = (printed-done, printed-cut)

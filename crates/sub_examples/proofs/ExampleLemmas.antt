@@ -1,4 +1,4 @@
--- A transmission without events is good: `good_by_events`.
+-- A transmission without events is good.
 use Rattle.std.proofs.lemmas.Bool.Decides.{Decides-and, Decides-like, Decides-eqb, Decides-ltb}
 use Rattle.std.proofs.Common.{arith, ◌≡◌, ℕ, ◌<◌, inl, inr, ◌==◌, ◌&&◌, Bool, true, false}
 use Rattle.std.proofs.Common.{List, [], length, nat_lt, slice_index, None}

@@ -1,5 +1,5 @@
--- For each fault that a receiver depends on, a transmission that has only this fault and is not
--- robust: a receiver's start, the packets that it receives, and the tests.
+-- For each fault that matters to receivers, a transmission that has only this fault and fails at a
+-- receiver. Each example gives the start of the receiver and the packets that it receives.
 use Rattle.std.proofs.Common.{List, [], ◌∷◌, refl, ℕ}
 use Rattle.std.specs.Int.RustNames.{count_ones}
 use lib.Count.{ones_in}
@@ -34,27 +34,27 @@ abbrev header_with_two_wrong_bits : List ℕ
 header_with_two_wrong_bits =
     header_of_coded_bytes (0x16 ∷ 0x15 ∷ 0xD0 ∷ 0xD0 ∷ 0x15 ∷ 0xD0 ∷ 0x15 ∷ 0xD0 ∷ 0x02 ∷ 0x15 ∷ [])
 
--- Each example gives the receiver for which the rule is needed.
+-- Each example gives a receiver that fails without the rule.
 pub examples_of_needed_parts : ExamplesOfNeededParts
 unfolding are_code_words is_word_below first_even_byte breaks columns_differing is_gap
     packet_rules active_faults_at is_late wrong_after first_cell is_incomplete
     kind address header coded_header decoded is_near is_odd count_ones ones_in due blank
     blank_row sub_set
 examples_of_needed_parts = record {
-  -- The receiver gets frames 900000 and 900001 as they were sent.
+  -- The receiver receives frames 900000 and 900001 unchanged.
   frames_rise = needed 62 _ _ 900000 0 900001 (english_header ∷ row_1 0xA1 ∷ []) refl;
-  -- A second bit of the header's address is received wrong, so the header is missed.
+  -- A second bit in the header's address is received wrong, so the receiver misses the header.
   exact_addresses = needed 64 _ _ 900000 0 900000 (header_with_two_wrong_bits ∷ closing ∷ []) refl;
-  -- The receiver gets only the last packet, with one wrong bit in its page units.
+  -- The receiver receives only the last packet, with one wrong bit in its page units.
   exact_headers = needed 65 _ _ 900000 2 900000 (header_with_wrong_units ∷ []) refl;
-  -- The receiver's old page of question marks is not erased.
+  -- The header does not erase the receiver's old page of question marks.
   subtitle_headers = needed 67 _ _ 900000 0 900000 (header_without_c4 ∷ closing ∷ []) refl;
   -- The byte A0 of row 1 is received as A1.
   odd_rows = needed 68 _ _ 900000 0 900000 mark refl;
-  -- The receiver gets both packets of row 1 as they were sent.
+  -- The receiver receives both packets of row 1 unchanged.
   same_rows =
       needed 69 _ _ 900000 0 900000 (english_header ∷ row_1 0x20 ∷ row_1 0xA1 ∷ closing ∷ []) refl;
-  -- The receiver gets all packets as they were sent.
+  -- The receiver receives all packets unchanged.
   due_content = needed 72 _ _ 900000 0 900000 mark refl;
   -- The receiver starts at the end of the first frame, after its header.
   headers_in_time = needed 73 _ _ 900000 2 900001 (closing ∷ []) refl;

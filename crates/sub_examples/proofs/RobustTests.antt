@@ -1,6 +1,6 @@
--- A transmission is not robust if one receiver, whose states are computed, is not served
--- (`refuted`). If the transmission has only one fault that a receiver depends on, the rule for this
--- fault is needed (`needed`).
+-- Tests that compute the states of one receiver. If this receiver fails, the transmission is not
+-- robust. If the transmission has only one fault that matters to receivers, the rule for this fault
+-- is necessary.
 use Rattle.std.proofs.lemmas.Bool.Decides.{nat_tests, Decides-and, Decides-like, Decides-ltb}
 use Rattle.std.proofs.lemmas.List.Elements.{recursion_from_All}
 use Rattle.std.proofs.lemmas.List.Kept.{AllPairs-cons}
@@ -36,7 +36,7 @@ use Rattle.sub_laws.proofs.FirstFoundLemmas.{each_rule}
 use Rattle.sub_laws.proofs.ActiveFaultsLemmas.{all_known}
 use Rattle.sub_laws.proofs.StretchLemmas.{robust_of_recovers}
 
--- The state of a receiver without a header, with a page of question marks.
+-- The state of a receiver that has received no header and has a page of question marks.
 abbrev before : State
 before = record {
   heard = false;
@@ -44,8 +44,8 @@ before = record {
   page = replicate 24 (replicate 40 0x3F);
 }
 
--- A receiver may listen from packet j of frame g to the end of frame f, within the frames from a to
--- b.
+-- A receiver may receive the packets from packet `j` of frame `g` to the end of frame `f`, within
+-- frames `a` to `b`.
 abbrev may_listen : Transmission → ℕ → ℕ → ℕ → ℕ → ℕ → Bool
 may_listen frames a b g j f =
     nat_le a g && (nat_le g f && (nat_le f b && nat_le j (length (packets_of frames g))))
@@ -59,9 +59,9 @@ listening frames a b g j f e = grind (arith, nat_tests, and_parts, nat_le, leb-t
 abbrev is_wrong : ℕ → ℕ → Bool
 is_wrong code due = not (code == due) && not (code == space)
 
--- The receiver is not served: no header came within the bound; or the receiver has a header
--- although none was sent, or none although one was; or after a header the cell in row 1 and column
--- 0 has neither the due code nor a space.
+-- The receiver fails: it received no header within the repeat bound; or it has a header although
+-- none was sent, or none although one was sent; or the cell in row 1 and column 0 has neither the
+-- expected code nor a space after a header.
 abbrev is_unserved : ProgrammeValue → OptionsValue → ℕ → ℕ → List (List ℕ) → State → Bool
 is_unserved programme o g f sent new =
     (nat_le (g + o.every) f && not (holds_header (kind o.page) sent))
@@ -69,8 +69,8 @@ is_unserved programme o g f sent new =
     || (holds_header (kind o.page) sent
     && is_wrong (cell new.page 1 0) (cell (due_in programme f) 1 0)))
 
--- A receiver that starts at packet j of frame g, stops after frame f and gets the packets `got` is
--- not served.
+-- A receiver that starts at packet `j` of frame `g`, stops after frame `f` and receives the packets
+-- `got` fails.
 abbrev pub is_refuted :
     ProgrammeValue → Transmission → OptionsValue → ℕ → ℕ → ℕ → List (List ℕ) → Bool
 is_refuted programme frames o g j f got =
@@ -116,7 +116,7 @@ in_stretch a b f = nat_le a f && nat_le f b
 in_stretch_decided : (a b f : ℕ) → Decides (in_stretch a b f) ((a ≤ f) × (f ≤ b))
 in_stretch_decided a b f = Decides-and _ _ (at_most a f) (at_most f b)
 
--- A test succeeds for each packet in a frame of the stretch, given the packets before it.
+-- The test is true for each packet in the frames from `a` to `b`, given the packets before it.
 abbrev packets_pass : (List (List ℕ) → List ℕ → Bool) → Transmission → ℕ → ℕ → Bool
 packets_pass test frames a b =
     all_below
@@ -136,8 +136,8 @@ at_packets test frames a b e i k l m low high =
     each_below _ (length (packets_of_frame frames i))
     ((implied _ _ (in_stretch_decided a b (frame_at frames i)) (holds _)).0 frame (low, high)) k m
 
--- `test` succeeds at the end of each frame from a to b. Its first argument is the number of frames
--- sent so far.
+-- The test is true at the end of each frame from `a` to `b`. Its first argument is the number of
+-- frames sent so far.
 abbrev ends_pass : (ℕ → ℕ → Bool) → Transmission → ℕ → ℕ → Bool
 ends_pass test frames a b =
     all_below

@@ -1,4 +1,4 @@
--- Proves the examples of when a page is put on a screen, by computing the receiver's states.
+-- Proves the examples of screens by computing the receivers' states.
 use Rattle.std.proofs.lemmas.Bool.Decides.{nat_tests}
 use Rattle.std.proofs.Common.{◌≡◌, true, false, List, [], ◌∷◌, Option, Some, None, refl, sym, ap}
 use Rattle.std.proofs.Common.{◌∙◌, subst, le_refl, true≢false, not, ℕ, ◌≤◌, arith, length, ◌++◌}

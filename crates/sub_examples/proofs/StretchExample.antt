@@ -1,4 +1,4 @@
--- The refused transmission has a clean stretch, by the tests of reports.
+-- The rejected transmission has clean frames: no fault is reported in them.
 use Rattle.std.proofs.lemmas.Bool.Decides.{nat_tests}
 use Rattle.std.proofs.Common.{ℕ, inl, inr, List, [], ◌∷◌, None, false, refl, arith}
 use Rattle.std.specs.Int.RustNames.{count_ones}

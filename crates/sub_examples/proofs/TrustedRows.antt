@@ -1,4 +1,4 @@
--- The trusted frames of each example, computed from the definition: examples_of_trusted.
+-- The clean frames of each example, computed from the definition.
 use Rattle.std.proofs.Common.{refl}
 use Rattle.sub_rules.specs.Trusted.{at_pes, back_of, invalidated_by, last_packet_frame, late_of}
 use Rattle.sub_rules.specs.Trusted.{current_pes}

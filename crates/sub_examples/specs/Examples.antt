@@ -1,5 +1,5 @@
--- Complete transmissions of page 888, byte by byte: a good one, and for each rule that the headline
--- needs a transmission that is not robust without it.
+-- Transmissions of page 888, byte by byte: a good one, and for each of eight rules a transmission
+-- that breaks only this rule and fails at a receiver.
 use Rattle.std.specs.Prelude.{◌≡◌, ◌≢◌, ◌⊎◌, ℕ, false, List, [], ◌∷◌, ◌++◌, None, replicate}
 use Rattle.std.specs.Prelude.{IsFalse, IsTrue}
 use Rattle.std.specs.List.{AllZip}
@@ -25,13 +25,13 @@ use Rattle.sub_laws.specs.Robust.{Robust}
 
 -- ---- Teletext packets of the examples
 
--- A packet X/0 with ten given coded bytes, and 32 spaces.
+-- A packet X/0 with ten coded bytes and 32 spaces.
 abbrev pub header_of_coded_bytes : List ℕ → List ℕ
 header_of_coded_bytes coded = coded ++ replicate 32 0x20
 
 -- A header of page 888 with four given bytes: `c4` codes S2 and C4, `c5_c6` codes S4, C5 and C6,
 -- `c7_c10` codes C7 to C10, and `c11_c14` codes C11 to C14. The other coded bytes are the address
--- (two), page units, page tens, S1 and S3.
+-- (two bytes), page units, page tens, S1 and S3.
 abbrev pub header_with : ℕ → ℕ → ℕ → ℕ → List ℕ
 header_with c4 c5_c6 c7_c10 c11_c14 =
     header_of_coded_bytes (0x15 ∷ 0x15 ∷ 0xD0 ∷ 0xD0 ∷ 0x15 ∷ c4 ∷ 0x15 ∷ c5_c6 ∷ c7_c10 ∷ c11_c14 ∷
@@ -41,7 +41,7 @@ header_with c4 c5_c6 c7_c10 c11_c14 =
 abbrev pub english_header : List ℕ
 english_header = header_with 0xD0 0xD0 0x02 0x15
 
--- A header of page 888 with C4, erase page, clear.
+-- A header of page 888 in which C4 (erase page) is clear.
 abbrev pub header_without_c4 : List ℕ
 header_without_c4 = header_with 0x15 0xD0 0x02 0x15
 
@@ -50,21 +50,22 @@ abbrev pub header_with_wrong_bit : List ℕ
 header_with_wrong_bit =
     header_of_coded_bytes (0x14 ∷ 0x15 ∷ 0xD0 ∷ 0xD0 ∷ 0x15 ∷ 0xD0 ∷ 0x15 ∷ 0xD0 ∷ 0x02 ∷ 0x15 ∷ [])
 
--- A packet X/0 whose page units can't be decoded. It is no header, but one bit away from a header.
+-- A packet X/0 whose page units can't be decoded. With one more wrong bit it is a header.
 abbrev pub no_header : List ℕ
 no_header = header_of_coded_bytes (0x15 ∷ 0x15 ∷ 0xD3 ∷ 0xD0 ∷ 0x15 ∷ 0xD0 ∷ 0x15 ∷ 0xD0 ∷ 0x02 ∷
     0x15 ∷ [])
 
--- The closing header (in EN 300 706: time filling header): page FF, subcode 3F7F.
+-- The header of page FF with subcode 3F7F (in EN 300 706: time filling header), which ends the
+-- page.
 abbrev pub closing : List ℕ
 closing = header_of_coded_bytes (0x15 ∷ 0x15 ∷ 0xEA ∷ 0xEA ∷ 0xEA ∷ 0x2F ∷ 0xEA ∷ 0x5E ∷ 0x15 ∷ 0x15
     ∷ [])
 
--- Packet 8/1, row 1 of magazine 8: the first byte of its text, and 39 spaces.
+-- Packet 8/1, row 1 of magazine 8: the given first byte of text, and 39 spaces.
 abbrev pub row_1 : ℕ → List ℕ
 row_1 byte = 0xD0 ∷ 0x15 ∷ byte ∷ replicate 39 0x20
 
--- Packet 8/22, row 22: `Hi` in a box in the middle, each box code sent twice.
+-- Packet 8/22, row 22 of magazine 8: `Hi` in a box in the middle, with each box code sent twice.
 abbrev pub row_22 : List ℕ
 row_22 =
     (0x15 ∷ 0x9B ∷ [])
@@ -83,7 +84,7 @@ abbrev pub two_frames : List (List ℕ) → List (List ℕ) → Transmission
 two_frames first second =
     record { frame = 900000; packets = first } ∷ record { frame = 900001; packets = second } ∷ []
 
--- Options for page 888 with a repeat bound, and PTS 0 at frame 0.
+-- Options for page 888 with this repeat bound, and PTS 0 for frame 0.
 abbrev pub each : ℕ → OptionsValue
 each every =
     record {
@@ -96,15 +97,16 @@ each every =
       keeps = false;
     }
 
--- A transmission of frame 900000 with one header and the closing header.
+-- A transmission of frame 900000 with this header and the header that ends the page.
 abbrev pub one_header : List ℕ → Transmission
 one_header sent = one_frame (sent ∷ closing ∷ [])
 
--- A programme without a subtitle: every due page is blank.
+-- A programme without subtitles: the expected page is always blank.
 abbrev pub no_subtitles : ProgrammeValue
 no_subtitles = record { drawing = drawing_by English default_layout; records = [] }
 
--- A programme with one subtitle, at frame 900000 alone: on row 22, centred, with this text.
+-- A programme with one subtitle, with this text, centred in row 22, which lasts for frame 900000
+-- only.
 abbrev pub one_subtitle : List ℕ → ProgrammeValue
 one_subtitle text =
     record {
@@ -124,7 +126,7 @@ one_subtitle text =
 
 -- ---- a good transmission
 
--- The text `Hi` in frame 900000, and in the next frame the page without it, are a good
+-- The text `Hi` in frame 900000, followed by a blank page in the next frame, is a good
 -- transmission.
 abbrev pub ExampleOfGood : Type 0
 ExampleOfGood =
@@ -132,14 +134,14 @@ ExampleOfGood =
     (two_frames (english_header ∷ row_22 ∷ closing ∷ []) (english_header ∷ closing ∷ []))
     (each 1)
 
--- ---- for each fault that a receiver depends on, a transmission that is not robust
+-- ---- for each fault that matters to receivers, a transmission that fails at a receiver
 
--- The number of the fault for a packet that breaks rule r.
+-- The number of the fault for a packet that breaks rule `r`.
 abbrev pub number_of : PacketRule → ℕ
 number_of r = (check_code (packet_fault r 0 0)).number
 
--- In the frames from a to b there is no report that a receiver depends on, as in `IsUnreported`,
--- except perhaps a fault with this number.
+-- No fault that matters to receivers is reported in the frames from `a` to `b`, except for faults
+-- with this number.
 pub record IsUnreportedBut (number : ℕ) (g : Criteria) (frames : Transmission) (a b : ℕ) : Type 0
   where
     pub rising : number ≢ 62 → IsRising frames
@@ -152,9 +154,8 @@ pub record IsUnreportedBut (number : ℕ) (g : Criteria) (frames : Transmission)
         number ≢ 72 → AtEnds (λ n f. (active_faults_at g frames n f).content ≡ None) frames a b
     pub gap : number ≢ 73 → AtEnds (λ n f. IsFalse (active_faults_at g frames n f).gap) frames a b
 
--- If each due page is blank, the frames of the transmission have no fault that a receiver depends
--- on except perhaps one with this number, and the transmission is not robust. So its frames may not
--- be trusted either.
+-- If the expected pages are blank, the only faults that matter to receivers are faults with this
+-- number, and a receiver of the transmission has a wrong page.
 pub record IsNeeded (number : ℕ) (transmission : Transmission) (every : ℕ) : Type 0 where
   pub others :
       IsUnreportedBut number (criteria_of no_subtitles (each every) None) transmission
@@ -165,11 +166,12 @@ pub record IsNeeded (number : ℕ) (transmission : Transmission) (every : ℕ) :
       (last_frame transmission)
       → ⊥
 
--- A transmission of row 1, first blank, and then with an exclamation mark.
+-- A transmission in which row 1 is first blank, and then has an exclamation mark.
 abbrev pub changed_row : Transmission
 changed_row = one_frame (english_header ∷ row_1 0x20 ∷ row_1 0xA1 ∷ closing ∷ [])
 
--- Frame 900001 is listed after frame 900002, which ends the page, so its row is ignored.
+-- A transmission with frame 900001 listed after frame 900002, which ends the page. So its row is
+-- ignored.
 abbrev pub listed_late : Transmission
 listed_late =
     record { frame = 900000; packets = english_header ∷ [] }
@@ -178,29 +180,31 @@ listed_late =
     ∷ record { frame = 900003; packets = english_header ∷ closing ∷ [] }
     ∷ []
 
--- Each of the eight rules is needed: a stretch that breaks this rule alone can't be trusted.
+-- Each of the eight rules is necessary: a transmission that breaks only this rule fails at a
+-- receiver.
 pub record ExamplesOfNeededParts : Type 0 where
-  -- A receiver of the frames up to 900001 shows an exclamation mark that is not due.
+  -- A receiver of the frames up to 900001 shows an exclamation mark that is not expected.
   pub frames_rise : IsNeeded 62 listed_late 3
-  -- With one more wrong bit the address byte can't be decoded, and the header is missed.
+  -- With another wrong bit the address byte can't be decoded, so the receiver misses the header.
   pub exact_addresses : IsNeeded 64 (one_header header_with_wrong_bit) 1
-  -- With one wrong bit, a packet X/0 is a header that nobody sent.
+  -- With one wrong bit, a packet X/0 becomes a header that was never sent.
   pub exact_headers : IsNeeded 65 (one_frame (english_header ∷ closing ∷ no_header ∷ [])) 1
-  -- Without C4, a receiver keeps its old page.
+  -- Without C4, a receiver does not erase its old page.
   pub subtitle_headers : IsNeeded 67 (one_header header_without_c4) 1
-  -- A0 may be received as A1, which has odd parity: an exclamation mark that nobody sent.
+  -- The byte A0 may be received as A1, which has odd parity: an exclamation mark that was never
+  -- sent.
   pub odd_rows : IsNeeded 68 (one_frame (english_header ∷ row_1 0xA0 ∷ closing ∷ [])) 1
-  -- If row 1 is sent twice with different codes, the first packet counts as shown, but a receiver
-  -- has the second.
+  -- Row 1 is sent twice with different codes. The check uses the first packet, but a receiver
+  -- stores the second.
   pub same_rows : IsNeeded 69 changed_row 1
-  -- Every receiver shows an exclamation mark that is not due.
+  -- Every receiver shows an exclamation mark that is not expected.
   pub due_content : IsNeeded 72 (one_frame (english_header ∷ row_1 0xA1 ∷ closing ∷ [])) 1
-  -- A receiver that starts after the first frame gets no header within the repeat bound.
+  -- A receiver that starts after the first frame receives no header within the repeat bound.
   pub headers_in_time : IsNeeded 73 (two_frames (english_header ∷ closing ∷ []) (closing ∷ [])) 1
 
--- ---- a clean stretch of a refused transmission
+-- ---- clean frames of a rejected transmission
 
--- A programme with one subtitle, `Hi`, at frame 900001 alone.
+-- A programme with one subtitle, `Hi`, which lasts for frame 900001 only.
 abbrev pub later_subtitle : ProgrammeValue
 later_subtitle = record {
   drawing = drawing_by English default_layout;
@@ -217,8 +221,8 @@ later_subtitle = record {
       ∷ [];
 }
 
--- A transmission of three frames; in frame 900000 the header does not erase the page, and a row has
--- an even byte.
+-- A transmission of three frames. In frame 900000, the header does not erase the page, and a row
+-- has a byte with even parity.
 abbrev pub damaged_first : Transmission
 damaged_first =
     record { frame = 900000; packets = header_without_c4 ∷ row_1 0xA0 ∷ closing ∷ [] }
@@ -226,9 +230,9 @@ damaged_first =
     ∷ record { frame = 900002; packets = english_header ∷ closing ∷ [] }
     ∷ []
 
--- The transmission `damaged_first` is refused, but no fault is reported in the frames after the
--- first. So a receiver of frame 900001, with any wrong bit in each byte and whatever it contained
--- before, has the code of `H` in the right cell or, if its byte was hit, a space.
+-- The transmission is rejected, but no fault is reported after its first frame. So a receiver of
+-- frame 900001, with at most one wrong bit in each byte and any earlier state, has the code of `H`
+-- in the right cell, or a space if its byte was received wrong.
 pub record ExampleOfCleanStretch : Type 0 where
   pub refused : Good later_subtitle damaged_first (each 1) → ⊥
   pub clean : IsUnreported (criteria_of later_subtitle (each 1) None) damaged_first 900001 900002

@@ -1,4 +1,5 @@
--- When a page is put on a screen, packet by packet, and a good transmission that is not shown.
+-- When a receiver shows a page on its screen, and a good transmission that some receivers do not
+-- show.
 use Rattle.std.specs.Prelude.{◌≡◌, [], ◌∷◌, false, Option, Some, None}
 use Rattle.ttx_page.specs.Page.{Rows, blank}
 use Rattle.ttx_page.specs.Receiver.ReceiverClass.{Storing}
@@ -12,28 +13,27 @@ use Rattle.sub_rules.specs.Good.{Good}
 use Rattle.sub_laws.specs.OnScreen.{Complete, ShownWithin}
 use Rattle.sub_rules.specs.Transmission.{Transmission, first_frame, last_frame}
 
--- The state of a receiver that has no header and a blank page, with `screen` on its screen.
+-- The state of a receiver that has received no header and has a blank page, with `screen` on its
+-- screen.
 abbrev pub unheard : Option Rows → Display
 unheard screen =
     record { held = record { heard = false; is_open = false; page = blank }; screen = screen }
 
--- A header that ends the page puts the page on the screen, whatever the receiver contained and
--- showed before.
+-- When a header ends the page, the receiver shows the page, whatever its state was before.
 abbrev pub ExampleOfEndedPage : Type 0
 ExampleOfEndedPage =
     (old new : Display)
     → Shows page_888 old (english_header ∷ closing ∷ []) new
     → new.screen ≡ Some blank
 
--- Until a header ends the page the screen does not change: a row is not put on the screen.
+-- The screen does not change before a header ends the page: rows alone do not change it.
 abbrev pub ExampleOfPageNotEnded : Type 0
 ExampleOfPageNotEnded =
     (screen : Option Rows) (new : Display)
     → Shows page_888 (unheard screen) (english_header ∷ row_22 ∷ []) new
     → new.screen ≡ screen
 
--- At a header of the page while the page is open, one receiver shows the page, and another one does
--- not.
+-- If the header of an open page is received again, some receivers show the page, and others do not.
 pub record ExampleOfRestartedPage : Type 0 where
   pub shown : Display
   pub shows : Shows page_888 (unheard None) (english_header ∷ english_header ∷ []) shown
@@ -42,8 +42,8 @@ pub record ExampleOfRestartedPage : Type 0 where
   pub waits : Shows page_888 (unheard None) (english_header ∷ english_header ∷ []) other
   pub is_nothing : other.screen ≡ None
 
--- The transmission is good, so every receiver has the due page; but its pages are not complete, and
--- some receiver shows nothing.
+-- The transmission is good, so every receiver has the expected page. But its pages are not
+-- complete, so some receivers do not show the page.
 pub record IsHeldAndNotShown
     (programme : ProgrammeValue) (transmission : Transmission) (options : OptionsValue)
     : Type 0 where
@@ -54,6 +54,7 @@ pub record IsHeldAndNotShown
       (last_frame transmission)
       → ⊥
 
--- A header without any packets after it is a good transmission that some receiver does not show.
+-- A header without packets after it is a good transmission, but some receivers do not show its
+-- page.
 abbrev pub ExampleOfNoEnd : Type 0
 ExampleOfNoEnd = IsHeldAndNotShown no_subtitles (one_frame (english_header ∷ [])) (each 1)

@@ -1,33 +1,31 @@
-//! Complete transmissions, byte by byte: a good one, and for each rule that the headline needs a
-//! transmission that is not robust without it.
+//! Transmissions of page 888, byte by byte: a good one, and for each of eight rules a transmission
+//! that breaks only this rule and fails at a receiver.
 //!
-//! The examples show that the definitions of `specs/` mean what they should. The functions have no
-//! body.
+//! The examples test the definitions of `specs/`. The functions have no body.
 ghost use Rattle.sub_examples.specs.Examples.{ExampleOfCleanStretch, ExampleOfGood};
 ghost use Rattle.sub_examples.specs.Examples.{ExamplesOfNeededParts};
 ghost use Rattle.sub_examples.specs.TrustedExamples.{ExamplesOfTrusted};
 
-/// A good transmission: one subtitle in one frame, and in the next frame the page without it.
+/// A good transmission: a subtitle in one frame, and a blank page in the next frame.
 #[tactic(auto, using(crate::proofs::GoodExample::example_of_good))]
 pub fn example_of_good()
     ensures { ExampleOfGood }
 {}
 
-/// Each of the eight rules of a clean stretch is needed: for each there is a transmission with this
-/// fault alone that is not robust.
+/// Each of the eight rules for clean frames is necessary: for each rule there is a transmission
+/// that breaks only this rule and fails at a receiver.
 #[tactic(auto, using(crate::proofs::NotRobust::examples_of_needed_parts))]
 pub fn examples_of_needed_parts()
     ensures { ExamplesOfNeededParts }
 {}
 
-/// A refused transmission with a clean stretch of frames, and the codes that a receiver has in this
-/// stretch.
+/// A rejected transmission with clean frames, and the codes that a receiver has in these frames.
 #[tactic(auto, using(crate::proofs::StretchExample::example_of_clean_stretch))]
 pub fn example_of_clean_stretch()
     ensures { ExampleOfCleanStretch }
 {}
 
-/// Which frames are reported as trusted for the steps of a file, and before which events.
+/// Examples of clean frames: which frames are reported as `trusted`, and before which events.
 #[tactic(auto, using(crate::proofs::TrustedRows::examples_of_trusted))]
 pub fn examples_of_trusted()
     ensures { ExamplesOfTrusted }

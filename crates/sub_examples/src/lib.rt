@@ -1,5 +1,4 @@
-//! Examples of transmissions, byte by byte: a good one, for each rule that the headline needs a
-//! transmission that is not robust without it, and examples of screens.
+//! Examples of transmissions and screens, byte by byte.
 //!
 //! The examples test the definitions of `sub_rules` and `sub_laws`. No other crate uses this one.
 //!

@@ -1,20 +1,20 @@
-//! When a page is put on a screen, packet by packet, and a good transmission that is not shown.
+//! When a receiver shows a page on its screen, and a good transmission that some receivers do not
+//! show.
 //!
-//! The examples show that the definitions of `specs/` mean what they should. The functions have no
-//! body.
+//! The examples test the definitions of `specs/`. The functions have no body.
 ghost use Rattle.sub_examples.specs.ScreenExamples.{ExampleOfEndedPage, ExampleOfNoEnd};
 ghost use Rattle.sub_examples.specs.ScreenExamples.{ExampleOfRestartedPage, ExampleOfPageNotEnded};
 
-/// A page is put on the screen at the header that ends the page, not at its rows, and at another
-/// header of the same page if the receiver chooses so.
+/// A receiver shows a page when a header ends the page, and not when a row is received. If the
+/// header of an open page is received again, the receiver may show the page.
 pub fn examples_of_screens()
     ensures ended { ExampleOfEndedPage }
     ensures not_ended { ExampleOfPageNotEnded }
     ensures restarted_page { ExampleOfRestartedPage }
 {}
 
-/// A good transmission whose page no header ends: every receiver has the page, and some receivers
-/// do not show it.
+/// A good transmission whose page is never ended by a header: every receiver has the page, but some
+/// receivers do not show it.
 pub fn example_of_no_end()
     ensures { ExampleOfNoEnd }
 {}

@@ -1,5 +1,4 @@
--- Copying bytes: a PES packet at their beginning, or bytes that begin no PES packet. Main lemmas:
--- pes_packet_copied, rest_stays, more_copied.
+-- Lemmas for copying a PES packet, or bytes that are no PES packet, to a file.
 use Rattle.std.proofs.Common.{◌≡◌, ◌∙◌, ap, sym, subst, arith, ℕ, ◌+◌, ◌<◌, ◌≤◌, ◌++◌, List}
 use Rattle.std.proofs.Common.{[], Bool, Option, Some, None, Ok, length, take, drop}
 use Rattle.std.proofs.Common.{length-append, take-add, take-append-drop}

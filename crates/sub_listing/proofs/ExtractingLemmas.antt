@@ -1,5 +1,4 @@
--- Copying PES packets one after another, and the bytes after them. Main lemmas: next_copied,
--- pes_packets_given, rest_refused.
+-- Lemmas for copying PES packets one after another, and then any bytes that are no PES packet.
 use Rattle.std.proofs.lemmas.Bool.Decides.{nat_tests}
 use Rattle.std.proofs.Common.{◌≡◌, ◌∙◌, ap, refl, sym, subst, arith, ℕ, zero, suc, ◌+◌, ◌<◌, ◌≤◌}
 use Rattle.std.proofs.Common.{◌++◌, List, [], Option, Some, None, length, take, drop}
@@ -87,7 +86,7 @@ one_more (suc k) b size e =
               rw same (omega (arith, one, before, others));
         }
 
--- Bytes are equal to the PES packets at their beginning, followed by the rest of the bytes.
+-- The PES packets at the start of some bytes, followed by the remaining bytes, are all these bytes.
 pub split_pes_packets : (k : ℕ) (b : List ℕ)
     → count_pes_packets k b ≡ k
     → first_pes_packets k b ++ rest_after_pes_packets k b ≡ b
@@ -110,7 +109,7 @@ split_pes_packets (suc k) b all =
         ∙ ap (λ l. take s b ++ l) rest
         ∙ take-append-drop s b)
 
--- The bytes have no more PES packets than bytes, so the count cannot overflow.
+-- There are at most as many PES packets as bytes, so counting them does not overflow.
 pub few_pes_packets : (k : ℕ) (b : List ℕ) → count_pes_packets k b ≤ length b
 unfolding count_pes_packets
 few_pes_packets zero b = omega arith
@@ -276,7 +275,7 @@ extracted-stored known old mid new e given kept = λ bytes is.
       written = Appends-kept _ _ _ _ g.written kept;
     }
 
--- If the file could not be stored, the bytes written to it count as a prefix.
+-- If the file could not be stored, it received a prefix of the bytes.
 pub extracted-lost : (known old mid new : Option (List ℕ)) (e : Extracted)
     → Extracts known old mid (Ok e)
     → Keeps mid new

@@ -1,5 +1,4 @@
--- The bytes consumed of a source, if nothing was consumed while its first PES packet was found.
--- Main lemmas: prints_found, prints_failed.
+-- Lemmas for a source of which no byte was consumed while its first PES packet was searched.
 use Rattle.std.proofs.lemmas.Bool.Decides.{nat_tests}
 use Rattle.std.proofs.Common.{◌≡◌, refl, sym, inr, arith, ℕ, ◌+◌, ◌≤◌, List, [], Bool}
 use Rattle.std.proofs.Common.{Option, Some, None}
@@ -97,8 +96,7 @@ reads_kept failed old mid (fails f) left kept reads =
     grind (arith, nat_tests, within_kept, refused_kept)
 reads_kept failed old mid (gives v more) left kept reads = grind (arith, nat_tests, packet_kept)
 
--- If the first PES packet was found, its number in the file is the number from which PES packets
--- are counted.
+-- If the first PES packet was found, PES packets are counted from its number in the file.
 pub prints_found : (first : FirstNumber) (number : ℕ) (old mid left : Option (List ℕ))
     (old_count mid_count new_count : ℕ) (out : SinkCall) (status : Status)
     → ((n : ℕ) → first.known ≡ Some n → number ≡ n)

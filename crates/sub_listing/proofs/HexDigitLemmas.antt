@@ -1,6 +1,5 @@
--- Hexadecimal digits in the lanes of a vector: a look-up in the table of digits, looked_up, and
--- interleaved digits, interleaved_eq. The digits of a list in two parts: encode_with-append,
--- drop-encode_with.
+-- Lemmas for hexadecimal digits in the lanes of a vector: looking up digits in a table, and
+-- interleaving them.
 use Rattle.std.proofs.Common.{◌≡◌, ℕ, zero, suc, ◌+◌, ◌*◌, ◌/◌, ◌%◌, ◌^◌, ◌<◌, ◌≤◌, List, [], ◌∷◌}
 use Rattle.std.proofs.Common.{◌++◌, map, length, get_or, drop, replicate, bit_and, refl, sym, ap}
 use Rattle.std.proofs.Common.{◌∙◌, subst, arith, w8, Fits, take, ap₂, take_all, length-drop}

@@ -1,4 +1,5 @@
--- The last line of a listing whose source failed is written alone. Main lemma: last_alone.
+-- If the source of a listing failed, the line about the failure is the only line that is not
+-- flushed.
 use Rattle.std.proofs.lemmas.Bool.Decides.{nat_tests}
 use Rattle.std.proofs.Common.{◌≡◌, ℕ, ◌+◌, ◌<◌, Bool, true, false, if◌then◌else◌, List, Option}
 use Rattle.std.proofs.Common.{arith, refl}

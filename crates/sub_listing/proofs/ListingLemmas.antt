@@ -1,5 +1,4 @@
--- Printing a listing one part after another. Main lemmas: prefix-more, prefix-end, prefix-cut,
--- gives-next, gives-last.
+-- Lemmas for printing a listing, one PES packet or subtitle after another.
 use Rattle.std.proofs.lemmas.Bool.Decides.{nat_tests}
 use Rattle.std.proofs.Common.{◌≡◌, ap, refl, sym, subst, arith, ℕ, ◌+◌, ◌<◌, ◌≤◌, List, []}
 use Rattle.std.proofs.Common.{◌∷◌, ◌++◌, append_assoc, drop, length, inl, inr, Bool, false, true}
@@ -38,8 +37,7 @@ use Rattle.sub_listing.specs.FaultLine.{line_of, status_of}
 use Rattle.sub_listing.specs.declared.status.Status.{Status}
 use Rattle.sub_listing.specs.declared.status.Status.TheVariants.{Fault}
 
--- The lines printed since the sink had the contents `old` are the beginning of each listing that is
--- still possible.
+-- The lines printed so far are the start of any listing that is still possible.
 pub record IsPrefix
     (Before After : ListingRelation)
     (reported left old now : Option (List ℕ))
@@ -67,7 +65,7 @@ followed-twice first second more =
     ap (λ (t : List ℕ). let l : Listing = record { text = t; status = more.status } in l)
     (sym (append_assoc first second more.text))
 
--- Flushing keeps the printed lines.
+-- After flushing, the printed lines remain.
 pub prefix-kept :
     (Before After : ListingRelation)
     (reported left old now new : Option (List ℕ))
@@ -181,7 +179,7 @@ prefix-stopped Before At source out left now i cut kept risen counted = record {
   );
 }
 
--- Even if the sink failed, a possible listing exists.
+-- A listing is possible even if the sink failed.
 pub lists-some :
     (O : Type 0) (listing_of : O → Listing) (given : List ℕ → O)
     (Takes : Bool → Option (List ℕ) → O → Option (List ℕ) → Type 0)
@@ -263,13 +261,13 @@ rises : (from to : ℕ) (blocks : List (List ℕ))
 rises from to [] kept counted = absurd kept
 rises from to (b ∷ blocks) kept counted = omega arith
 
--- A subtitle has at least one block, so reading a subtitle raises the block number.
+-- Each subtitle has at least one block, so reading a subtitle increases the block number.
 pub block-rises : (from to : ℕ) (old new : Option (List ℕ)) (s : SubtitleValue)
     → TakesSubtitle from to old new s
     → from < to
 block-rises from to old new s t = rises from to t.blocks t.ends t.counted
 
--- A listing ends with the status `Fault` if and only if the source failed.
+-- A listing has the status `Fault` exactly if the source failed.
 pub kind_by-failed : (b : Bool) → has_failed (Some (status_of (kind_by b))) ≡ b
 kind_by-failed true = refl
 kind_by-failed false = refl

@@ -1,5 +1,4 @@
--- The input that `normal` reads, and the file that it writes; main lemmas: answers_first,
--- taken-at_end.
+-- Lemmas for the input that `normal` reads and the file that it writes.
 use Rattle.std.proofs.Common.{◌≡◌, ◌≢◌, ℕ, ◌≤◌, List, ◌++◌, length, take, arith, sym, ap, ◌∙◌, refl}
 use Rattle.std.proofs.Common.{length-append, Option, Some, None, Result, Ok, Err, subst}
 use Rattle.std.specs.Io.KnownBytes.{Consumes, IsAtEnd, Keeps}
@@ -20,8 +19,7 @@ use Rattle.stl_file.proofs.FileLemmas.{file_complete, file_sound, outcome_of-fir
 use Rattle.sub_listing.specs.Writing.{ReportsRead, read_limit}
 use Rattle.sub_listing.specs.declared.normal.InputFault.TheVariants as input
 
--- If the first 12,800,897 bytes of a file are a complete subtitle file, then the file is that
--- subtitle file.
+-- If the first 12,800,897 bytes of a file are a complete subtitle file, the file has no more bytes.
 first-is_file : (s : List ℕ) (ts : List SubtitleValue)
     → IsFile (take read_limit s) (take gsi_size (take read_limit s)) ts
     → IsFile s (take gsi_size s) ts
@@ -29,7 +27,7 @@ first-is_file s ts is =
     file_sound whole s ts
     (ap subtitles_of (sym (outcome_of-first s)) ∙ (file_complete whole _ _ ts is).1)
 
--- The first 12,800,897 bytes of a file decide the result of `normal`.
+-- The first 12,800,897 bytes of a file determine the result of `normal`.
 pub answers_first : (s read : List ℕ) (old new : Option (List ℕ)) (answer : Result ℕ NormalFault)
     → read ≡ take read_limit s
     → NormalAnswers read old new answer
@@ -100,7 +98,7 @@ taken-to_most (Some b) (Some ys) xs p size bytes e =
     let all : bytes ≡ xs ++ ys = sym (same_Some b bytes e) ∙ p in
     sym (ap (take read_limit) all ∙ take_at xs ys read_limit size)
 
--- `normal` allocates memory only after it has read at least one byte.
+-- The command `normal` allocates memory only after it has read at least one byte.
 pub memory-expected : (x y z : Option (List ℕ)) (n : ℕ) (xs ps : List ℕ)
     → n ≤ length ps
     → n ≢ 0

@@ -1,4 +1,4 @@
--- The effect of several events on a printer; main lemma: prints_all.
+-- Lemmas for reporting several events to a printer.
 use Rattle.std.proofs.Common.{◌≡◌, ◌∙◌, ap, refl, sym, subst, arith, ℕ, ◌+◌, ◌<◌, ◌≤◌, ◌||◌}
 use Rattle.std.proofs.Common.{not, List, [], ◌∷◌, ◌++◌, map, Bool, true, false, append_assoc, drop}
 use Rattle.std.proofs.Common.{take, inl, inr}
@@ -150,8 +150,7 @@ lines-same n m (f ∷ fs) =
     rw (place-same n m f.block f.kind)
     (ap (λ (l : List ℕ). event_line m (subtitle_event f) ++ l) (lines-same n m fs))
 
--- The lines of faults of the subtitle file name no PES packet, so they do not depend on the number
--- of the first PES packet.
+-- The lines about faults of the subtitle file do not depend on the number of the first PES packet.
 pub prints-renumbered : (n : ℕ) (a b : PrinterValue) (fs : List LoadFault)
     → PrintsEvents a (subtitle_events fs) b
     → PrintsEvents (record a { first = n }) (subtitle_events fs) (record b { first = n })
@@ -219,7 +218,7 @@ module _ {A D : Type 0} (IsReported : D → A → D → Type 0) (value : D → P
       step old mid new x xs (value mid).failed refl (one old mid x first) rest
       (λ holds bound. one_by_one mid new xs holds bound rest)
 
-  -- A printer has printed the lines of exactly the events that were reported to it.
+  -- A printer prints exactly the lines of the events that are reported to it.
   pub prints_all : (old new : D) (items : List A)
       → (value old).failed ≡ false
       → (value old).refused ≤ max_count

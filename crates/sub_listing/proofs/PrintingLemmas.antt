@@ -1,5 +1,5 @@
--- Consequences of printing a listing: the text was printed completely, or the sink failed and
--- received a prefix.
+-- Lemmas for printing a listing: all of it was printed, or the sink failed and received a prefix of
+-- it.
 use Rattle.std.proofs.Common.{◌≡◌, ◌≢◌, ℕ, ◌+◌, arith, inl, inr, refl, Bool, true, false}
 use Rattle.std.proofs.Common.{if◌then◌else◌}
 use Rattle.std.specs.Io.KnownBytes.{Appends}
@@ -8,7 +8,7 @@ use Rattle.sub_listing.specs.Listing.{Listing, PrintsOrFails}
 use Rattle.sub_listing.specs.declared.status.Status.{Status}
 use Rattle.sub_listing.specs.declared.status.Status.TheVariants.{Fault}
 
--- If the sink did not fail, the text was printed completely, and the status is the listing's own.
+-- If the sink did not fail, all of the text was printed, and the status of the listing is returned.
 pub printed-whole : (out : SinkCall) (listing : Listing) (status : Status)
     → PrintsOrFails out listing status
     → out.new_count ≡ out.old_count
@@ -18,7 +18,7 @@ printed-whole out listing status (inl p) same = (p.1, p.2)
 printed-whole out listing status (inr p) same =
     let risen = p.0 in absurd (omega (arith, risen, same))
 
--- If the status is not `Fault`, it is the listing's own.
+-- A status other than `Fault` is the status of the listing.
 pub printed-status : (out : SinkCall) (listing : Listing) (status : Status)
     → PrintsOrFails out listing status
     → status ≢ Fault

@@ -1,4 +1,4 @@
--- Collecting the arguments that the system gives yields all of them.
+-- Collecting the arguments from the system's iterator returns all of them.
 use Rattle.std.proofs.Common.{◌≡◌, List, Ok, refl, sym}
 use Rattle.std.proofs.lemmas.Iterator.{items_from_collect}
 use Rattle.std.proofs.lemmas.Iterator.Adapters.{YieldsList-from_vec}

@@ -1,4 +1,3 @@
--- The run ends with the answer that was made through the buffer, and its status.
 use Rattle.std.proofs.Common.{inl, inr, refl}
 use Rattle.subttx.proofs.run.Goals as goal
 

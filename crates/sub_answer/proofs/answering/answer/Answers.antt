@@ -1,5 +1,4 @@
--- The PES packets of a request are those in the bytes of its source: answers_second,
--- followed_with_file and written_with_file, or followed_of_pes_packets and written_of_pes_packets.
+-- The PES packets of a request are those in the bytes of its source.
 use Rattle.std.proofs.Common.{◌∙◌, rules, sym}
 use Rattle.sub_answer.proofs.EndingLemmas.{answers_second, followed_with_file}
 use Rattle.sub_answer.proofs.EndingLemmas.{followed_of_pes_packets}

@@ -1,5 +1,3 @@
--- The answer to each request agrees with its bytes, by the contract of the function for its
--- command.
 use Rattle.sub_answer.proofs.answering.answer_over.Goals as goal
 
 pub returns-in-Packets-clause-answers : goal.returns-in-Packets-clause-answers

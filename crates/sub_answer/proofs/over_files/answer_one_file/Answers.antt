@@ -1,4 +1,3 @@
--- The file is released once, in the state in which the answer left it.
 use Rattle.std.proofs.Common.{None, Some, refl}
 use Rattle.sub_answer.proofs.EndingLemmas.{ends_weaker}
 use Rattle.sub_answer.proofs.over_files.answer_one_file.Goals as goal

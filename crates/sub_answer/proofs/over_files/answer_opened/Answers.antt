@@ -1,4 +1,3 @@
--- No file is released if the request names no file.
 use Rattle.std.proofs.Common.{None, refl}
 use Rattle.sub_answer.proofs.EndingLemmas.{ends_weaker}
 use Rattle.sub_answer.proofs.over_files.answer_opened.Goals as goal

@@ -1,4 +1,3 @@
--- The files that the request names were opened, as fits says, and then released: calls_go_on.
 use Rattle.sub_request.specs.Files.{files_of}
 use Rattle.sub_answer.specs.Ending.{release}
 use Rattle.sub_answer.proofs.EndingLemmas.{calls_go_on}

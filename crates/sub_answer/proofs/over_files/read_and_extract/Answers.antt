@@ -1,4 +1,3 @@
--- The recording and the written file are released once, in the state in which the answer left them.
 use Rattle.std.proofs.Common.{None, Some, refl}
 use Rattle.sub_answer.proofs.EndingLemmas.{ends_weaker}
 use Rattle.sub_answer.proofs.over_files.read_and_extract.Goals as goal

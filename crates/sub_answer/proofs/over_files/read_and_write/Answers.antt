@@ -1,5 +1,3 @@
--- The subtitle file and the written file are released once, in the state in which the answer left
--- them.
 use Rattle.std.proofs.Common.{None, Some, refl}
 use Rattle.std.specs.Io.KnownBytes.{prepend_known}
 use Rattle.sub_answer.proofs.EndingLemmas.{ends_weaker, entire_source}

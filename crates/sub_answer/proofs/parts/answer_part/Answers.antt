@@ -1,5 +1,3 @@
--- The input is the selected part of the source, for each way in which it can be selected:
--- all_of_source, file_of_source, stream_of_source.
 use Rattle.std.proofs.Common.{◌∙◌, ap, refl, rules, sym}
 use Rattle.mpeg_ts.specs.Recording.{RecordingValue}
 use Rattle.sub_answer.proofs.EndingLemmas.{ends_weaker}

@@ -1,5 +1,3 @@
--- The input has all PES packets of a file, or those of a range: all_of_pes_packets,
--- range_of_pes_packets.
 use Rattle.std.proofs.Common.{rules}
 use Rattle.ttx_pes.proofs.PartLemmas.{number_is, part_is}
 use Rattle.sub_answer.proofs.EndingLemmas.{ends_weaker}

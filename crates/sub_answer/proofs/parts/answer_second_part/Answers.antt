@@ -1,5 +1,3 @@
--- The second input is the selected part of the second source, for each way in which it can be
--- selected: file_of_source, stream_of_source.
 use Rattle.std.proofs.Common.{ap, refl, rules}
 use Rattle.mpeg_ts.specs.Recording.{RecordingValue}
 use Rattle.ttx_pes.specs.declared.file_pes_packets.FilePesPackets.{FilePesPackets}

@@ -1,5 +1,3 @@
--- The second input has all PES packets of a file, or those of a range: all_of_pes_packets,
--- range_of_pes_packets.
 use Rattle.std.proofs.Common.{◌∙◌, ap, rules}
 use Rattle.ttx_pes.specs.declared.part_of_pes_packets.PartOfPesPackets.{PartOfPesPackets}
 use Rattle.ttx_pes.proofs.PartLemmas.{number_is, part_is}

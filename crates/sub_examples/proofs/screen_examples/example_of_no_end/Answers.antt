@@ -1,4 +1,3 @@
--- The example of a good transmission that is not shown follows from ScreenTests.
 use Rattle.sub_examples.proofs.ScreenTests as example
 use Rattle.sub_examples.proofs.screen_examples.example_of_no_end.Goals as goal
 

@@ -1,4 +1,3 @@
--- The examples of when a page is put on a screen follow from ScreenTests.
 use Rattle.sub_examples.proofs.ScreenTests as example
 use Rattle.sub_examples.proofs.screen_examples.examples_of_screens.Goals as goal
 

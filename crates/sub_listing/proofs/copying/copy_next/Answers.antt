@@ -1,5 +1,3 @@
--- `copy_next`: the bytes copied, by the result of reading: pes_packet_copied, part_of_pes_packet,
--- none_left, rest_stays.
 use Rattle.std.proofs.Common.{refl, rules}
 use Rattle.std.specs.Io.KnownBytes.{Appends}
 use Rattle.sub_io.specs.Device.{AppendsPrefix}

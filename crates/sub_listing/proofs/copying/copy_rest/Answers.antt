@@ -1,5 +1,3 @@
--- `copy_rest`: one more iteration of copying, more_copied, and each return: prefix_copied,
--- cut_copied, all_copied.
 use Rattle.std.proofs.Common.{arith, rules}
 use Rattle.sub_io.proofs.DeviceLemmas.{AppendsPrefix-whole}
 use Rattle.sub_listing.proofs.CopyingLemmas.{all_copied, cut_copied, more_copied, none_copied}

@@ -1,4 +1,5 @@
--- Loop invariant of `copy_rest`: each iteration copied at least one byte, and no device has failed.
+-- Loop invariant of `copy_rest`: each iteration has copied at least one byte, and no device has
+-- failed.
 use Rattle.std.proofs.Common.{◌≡◌, true}
 use Rattle.sub_io.specs.Reading.{IfKnown}
 use Rattle.sub_listing.proofs.CopyingLemmas.{HasCopiedSome}

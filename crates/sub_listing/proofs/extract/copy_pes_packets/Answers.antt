@@ -1,5 +1,3 @@
--- `copy_pes_packets`: one more PES packet, no_pes_packets, next_copied; and each return:
--- pes_packets_given, none_given, rest_refused, cut_behind, cut_in_rest, part_copied, too_many.
 use Rattle.std.proofs.Common.{arith, rules}
 use Rattle.sub_listing.proofs.ExtractingLemmas.{cut_behind, cut_in_rest, next_copied}
 use Rattle.sub_listing.proofs.ExtractingLemmas.{no_pes_packets}

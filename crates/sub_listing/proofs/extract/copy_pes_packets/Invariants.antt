@@ -1,4 +1,4 @@
--- Loop invariant of `copy_pes_packets`: the PES packets so far were copied and flushed, and no
+-- Loop invariant of `copy_pes_packets`: all PES packets read so far were copied and flushed, and no
 -- device has failed.
 use Rattle.std.proofs.Common.{◌≡◌, ◌<◌, ◌≤◌}
 use Rattle.sub_io.specs.Reading.{IfKnown}

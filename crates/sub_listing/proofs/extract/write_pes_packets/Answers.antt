@@ -1,5 +1,5 @@
--- Storing the file does not change the bytes written to it; if it could not be stored, they count
--- as a prefix.
+-- Storing the file does not change the bytes written to it. If it could not be stored, it received
+-- a prefix of the bytes.
 use Rattle.sub_listing.proofs.ExtractingLemmas.{extracted-stored, extracted-lost}
 use Rattle.sub_listing.proofs.extract.write_pes_packets.Goals as goal
 

@@ -1,4 +1,4 @@
--- The text of the help equals the text of the specification, character by character.
+-- The printed help is equal to the specified help, character by character.
 use Rattle.std.proofs.Common.{refl}
 use Rattle.sub_listing.specs.Help.{help_text}
 use Rattle.sub_listing.proofs.help.print_help.Goals as goal

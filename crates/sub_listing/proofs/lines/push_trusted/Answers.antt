@@ -1,4 +1,3 @@
--- `push_trusted`: the line consists of five texts.
 use Rattle.std.proofs.Common.{◌≡◌, ◌++◌, ◌∙◌, ap, arith, List, ℕ, append_assoc, codes, ◌%◌}
 use Rattle.stl_file.specs.TimeCode.{day}
 use Rattle.sub_listing.specs.Lines.{time_text}

@@ -1,5 +1,3 @@
--- `list_to`: the lines of one more part, the last lines, and lines at which the sink failed:
--- prefix-more, prefix-end, prefix-cut, prefix-stopped; flushed lines stay: prefix-kept.
 use Rattle.std.proofs.Common.{◌∙◌, ◌+◌, ap, arith, if◌then◌else◌, refl, subst, sym, Some, ℕ}
 use Rattle.std.proofs.lemmas.Bool.{true≢false}
 use Rattle.std.specs.Io.KnownBytes.{Appends}

@@ -1,5 +1,5 @@
--- Loop invariant of `list_to`: no device has failed, and the printed lines are the beginning of
--- each listing that is still possible.
+-- Loop invariant of `list_to`: no device has failed, and the printed lines are the start of any
+-- listing that is still possible.
 use Rattle.std.proofs.Common.{◌≡◌, false}
 use Rattle.sub_listing.proofs.ListingLemmas.{IsPrefix}
 use Rattle.sub_listing.proofs.listing.list_to.Given as goal

@@ -1,4 +1,4 @@
--- `read_input`: each read appends its bytes to those of earlier reads.
+-- Each read appends its bytes to those of earlier reads.
 use Rattle.std.proofs.Common.{rules}
 use Rattle.sub_listing.proofs.NormalLemmas.{Consumes-next, block-at, memory-expected, taken-at_end}
 use Rattle.sub_listing.proofs.NormalLemmas.{taken-to_most}

@@ -1,4 +1,5 @@
--- Loop invariant of `read_input`: the buffer has all bytes read so far, and no read has failed.
+-- Loop invariant of `read_input`: the buffer contains all bytes read so far, and no read has
+-- failed.
 use Rattle.std.proofs.Common.{◌≡◌, ◌≤◌, ◌-◌}
 use Rattle.std.specs.Prelude.{vec_len}
 use Rattle.std.specs.Io.KnownBytes.{Consumes}

@@ -1,5 +1,4 @@
--- `flush_lines`: flushing keeps the printed lines, the sink and the device: flush_same,
--- flush_stays, flush_failed.
+-- Flushing changes neither the printed lines nor the device.
 use Rattle.std.proofs.Common.{◌≡◌, ◌∙◌, ℕ, Bool, List, Option, false, refl, true}
 use Rattle.sub_io.proofs.FlushingLemmas.{not_ok}
 use Rattle.sub_listing.proofs.PrinterLemmas.{flush_failed, flush_same, flush_stays}

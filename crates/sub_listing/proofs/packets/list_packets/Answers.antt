@@ -1,5 +1,4 @@
--- `list_packets`: the listing if the first PES packet was found, prints_found, or if the device
--- failed before, prints_failed.
+-- Either the first PES packet was found and the listing was printed, or the device failed before.
 use Rattle.std.proofs.Common.{◌≡◌, ◌+◌, arith}
 use Rattle.sub_listing.specs.DeviceCall.{read_call}
 use Rattle.sub_listing.proofs.FirstPacketLemmas.{prints_failed, prints_found}

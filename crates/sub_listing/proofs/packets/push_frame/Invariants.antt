@@ -1,5 +1,5 @@
 -- Loop invariant of `push_frame`: the buffer has room for the lines of the remaining Teletext
--- units, 192 bytes each and at most 35; the lines so far, followed by these, are the lines of all
+-- units, 192 bytes each and at most 35. The lines so far, followed by these, are the lines of all
 -- units.
 use Rattle.std.proofs.Common.{◌≡◌, ◌+◌, ◌*◌, ◌≤◌, ◌++◌, drop, length}
 use Rattle.arrayvec.specs.ArrayVec.{array_vec_len}

@@ -1,4 +1,3 @@
--- `list_subtitles` lists a subtitle file from its start.
 use Rattle.sub_listing.proofs.show.list_subtitles.Goals as goal
 
 pub returns-clause-listing : goal.returns-clause-listing

@@ -1,4 +1,5 @@
--- Loop invariant of `push_page`: the lines of the rows so far were appended, at most 50 bytes each.
+-- Loop invariant of `push_page`: the lines of all earlier rows were appended, with at most 50 bytes
+-- each.
 use Rattle.std.proofs.Common.{◌≡◌, ◌≤◌, ◌<◌, ◌*◌}
 use Rattle.arrayvec.specs.ArrayVec.{array_vec_len}
 use Rattle.sub_listing.specs.DisplayLines.{rows_text}

@@ -1,4 +1,4 @@
--- The line with the version equals the line of the specification, character by character.
+-- The printed version is equal to the specified version, character by character.
 use Rattle.std.proofs.Common.{refl}
 use Rattle.sub_listing.specs.Version.{version_text}
 use Rattle.sub_listing.proofs.version.print_version.Goals as goal

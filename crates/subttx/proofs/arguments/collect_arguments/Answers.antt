@@ -1,4 +1,3 @@
--- The function collects all arguments that the system gives; by collected.
 use Rattle.std.proofs.Common.{Ok, ap, map, string_bytes}
 use Rattle.subttx.proofs.ArgumentTextLemmas.{collected}
 use Rattle.subttx.proofs.arguments.collect_arguments.Goals as goal

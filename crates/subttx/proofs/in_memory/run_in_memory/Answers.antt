@@ -1,4 +1,4 @@
--- The exit status of a run with files in memory implies the headline, by the law of all runs.
+-- The exit status implies the headline by the law about all runs.
 use Rattle.subttx.proofs.in_memory.run_in_memory.Goals as goal
 
 pub returns-clause-headline : goal.returns-clause-headline

@@ -1,4 +1,4 @@
--- The check begins at the first PES packet, or the source failed before the first PES packet was
+-- Either the check starts at the first PES packet, or the source failed before this packet was
 -- found.
 use Rattle.std.proofs.Common.{◌≡◌}
 use Rattle.sub_listing.proofs.FirstPacketLemmas.{fails_first_packet, fails_packet_kept}

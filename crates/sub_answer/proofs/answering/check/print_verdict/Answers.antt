@@ -1,4 +1,3 @@
--- The bytes of both files decide the answer of `check`, whose line is printed.
 use Rattle.std.proofs.Common.{rules}
 use Rattle.sub_rules.specs.Fault.{is_pes_read, is_stl_read}
 use Rattle.sub_answer.proofs.AnsweringLemmas.{answer_of_check_files, source_counts}

@@ -1,4 +1,4 @@
--- Events stay reported when the device is flushed: by keeps-reported.
+-- Flushing the device does not change which events were reported.
 use Rattle.std.proofs.Common.{◌∙◌, inl, inr, refl, rules, true}
 use Rattle.sub_io.proofs.FlushingLemmas.{keeps-reported}
 use Rattle.sub_answer.proofs.FailedReadLemmas.{not_is_err}

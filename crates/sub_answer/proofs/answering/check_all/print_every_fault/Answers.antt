@@ -1,4 +1,3 @@
--- `check --all` prints the lines of the events, and the last line: by AllAnswerLemmas.
 use Rattle.std.proofs.Common.{refl, rules}
 use Rattle.sub_answer.proofs.AllAnswerLemmas.{answers_at, answers_cut, answers_end, counts}
 use Rattle.sub_answer.proofs.FailedReadLemmas.{cut_reads, last_line}

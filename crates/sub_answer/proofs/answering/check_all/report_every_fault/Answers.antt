@@ -1,5 +1,3 @@
--- The events of the subtitle file are reported, and then those of the PES file: by
--- EveryFaultLemmas.
 use Rattle.std.proofs.Common.{◌≡◌, ◌∙◌, refl, sym, subst, arith, ℕ, List, Option, false}
 use Rattle.std.proofs.lemmas.Bool.{true≢false}
 use Rattle.std.specs.Prelude.{◌≤◌}

@@ -1,4 +1,3 @@
--- The events of the PES file are reported: by PesEventLemmas and FailedReadLemmas.
 use Rattle.std.proofs.Common.{◌≡◌, ◌∙◌, refl, sym, arith, ℕ, ◌+◌, List, [], false, inl, inr, Err}
 use Rattle.std.proofs.lemmas.Bool.{true≢false}
 use Rattle.ttx_pes.specs.declared.fault.PesFault.TheVariants.{Read}

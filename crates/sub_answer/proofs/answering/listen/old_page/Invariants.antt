@@ -1,4 +1,4 @@
--- The rows of the old page that were set so far have 3F in every cell.
+-- Loop invariant of `old_page`: all earlier rows have 3F in every cell.
 use Rattle.std.proofs.Common.{◌≡◌, ◌≤◌, ◌<◌, ℕ}
 use Rattle.ttx_page.specs.Page.{IsPage, cell}
 use Rattle.sub_answer.proofs.answering.listen.old_page.Given as goal

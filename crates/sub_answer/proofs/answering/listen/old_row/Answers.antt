@@ -1,4 +1,3 @@
--- The code 3F is below 128 in all 40 cells, by a test: codes_from_test.
 use Rattle.std.proofs.Common.{refl, replicate, ◌==◌}
 use Rattle.std.proofs.lemmas.Bool.{eqb-true}
 use Rattle.std.proofs.lemmas.List.Sums.{AllPass-from_list_all}

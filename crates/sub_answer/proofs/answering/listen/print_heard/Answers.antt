@@ -1,4 +1,3 @@
--- The output shows the receiver's state at the end of its run; by listens_from.
 use Rattle.std.proofs.Common.{None, refl, ◌∙◌, ap, arith, Ok, Err}
 use Rattle.ttx_page.specs.Screen.{display}
 use Rattle.sub_listen.specs.Run.{is_failed_read}

@@ -1,5 +1,3 @@
--- The requested receiver leaves the code that its type defines in a cell with a byte of even
--- parity.
 use Rattle.std.proofs.Common.{◌≡◌, ap, inl, inr}
 use Rattle.sub_listen.specs.Reception.{left_by}
 use Rattle.sub_request.specs.declared.listening.ReceiverKind.TheVariants.{Blank, Keep}

@@ -1,5 +1,5 @@
--- The receiver runs from the first PES packet, or the source failed before the first PES packet was
--- found: heard_kept, none_heard.
+-- Either the receiver runs from the first PES packet, or the source failed before this packet was
+-- found.
 use Rattle.std.proofs.Common.{◌≡◌, ◌+◌, arith, inl, inr}
 use Rattle.sub_listing.specs.DeviceCall.{read_call}
 use Rattle.sub_answer.proofs.ListenListingLemmas.{heard_kept, none_heard}

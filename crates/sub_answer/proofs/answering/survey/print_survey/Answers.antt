@@ -1,4 +1,4 @@
--- If the survey fails, the line of the fault follows the lines printed before: printed-reported.
+-- If the survey fails, the line of the fault follows the lines printed before.
 use Rattle.std.proofs.Common.{ap, arith}
 use Rattle.sub_listing.specs.DeviceCall.{sink_call}
 use Rattle.sub_listing.specs.FaultLine.{status_of}

@@ -1,4 +1,4 @@
--- The bytes that `normal` reads are the first bytes of its input.
+-- The command `normal` reads the first bytes of its input, up to a limit.
 use Rattle.std.proofs.Common.{◌∙◌}
 use Rattle.sub_listing.proofs.normal.NormalWorkWork.work.Goals as goal
 

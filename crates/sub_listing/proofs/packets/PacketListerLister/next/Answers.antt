@@ -1,5 +1,3 @@
--- The lister's next lines: those of one more PES packet, gives-packet, or the last lines,
--- gives-last, outcome_after-next.
 use Rattle.std.proofs.Common.{◌≡◌, ◌∙◌, refl, rules, sym, Err, None, Ok, Some, false}
 use Rattle.ttx_pes.specs.Fault.{is_read}
 use Rattle.ttx_pes.specs.Outcome.{ReadsPackets, ends, fails, outcome_after}

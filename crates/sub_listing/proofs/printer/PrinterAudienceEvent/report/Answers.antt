@@ -1,4 +1,4 @@
--- The printer's `report` reports exactly one event; by Reports-one.
+-- The printer's `report` reports exactly one event.
 use Rattle.std.proofs.Common.{◌∙◌, sym}
 use Rattle.std.proofs.lemmas.Bool.{true≢false}
 use Rattle.sub_io.proofs.ReportingLemmas.{Reports-one}

@@ -1,5 +1,3 @@
--- The lister's next lines: none for the GSI block, gives-opened, the line of one more subtitle,
--- gives-next, or the last line, gives-last. A subtitle has at least one block, block-rises.
 use Rattle.std.proofs.Common.{◌≡◌, ◌∙◌, ◌+◌, ap, arith, refl, rules, sym, None, Some, false}
 use Rattle.stl_file.specs.Fault.{is_file_read}
 use Rattle.stl_file.specs.Reader.{outcome_left}
