@@ -1,5 +1,5 @@
--- If at most 14 transport packets with payload in a row are missing, `law_of_reading` determines
--- which PES packets arrive: `law_of_losses`, `law_of_neighbours`.
+-- If at most 14 consecutive TS packets with payload are missing, the law of reading determines
+-- which PES packets arrive. This gives the law of losses and the law of neighbours.
 use Rattle.std.proofs.Common.{◌≡◌, ℕ, inl, inr, Bool, true, false, ◌||◌, List, [], ◌∷◌, ◌++◌}
 use Rattle.std.proofs.Common.{length, refl, sym, ap, ◌∙◌}
 use Rattle.std.specs.List.{concat}
@@ -28,8 +28,8 @@ concat-alone : (marked : Bool) → concat (gap_markers_where marked) ≡ gap_mar
 concat-alone true = append-nil (gap_marker_where true)
 concat-alone false = refl
 
--- If fewer than 15 transport packets with payload in a row are missing, the PES packets that are
--- read are exactly those that arrive, in order.
+-- If fewer than 15 consecutive TS packets with payload are missing, the PES packets that are read
+-- are exactly those that arrive, in order.
 reads-lead : (previous : Previous) (sent : List (SentPes Fated)) (pes_packets : List (List ℕ))
     → Reads true previous sent pes_packets
     → Leads (has_previous previous) (is_gap previous) sent (concat pes_packets)

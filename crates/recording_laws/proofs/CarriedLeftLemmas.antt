@@ -1,5 +1,5 @@
--- What a recording with losses carries is determined by the usable transport packets that are
--- recorded. Main lemma: carried-left.
+-- The PES packets in a recording with losses are determined by the usable TS packets that are
+-- recorded.
 use Rattle.std.proofs.Common.{◌≡◌, ℕ, ◌+◌, ◌%◌, ◌≤◌, ◌⊎◌, inl, inr, Bool, true, false, ◌||◌, ◌==◌}
 use Rattle.std.proofs.Common.{List, [], ◌∷◌, ◌++◌, length, length-append, map, None, refl, ap, ◌∙◌}
 use Rattle.std.proofs.Common.{subst, arith, append_assoc, slice_index}
@@ -33,8 +33,7 @@ none-left : (fs : List Fated)
 none-left [] none = refl
 none-left (f ∷ fs) none = absurd (cc)
 
--- A damaged transport packet keeps its sync byte and its size, so a reader still finds it in the
--- recording.
+-- A damaged TS packet has the same sync byte and size, so a reader still finds it.
 spoiled-unit : (distance number : ℕ) (unit other : List ℕ)
     → IsRecordedUnit distance unit
     → IsSpoiled distance number unit other
@@ -231,8 +230,8 @@ module _ (distance number : ℕ) where
   counter-number : (a : ℕ) → a % 16 ≡ (15 + a % 16 + 1 + 0) % 16
   counter-number a = omega arith
 
-  -- Without announced jumps, the continuity counters of the transport packets with payload rise by
-  -- one from packet to packet.
+  -- Without announced jumps, the continuity counter increases by one from each TS packet with
+  -- payload to the next.
   all-rising : (cs : List (Carrier Fated))
       → AllByRecursion (IsSomeLeft distance number) cs
       → AreInSequence (sent_packet distance) number cs

@@ -1,5 +1,4 @@
--- Each transport packet with payload that a multiplexer sends becomes a good packet. Main lemma:
--- good-carrier.
+-- Each TS packet with payload that a multiplexer sends is read as a good packet.
 use Rattle.std.proofs.Common.{◌≡◌, ℕ, ◌+◌, ◌%◌, ◌<◌, inl, inr, Bool, true, false, ◌||◌, ◌==◌, List}
 use Rattle.std.proofs.Common.{[], ◌∷◌, ◌++◌, Option, Some, refl, sym, ap, ◌∙◌}
 use Rattle.std.proofs.Common.{arith, append_assoc}
@@ -19,7 +18,7 @@ use Rattle.recording_laws.specs.Multiplex.{is_irrelevant}
 use Rattle.recording_laws.specs.Multiplex.{carries, announces, items_of_carrier, AreNextCarriers}
 use Rattle.recording_laws.proofs.RecordingLemmas.{noted}
 
--- The history of a PID after a packet without payload, which may announce a jump.
+-- The history of a PID after a TS packet without payload, which may announce a jump.
 abbrev pub history_after_irrelevant : PacketHistory → Bool → PacketHistory
 history_after_irrelevant history jump = record history { has_jump = history.has_jump || jump }
 
@@ -55,7 +54,7 @@ pub good-repeat : (number : ℕ) (history : PacketHistory) (p : List ℕ) (ns : 
 unfolding good_after
 good-repeat number history p ns carried again = grind (arith, nat_tests)
 
--- A transport packet that is sent a second time counts as the repeat of the packet before it.
+-- A TS packet that is sent a second time is read as a repeat.
 pub is_repeat-again : (number : ℕ) (p q : List ℕ)
     → IsRepetition number p q
     → is_repeat (empty_history (Some p)) q ≡ true
@@ -67,7 +66,8 @@ counter-same p q h1 = grind (arith, nat_tests, bytes_eq-Decides, get_or-take)
 next-counter : (c : ℕ) → c < 16 → (c == (c + 1) % 16) ≡ true → ⊥
 next-counter c small e = grind (arith, nat_tests)
 
--- A transport packet with the next counter differs from the packet before it, so it is no repeat.
+-- A TS packet with the next continuity counter differs from the packet before it, so it is not a
+-- repeat.
 pub not-same : (p q : List ℕ) → counts_on p q ≡ true → is_same p q ≡ false
 not-same p q h1 = grind (arith, nat_tests, counter-same, next-counter)
 
@@ -75,8 +75,8 @@ module _ {A : Type 0} (packet_of : A → List ℕ) (number : ℕ) where
   abbrev pub heard : A → List Note
   heard x = noted number (packet_of x)
 
-  -- The history of a PID after a transport packet with payload and all items up to the next such
-  -- packet.
+  -- The history of a PID after a TS packet with payload and all items up to the next TS packet with
+  -- payload.
   abbrev pub history_after_carrier : Carrier A → PacketHistory
   history_after_carrier c = record {
     good = Some (packet_of c.packet);
@@ -123,7 +123,7 @@ module _ {A : Type 0} (packet_of : A → List ℕ) (number : ℕ) where
       ≡ good_after (record (empty_history (Some p)) { has_repeat = is_some again }) ns
   good-again p again ns h1 = grind (arith, nat_tests, append-nil, good-repeat, is_repeat-again)
 
-  -- Each transport packet with payload becomes a good packet, whatever packets follow.
+  -- Each TS packet with payload is read as a good packet, whatever packets follow.
   pub good-carrier : (history : PacketHistory) (c : Carrier A) (ns : List Note) (first : Bool)
       → IsCarrier packet_of number first c
       → is_repeat history (packet_of c.packet) ≡ false
@@ -155,8 +155,7 @@ module _ {A : Type 0} (packet_of : A → List ℕ) (number : ℕ) where
           ≡ heard c.packet ++ (before ++ (again ++ (after ++ ns)))
       split = simp (flat_map-append, append_assoc)
 
-  -- A transport packet with payload that a multiplexer may send next is no repeat of the packet
-  -- before it.
+  -- The next TS packet with payload that a multiplexer may send is not a repeat.
   pub next-fresh : (c d : Carrier A)
       → IsNextCarrier packet_of number c d
       → is_repeat (history_after_carrier c) (packet_of d.packet) ≡ false
@@ -167,8 +166,7 @@ module _ {A : Type 0} (packet_of : A → List ℕ) (number : ℕ) where
         | inr jump ↦ grind (arith, nat_tests)
       ]
 
-  -- No data is lost between two transport packets with payload that a multiplexer sends one after
-  -- the other.
+  -- No data is lost between two consecutive TS packets with payload of a multiplexer.
   pub next-unbroken : (c d : Carrier A)
       → IsNextCarrier packet_of number c d
       → is_break (link_from (Some (packet_of c.packet)) (history_after_carrier c)
@@ -176,7 +174,7 @@ module _ {A : Type 0} (packet_of : A → List ℕ) (number : ℕ) where
       ≡ false
   next-unbroken c d h1 = grind (arith, nat_tests)
 
-  -- Within a PES packet, each transport packet with payload continues the packet before it.
+  -- Within a PES packet, each TS packet with payload continues the one before it.
   pub next-follows : (c d : Carrier A)
       → IsNextCarrier packet_of number c d
       → begins (packet_of d.packet) ≡ false
@@ -192,7 +190,7 @@ module _ {A : Type 0} (packet_of : A → List ℕ) (number : ℕ) where
   abbrev pub IsSomeCarrier : Carrier A → Type 0
   IsSomeCarrier c = (first : Bool) × IsCarrier packet_of number first c
 
-  -- All transport packets with payload that a multiplexer sends become good packets, in order.
+  -- All TS packets with payload that a multiplexer sends are read as good packets, in order.
   pub good-carriers : (c : Carrier A) (more : List (Carrier A))
       → AllByRecursion IsSomeCarrier more
       → AreNextCarriers packet_of number c more

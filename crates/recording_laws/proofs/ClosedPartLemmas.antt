@@ -1,5 +1,5 @@
--- The result of the transport packets of one PES packet (a part), whatever follows them. Main
--- lemmas: closes-pes_packet, closes-broken.
+-- Lemmas for the output after the last TS packet of a PES packet. A part is the list of joined
+-- payloads of one PES packet.
 use Rattle.std.proofs.Common.{◌≡◌, ℕ, ◌<◌, ◌≤◌, inl, inr, Bool, true, false, not, ◌&&◌, ◌||◌, List}
 use Rattle.std.proofs.Common.{[], ◌∷◌, ◌++◌, length, length-append, take, Ok, refl, sym, ap, ◌∙◌}
 use Rattle.std.proofs.Common.{arith, append_assoc, nat_le}
@@ -20,13 +20,14 @@ pub gap-before : (given gap here : Bool) (more : List PartOutcome)
 unfolding with_gap_markers
 gap-before given gap here more = grind (arith, nat_tests)
 
--- The bytes are `prefix`, followed by at most one gap marker, which needs a PES packet before it.
+-- The bytes are `prefix`, followed by at most one gap marker, which is possible only after a PES
+-- packet.
 pub record EndsMarked (given : Bool) (prefix bytes : List ℕ) : Type 0 where
   pub is_marked : Bool
   pub after_one : is_marked ≡ true → given ≡ true
   pub bytes_are : bytes ≡ prefix ++ gap_marker_where is_marked
 
--- A closed part yields the bytes `prefix`, whatever parts follow; `given'` and `gap'` describe the
+-- The output for the part is `prefix`, whatever parts follow. `given'` and `gap'` describe the
 -- state after the part.
 pub record Closes (part : Part) (given gap : Bool) (prefix : List ℕ) (given' gap' : Bool)
     : Type 0 where

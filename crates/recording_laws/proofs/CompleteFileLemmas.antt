@@ -1,5 +1,4 @@
--- If all that is carried are PES packets with Teletext, no gap marker is among them:
--- `law_of_complete_file`.
+-- If all PES packets in a recording contain Teletext, there is no gap marker among them.
 use Rattle.std.proofs.Common.{◌≡◌, ℕ, List, [], ◌∷◌, ◌++◌, length, slice_index, ap, subst, ◌∙◌}
 use Rattle.std.proofs.Common.{arith}
 use Rattle.std.specs.List.{AllByRecursion, AllZip}
@@ -11,8 +10,8 @@ use Rattle.recording_laws.specs.Laws.{LawOfCompleteFile}
 use Rattle.recording_laws.proofs.ArrivingLaw.{law_of_neighbours}
 use Rattle.recording_laws.proofs.PesPacketLemmas.{pes_packets-append}
 
--- A gap marker is no PES packet with Teletext: its byte 6 is FF, but byte 6 of a PES packet with
--- Teletext begins with the bits 1000.
+-- A gap marker is not a PES packet with Teletext: its byte 6 is FF, but byte 6 of a PES packet with
+-- Teletext starts with the bits 1000.
 no-packet : (v : PesValue) → IsValidPesPacket v gap_marker → ⊥
 unfolding gap_marker
 no-packet v h =

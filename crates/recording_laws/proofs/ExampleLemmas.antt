@@ -1,4 +1,4 @@
--- The two example recordings satisfy their definitions: example_of_multiplex, example_of_losses.
+-- The two example recordings satisfy their definitions.
 use Rattle.std.proofs.Common.{◌≡◌, ◌≤◌, ℕ, true, List, [], ◌∷◌, ◌++◌, length, refl, inl, inr, arith}
 use Rattle.std.proofs.Common.{le_refl}
 use Rattle.std.proofs.lemmas.Bool.{true≢false}

@@ -1,5 +1,5 @@
--- If the frames of a transmission are at most pace apart, so are its PES packets before they are
--- merged into frames: `near-sendings`.
+-- If the frames of a transmission are at most `pace` apart, so are the PES packets from which they
+-- were joined.
 use Rattle.std.proofs.lemmas.Bool.Decides.{nat_tests}
 use Rattle.std.proofs.Common.{◌≡◌, ℕ, suc, ◌+◌, ◌-◌, ◌≤◌, ◌==◌, ◌&&◌, not, Bool, true, false, List}
 use Rattle.std.proofs.Common.{[], ◌∷◌, ◌++◌, length, refl, sym, ap, ◌∙◌, subst, arith, cond}

@@ -1,4 +1,4 @@
--- The condition that bytes are those of the PES packets that arrive from a recording with losses.
+-- Lemmas for the bytes of the PES packets that arrive from a recording with losses.
 use Rattle.std.proofs.lemmas.Bool.Decides.{nat_tests}
 use Rattle.std.proofs.Common.{arith, ◌≡◌, ℕ, Bool, true, false, ◌&&◌, ◌||◌, List, [], ◌∷◌, ◌++◌}
 use Rattle.std.proofs.Common.{append_assoc}
@@ -9,7 +9,7 @@ use Rattle.recording_laws.specs.Losses.{units_before}
 use Rattle.recording_laws.specs.Multiplex.{SentPes}
 use Rattle.recording_laws.proofs.LeftNoteLemmas.{or-true}
 
--- The bytes are those of the PES packets that arrive, followed by at most one gap marker.
+-- The bytes of the arriving PES packets, followed by at most one gap marker.
 pub record Leads (given gap : Bool) (sent : List (SentPes Fated)) (bytes : List ℕ) : Type 0 where
   pub is_marked : Bool
   pub after_one : is_marked ≡ true → (given || list_any arrives sent) ≡ true

@@ -1,5 +1,4 @@
--- The good packets of a recording with losses, and their links. Main lemmas: copy-again,
--- break-left.
+-- Lemmas for the good packets of a recording with losses, and for the links between them.
 use Rattle.std.proofs.Common.{◌≡◌, ℕ, ◌+◌, ◌%◌, ◌<◌, Bool, true, false, not, ◌||◌, ◌==◌, List, []}
 use Rattle.std.proofs.Common.{◌∷◌, Option, Some, None, arith, if◌then◌else◌, length, length-drop}
 use Rattle.std.proofs.Common.{length-take, drop, nat_lt}
@@ -22,7 +21,8 @@ use Rattle.recording_laws.specs.Multiplex.{packet_in}
 use Rattle.recording_laws.proofs.CarrierLemmas.{counter-same}
 use Rattle.recording_laws.proofs.LeftNoteLemmas.{IsLeft, IsLeftCarrier, copy_of, history_after_loss}
 
--- The transport packet h has the counter and the payload of packet p, and announces no jump.
+-- The TS packet `h` has the continuity counter and the payload of packet `p`, and announces no
+-- jump.
 pub record IsCopy (p h : List ℕ) : Type 0 where
   pub counter : counter h ≡ counter p
   pub begins : begins h ≡ begins p
@@ -54,8 +54,8 @@ length-packet distance u h =
     let long = h.long in
     omega (arith, length-take 188 (drop (lead_size distance) u), length-drop (lead_size distance) u)
 
--- Two transport packets of a PID have different counters if fewer than 15 packets with payload are
--- missing between them.
+-- Two TS packets of a PID have different continuity counters if fewer than 15 packets with payload
+-- are missing between them.
 counter-far : (i n a b : ℕ)
     → a ≡ i % 16
     → b ≡ (i + 1 + n) % 16
@@ -86,8 +86,8 @@ abbrev pub IsCounter : Option (List ℕ) → ℕ → Type 0
 IsCounter None i = ⊤
 IsCounter (Some g) i = counter g ≡ i % 16
 
--- A later transport packet is no repeat of the last good packet, if fewer than 15 packets with
--- payload are missing between them.
+-- A later TS packet is not a repeat of the last good packet, if fewer than 15 packets with payload
+-- are missing between them.
 pub fresh-later : (good : Option (List ℕ)) (again wrong : Bool) (h : List ℕ) (i n : ℕ)
     → IsCounter good i
     → counter h ≡ (i + 1 + n) % 16
@@ -95,8 +95,8 @@ pub fresh-later : (good : Option (List ℕ)) (again wrong : Bool) (h : List ℕ)
     → is_repeat (history_after_loss good again wrong) h ≡ false
 fresh-later good again wrong h i n h1 h2 h3 = grind (arith, nat_tests, counter-far, counter-same)
 
--- The link of a transport packet to the good packet before it, given whether a packet between them
--- was damaged.
+-- The link of a TS packet to the good packet before it, given whether a packet between them was
+-- damaged.
 abbrev pub link_left : Option (List ℕ) → Bool → List ℕ → PacketLink
 link_left None wrong h = First
 link_left (Some g) wrong h = if wrong then Break else if counts_on g h then Follows else Break
@@ -109,8 +109,8 @@ pub linked-left : (good : Option (List ℕ)) (again wrong : Bool) (h : List ℕ)
     → linked (history_after_loss good again wrong) h ≡ good_left good wrong h
 linked-left good again wrong h h1 = grind (arith, nat_tests)
 
--- Data is lost between two good packets exactly if a transport packet between them was damaged or
--- is missing.
+-- Data is lost between two good packets exactly if a TS packet between them was damaged or is
+-- missing.
 pub break-left : (i n : ℕ) (g h : List ℕ) (wrong : Bool)
     → counter g ≡ i % 16
     → counter h ≡ (i + 1 + n) % 16
@@ -135,7 +135,7 @@ pub few-gone : (n : ℕ) (c : Carrier Fated) (cs : List (Carrier Fated))
 few-gone n c cs gone few = (grind (arith, nat_tests), grind (arith, nat_tests))
 
 module _ (distance number : ℕ) where
-  -- A repeat has the counter and the payload of the transport packet that it repeats.
+  -- A repeat has the continuity counter and the payload of the TS packet that it repeats.
   pub copy-again : (p : List ℕ) (again : Option Fated)
       → announces_jump p ≡ false
       → AllByRecursion (IsLeft distance number) (option_to_list again)
@@ -149,8 +149,8 @@ module _ (distance number : ℕ) where
       → 0 < length (payload (sent_packet distance c.packet))
   carrier-payload first c h1 = grind (arith, nat_tests, payload-long, length-packet)
 
-  -- The continuity counters of the transport packets with payload rise by one from packet to
-  -- packet, from j on.
+  -- The continuity counter increases by one from each TS packet with payload to the next, starting
+  -- with `j`.
   abbrev pub AreRising : ℕ → List (Carrier Fated) → Type 0
   AreRising j [] = ⊤
   AreRising j (c ∷ more) =

@@ -1,4 +1,4 @@
--- A complete recording carries exactly what a multiplexer sent: `law_of_multiplex`.
+-- A complete recording carries exactly the PES packets that a multiplexer sent.
 use Rattle.std.proofs.lemmas.Bool.Decides.{nat_tests}
 use Rattle.std.proofs.Common.{arith}
 use Rattle.std.proofs.Common.{◌≡◌, ℕ, Bool, true, false, List, [], ◌∷◌, ◌++◌, map, None, refl, sym}

@@ -1,5 +1,5 @@
--- Reading the rest of a PES packet if any number of transport packets is missing, from any state,
--- by induction over the packets still to come. Main lemmas: headless-within, open-within.
+-- Reading the remaining TS packets of a PES packet, for any number of missing TS packets and any
+-- state. The proofs are by induction over the remaining TS packets.
 use Rattle.std.proofs.Common.{◌≡◌, ℕ, ◌+◌, ◌%◌, ◌≤◌, ◌⊎◌, inl, inr, Bool, true, false, ◌&&◌, ◌||◌}
 use Rattle.std.proofs.Common.{List, [], ◌∷◌, ◌++◌, length, length-append, refl, sym, ap, ◌∙◌, subst}
 use Rattle.std.proofs.Common.{arith, append_assoc, not, nat_lt, map}
@@ -51,7 +51,7 @@ abbrev pub gapped : Bool → Previous
 gapped true = Marked
 gapped false = Nothing
 
--- The bytes are the joined results of reading the PES packets sent, after the state `previous`.
+-- The bytes are the joined results of reading the PES packets `sent`, after the state `previous`.
 pub record YieldsResults (few : Bool) (previous : Previous) (sent : List (SentPes Fated))
     (bytes : List ℕ)
     : Type 0 where
@@ -60,8 +60,8 @@ pub record YieldsResults (few : Bool) (previous : Previous) (sent : List (SentPe
   pub joined : bytes ≡ concat pes_packets
   pub reads : Reads few previous sent pes_packets
 
--- The bytes are the joined results of reading, and the first result is that of the PES packet s,
--- with or without a gap marker before it.
+-- The bytes are the joined results of reading. The first result is for the PES packet `s`, and a
+-- gap marker may be before it.
 pub record YieldsOneResult (few marked : Bool) (s : SentPes Fated) (between : ℕ) (skipped : Bool)
     (sent : List (SentPes Fated)) (bytes : List ℕ) : Type 0 where
   pub pes_packet : List ℕ
@@ -73,7 +73,7 @@ pub record YieldsOneResult (few marked : Bool) (s : SentPes Fated) (between : �
   pub joined : bytes ≡ gap_marker_where marked ++ (pes_packet ++ concat rest)
   pub reads : Reads few (After pes_packet s between skipped) sent rest
 
--- Either the first result is that of the PES packet s, or s has no result.
+-- Either the first result is for the PES packet `s`, or `s` has no result.
 abbrev pub Opens : Bool → Bool → Bool → SentPes Fated → ℕ → Bool → List (SentPes Fated) → List ℕ
     → Type 0
 Opens few given marked s between skipped sent bytes =
@@ -255,9 +255,8 @@ module _ (distance number : ℕ) (wrong_after few : Bool) where
       (IsBroken part × (arrives s ≡ false))
       ⊎ (IsCompletePart part s.bytes × (arrives s ≡ true) × (skipped ≡ true))
 
-  -- The state of a PES packet that is being reassembled: all its transport packets so far were
-  -- read; or some are missing; or at least 16 were missing, so that the counter may continue all
-  -- the same.
+  -- The state of a PES packet that is read in part: all its TS packets so far were read; or some of
+  -- them are missing; or at least 16 are missing, so that the continuity counter may match again.
   abbrev pub PartContinues : Part → SentPes Fated → ℕ → Bool → ℕ → Bool → List (Carrier Fated) →
       Type 0
   PartContinues part s between skipped n wrong cs =
@@ -270,7 +269,7 @@ module _ (distance number : ℕ) (wrong_after few : Bool) where
     pub is_pes_packet : IsPesPacket s.bytes
     pub prefix : few ≡ false → IsPrefix part s
 
-  -- A PES packet stays incomplete as long as some of its transport packets are still to come.
+  -- A PES packet is incomplete as long as some of its TS packets remain.
   broken-here : (part : Part) (s : SentPes Fated) (between : ℕ) (skipped : Bool) (n : ℕ)
       (wrong : Bool) (c : Carrier Fated) (cs : List (Carrier Fated))
       → IsPesPacket s.bytes
@@ -368,8 +367,8 @@ module _ (distance number : ℕ) (wrong_after few : Bool) where
       → (n ≡ 0) × (wrong ≡ false) × (any_unit_damaged (units_before c) ≡ false) ×
       (is_recorded c ≡ true)
 
-  -- A transport packet that continues the counter and begins no PES packet is joined to the PES
-  -- packet before it.
+  -- The payload of a TS packet with the next continuity counter that does not start a PES packet is
+  -- joined to the current PES packet.
   going-follows : (part : Part) (s : SentPes Fated) (between : ℕ) (skipped : Bool) (n : ℕ)
       (wrong wrong_after_good : Bool) (c : Carrier Fated) (cs : List (Carrier Fated))
       (g : GoodPacket)
@@ -478,8 +477,8 @@ module _ (distance number : ℕ) (wrong_after few : Bool) where
       ClosesAs part given gap s
       ⊎ (Closes part given gap [] given true × (few ≡ true → arrives s ≡ false))
 
-  -- If fewer than 15 transport packets with payload in a row are missing, a PES packet is complete
-  -- exactly if all its transport packets arrive.
+  -- If fewer than 15 consecutive TS packets with payload are missing, a PES packet is complete
+  -- exactly if all its TS packets arrive.
   abbrev pub Ends : Part → SentPes Fated → Type 0
   Ends part s =
       few ≡ true

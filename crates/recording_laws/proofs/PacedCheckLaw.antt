@@ -1,5 +1,4 @@
--- PES packets that the check accepts with a maximum distance were sent one after another:
--- `law_of_paced_check`.
+-- The PES packets that `check --pace` accepts were sent one after another.
 use Rattle.std.proofs.Common.{◌≡◌, ℕ, ◌<◌, List, [], ◌∷◌, ◌++◌, length, refl, sym, ap, ◌∙◌}
 use Rattle.std.proofs.Common.{subst, arith, append_assoc}
 use Rattle.std.specs.List.{AllByRecursion, AllZip, concat}

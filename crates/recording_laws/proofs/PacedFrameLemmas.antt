@@ -1,4 +1,4 @@
--- Frames of a transmission that keep a maximum distance are at most pace apart: `near-covered`.
+-- The frames of a transmission that was accepted with a maximum distance are at most `pace` apart.
 use Rattle.std.proofs.Common.{ℕ, zero, suc, ◌+◌, ◌<◌, ◌≤◌, inl, inr, List, [], ◌∷◌, length}
 use Rattle.std.proofs.Common.{map, arith}
 use Rattle.std.specs.Prelude.{⊤}
@@ -7,13 +7,13 @@ use Rattle.sub_rules.specs.FrameRules.{frame_at}
 use Rattle.sub_rules.specs.Transmission.{IsRising, SentFrame, Transmission, first_frame}
 use Rattle.sub_rules.specs.Transmission.{last_frame}
 
--- Each number is at most `pace` more than the number before it, and the first is at most `pace`
--- more than `frame`.
+-- Each number is at most `pace` greater than the number before it, and the first is at most `pace`
+-- greater than `frame`.
 abbrev pub AreNearFrom : ℕ → ℕ → List ℕ → Type 0
 AreNearFrom pace frame [] = ⊤
 AreNearFrom pace frame (x ∷ more) = (x ≤ frame + pace) × AreNearFrom pace x more
 
--- Each number is at most `pace` more than the number before it.
+-- Each number is at most `pace` greater than the number before it.
 abbrev pub AreNear : ℕ → List ℕ → Type 0
 AreNear pace [] = ⊤
 AreNear pace (x ∷ more) = AreNearFrom pace x more
@@ -21,8 +21,8 @@ AreNear pace (x ∷ more) = AreNearFrom pace x more
 abbrev pub numbers : Transmission → List ℕ
 numbers frames = map (λ (s : SentFrame). s.frame) frames
 
--- Each frame from the first to the last is one of the list, or less than `pace` after a frame of
--- the list.
+-- Each frame from the first to the last is in the list, or less than `pace` after a frame in the
+-- list.
 abbrev pub AreCovering : ℕ → Transmission → Type 0
 AreCovering pace frames =
     (f : ℕ)

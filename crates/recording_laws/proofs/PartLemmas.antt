@@ -1,4 +1,4 @@
--- A complete part yields its PES packet. Main lemma: outcome-whole.
+-- The output for all TS packets of a PES packet is this PES packet.
 use Rattle.std.proofs.Common.{◌≡◌, ℕ, ◌≤◌, inl, inr, Bool, true, false, List, [], ◌∷◌, ◌++◌, length}
 use Rattle.std.proofs.Common.{append_assoc, take, arith, Ok}
 use Rattle.std.proofs.lemmas.Bool.{cases_Bool}
@@ -22,7 +22,7 @@ pes_packet-size b h1 = grind (arith, nat_tests, head_complete)
 pub pes_packet-long : (b : List ℕ) → IsPesPacket b → 184 ≤ length b
 pes_packet-long b h1 = grind (arith, nat_tests)
 
--- The part begins a PES packet, and has exactly the bytes of that packet.
+-- The joined payloads start a PES packet, and are exactly its bytes.
 pub record IsCompletePart (part : Part) (bytes : List ℕ) : Type 0 where
   pub begins : part.begins ≡ true
   pub bytes_are : part_bytes part ≡ bytes
@@ -46,7 +46,7 @@ unfolding outcomes
 outcomes-whole wrong_after part more bytes h =
     rw (outcome-whole (may_be_cut_off wrong_after more) part bytes h)
 
--- A complete part without a break before it yields its PES packet without a gap marker.
+-- If no data was lost before it, a complete PES packet is output without a gap marker.
 pub with_gap_markers-whole : (given wrong_after : Bool) (part : Part) (more : List Part)
     (bytes : List ℕ)
     → IsCompletePart part bytes

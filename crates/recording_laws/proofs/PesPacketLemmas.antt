@@ -1,4 +1,4 @@
--- Bytes split into PES packets in only one way. Main lemma: one-way.
+-- Bytes can be split into PES packets in only one way.
 use Rattle.std.proofs.lemmas.Bool.Decides.{nat_tests}
 use Rattle.std.proofs.Common.{◌≡◌, ℕ, Bool, true, false, List, [], ◌∷◌, ◌++◌, length, length-append}
 use Rattle.std.proofs.Common.{take, drop, map, Ok, refl, sym, ap, ◌∙◌, arith}
@@ -51,7 +51,7 @@ prefix-rest p q more others long e =
 pes_packet-some : (p more : List ℕ) → IsPesPacket p → [] ≡ p ++ more → ⊥
 pes_packet-some p more h1 h2 = grind (arith, nat_tests, pes_packet-long, length-append)
 
--- Bytes can be split into PES packets in only one way, since each PES packet states its size.
+-- Bytes can be split into PES packets in only one way, since each PES packet contains its size.
 pub one-way : (ps qs : List (List ℕ))
     → AllByRecursion IsPesPacket ps
     → AllByRecursion IsPesPacket qs

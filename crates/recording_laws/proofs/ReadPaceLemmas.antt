@@ -1,4 +1,5 @@
--- PES packets whose frames are at most pace apart keep the maximum distance: `keeps-pace`.
+-- If the frames of PES packets are at most `pace` apart, the PES packets have at most this
+-- distance.
 use Rattle.std.proofs.lemmas.Bool.Decides.{nat_tests}
 use Rattle.std.proofs.Common.{◌≡◌, ℕ, ◌+◌, ◌^◌, ◌<◌, ◌≤◌, List, [], ◌∷◌, take, drop, sym, ap, ◌∙◌}
 use Rattle.std.proofs.Common.{subst, arith, Option}

@@ -1,6 +1,6 @@
--- What is read of the PES packets that were sent, whatever was lost: `law_of_reading`, by induction
--- over the PES packets sent. The laws of losses, of neighbours and of the maximum distance follow;
--- the law of the maximum distance is in this file: `law_of_pace`.
+-- The law of reading: the results of reading the PES packets that were sent, for any losses. The
+-- proof is by induction over these PES packets. The laws of losses, of neighbours and of pace
+-- follow from it.
 use Rattle.std.proofs.Common.{◌≡◌, ℕ, ◌+◌, inl, inr, Bool, true, false, ◌&&◌, ◌||◌, List, [], ◌∷◌}
 use Rattle.std.proofs.Common.{◌++◌, length, None, refl, sym, ap, ◌∙◌, subst, arith, nat_lt, ◌≤◌}
 use Rattle.std.specs.List.{AllByRecursion, flat_map}
@@ -421,9 +421,9 @@ module _ (distance number : ℕ) (wrong_after few : Bool) where
       (sym (from-no_part 0 wrong (carriers_of sent) goods traced))
       ((onward sent each holds).headless no_part false false false 0 wrong goods refl traced)
 
--- Each PES packet that a recording carries, other than a gap marker, begins like a PES packet that
--- was sent, in the same order, if fewer than 15 transport packets with payload in a row are
--- missing, or if the first transport packet of each PES packet contains its PTS.
+-- Each PES packet in a recording, other than a gap marker, has the same start as a PES packet that
+-- was sent, in the same order. Assumption: fewer than 15 consecutive TS packets with payload are
+-- missing, or the first TS packet of each PES packet contains its PTS.
 pub law_of_reading : (number distance : ℕ) (few : Bool) (m : Multiplex Fated) (recording : List ℕ)
     → AreLosses number distance m recording
     → (few ≡ true → are_few_lost 0 (carriers_of m.sent) ≡ true)

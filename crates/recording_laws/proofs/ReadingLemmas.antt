@@ -1,6 +1,6 @@
--- The results of reading the PES packets that were sent, if any number of transport packets is
--- missing. PES packets that are read within the maximum distance, without a gap marker among them,
--- were sent one after another. Main lemma: read-run.
+-- Lemmas for the results of reading the PES packets that were sent, for any number of missing TS
+-- packets. PES packets that are read within the maximum distance, with no gap marker between them,
+-- were sent one after another.
 use Rattle.std.proofs.Common.{◌≡◌, ℕ, ◌+◌, ◌<◌, ◌≤◌, ◌⊎◌, inl, inr, Bool, true, false, List, []}
 use Rattle.std.proofs.Common.{◌∷◌, ◌++◌, length, refl, sym, ap, ◌∙◌, subst, arith, ◌&&◌, ◌||◌}
 use Rattle.std.specs.Bool.{⊤}
@@ -16,9 +16,10 @@ use Rattle.recording_laws.proofs.PesPacketLemmas.{HasNoGapMarker, heads, gap_mar
 use Rattle.recording_laws.proofs.PesPacketLemmas.{not-empty}
 use Rattle.recording_laws.proofs.PesPacketLemmas.{sent_bytes, tails}
 
--- The state before a result: no result yet; a result with a gap after it; or a result x that begins
--- like the PES packet s, with `between` transport packets with payload from the first of s to the
--- next PES packet, and possibly PES packets without a result between them (`skipped`).
+-- The state before a result of reading: no result yet; a gap after a result; or the result `x` for
+-- the PES packet `s`, which has the same start. In the last case the next PES packet starts
+-- `between` TS packets with payload after the start of `s`, and `skipped` means that PES packets
+-- between them have no result.
 pub data Previous : Type 0 where
   Nothing : Previous
   Marked : Previous
@@ -29,9 +30,9 @@ skip Nothing t = Nothing
 skip Marked t = Marked
 skip (After x s between skipped) t = After x s (between + length (carriers_of_pes t)) true
 
--- A gap marker may be missing before the next result only in three cases: no result came before;
--- the result before is as it was sent, and no PES packet without a result follows it; or 16 or more
--- transport packets with payload are between them.
+-- A gap marker may be missing before the next result only in three cases: there is no earlier
+-- result; the earlier result is the PES packet as sent, and all PES packets after it have results;
+-- or 16 or more TS packets with payload are between them.
 abbrev pub Fits : Previous → Bool → Type 0
 Fits Nothing marked = ⊤
 Fits Marked marked = marked ≡ true
@@ -53,9 +54,9 @@ IsGapMarkerExact few previous s marked =
     few ≡ true → marked ≡
     (has_previous previous && (is_gap previous || any_unit_damaged (units_before s.first)))
 
--- The results of reading PES packets, in order; each result begins like its PES packet. If fewer
--- than 15 transport packets with payload in a row are missing, the results are the PES packets that
--- arrive, each as it was sent.
+-- The results of reading PES packets, in order. Each result has the same start as its PES packet.
+-- If fewer than 15 consecutive TS packets with payload are missing, the results are exactly the PES
+-- packets that arrive.
 abbrev pub Reads : Bool → Previous → List (SentPes Fated) → List (List ℕ) → Type 0
 Reads few previous [] pes_packets =
     (marked : Bool) × (pes_packets ≡ gap_markers_where marked) × (marked ≡ true → has_previous
@@ -116,8 +117,8 @@ module _ (few : Bool) (IsFar : List (SentPes Fated) → Type 0)
     (following-far : (s : SentPes Fated) (more : List (SentPes Fated)) → IsFar (s ∷ more) → IsFar
     more)
   where
-    -- A result x other than a gap marker begins like one of the PES packets sent, and equals that
-    -- packet if fewer than 15 transport packets with payload in a row are missing.
+    -- A result `x` other than a gap marker has the same start as one of the PES packets sent. It is
+    -- equal to that PES packet if fewer than 15 consecutive TS packets with payload are missing.
     pub record Located
         (x : List ℕ) (tail : List (List ℕ)) (sent : List (SentPes Fated))
         : Type 0 where
@@ -227,8 +228,7 @@ module _ (frame_of : List ℕ → ℕ) (pace : ℕ) where
     sent_bytes_eq : sent_bytes more ≡ run ++ (next ∷ later)
     prefix : up_to_pts next ≡ up_to_pts last
 
-  -- PES packets that begin 16 or more transport packets with payload apart do not keep the maximum
-  -- distance.
+  -- PES packets that start 16 or more TS packets with payload apart exceed the maximum distance.
   too-far : (x y a b : List ℕ) (between : ℕ)
       → up_to_pts x ≡ up_to_pts a
       → up_to_pts y ≡ up_to_pts b
@@ -378,8 +378,8 @@ module _ (frame_of : List ℕ → ℕ) (pace : ℕ) where
             unmarked paced here.4 apart.0 apart.1)
       ]
 
-  -- The PES packets sent contain the PES packets `run`, directly followed by a PES packet that
-  -- begins like `last`.
+  -- The PES packets sent contain the PES packets `run`, directly followed by a PES packet with the
+  -- same start as `last`.
   pub record WasSent (sent : List (SentPes Fated)) (run : List (List ℕ)) (last : List ℕ)
       : Type 0 where
     pub earlier : List (List ℕ)
@@ -388,7 +388,7 @@ module _ (frame_of : List ℕ → ℕ) (pace : ℕ) where
     pub sent_bytes_eq : sent_bytes sent ≡ earlier ++ (run ++ (next ∷ later))
     pub prefix : up_to_pts next ≡ up_to_pts last
 
-  -- PES packets that are read within the maximum distance, without a gap marker among them, were
+  -- PES packets that are read within the maximum distance, with no gap marker between them, were
   -- sent one after another.
   pub read-run : (previous : Previous) (sent : List (SentPes Fated)) (before run : List (List ℕ))
       (last : List ℕ) (following : List (List ℕ))

@@ -1,5 +1,4 @@
--- The transport packets of a recording of units, and the events of a PID among them. Main lemma:
--- notes-units.
+-- Lemmas for the TS packets of a recording, and for the events of a PID among them.
 use Rattle.std.proofs.Common.{◌≡◌, ℕ, zero, suc, ◌+◌, ◌<◌, ◌≤◌, inl, inr, true, List, [], ◌∷◌, ◌++◌}
 use Rattle.std.proofs.Common.{length, take, drop, map, slice_index, refl, sym, ap, ap₂, ◌∙◌, arith}
 use Rattle.std.proofs.Common.{if◌then◌else◌, ◌==◌, length-append, length-drop}
@@ -14,7 +13,7 @@ use Rattle.mpeg_ts.specs.PacketsInStep.{read_bytes}
 use Rattle.mpeg_ts.specs.TransportPacket.{packet_size, sync_byte, pid}
 use Rattle.recording_laws.specs.Multiplex.{AreRecordedUnits, IsRecordedUnit, IsRecording, packet_in}
 
--- The events of one transport packet: one event if the packet has the PID, and otherwise none.
+-- The event of a TS packet of the PID; no event for a packet of another PID.
 abbrev pub noted : ℕ → List ℕ → List Note
 noted number p = if pid p == number then note_of p ∷ [] else []
 
@@ -52,7 +51,7 @@ drop-last d l u h1 = grind (arith, nat_tests, drop_all, length-drop, length-appe
 first-taken : (n : ℕ) (b : List ℕ) → 0 < n → slice_index (take n b) 0 ≡ slice_index b 0
 first-taken n b some = get_or-take n b 0 0 some
 
--- The items of a recording are the transport packets of its units.
+-- The items of a recording are the TS packets of its units.
 pub items-units : (distance room : ℕ) (units : List (List ℕ))
     → AreRecordedUnits distance units
     → length units ≤ room
@@ -117,7 +116,7 @@ notes-packets packet_of distance number run (x ∷ xs) =
     let rest = notes-packets packet_of distance number 0 xs in
     grind (arith, nat_tests)
 
--- The events of a PID in a recording are those of the transport packets of its units.
+-- The events of a PID in a recording are the events of the TS packets in its units.
 pub notes-units : (distance number : ℕ) (units : List (List ℕ)) (recording : List ℕ)
     → IsRecording distance units recording
     → notes distance number 0 (items_of distance recording)

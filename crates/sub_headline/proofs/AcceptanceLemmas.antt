@@ -1,5 +1,5 @@
--- Both files contain a programme (`programme_of`), and its transmission is good by the options
--- exactly if it is good. Used for `law_of_plain_acceptance`.
+-- Lemmas for the law of plain acceptance: both files contain a programme, and the transmission is
+-- good by the options exactly if it is good by the rules.
 use Rattle.std.proofs.Common.{◌≡◌, ℕ, Bool, List, [], ◌∷◌, sym, subst}
 use Rattle.std.specs.Prelude.{All, IsFalse}
 use Rattle.std.specs.List.{AllZip}
@@ -36,7 +36,7 @@ module _ (drawing : Drawing) (options : OptionsValue) (stl pes : List ℕ)
     drawable = mean.drawable;
   }
 
-  -- If `within` is 0, the contents of both files do not depend on how exact each PTS is.
+  -- If `within` is 0, the contents of both files do not depend on the precision of each PTS.
   exact_of :
       options.within ≡ 0
       → MeanWithin drawing options stl pes subtitles t

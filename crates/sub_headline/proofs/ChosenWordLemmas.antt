@@ -1,5 +1,5 @@
--- The rows of arguments for `check STL PES` with choices (`rows_mean`) give the request
--- (`check_eq`). Used for `law_of_chosen_arguments`.
+-- Lemmas for the law of chosen arguments: the values of the arguments for `check STL PES` and
+-- options give the request.
 use Rattle.std.proofs.Common.{◌≡◌, ◌∙◌, Bool, true, false, List, [], ◌∷◌, ◌++◌, Option, Some}
 use Rattle.std.proofs.Common.{ℕ, None, Ok, Err, refl, sym, ap, arith, codes, drop, ◌^◌, ◌-◌}
 use Rattle.std.proofs.Common.{inl, inr, subst, append_assoc, append-nil}
@@ -60,11 +60,11 @@ use Rattle.sub_headline.proofs.RowLemmas.{or_default}
 abbrev values_after_parts : Text → List (List Text) → List DisplayOption → List (List Text)
 values_after_parts id vs parts = fold (values_with_choice id) vs parts
 
--- The text of an argument's values, or the default text.
+-- The first text among an argument's values, or the default text if there are none.
 abbrev text_in : Text → List (List Text) → Text
 text_in default vs = unwrap_or (first_text (or_default vs (default ∷ []))) []
 
--- The arguments of `check` for which an option may give a value.
+-- The names of the arguments of `check` to which an option may give a value.
 abbrev keys : List Text
 keys =
     codes "page" ∷
@@ -130,11 +130,11 @@ not_given id apart vs (part ∷ parts) =
 abbrev emitted_by : {A : Type 0} → (Text → Option A) → Option Text → Option (Option A)
 emitted_by stated text = option_map_or (λ text. option_map Some (stated text)) text (Some None)
 
--- The number of frames that the text of `--pace` gives, 1 to the number of frames of a day.
+-- The number of frames in the text of `--pace`: at least 1, and at most the frames of a day.
 abbrev pace_of_text : Text → Option ℕ
 pace_of_text text = between 1 day (number_of_text text)
 
--- The values of the arguments mean the settings l for reading and drawing.
+-- The values of the arguments give the settings `l` for reading and drawing.
 record Meant (held : Text → List (List Text)) (l : DisplayOptions) : Type 0 where
   pub page_is :
       page_of_text (text_in (codes "888") (held (codes "page"))) ≡ Some l.reading.options.page
@@ -473,7 +473,7 @@ scope_eq rows from to also scope from_eq to_eq open_eq from_says to_says open_sa
       open_says,
     ) refl
 
--- The arguments ask that every fault is listed.
+-- The arguments contain `--all`.
 abbrev lists_all : (Text → List (List Text)) → Bool
 lists_all held = bytes_eq (text_in (codes "false") (held (codes "all"))) (codes "true")
 
@@ -550,7 +550,7 @@ options_are : (o : OptionsValue)
     → options_in o ≡ o
 options_are o within keeps = grind (arith, nat_tests)
 
--- With any of these options `within` is 0 and no repeat may keep the page.
+-- With any of these options `within` is 0, and each header of the page has to erase the page.
 pub plain_by : (parts : List DisplayOption)
     → ((display_options_of parts).reading.options.within ≡ 0)
     × IsFalse (display_options_of parts).reading.options.keeps
@@ -558,7 +558,7 @@ plain_by parts =
     let m = meant_by nothing (display_options_of []) parts meant_at_first in
     (m.within_eq, m.keeps_eq)
 
--- After the name of a command, each word is an argument of that command.
+-- After the name of a command, all words are arguments of this command.
 stopped_walk : (c : List Rule) (names : Names) (name : Text) (arguments more : List Text) (w : Walk)
     → w.stopped ≡ Some (name, arguments)
     → (fold (walked c names) w more).stopped ≡ Some (name, arguments ++ more)

@@ -1,6 +1,6 @@
--- The files have subtitles and a transmission as their contents exactly if they match the formats
--- (`files_of`, `mean_of`); and a transmission is good exactly if it is good by the page and rules
--- for English (`english_of`, `good_of`). Used for `law_of_english_acceptance`.
+-- Lemmas for the law of English acceptance: the files have subtitles and a transmission as their
+-- contents exactly if they match the formats, and a transmission is good exactly if it is good by
+-- the rules for English.
 use Rattle.std.proofs.Common.{◌≡◌, ◌∙◌, ℕ, Bool, false, List, Result, ap, subst, sym}
 use Rattle.std.specs.Prelude.{All, IsFalse, IsOk, IsTrue}
 use Rattle.ttx_packet.specs.declared.header.Header.{Header}

@@ -1,6 +1,6 @@
--- With the default layout an English subtitle is drawn as its English page (`drawn_is`), so the due
--- page is the English page (`due_eq`); and it is drawn if its text can be drawn completely
--- (`ok_of_complete`). Used for `law_of_headline`.
+-- Lemmas for English subtitles in the default layout: they are drawn as their English pages, so the
+-- expected page is the English page; and a subtitle is accepted if its text can be drawn
+-- completely.
 use Rattle.std.proofs.lemmas.Bool.Decides.{nat_tests}
 use Rattle.std.proofs.lemmas.List.Elements.{All-cons, All-head, All-nil, All-tail}
 use Rattle.std.proofs.Common.{◌≡◌, ◌≢◌, ◌⊎◌, ◌∙◌, ℕ, ◌+◌, ◌≤◌, Bool, true, false, List, [], ◌∷◌}
@@ -36,13 +36,13 @@ use Rattle.sub_headline.specs.EnglishPage.{english_cell}
 use Rattle.sub_headline.specs.EnglishPage.{english_due}
 use Rattle.sub_headline.specs.EnglishPage.{english_lines, english_page, page_or_blank, put}
 
--- A character that is no diacritical mark is not part of a pair of bytes.
+-- A character that is not a diacritical mark is not part of a pair of bytes.
 no_diacritical_pair : (x : Bool) (a rest : Option ℕ) → rest ≡ None →
     (if x && false then a else rest) ≡ None
 no_diacritical_pair true a rest e = e
 no_diacritical_pair false a rest e = e
 
--- English has no characters that are coded by two bytes.
+-- English has no characters that are encoded as two bytes.
 no_second : (byte next : ℕ) → cell_in (sub_set English).characters (Some byte) next ≡ None
 unfolding sub_set has_bytes
 no_second byte next =
@@ -60,7 +60,7 @@ unfolding cell_of_pair
 is_no_pair byte None = none_either (is_diacritical byte) None refl
 is_no_pair byte (Some next) = none_either (is_diacritical byte) _ (no_second byte next)
 
--- A character of one byte is found by this byte alone.
+-- If both branches of a choice are equal to a value, the choice is equal to it.
 by_itself : (x : Bool) (a p q : Option ℕ) → p ≡ q
     → (if x && true then a else p) ≡ (if x then a else q)
 by_itself true a p q e = refl
@@ -214,7 +214,7 @@ lines_fit number row under (line ∷ ls) e =
       lines_fit (number + 1) (row + 1) (is_double line) ls of.1,
     )
 
--- A subtitle that is drawn has its English page, and its text is drawn completely.
+-- A subtitle that was accepted is drawn as its English page, and its text is drawn completely.
 pub record IsDrawn (t : SubtitleValue) : Type 0 where
   pub page : drawn default_drawing t ≡ Ok (english_page t)
   pub whole : IsDrawnCompletely t
@@ -283,7 +283,8 @@ pub due_eq : (ts : List SubtitleValue) (f : ℕ)
 unfolding due
 due_eq ts f each = found_eq ts f each
 
--- How a subtitle is drawn does not depend on the requested part of the file.
+-- English subtitles in the default layout. The selected part of the file does not affect how a
+-- subtitle is drawn.
 abbrev pub english_within : Scope → Drawing
 english_within scope = drawing_within English default_layout scope
 

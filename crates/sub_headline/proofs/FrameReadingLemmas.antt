@@ -1,5 +1,5 @@
--- The frames that a PES file carries are those that are read by place (`frames_are`). Used for
--- `law_of_headline`.
+-- The frames that a PES file carries are the frames that are read from the fixed positions of their
+-- fields.
 use Rattle.std.proofs.lemmas.Bool.Decides.{nat_tests}
 use Rattle.std.proofs.Common.{◌≡◌, ◌∙◌, ℕ, zero, suc, ◌+◌, ◌-◌, ◌*◌, ◌/◌, ◌%◌, ◌^◌, ◌<◌, ◌≤◌, true}
 use Rattle.std.proofs.Common.{List, [], ◌∷◌, ◌++◌, Option, Some, None, refl, sym, ap, arith, length}

@@ -1,5 +1,5 @@
--- A run of `check` on files in memory that does not end with code 2 ends with 0 exactly if the
--- bytes are accepted (`code_reports`). Used for `law_of_headline`.
+-- A run of `check` on files in memory that does not end with exit code 2 ends with 0 exactly if the
+-- bytes are accepted.
 use Rattle.std.proofs.Common.{◌≡◌, ◌≢◌, ◌↔◌, ◌⊎◌, ◌∙◌, ℕ, List, [], ◌∷◌, Option, Some, None, Ok}
 use Rattle.std.proofs.Common.{Result}
 use Rattle.std.proofs.Common.{Bool, ap, arith, codes, refl, subst, sym}
@@ -279,7 +279,7 @@ read_to_the_end options stl pes is fits IsSo so =
     (subst (λ (t : Transmission). IsSo is.subtitles t)
     (sym (frames_are options.origin pes is.transmission fits of.carries)) so)
 
--- The due page does not depend on the requested part of the subtitle file.
+-- The selected part of the subtitle file does not affect the expected page.
 drawn_within : (national : National) (layout : Layout) (scope : Scope) (o : Option SubtitleValue)
     → drawn_or_blank (drawing_within national layout scope) o
     ≡ drawn_or_blank (drawing_by national layout) o
@@ -357,8 +357,8 @@ read_so : (pid : Option ℕ) (size : PacketSize) (range : Option PesPacketRangeV
 read_so None size range bytes = through_range_known range bytes
 read_so (Some pid) size range bytes = through_range_known range (carried_by (Some pid) size bytes)
 
--- The arguments can only request a check of the given files and of the given part of the recording,
--- in which `within` is 0 and no repeat may keep the page.
+-- The arguments request a check of the given files and of the given part of the recording, with
+-- `within` 0, and each header of the page has to erase the page.
 record RequestsCheck
     (arguments : List Text) (stl pes : Text) (stream : Option TransportStream)
     (range : Option PesPacketRangeValue) (options : OptionsValue) (national : National)
@@ -373,7 +373,7 @@ record RequestsCheck
   pub none : options.within ≡ 0
   pub off : IsFalse options.keeps
 
--- The exit code of a run of `check` agrees with the bytes of both files.
+-- The exit code of a run of `check` decides whether the bytes of both files are accepted.
 record CodeImplies
     (drawing : Drawing) (options : OptionsValue) (file read : List ℕ) (code : ℕ)
     : Type 0 where

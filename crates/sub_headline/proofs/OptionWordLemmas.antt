@@ -1,5 +1,5 @@
--- The words of choices after `check STL PES` put their values into the rows of arguments
--- (`values_after_options`). Used for `law_of_chosen_arguments`.
+-- Lemmas for the law of chosen arguments: the options after `check STL PES` add their values to the
+-- values of the arguments.
 use Rattle.std.proofs.Common.{◌≡◌, ◌∙◌, ℕ, Bool, true, false, List, [], ◌∷◌, Option, Some}
 use Rattle.std.proofs.Common.{None, refl, sym, ap, arith, codes, drop, subst}
 use Rattle.std.proofs.lemmas.Bool.Decides.{nat_tests}
@@ -115,7 +115,7 @@ range_is_name (x ∷ xs) range is = λ e.
     let at : x ≡ 0x2D = cc in
     no_range xs range (subst (λ (c : ℕ). range_of_text (c ∷ xs) ≡ Some range) at is)
 
--- The state of `clap` after an option, before its value.
+-- The state of the argument parser `clap` after the name of an option, before its value.
 abbrev at_option : Text → Held → Walk
 at_option id h = record {
   held = h;
@@ -448,7 +448,7 @@ rows_step h (Of AlsoOpen) = refl
 rows_step h (Letters text national name is) = refl
 rows_step h (Lines text layout name is) = refl
 
--- The values of an argument after one more choice.
+-- The values of an argument after one more option.
 abbrev pub values_with_choice : Text → List (List Text) → DisplayOption → List (List Text)
 values_with_choice id vs choice = if bytes_eq (key choice) id then option_values choice ∷ [] else vs
 

@@ -1,6 +1,5 @@
--- A word that is no option is a value (`plain_other`); so two such words are the two files
--- (`rows_are`), and request a check with the default options (`requested_are`). Used for
--- `law_of_plain_arguments`.
+-- Lemmas for the law of plain arguments: a word that is not an option is a value. So two such words
+-- are the names of the two files, and request a check with the default options.
 use Rattle.std.proofs.Common.{◌≡◌, ◌∙◌, ℕ, Bool, false, List, [], ◌∷◌, Option, Some, None}
 use Rattle.std.proofs.Common.{Ok, Result, refl, sym, ap, arith, codes, inl, inr}
 use Rattle.std.proofs.lemmas.Bool.Decides.{nat_tests}
@@ -81,7 +80,7 @@ plain_other c position word h name =
     ∙ ap (λ o. long_or_other c idle word o h) (no_long_option word name)
     ∙ ap (λ o. short_or_plain c idle word o h) (no_short_option word name)
 
--- The state of `clap` in which no option waits for a value.
+-- The state of the argument parser `clap` if no option lacks its value.
 abbrev pub at_rest : Held → ℕ → Walk
 at_rest h position =
     record { held = h; waiting = idle; position = position; is_trailing = false; stopped = None }
@@ -95,7 +94,7 @@ walked_plain c h position word name =
     ap (λ (met : Held × Step). after_step c word (at_rest h position) met.0 met.1)
     (plain_other c position word h name)
 
--- The definition of the command `check`, as `clap` builds it.
+-- The definition of the command `check`, as the argument parser `clap` builds it.
 abbrev pub check_shape : Shape
 check_shape =
     unwrap_or (find (λ s. answers_to (codes "check") (label_of s)) (built subttx_app).subs)

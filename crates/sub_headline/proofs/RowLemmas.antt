@@ -1,6 +1,5 @@
--- The values that the rows of arguments have for an argument, by its id, after it is used again
--- (`set_same`, `set_other`), and after defaults are added (`defaulted`). Used for
--- `law_of_chosen_arguments`.
+-- Lemmas for the values of an argument, by its id, after the argument was used again, and after
+-- default values were added.
 use Rattle.std.proofs.Common.{◌≡◌, ◌∙◌, Bool, true, false, List, [], ◌∷◌, ◌++◌, Option, Some}
 use Rattle.std.proofs.Common.{None, refl, sym, ap, drop}
 use Rattle.std.proofs.lemmas.Slice.Eq.{bytes_eq-Decides}
@@ -12,12 +11,12 @@ use Rattle.clap.specs.declared.builder.value_parser.Reading.{Reading}
 use Rattle.clap.specs.declared.parser.matches.ValueSource.{ValueSource}
 use Rattle.clap.specs.declared.parser.matches.ValueSource.TheVariants.{CommandLine, DefaultValue}
 
--- The values of each row with the given id.
+-- The values in all rows with this id.
 abbrev pub values_at : Text → List Row → List (List Text)
 values_at id [] = []
 values_at id (r ∷ rs) = if bytes_eq r.id id then r.values ∷ values_at id rs else values_at id rs
 
--- The first text of an argument's values, if there is one.
+-- The first text among an argument's values, if any.
 abbrev pub first_text : List (List Text) → Option Text
 first_text [] = None
 first_text (v ∷ vs) = slice_get v 0
@@ -26,7 +25,7 @@ abbrev is_there : List (List Text) → Bool
 is_there [] = false
 is_there (v ∷ vs) = true
 
--- The rows after an argument is used again.
+-- The rows after an argument was used again.
 abbrev pub set_row : Text → Reading → List Text → List Row → List Row
 set_row id how option_values rows = with_values id how CommandLine option_values (without id rows)
 
@@ -59,7 +58,7 @@ module _ (id other : Text) (apart : bytes_eq id other ≡ false) where
   row_apart : (r : Row) → bytes_eq r.id id ≡ true → bytes_eq r.id other ≡ false
   row_apart r is = ap (λ (x : Text). bytes_eq x other) (same_id r.id id is) ∙ apart
 
-  -- A change of the rows with one id does not affect the values of another id.
+  -- Changing the rows with one id does not change the values for another id.
   module _ (change : Row → List Row) (missing : List Row)
       (changed : (r : Row) → bytes_eq r.id other ≡ false
       → (rs : List Row) → values_at other (change r ++ rs) ≡ values_at other rs)

@@ -1,5 +1,4 @@
--- A run that does not end with code 2 answered its request (`answered`). Used for
--- `law_of_headline`.
+-- A run that does not end with exit code 2 answered its request.
 use Rattle.std.proofs.lemmas.Bool.Decides.{nat_tests}
 use Rattle.std.proofs.Common.{◌≡◌, ◌≢◌, ◌⊎◌, ◌∙◌, ℕ, List, [], Option, Result, ap, arith, inl, inr}
 use Rattle.clap.specs.Words.{Text}
@@ -17,7 +16,7 @@ stated : (fault : UsageFault) (old new : Lines) (result : Status)
     → result ≡ Fault
 stated fault old new result says = grind (arith, nat_tests)
 
--- The run answered its request, and the exit code is that of the answer's status.
+-- The run answered its request, and the exit code is the number of the answer's status.
 pub record HasAnswered
     {I O : Type 0} (AreMade : List (FileCall I O) → Type 0) (reported : FileObservations I O)
     (IsClose : O → O → Type 0) (given : Result (List Text) UsageFault) (IsAlone : Lines → Type 0)

@@ -1,5 +1,5 @@
--- The cells of an English page show the characters of its text: law_of_english_characters. If the
--- headline holds, so do the screens of every receiver: screens_of.
+-- The cells of an English page show the characters of its text. If the headline is true, it is also
+-- true for the screens of every receiver.
 use Rattle.std.proofs.lemmas.Bool.Decides.{nat_tests}
 use Rattle.std.proofs.Common.{arith}
 use Rattle.std.proofs.Common.{◌≡◌, ◌⊎◌, ◌∙◌, ℕ, Bool, List, Some, None, ap, inl, inr}
@@ -16,7 +16,7 @@ use Rattle.sub_headline.specs.EnglishScreen.{EachScreenShows, LawOfEnglishCharac
 use Rattle.sub_headline.specs.EnglishScreen.{space_character}
 use Rattle.sub_headline.specs.EnglishScreen.{english_character, text_character}
 
--- A byte whose cell has the byte's own number is at no place of the national sub-set.
+-- A byte whose code is the same number is at no place of the national sub-set.
 elsewhere : (place byte : ℕ)
     → is_common place ≡ false
     → is_common byte ≡ true

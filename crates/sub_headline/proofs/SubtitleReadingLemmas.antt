@@ -1,5 +1,5 @@
--- The subtitles of a subtitle file are those that are read by place (`subtitles_are`). Used for
--- `law_of_headline`.
+-- The subtitles of a subtitle file are the subtitles that are read from the fixed positions of
+-- their fields.
 use Rattle.std.proofs.lemmas.Bool.Decides.{nat_tests}
 use Rattle.std.proofs.Common.{◌≡◌, ◌∙◌, ℕ, ◌+◌, ◌<◌, Bool, true, false, List, []}
 use Rattle.std.proofs.Common.{◌∷◌, ◌++◌, refl, sym, ap, arith, subst, take, drop, map}
@@ -29,8 +29,9 @@ blocks_are (b ∷ bs) each =
 abbrev IsNoComment : List ℕ → Type 0
 IsNoComment b = cf b ≡ 0
 
--- The test of a subtitle's blocks by place agrees with the test of the grammar, for a block that is
--- kept, which is no comment, and for a block that is skipped.
+-- Two tests agree for a block that is read as part of a subtitle and is not a comment: the test by
+-- the format of the file, and the test by the fixed positions of the fields. They also agree for a
+-- block that is skipped.
 same_kept_test : (e c : ℕ)
     → c ≡ 0
     → not ((e == 0xFE) || ((nat_lt e 0xF0 || (e == 0xFF)) && (c == 0x01))) ≡ true
@@ -121,7 +122,7 @@ subtitle_eq t g of =
       text_eq,
     ) refl
 
--- The blocks are linked by one SGN and SN, whatever these are.
+-- All blocks have the same SGN and SN.
 abbrev AreOneSubtitle : List (List ℕ) → Type 0
 AreOneSubtitle g = (sgn_is : ℕ) × (sn_is : ℕ) × AreLinked sgn_is sn_is g
 

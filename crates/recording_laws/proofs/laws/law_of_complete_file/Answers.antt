@@ -1,4 +1,3 @@
--- The law of complete files is proved in CompleteFileLemmas.
 use Rattle.recording_laws.proofs.CompleteFileLemmas as lemma
 use Rattle.recording_laws.proofs.laws.law_of_complete_file.Goals as goal
 

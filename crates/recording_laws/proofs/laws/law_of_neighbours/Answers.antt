@@ -1,4 +1,3 @@
--- The law of neighbours is proved in ArrivingLaw.
 use Rattle.recording_laws.proofs.ArrivingLaw as lemma
 use Rattle.recording_laws.proofs.laws.law_of_neighbours.Goals as goal
 

@@ -1,4 +1,3 @@
--- The law of pace is proved in ReadingLaw.
 use Rattle.recording_laws.proofs.ReadingLaw as lemma
 use Rattle.recording_laws.proofs.laws.law_of_pace.Goals as goal
 

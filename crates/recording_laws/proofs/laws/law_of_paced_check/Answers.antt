@@ -1,4 +1,3 @@
--- The law of the check with a maximum distance is proved in PacedCheckLaw.
 use Rattle.recording_laws.proofs.PacedCheckLaw as lemma
 use Rattle.recording_laws.proofs.laws.law_of_paced_check.Goals as goal
 
