@@ -1,5 +1,4 @@
--- A reader requests no more bytes from its source than it needs; main lemmas: requests_none,
--- skipped_borrowed.
+-- A reader requests no more bytes from its source than it needs.
 use Rattle.std.proofs.Common.{◌≡◌, ℕ, ◌≤◌, Bool, true, List, ◌++◌, length, take}
 use Rattle.std.proofs.Common.{Option, Some, None, refl, sym, ap, ◌∙◌}
 use Rattle.std.proofs.lemmas.List.{take-take}

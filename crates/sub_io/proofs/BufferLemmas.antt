@@ -1,5 +1,5 @@
--- The contents of a buffered device are its buffered bytes and then those of the inner device; main
--- lemmas: buffered-split, buffered-parts, buffered-moved.
+-- The contents of a buffered device are its buffered bytes followed by the contents of the inner
+-- device.
 use Rattle.std.proofs.Common.{◌≡◌, ℕ, ◌+◌, ◌-◌, ◌≤◌, List, [], ◌++◌, length, take, drop}
 use Rattle.std.proofs.Common.{slice_range, ◌<◌, append_assoc, length-take-le, take-append-drop}
 use Rattle.std.proofs.Common.{Option, Some, None, Result, sym, ap, ◌∙◌, arith, drop-drop}
@@ -72,8 +72,8 @@ buffered-parts old room moved n len some within was now =
     was ∙ buffered-rest room n len some within
     ∙ ap (λ l. take n room ++ take (len - n) l) (sym now)
 
--- If the inner sink has taken the first n buffered bytes and the others stay in the buffer, the
--- contents of the buffered sink do not change.
+-- If the first n buffered bytes are written to the inner sink and the others stay in the buffer,
+-- the contents of the buffered sink do not change.
 pub buffered-moved : (x y : Option (List ℕ)) (old room moved : List ℕ) (n len : ℕ)
     → n ≤ len
     → len ≤ length room

@@ -1,5 +1,5 @@
--- A call of the device followed by the calls of the rest of `fill` or `put_all` gives the calls of
--- the whole function.
+-- One call of the device, followed by the remaining calls of `fill` or `put_all`, gives all calls
+-- of that function.
 use Rattle.std.proofs.Common.{◌≡◌, ℕ, ◌-◌, ◌<◌, Bool, List, ◌∷◌, length}
 use Rattle.std.proofs.Common.{Option, Some, ◌+◌, arith, drop}
 use Rattle.std.proofs.Common.{drop-drop, length-drop}

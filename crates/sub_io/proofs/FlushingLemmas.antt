@@ -1,4 +1,4 @@
--- Flushing an audience does not change which items it has received. Main lemma: keeps-reported.
+-- Flushing a report sink does not change which items it has received.
 use Rattle.std.proofs.Common.{◌≡◌, ◌∙◌, ℕ, Bool, true, false, List, [], ◌∷◌, ap, inl, inr, sym}
 use Rattle.std.proofs.Common.{not, refl, subst, Result, Ok, Err}
 use Rattle.std.specs.Prelude.{OnOk, is_err, is_ok}
@@ -12,8 +12,8 @@ module _
     (buffered : D → ℕ)
     (IsFlushed : D → Bool → D → Type 0)
     (stays : StaysReported IsReported has_stopped has_pending_reports buffered IsFlushed) where
-  -- If the audience is flushed after the last report, all items stay reported (by induction over
-  -- the items).
+  -- If the report sink is flushed after the last report, all items still count as reported, by
+  -- induction over the items.
   stays_one_by_one : (a b c : D) (x : A) (items : List A) (ok : Bool)
       → has_pending_reports b ≡ true
       → IsFlushed b ok c
@@ -27,8 +27,8 @@ module _
   stays_one_by_one a b c x (y ∷ items) ok has_pending on (mid, first, rest) =
       (mid, first, stays_one_by_one mid b c y items ok has_pending on rest)
 
-  -- If no report was pending before the first item, all items stay reported when the audience is
-  -- flushed.
+  -- If no report was pending before the first item, all items still count as reported after a
+  -- flush.
   stays_after : (a b c : D) (items : List A) (ok : Bool)
       → has_pending_reports a ≡ false
       → has_pending_reports b ≡ true

@@ -1,4 +1,4 @@
--- If a sequence of reading steps returns a value, each step returns one. Main lemma: step_gave.
+-- If a sequence of reading steps returns a value, each step returns a value.
 use Rattle.std.proofs.Common.{◌≡◌, Result, Ok, Err, refl}
 use Rattle.sub_io.specs.Reading.{◌>>=◌}
 

@@ -1,5 +1,4 @@
--- Reports to an audience add up, until the audience stops; main lemma: ReportsUntilStopped-after.
--- An audience that keeps only the first item: first_is.
+-- Reports add up until the report sink stops.
 use Rattle.std.proofs.Common.{◌≡◌, ◌+◌, ◌≤◌, List, [], ◌∷◌, ◌++◌, length, take, Option, None}
 use Rattle.std.proofs.Common.{Result, Ok, Err, refl, sym, subst, le_refl, arith}
 use Rattle.std.proofs.Common.{length-append}
@@ -31,7 +30,7 @@ module _ {A D : Type 0} {IsReported : D → A → D → Type 0} where
   pub Reports-one : (a b : D) (x : A) → IsReported a x b → Reports IsReported a b (x ∷ [])
   Reports-one a b x reported = record { one_by_one = (b, reported, refl) }
 
-  -- If the audience stops within the first of two lists, it has received a prefix of both lists
+  -- If the report sink stops within the first of two lists, it has received a prefix of both lists
   -- together.
   pub ReportsPrefix-first : (old new : D) (xs ys : List A)
       → ReportsPrefix IsReported old new xs
@@ -41,7 +40,7 @@ module _ {A D : Type 0} {IsReported : D → A → D → Type 0} where
       let same = sym (take-append-le p.0 xs ys room) in
       (p.0, omega (arith, length-append xs ys), subst (Reports IsReported old new) same p.2)
 
-  -- If the audience stops within the second of two lists, it has received the first list and a
+  -- If the report sink stops within the second of two lists, it has received the first list and a
   -- prefix of the second.
   pub ReportsPrefix-second : (old mid new : D) (xs ys : List A)
       → Reports IsReported old mid xs

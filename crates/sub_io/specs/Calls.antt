@@ -1,5 +1,6 @@
--- Specifies which calls of a device a function makes, with their arguments and results. A device
--- restricts its calls by `is_pull` and `is_push`, or leaves them open by `any_call`.
+-- Specifies the calls that a function makes to a device, with their arguments and results. A device
+-- may specify the effect of its calls by `is_pull` or `is_push`; the default, `any_call`, specifies
+-- nothing.
 use Rattle.std.specs.Prelude.{◌≡◌, ◌≢◌, ℕ, ◌-◌, ◌<◌, ◌≤◌, ◌⊎◌, Bool, true, false, min}
 use Rattle.std.specs.Prelude.{List, [], ◌∷◌, ◌++◌, length, take, drop}
 use Rattle.std.specs.Prelude.{Option, Some, None, option_map, Result, Ok, Err}
@@ -11,22 +12,23 @@ abbrev pub answered : {E : Type 0} → Result ℕ E → Option ℕ
 answered (Ok n) = Some n
 answered (Err _) = None
 
--- A device with `any_call` specifies nothing about the effect of a call.
+-- The default of `is_pull` and `is_push`: any effect of a call is allowed.
 abbrev pub any_call : {D L : Type 0} → D → L → Option ℕ → D → Type 0
 any_call old borrowed answer new = Unit {0}
 
 -- ---- the calls of `fill`
 
--- The last call of `fill`, with `room` bytes of the buffer left. If the buffer is full, `fill`
--- makes no further call; otherwise the last call returned 0 bytes. If `fill` fails, the last call
--- failed.
+-- The end of the calls of `fill`, with `room` bytes of the buffer unfilled. If the buffer is full,
+-- there is no further call; otherwise the last call returned 0 bytes. If `fill` fails, the last
+-- call failed.
 abbrev pub EndsFilling :
     {D : Type 0} → (D → ℕ → Option ℕ → D → Type 0) → D → ℕ → Bool → D → Type 0
 EndsFilling IsPull old room true new =
     ((room ≡ 0) × (new ≡ old)) ⊎ ((0 < room) × IsPull old room (Some 0) new)
 EndsFilling IsPull old room false new = (0 < room) × IsPull old room None new
 
--- Each call of `fill` but the last offers all that is left of the buffer, and reads n > 0 bytes.
+-- The calls of `fill`: each call except the last offers the unfilled part of the buffer, and reads
+-- n > 0 bytes.
 abbrev pub PullsInOrder :
     {D : Type 0} → (D → ℕ → Option ℕ → D → Type 0) → D → ℕ → List ℕ → Bool → D → Type 0
 PullsInOrder IsPull old room [] ok new = EndsFilling IsPull old room ok new
@@ -46,14 +48,15 @@ pub record FillsByPulls
 
 -- ---- the calls of `put_all`
 
--- The last call of `put_all`, with `bytes` left to write. If no bytes are left, `put_all` makes no
--- further call. If `put_all` fails, the last call failed.
+-- The end of the calls of `put_all`, with `bytes` still to be written. If no bytes remain, there is
+-- no further call. If `put_all` fails, the last call failed.
 abbrev pub EndsPutting :
     {D : Type 0} → (D → List ℕ → Option ℕ → D → Type 0) → D → List ℕ → Bool → D → Type 0
 EndsPutting IsPush old bytes true new = (bytes ≡ []) × (new ≡ old)
 EndsPutting IsPush old bytes false new = (0 < length bytes) × IsPush old bytes None new
 
--- Each call of `put_all` but the last offers all bytes that are left, and the sink takes n of them.
+-- The calls of `put_all`: each call except the last offers all remaining bytes, of which the sink
+-- takes n.
 abbrev pub PushesInOrder :
     {D : Type 0}
     → (D → List ℕ → Option ℕ → D → Type 0) → D → List ℕ → List ℕ → Bool → D → Type 0
@@ -74,8 +77,8 @@ pub record PutsByPushes
 
 -- ---- the calls of devices that wrap another device
 
--- A call of a device with one failing call: the failing call is not forwarded to the inner device,
--- and every other call is forwarded unchanged.
+-- A call of a test device that makes one call fail: the failing call is not forwarded to the inner
+-- device, and every other call is forwarded unchanged.
 pub record Forwards
     {D L : Type 0} (IsCall : D → L → Option ℕ → D → Type 0)
     (old : CountingDown D) (borrowed : L) (answer : Option ℕ) (new : CountingDown D)
@@ -104,18 +107,18 @@ pub record ReadsAhead
       × IsPull old.device old.room got new.device
       × (answer ≡ option_map (λ n. min n borrowed) got)
 
--- `left` is what remains of `bytes` without some prefix.
+-- `left` is `bytes` without some prefix.
 abbrev pub AreRemainderOf : List ℕ → List ℕ → Type 0
 AreRemainderOf bytes left = (taken : List ℕ) × (bytes ≡ taken ++ left)
 
--- The bytes that a push took, which are none if the push failed.
+-- The bytes written by a push: a prefix of the offered bytes, or none if the push failed.
 abbrev pub taken_by : List ℕ → Option ℕ → List ℕ
 taken_by bytes None = []
 taken_by bytes (Some n) = take n bytes
 
--- A push into a buffered sink whose buffer is full. First the buffer is pushed into the inner sink.
--- If that fails, the bytes that the inner sink did not take stay in the buffer. Then a push of at
--- least the buffer's size is forwarded, and a shorter push is buffered.
+-- A push into a buffered sink whose buffer is full. First the buffer is written to the inner sink.
+-- If that fails, the unwritten bytes stay in the buffer. Then a push of at least the buffer's size
+-- is forwarded to the inner sink, and a shorter push is buffered.
 pub record FlushesFull
     {D : Type 0} (IsPush : D → List ℕ → Option ℕ → D → Type 0)
     (old : BufferState D) (bytes : List ℕ) (answer : Option ℕ) (new : BufferState D)
@@ -134,19 +137,18 @@ pub record FlushesFull
       → length bytes < old.room
       → (new.device ≡ mid) × (new.buffered ≡ taken_by bytes answer)
 
--- A push into a buffered sink: which calls of the inner sink the push makes, and which bytes are
--- buffered afterwards.
+-- The effect of a push on a buffered sink: its calls of the inner sink, and the bytes buffered
+-- afterwards.
 pub record PushesBuffered
     {D : Type 0} (IsPush : D → List ℕ → Option ℕ → D → Type 0)
     (old : BufferState D) (bytes : List ℕ) (answer : Option ℕ) (new : BufferState D)
     : Type 0 where
-  -- After a failure, a push does not call the inner sink and does not change the buffer.
+  -- After a failure of the inner sink, a push does not call it and does not change the buffer.
   pub refused :
       old.failed ≡ true → (answer ≡ None) × (new.device ≡ old.device) ×
       (new.buffered ≡ old.buffered)
-  -- If the buffer has space, a push does not call the inner sink either, and the bytes taken are
-  -- appended to the buffer. But if the buffer is empty, a push of at least its size is forwarded to
-  -- the inner sink, and the buffer stays empty.
+  -- If the buffer has space, the bytes taken are appended to the buffer without a call of the inner
+  -- sink. But if the buffer is empty, a push of at least its size is forwarded to the inner sink.
   pub buffered :
       old.failed ≡ false
       → length old.buffered < old.room

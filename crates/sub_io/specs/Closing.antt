@@ -1,4 +1,4 @@
--- Specifies how sinks are stored and closed.
+-- Specifies how the bytes of sinks are stored permanently, and how sinks are closed.
 use Rattle.std.specs.Prelude.{◌≡◌, Bool, true, false, Some, None, Result, Ok, Err}
 use Rattle.std.specs.IoError.{error_kind}
 use Rattle.std.specs.declared.io.Error.{Error}
@@ -7,32 +7,32 @@ use Rattle.std.specs.declared.io.ErrorKind.TheVariants.{InvalidInput, Unsupporte
 use Rattle.sub_io.specs.Buffered.{BufferState}
 use Rattle.sub_io.specs.Counted.{FileValue}
 
--- The errors that the system returns for a file that can never be stored, such as a pipe, a
--- terminal or a device: EINVAL, ENOTSUP and ENOSYS.
+-- The errors of `sync_all` for a file that stores nothing, such as a pipe, a terminal or a device:
+-- EINVAL, ENOTSUP and ENOSYS.
 abbrev pub is_never_stored : ErrorKind → Bool
 is_never_stored InvalidInput = true
 is_never_stored Unsupported = true
 is_never_stored _ = false
 
--- The system's result of storing a file guarantees that no written byte is lost.
+-- The result of `sync_all` guarantees that no written byte is lost.
 abbrev pub loses_nothing : {X : Type 0} → Result X Error → Bool
 loses_nothing (Ok done) = true
 loses_nothing (Err error) = is_never_stored (error_kind error)
 
--- A device with `unrestricted_store` specifies nothing about storing.
+-- The default specification of storing: any result is allowed in any state.
 abbrev pub unrestricted_store : {D : Type 0} → D → Bool → Type 0
 unrestricted_store device answer = Unit {0}
 
--- Storing a device in memory always succeeds, since memory loses nothing.
+-- A device in memory needs no storing, since memory loses nothing.
 abbrev pub needs_no_store : {D : Type 0} → D → Bool
 needs_no_store device = true
 
--- A device with `unrestricted_end` specifies nothing about the state in which it is dropped.
+-- The default specification of dropping: a device may be dropped in any state.
 abbrev pub unrestricted_end : {D : Type 0} → D → Type 0
 unrestricted_end device = Unit {0}
 
--- Closing a device over a writer drops the writer unchanged, unless the device is closed already.
--- No failure is counted.
+-- The effect of closing a device over a writer: the writer is dropped unchanged, unless the device
+-- is closed already. No failure is counted.
 pub record Releases
     {D : Type 0} (IsReleased : D → Type 0) (old new : FileValue D) : Type 0 where
   pub writer : (device : D) → old.device ≡ Some device → IsReleased device
@@ -41,7 +41,8 @@ pub record Releases
   pub stored : new.is_stored ≡ old.is_stored
   pub count : new.failure_count ≡ old.failure_count
 
--- Closing a buffered sink closes the inner sink. Buffered bytes are not written.
+-- The effect of closing a buffered sink: the inner sink is closed, and buffered bytes are not
+-- written.
 pub record ClosesInside
     {D : Type 0} (IsClose : D → D → Type 0) (old new : BufferState D) : Type 0 where
   pub device : IsClose old.device new.device

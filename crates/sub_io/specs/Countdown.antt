@@ -1,8 +1,8 @@
 -- The model of a device with one failing call: the inner device and a countdown.
 use Rattle.std.specs.Prelude.{ℕ, ◌+◌, min, Bool, true, false, Option, Some, None, zero, suc}
 
--- A device with one failing call. `left` is the number of calls that are forwarded before the
--- failing call: `Some 0` if the next call fails, `None` after the failure.
+-- A device with one failing call. `left` is the number of calls forwarded before the failing call:
+-- `Some 0` if the next call fails, `None` after the failing call.
 pub record CountingDown (D : Type 0) : Type 0 where
   pub device : D
   pub left : Option ℕ
@@ -19,8 +19,8 @@ countdown_after None = None
 countdown_after (Some zero) = None
 countdown_after (Some (suc k)) = Some k
 
--- The failure count: the failures of the inner device, plus 1 after the failing call, saturating at
--- 64 bits.
+-- The failure count of a device with one failing call: the failure count of the inner device, plus
+-- 1 after the failing call, at most 2^64 - 1.
 abbrev pub failures_with : Option ℕ → ℕ → ℕ
 failures_with None n = min (n + 1) 0xFFFF_FFFF_FFFF_FFFF
 failures_with (Some k) n = n

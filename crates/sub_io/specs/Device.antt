@@ -1,24 +1,24 @@
 -- Specifies how a call changes the known bytes of a device and its failure count.
 --
--- The known bytes are an `Option (List ℕ)`: the bytes that a source has left, or those that a sink
--- has taken. They are `None` for a device without known contents, such as a file. `Consumes`,
--- `Appends`, `Keeps` and `IsAtEnd` come from std; for a device without known contents each of these
--- relations is true of every call.
+-- The known bytes are an `Option (List ℕ)`: the remaining bytes of a source, or the bytes written
+-- to a sink. They are `None` if the contents of the device are unknown, as for a file. `Consumes`,
+-- `Appends`, `Keeps` and `IsAtEnd` are relations of std on such options; they are true for every
+-- call if the bytes are unknown.
 use Rattle.std.specs.Prelude.{◌≡◌, ℕ, ◌+◌, ◌<◌, ◌≤◌, List, [], ◌++◌, length, take, Option, Some}
 use Rattle.std.specs.Prelude.{Bool, false, Result, Ok, Err, MatchResult, is_ok, if◌then◌else◌}
 use Rattle.std.specs.Io.KnownBytes.{Appends, Consumes, IsAtEnd, Keeps}
 
--- The failure count of a device can rise by one. Each call that may fail requires this.
+-- The failure count of a device is below 2^64 - 1, so it can rise. Each call that may fail requires
+-- this.
 abbrev pub CanFail : ℕ → Type 0
 CanFail count = count < 0xFFFF_FFFF_FFFF_FFFF
 
--- A call that returns `Ok` leaves the failure count, and a call that returns `Err` raises the count
--- by one.
+-- A call that returns `Ok` does not change the failure count, and a call that returns `Err` raises
+-- it by one.
 abbrev pub CountsFailure : {X E : Type 0} → ℕ → Result X E → ℕ → Type 0
 CountsFailure old result new = new ≡ old + (if is_ok result then 0 else 1)
 
--- The result is a fault that `is_one` accepts. Each fault type defines which of its faults are
--- device failures.
+-- The result is `Err` with a fault for which `is_one` is true, such as a device failure.
 abbrev pub failed : {X E : Type 0} → (E → Bool) → Result X E → Bool
 failed is_one (Err fault) = is_one fault
 failed is_one (Ok _) = false
@@ -33,8 +33,8 @@ abbrev pub CountsIf : {D : Type 0} → (D → ℕ) → D → Bool → D → Type
 CountsIf failure_count old has_failed new =
     CountRisesIf (failure_count old) has_failed (failure_count new)
 
--- The effect of one pull. `Ok n` consumed n bytes of the source, which are now at the front of the
--- buffer; `Ok 0` with a nonempty buffer means the end of the source; `Err` consumed nothing.
+-- The effect of a pull. `Ok n`: n bytes of the source were consumed and are at the front of the
+-- buffer. `Ok 0` with a nonempty buffer: the source is at its end. `Err`: no bytes were consumed.
 abbrev pub Pulls : {E : Type 0}
     → Option (List ℕ) → Option (List ℕ) → List ℕ → Result ℕ E → Type 0
 Pulls old new buffer result =
@@ -48,8 +48,8 @@ pub record SkipsOver (old : Option (List ℕ)) (count : ℕ) (new : Option (List
   pub number : length bytes ≡ count
   pub consumed : Consumes old new bytes
 
--- The effect of one push. `Ok n` appended the first n of the bytes to the sink; `Err` appended
--- nothing.
+-- The effect of a push. `Ok n`: the first n of the bytes were appended to the sink. `Err`: nothing
+-- was appended.
 abbrev pub Pushes : {E : Type 0}
     → Option (List ℕ) → Option (List ℕ) → List ℕ → Result ℕ E → Type 0
 Pushes old new bytes result =
@@ -63,8 +63,8 @@ pub record Fills
   pub bytes : Consumes old new (take n buffer)
   pub end : n < length buffer → IsAtEnd new
 
--- The first n of the known `bytes` of a source are at the front of the buffer, and the source has
--- the rest left.
+-- The first n of the known bytes of a source are at the front of the buffer, and the other bytes
+-- remain in the source.
 pub record Told
     (bytes : List ℕ) (n : ℕ) (new : Option (List ℕ)) (buffer : List ℕ) : Type 0 where
   pub rest : List ℕ
@@ -72,17 +72,17 @@ pub record Told
   pub new_eq : new ≡ Some rest
   pub ended : n < length buffer → rest ≡ []
 
--- The sink has taken a prefix of the bytes.
+-- A prefix of the bytes was written to the sink.
 abbrev pub AppendsPrefix : Option (List ℕ) → Option (List ℕ) → List ℕ → Type 0
 AppendsPrefix old new bytes = (n : ℕ) × (n ≤ length bytes) × Appends old new (take n bytes)
 
--- A write that returns `Ok` appended all bytes to the sink; with `Err` the sink took a prefix of
--- them.
+-- The effect of a write. `Ok`: all bytes were appended to the sink. `Err`: a prefix of them was
+-- appended.
 abbrev pub Writes : {X E : Type 0}
     → Option (List ℕ) → Option (List ℕ) → List ℕ → Result X E → Type 0
 Writes old new bytes result =
     MatchResult result (λ _. Appends old new bytes) (λ _. AppendsPrefix old new bytes)
 
--- The number of buffered bytes of a sink without a buffer.
+-- The number of buffered bytes of a sink without a buffer: 0.
 abbrev pub buffers_nothing : {D : Type 0} → D → ℕ
 buffers_nothing device = 0

@@ -1,7 +1,7 @@
--- The number and the name of a fault in reports (own).
+-- The number and the name of a fault in reports.
 use Rattle.std.specs.Prelude.{ℕ, List}
 
--- The code of a fault: its number, and the characters of its name.
+-- The code of a fault in reports: its number, and the characters of its name.
 pub record FaultCodeValue : Type 0 where
   pub number : ℕ
   pub name : List ℕ

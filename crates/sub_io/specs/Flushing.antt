@@ -1,10 +1,10 @@
--- Flushing an audience does not change which items were reported to it.
+-- Flushing a report sink does not change which items were reported to it.
 use Rattle.std.specs.Prelude.{◌≡◌, ◌⊎◌, ℕ, List, Bool, true, false, not}
 use Rattle.sub_io.specs.Reporting.{Reports}
 
--- The law of an audience that can flush. If the report of the last item is pending and then
--- flushed, the item stays reported. The audience has stopped exactly if the flush failed. After an
--- item the audience buffers bytes only if `has_pending_reports`.
+-- The law of a report sink that can flush. After a pending report is flushed, its item still counts
+-- as reported. Flushing fails exactly if the sink has stopped. After each report, the sink buffers
+-- bytes only if reports are pending.
 pub record StaysReported
     {A D : Type 0} (IsReported : D → A → D → Type 0) (has_stopped has_pending_reports : D → Bool)
     (buffered : D → ℕ)
@@ -23,15 +23,15 @@ pub record StaysReported
       → has_pending_reports new ≡ false
       → buffered new ≡ 0
 
--- The audience was left unchanged, or its pending reports were flushed; `ok` says whether flushing
+-- The report sink is unchanged, or its pending reports were flushed; `ok` is true if flushing
 -- succeeded.
 abbrev pub FlushesIfPending :
     {D : Type 0} → (D → Bool) → (D → Bool → D → Type 0) → D → Bool → D → Type 0
 FlushesIfPending has_pending_reports IsFlushed old ok new =
     ((ok ≡ true) × (new ≡ old)) ⊎ ((has_pending_reports old ≡ true) × IsFlushed old ok new)
 
--- All items that count as reported in the state `old` also count as reported in the state `new`, if
--- no report was pending before the first item.
+-- All items that count as reported in the state `old` still count as reported in the state `new`,
+-- if no report was pending before the first item.
 pub record KeepsReported
     {A D : Type 0} (IsReported : D → A → D → Type 0) (has_pending_reports : D → Bool) (old new : D)
     : Type 0 where
@@ -41,7 +41,7 @@ pub record KeepsReported
       → Reports IsReported start old items
       → Reports IsReported start new items
 
--- The audience buffers no bytes unless reports are pending.
+-- The report sink buffers no bytes unless reports are pending.
 abbrev pub BuffersOnlyWhilePending : {D : Type 0} → (D → Bool) → (D → ℕ) → D → Type 0
 BuffersOnlyWhilePending has_pending_reports buffered a = has_pending_reports a ≡ false → buffered a
     ≡ 0

@@ -1,8 +1,8 @@
 -- The model of a sink over memory.
 use Rattle.std.specs.Prelude.{ℕ, List}
 
--- The model of a sink over memory: the bytes written, the size of the slice in bytes, and how many
--- pushes have failed.
+-- The model of a sink over memory: the written bytes, the size of the slice in bytes, and the
+-- number of failed pushes.
 pub record Written : Type 0 where
   pub bytes : List ℕ
   pub room : ℕ

@@ -1,4 +1,4 @@
--- Definitions that the specifications of all readers share.
+-- Definitions for the specifications of all readers.
 use Rattle.std.specs.Prelude.{◌≡◌, ℕ, ◌<◌, List, length, take, Option, Some, Result, Ok, Err}
 use Rattle.std.specs.Prelude.{slice_index}
 
@@ -8,7 +8,7 @@ abbrev pub ◌>>=◌ : {A B E : Type 0} → Result A E → (A → Result B E) �
 (Ok x) >>= f = f x
 (Err e) >>= f = Err e
 
--- P is true of the bytes of a device, if the bytes are known.
+-- If the bytes of a device are known, P is true for them.
 abbrev pub IfKnown : Option (List ℕ) → (List ℕ → Type 0) → Type 0
 IfKnown known P = (bytes : List ℕ) → known ≡ Some bytes → P bytes
 

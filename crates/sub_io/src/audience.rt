@@ -8,37 +8,36 @@ ghost use Rattle.sub_io.specs.Reporting.{KeepsFirst, Reports};
 use crate::{Live, LiveAudience};
 use std::marker::Model;
 
-/// The error that an audience returns if it wants no more items.
+/// The error of a report sink that wants no more items.
 #[derive(Clone, Copy, Debug, PartialEq, Eq)]
 pub struct Stopped;
 
 /// A consumer of items that are reported one at a time, such as the faults of a file.
 ///
-/// An audience may keep, count or print the items. It returns `Stopped` if it wants no more items
+/// A report sink may keep, count or print the items. It returns `Stopped` if it wants no more items
 /// or has failed; only the implementation knows which.
 pub trait Audience<T> {
-    // How reporting an item changes the audience: the state before, the item, the state after.
+    // How reporting an item changes the report sink. Arguments: old state, item, new state.
     ghost is_reported: { Self → T → Self → Type 0 };
 
-    // Whether the audience has returned `Stopped`.
+    // Whether the report sink has returned `Stopped`.
     ghost has_stopped: { Self → Bool };
 
-    /// Reports one item to the audience. Must not be called again after the audience has returned
-    /// `Stopped`.
+    /// Reports one item. Must not be called again after it has returned `Stopped`.
     ///
     /// # Errors
     ///
-    /// Returns `Stopped` if the audience wants no further items. The audience has received `item`
-    /// all the same.
+    /// Returns `Stopped` if the report sink wants no further items. It has received `item` all the
+    /// same.
     fn report(&mut self, item: T) -> Result<(), Stopped>
         requires { has_stopped self.old ≡ false }
         ensures reported { Reports is_reported self.old self.new (item ∷ []) }
         ensures stopped { has_stopped self.new ≡ is_err result };
 }
 
-/// An audience that keeps the first item and then stops.
+/// A report sink that keeps the first item and then stops.
 ///
-/// Its model is the item that it keeps.
+/// Its model is the kept item.
 #[derive(Drop)]
 pub struct FirstReported<T> {
     first: Option<T>,
@@ -51,7 +50,7 @@ impl<T> Model for FirstReported<T> {
 }
 
 impl<T: Drop> FirstReported<T> {
-    /// Creates an audience that has received no item.
+    /// Creates a report sink that has received no item.
     pub fn new() -> Self
         ensures { result ≡ None }
     {
@@ -72,7 +71,7 @@ impl<T: Drop> Audience<T> for FirstReported<T> {
 
     ghost has_stopped = { λ f. is_some f };
 
-    /// Keeps the item that is reported.
+    /// Keeps the reported item.
     ///
     /// # Errors
     ///
@@ -94,16 +93,16 @@ impl<T> Live for FirstReported<T> {
 
     ghost is_flushed = { λ old ok new. (new ≡ old) × (is_some new ≡ not ok) };
 
-    /// Returns `false`, since this audience buffers nothing.
+    /// Returns `false`, since `FirstReported` buffers nothing.
     fn has_pending(&self) -> bool {
         false
     }
 
-    /// Does nothing, since this audience buffers nothing.
+    /// Does nothing, since `FirstReported` buffers nothing.
     ///
     /// # Errors
     ///
-    /// Returns `Stopped` once the audience has received an item.
+    /// Returns `Stopped` if an item has been reported.
     fn flush_pending(&mut self) -> Result<(), Stopped> {
         if self.first.is_some() {
             return Err(Stopped);

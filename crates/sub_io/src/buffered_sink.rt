@@ -1,4 +1,4 @@
-//! A sink with a buffer, so that many short pushes cost few calls of the inner sink.
+//! A buffered sink: many short pushes need only a few calls of the inner sink.
 
 ghost use Rattle.std.specs.Prelude.{◌≡◌, ◌≢◌, ◌+◌, ◌-◌, ◌<◌, ◌≤◌, min, [], ◌++◌, length, take};
 ghost use Rattle.std.specs.Prelude.{Ok, IfErr, IfOk, IsErr, OnOk, false, true, is_ok, ◌↔◌, ◌⊎◌};
@@ -12,20 +12,20 @@ use crate::sink::push_all;
 use crate::{Close, Failed, Flush, Sink};
 use std::marker::Model;
 
-/// A sink that buffers bytes, and pushes them into the inner sink when the buffer is full and at
-/// each flush.
+/// A sink that buffers bytes. It writes them to the inner sink when the buffer is full, and at each
+/// flush.
 ///
-/// After the first failure of the inner sink every call returns `Failed` and pushes nothing more.
-/// Dropping the value writes nothing, so flush it first. No failed call is repeated, not even an
-/// interrupted one. The buffer is borrowed, like that of a `MemSink`.
+/// After the first failure of the inner sink, every call returns `Failed` and writes nothing more.
+/// Dropping the sink writes nothing, so flush it first. A failed call is never repeated, even if it
+/// was interrupted. The buffer is borrowed, like the slice of a `MemSink`.
 ///
-/// Its model has the inner sink, the buffered bytes, the size of the buffer, whether the inner sink
-/// has failed, and how many calls were refused since then.
+/// Its model has the inner sink, the buffered bytes, the buffer's size, whether the inner sink has
+/// failed, and the number of calls refused since that failure.
 #[derive(Drop)]
 pub struct BufferedSink<'a, K> {
     inner: K,
     room: &'a mut [u8],
-    // How many bytes are buffered, from the start of `room` on.
+    // The number of buffered bytes, which are at the start of `room`.
     len: usize,
     failed: bool,
     refused: u64,
@@ -46,7 +46,7 @@ impl<'a, K> Model for BufferedSink<'a, K> {
 }
 
 impl<'a, K: Sink> BufferedSink<'a, K> {
-    /// Creates a sink with an empty buffer, which holds `room.len()` bytes.
+    /// Creates a sink with an empty buffer of `room.len()` bytes.
     pub fn new(inner: K, room: &'a mut [u8]) -> Self
         requires { 0 < length room.old }
         ensures { result ≡ record {
@@ -66,7 +66,7 @@ impl<'a, K: Sink> BufferedSink<'a, K> {
         }
     }
 
-    /// Returns the inner sink. Drops buffered bytes.
+    /// Returns the inner sink. Discards buffered bytes.
     pub fn into_inner(self) -> K
         ensures { result ≡ self.entry.device }
     {
@@ -113,8 +113,9 @@ impl<'a, K: Sink> BufferedSink<'a, K> {
     }
 }
 
-// Pushes the first `len` bytes of the buffer into the sink. `room` is `&mut` only because the sink
-// cannot be borrowed next to a shared slice of the buffer; `room` is not changed.
+// Pushes the first `len` bytes of the buffer `room` into the sink. `room` is not changed; it is
+// `&mut` only because the sink and a shared slice of the buffer cannot be borrowed at the same
+// time.
 fn push_front<K: Sink>(sink: &mut K, room: &mut [u8], len: usize) -> Result<(), usize>
     requires within { len ≤ length room.old }
     requires count { CanFail (K.failure_count sink.old) }
@@ -148,10 +149,10 @@ impl<K: Sink> Sink for BufferedSink<'_, K> {
         requires count { CanFail (failures_and_refused
             (K.failure_count self.old.device) self.old.refused) }
 
-        // After a failure of the inner sink, a call changes only the count of refused calls.
+        // After the inner sink has failed, a call only raises the count of refused calls.
         ensures refused { self.old.failed ≡ true → IsErr result
             × (self.new ≡ record self.old { refused = self.old.refused + 1 }) }
-        // Before the first failure of the inner sink, only failures of the inner sink are counted.
+        // Until the inner sink fails, no call is refused, so only its failures are counted.
         ensures requested { self.old.failed ≡ false → (self.new.refused ≡ self.old.refused)
             × CountsFailure
             (K.failure_count self.old.device) result (K.failure_count self.new.device) }
@@ -197,7 +198,8 @@ impl<K: Sink> Sink for BufferedSink<'_, K> {
         Ok(self.buffer_bytes(from))
     }
 
-    /// Returns the failures of the inner sink, plus the calls refused after the first of them.
+    /// Returns the number of failed calls of the inner sink, plus the number of calls refused after
+    /// the first failure.
     fn failures(&self) -> u64 {
         self.inner.failures().saturating_add(self.refused)
     }
@@ -215,17 +217,17 @@ impl<K: Sink> Flush for BufferedSink<'_, K> {
         requires { CanFail (failures_and_refused
             (K.failure_count self.old.device) self.old.refused) }
 
-        // After a failure of the inner sink, a call changes only the count of refused calls.
+        // After the inner sink has failed, a call only raises the count of refused calls.
         ensures refused { self.old.failed ≡ true → IsErr result
             × (self.new ≡ record self.old { refused = self.old.refused + 1 }) }
-        // Before the first failure of the inner sink, only failures of the inner sink are counted.
+        // Until the inner sink fails, no call is refused, so only its failures are counted.
         ensures requested { self.old.failed ≡ false → (self.new.refused ≡ self.old.refused)
             × CountsFailure
             (K.failure_count self.old.device) result (K.failure_count self.new.device) }
         ensures failed { IsErr result ↔ (self.new.failed ≡ true) }
         ensures calls { self.old.failed ≡ false → PutsByPushes K.is_push
             self.old.device self.old.buffered (is_ok result) self.new.device }
-        // If flushing succeeds, the inner sink has taken all buffered bytes.
+        // If flushing succeeds, all buffered bytes were written to the inner sink.
         ensures whole { OnOk result ((self.new.buffered ≡ [])
             × Appends (K.contents self.old.device) (K.contents self.new.device) self.old.buffered) }
         // If flushing fails, the bytes that the inner sink did not take stay in the buffer.
@@ -269,7 +271,7 @@ impl<K: Close> Close for BufferedSink<'_, K> {
 
     ghost is_close = { ClosesInside K.is_close };
 
-    /// Flushes the buffer, and makes the inner sink store all bytes.
+    /// Flushes the buffer, and makes the inner sink store all bytes permanently.
     ///
     /// # Errors
     ///
@@ -295,7 +297,7 @@ impl<K: Close> Close for BufferedSink<'_, K> {
         answer
     }
 
-    /// Closes the inner sink. Drops buffered bytes.
+    /// Closes the inner sink. Discards buffered bytes.
     fn close(&mut self)
         ensures call { ClosesInside K.is_close self.old self.new }
         ensures closed { K.is_closed self.new.device ≡ true }

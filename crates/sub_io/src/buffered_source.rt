@@ -1,4 +1,4 @@
-//! A source with a read buffer, so that many short pulls cost few calls of the inner source.
+//! A buffered source: many short pulls need only a few calls of the inner source.
 
 ghost use Rattle.std.specs.Prelude.{◌≡◌, ◌≢◌, ◌==◌, ◌+◌, ◌<◌, ◌≤◌, min, [], ◌++◌, length, take};
 ghost use Rattle.std.specs.Prelude.{slice_range, Ok, Some, None, IfOk, OnErr, MatchResult};
@@ -16,10 +16,11 @@ use std::marker::Model;
 
 /// A source that fills its buffer from the inner source, and serves pulls of any length from it.
 ///
-/// A pull calls the inner source at most once, and only if the buffer is empty. No failed call is
-/// repeated, not even an interrupted one. The buffer is borrowed, like that of a `MemSink`.
+/// A pull calls the inner source at most once, and only if the buffer is empty. A failed call is
+/// never repeated, even if it was interrupted. The buffer is borrowed, like the slice of a
+/// `MemSink`.
 ///
-/// Its model has the inner source, the buffered bytes and the size of the buffer.
+/// Its model has the inner source, the buffered bytes and the buffer's size.
 #[derive(Drop)]
 pub struct BufferedSource<'a, S> {
     inner: S,
@@ -42,7 +43,7 @@ impl<'a, S> Model for BufferedSource<'a, S> {
 }
 
 impl<'a, S: Source> BufferedSource<'a, S> {
-    /// Creates a source with an empty buffer, which holds `room.len()` bytes.
+    /// Creates a source with an empty buffer of `room.len()` bytes.
     pub fn new(inner: S, room: &'a mut [u8]) -> Self
         requires { 0 < length room.old }
         ensures { result ≡ record { device = inner; buffered = []; room = length room.old } }
@@ -55,7 +56,7 @@ impl<'a, S: Source> BufferedSource<'a, S> {
         }
     }
 
-    /// Returns the inner source. Drops buffered bytes.
+    /// Returns the inner source. Discards buffered bytes.
     pub fn into_inner(self) -> S
         ensures { result ≡ self.entry.device }
     {
@@ -104,8 +105,8 @@ impl<'a, S: Source> BufferedSource<'a, S> {
     }
 }
 
-// Copies `to.len()` bytes of the buffer, from `start` on. `room` is `&mut` only because a shared
-// slice behind `self` is not known to keep its contents; `room` is not changed.
+// Copies `to.len()` bytes of the buffer `room`, from `start` on. `room` is not changed; it is
+// `&mut` only because the contents of a shared slice in `self` are not known to stay the same.
 fn copy_prefix(room: &mut [u8], start: usize, to: &mut [u8])
     requires { start + length to.old ≤ length room.old }
     ensures same { room.new ≡ room.old }
@@ -171,7 +172,7 @@ impl<S: Source> Source for BufferedSource<'_, S> {
         Ok(self.move_buffered(to))
     }
 
-    /// Returns the failures of the inner source.
+    /// Returns the number of failed calls of the inner source.
     fn failures(&self) -> u64 {
         self.inner.failures()
     }

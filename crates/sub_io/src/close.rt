@@ -1,8 +1,8 @@
-//! Sinks that are stored, and closed before they are dropped.
+//! Sinks whose bytes can be stored permanently, and that are closed before they are dropped.
 //!
-//! A network disk may report a lost file only when it is closed, and std ignores the result of
-//! closing a file. So a command has the system store its file, and closes it, before it prints its
-//! line. Pipes and devices store nothing.
+//! A network disk may report that a file is lost only when the file is closed, and std ignores the
+//! result of closing a file. So a command stores and closes its output file before it prints its
+//! final line. Pipes and devices need no storing.
 
 ghost use Rattle.std.specs.Prelude.{◌≡◌, Bool, OnOk, true};
 ghost use Rattle.std.specs.Io.KnownBytes.{Keeps};
@@ -14,15 +14,15 @@ use std::fs::OpenFile;
 use std::io;
 use std::io::ErrorKind;
 
-/// Something that the system can be asked to store, such as a file. Each file opened by std
-/// implements it.
+/// A writer whose bytes the system can store permanently, such as a file. The file types of std
+/// implement it.
 pub trait Store {
-    // How the device was asked to store its bytes: the state, and the result.
+    // How the system may answer a request to store the writer's bytes. Arguments: state, result.
     ghost is_store: { Self → Bool → Type 0 };
 
-    /// Waits until all written bytes are stored, and returns whether none of them was lost.
+    /// Waits until the system has stored all written bytes. Returns `true` if no byte was lost.
     ///
-    /// Pipes, terminals and devices store nothing, so they lose nothing.
+    /// For pipes, terminals and devices, which store nothing, returns `true`.
     fn store(&self) -> bool
         ensures { is_store self.now result };
 }
@@ -35,7 +35,7 @@ impl<T: OpenFile> Store for T {
     }
 }
 
-// Returns whether the system's result of storing a file guarantees that no byte was lost.
+// Returns whether the result of `sync_all` guarantees that no byte was lost.
 fn is_kept(answer: io::Result<()>) -> bool
     ensures { result ≡ loses_nothing answer }
 {
@@ -48,12 +48,12 @@ fn is_kept(answer: io::Result<()>) -> bool
     }
 }
 
-/// Something that can be dropped, such as a file, which dropping closes. Each type that implements
-/// `Drop` implements it.
+/// A value that can be dropped, such as a file, which dropping closes. All types that implement
+/// `Drop` implement it.
 ///
-/// Generic code can do nothing else with the value, so releasing it writes nothing.
+/// Generic code can only drop the value, so releasing it writes nothing.
 pub trait Release: Drop + Sized {
-    // The states in which the value may be dropped.
+    // Whether the value may be dropped in this state.
     ghost is_released: { Self → Type 0 };
 
     /// Drops the value.
@@ -67,20 +67,22 @@ impl<T: Drop> Release for T {
     fn release(self) {}
 }
 
-/// A sink that can be stored, and closed before it is dropped, such as a file.
+/// A sink, such as a file, whose bytes can be stored permanently, and that is closed before it is
+/// dropped.
 pub trait Close: Flush {
-    // The system has stored all bytes taken so far. Always true of sinks that need no storing, such
-    // as memory.
+    // Whether the system has stored all bytes written so far. Always true for sinks that need no
+    // storing, such as memory.
     ghost is_stored: { Self → Bool };
 
-    // The sink is closed. Always true of sinks that need no closing, such as memory.
+    // Whether the sink is closed. Always true for sinks that need no closing, such as memory.
     ghost is_closed: { Self → Bool };
 
-    // How closing changes the sink: the state before, in which the writer below was dropped, and
-    // the state after.
+    // How closing changes the sink. Arguments: old state, with the writer as it was dropped, and
+    // new state.
     ghost is_close: { Self → Self → Type 0 };
 
-    /// Flushes all buffered bytes, and waits until the system has stored all bytes taken.
+    /// Flushes all buffered bytes, and waits until the system has stored all bytes written to the
+    /// sink.
     ///
     /// # Errors
     ///
@@ -94,7 +96,7 @@ pub trait Close: Flush {
         ensures count { CountsFailure (Self.failure_count self.old) result
             (Self.failure_count self.new) };
 
-    /// Closes the sink: drops the writer below in its current state, and writes nothing more.
+    /// Closes the sink: drops the underlying writer in its current state and writes nothing more.
     /// Errors of closing are ignored.
     fn close(&mut self)
         ensures call { is_close self.old self.new }

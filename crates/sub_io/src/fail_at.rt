@@ -1,4 +1,4 @@
-//! A device with one failing call, to test how its users react.
+//! A device with one failing call, for testing code that uses devices.
 
 ghost use Rattle.std.specs.Prelude.{◌≡◌, ◌<◌, ◌≤◌, length, Some, IfOk, IsErr, OnOk};
 ghost use Rattle.std.specs.Prelude.{false, true};
@@ -11,15 +11,15 @@ ghost use Rattle.sub_io.specs.Device.{CanFail, CountsFailure, Pulls, Pushes};
 use crate::{Close, Failed, Flush, Sink, Source};
 use std::marker::Model;
 
-/// A device that forwards all calls but one to the inner device. The failing call does nothing and
-/// returns `Failed`.
+/// A device that forwards every call except one to the inner device. The excepted call does nothing
+/// and returns `Failed`.
 ///
 /// `FailAt` implements the traits of the inner device (`Source`, `Sink`, `Flush`, `Close`).
 /// Flushing and storing count as calls too. Its model has the inner device and the countdown.
 #[derive(Drop)]
 pub struct FailAt<D> {
     inner: D,
-    // How many calls precede the failing call. `None` after the failing call.
+    // The number of calls before the failing call. `None` after the failing call.
     left: Option<u64>,
 }
 
@@ -40,7 +40,7 @@ impl<D> FailAt<D> {
         }
     }
 
-    // Counts a call, and returns whether it is the failing call.
+    // Counts one call. Returns whether it is the failing call.
     fn is_failing_call(&mut self) -> bool
         ensures device { self.new.device ≡ self.old.device }
         ensures is_failing_call { result ≡ fails_next self.old.left }
@@ -59,7 +59,7 @@ impl<D> FailAt<D> {
         }
     }
 
-    // Adds the failing call, if it has happened, to the failures of the inner device.
+    // Returns the failure count `inner`, plus one if the failing call has happened.
     fn with_own_failure(&self, inner: u64) -> u64
         ensures { result ≡ failures_with self.now.left inner }
     {
@@ -108,12 +108,12 @@ impl<S: Source> Source for FailAt<S> {
         self.inner.pull(to)
     }
 
-    /// Returns the failures of the inner device, plus one after the failing call.
+    /// Returns the failure count of the inner device, plus one after the failing call.
     fn failures(&self) -> u64 {
         self.with_own_failure(self.inner.failures())
     }
 
-    /// Returns `false`, since this device lends no bytes.
+    /// Returns `false`, since no bytes can be borrowed from this device.
     fn skip_bytes(&mut self, _count: usize) -> bool {
         false
     }
@@ -158,7 +158,7 @@ impl<K: Sink> Sink for FailAt<K> {
         self.inner.push(from)
     }
 
-    /// Returns the failures of the inner device, plus one after the failing call.
+    /// Returns the failure count of the inner device, plus one after the failing call.
     fn failures(&self) -> u64 {
         self.with_own_failure(self.inner.failures())
     }
@@ -204,7 +204,7 @@ impl<K: Close> Close for FailAt<K> {
     ghost is_close = { λ old new.
         K.is_close old.device new.device × (new.left ≡ old.left) };
 
-    /// Stores the inner device.
+    /// Makes the inner device store its bytes.
     ///
     /// # Errors
     ///

@@ -4,8 +4,8 @@ ghost use Rattle.sub_io.specs.FaultCode.{fault_code};
 
 use std::marker::Model;
 
-/// The number and the name of a fault in reports (own). The method `code` of each fault type has
-/// the table of its faults.
+/// The number and the name of a fault in reports. Each fault type returns the code of a fault by
+/// its method `code`.
 ///
 /// Its model is a `FaultCodeValue`.
 #[derive(Drop)]
@@ -22,7 +22,7 @@ impl Model for FaultCode {
 
     ghost view = { λ c. record { number = c.number; name = c.name.now } };
 
-    // The limit of 16 characters bounds the length of a line that reports a fault.
+    // A name has at most 16 characters, which limits the length of fault lines.
     ghost invariant = { λ c. length c.name.now ≤ 16 };
 }
 

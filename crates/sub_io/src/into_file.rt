@@ -1,4 +1,4 @@
-//! An output file that is stored, and closed before it is dropped.
+//! An output file that can be stored permanently, and is closed before it is dropped.
 
 ghost use Rattle.std.specs.Prelude.{◌≡◌, ◌+◌, ◌<◌, ◌≤◌, IfOk, IfSome, IsErr, None, OnOk, Option};
 ghost use Rattle.std.specs.Prelude.{Some, [], false, is_none, length, true};
@@ -12,11 +12,11 @@ use crate::{Close, Failed, Flush, Release, Sink, Store};
 use std::io::Write;
 use std::marker::Model;
 
-/// A sink over a std writer, such as a file, that can be stored and closed. One push is one
-/// `write`.
+/// A sink over a std writer, such as a file, whose bytes can be stored permanently, and that can be
+/// closed. Each push calls `write` once.
 ///
-/// Every error of the writer is a failure, including `Interrupted`. So is a write of 0 bytes, a
-/// store that loses something, and each call after `close`.
+/// Every error of the writer is a failure, including `Interrupted`. A write of 0 bytes, a `store`
+/// that loses bytes, and each call after `close` are failures too.
 ///
 /// Its model has the writer (until it is closed), the bytes that the writer reported as written,
 /// whether they are stored, and the failure count.
@@ -63,7 +63,7 @@ impl<W: Write> Sink for IntoFile<W> {
 
     ghost failure_count = { λ s. s.failure_count };
 
-    /// Calls the writer's `write` once. The bytes taken are not stored yet.
+    /// Calls the writer's `write` once. The written bytes are not stored yet.
     ///
     /// # Errors
     ///
@@ -99,14 +99,14 @@ impl<W: Write> Sink for IntoFile<W> {
         }
     }
 
-    /// Returns how many calls failed, wrote no byte, lost bytes or came after `close`.
+    /// Returns the number of calls that failed, wrote no byte, lost bytes or came after `close`.
     fn failures(&self) -> u64 {
         self.failures
     }
 }
 
 impl<W: Write> Flush for IntoFile<W> {
-    // Nothing is buffered, since every push writes at once.
+    // Nothing is buffered, since every push calls `write`.
     ghost buffered = { buffers_nothing };
 
     /// Flushes the writer.
@@ -144,15 +144,15 @@ impl<W: Write + Release + Store> Close for IntoFile<W> {
 
     ghost is_close = { Releases W.is_released };
 
-    /// Flushes the writer, and makes the system store all bytes written.
+    /// Flushes the writer, and makes the system store all written bytes permanently.
     ///
     /// # Errors
     ///
-    /// Returns `Failed` if the writer returns an error or loses something, and after `close`.
+    /// Returns `Failed` if the writer returns an error or bytes are lost, and after `close`.
     fn store(&mut self) -> Result<(), Failed>
         requires { CanFail self.old.failure_count }
         ensures closed { self.old.device ≡ None → IsErr result × (self.new.device ≡ None) }
-        // If storing succeeds, the writer has answered in its final state that no byte is lost.
+        // If storing succeeds, the writer, in its final state, has reported that no byte was lost.
         ensures call { OnOk result (IfSome self.new.device (λ writer. W.is_store writer true)) }
         ensures bytes { Keeps (Some self.old.taken) (Some self.new.taken) }
         ensures buffered { OnOk result (buffers_nothing self.new ≡ 0) }
@@ -172,7 +172,7 @@ impl<W: Write + Release + Store> Close for IntoFile<W> {
         Ok(())
     }
 
-    /// Drops the writer in its current state, which closes a file.
+    /// Drops the writer in its current state. Dropping a file closes it.
     fn close(&mut self)
         ensures call { Releases W.is_released self.old self.new }
         ensures closed { self.new ≡ record self.old { device = None } }

@@ -1,7 +1,8 @@
 //! Devices that read and write bytes, and count their failures.
 //!
-//! The lowest crate of `subttx`. All others read and write files only through these traits, so
-//! their contracts can say what any device read or wrote, whether or not its contents are known.
+//! The lowest crate of `subttx`. All other crates read and write files only through these traits.
+//! Their contracts state which bytes a device read or wrote, also if the contents of the device are
+//! unknown.
 //!
 //! ```
 //! let mut source = MemSource::new(b"EBU STL");
@@ -12,16 +13,16 @@
 //! put_all(&mut sink, &head)?; // sink.written() is "EBU"
 //! ```
 //!
-//! - `Source` and `Sink` are the traits; readers and writers call `fill` and `put_all`. `Flush` is
-//!   a sink that may buffer bytes. `Close` is one that can be stored (`Store`) and closed by
-//!   dropping (`Release`) the writer below it.
+//! - `Source` and `Sink` are the traits of input and output devices; use `fill` and `put_all` to
+//!   read and write. `Flush` is a sink that may buffer bytes. `Close` is a sink whose bytes can be
+//!   stored (`Store`), and that is closed by dropping (`Release`) the underlying writer.
 //! - `MemSource` and `MemSink` are devices over memory; `FromRead`, `IntoWrite` and `IntoFile` are
 //!   devices over std.
-//! - `BufferedSource` and `BufferedSink` put a buffer before another device, so that it is called
-//!   less often.
+//! - `BufferedSource` and `BufferedSink` add a buffer to another device, so that fewer calls reach
+//!   that device.
 //! - `FailAt` makes one chosen call of another device fail.
-//! - `Audience` is the trait of consumers to which items are reported one at a time, and which may
-//!   stop; `FirstReported` stops at the first.
+//! - `Audience` is the trait of consumers of reported items, which may stop the reporting;
+//!   `FirstReported` stops at the first item.
 //! - `Live` is a consumer that can flush what it buffers before a read that may block.
 //! - `FaultCode` is the number and the name of a fault of any crate.
 #![tactic(auto)]

@@ -1,5 +1,4 @@
-//! Flushing for users who follow a listing while it is written: a device reports whether reports
-//! are pending, and can flush them.
+//! Flushing of pending reports, for users who read a report while it is written.
 
 ghost use Rattle.std.specs.Prelude.{◌≡◌, ℕ, Bool, OnOk, false, is_ok};
 ghost use Rattle.sub_io.specs.Flushing.{StaysReported};
@@ -11,11 +10,10 @@ pub trait Live {
     // Whether reports may be pending.
     ghost has_pending_reports: { Self → Bool };
 
-    // How many bytes are buffered by the device and the devices below it.
+    // The number of bytes buffered by the device and by its underlying devices.
     ghost buffered: { Self → ℕ };
 
-    // How flushing changes the device: the state before, whether flushing succeeded, the state
-    // after.
+    // How flushing changes the device. Arguments: old state, whether flushing succeeded, new state.
     ghost is_flushed: { Self → Bool → Self → Type 0 };
 
     /// Returns whether reports may be pending.
@@ -33,8 +31,8 @@ pub trait Live {
         ensures still { OnOk result (has_pending_reports self.new ≡ false) };
 }
 
-/// An audience that may buffer reports and can flush them. Flushing does not change what was
-/// reported.
+/// A report sink that may buffer reports and can flush them. Flushing does not change which items
+/// count as reported.
 pub trait LiveAudience<T>: Audience<T> + Live {
     ghost stays_reported: { StaysReported Self.is_reported Self.has_stopped Self.has_pending_reports
         Self.buffered

@@ -16,7 +16,7 @@ use std::marker::Model;
 
 /// A source that reads a slice. Its calls never fail.
 ///
-/// Its model is the list of the bytes that are left.
+/// Its model is the list of the remaining bytes.
 #[derive(Drop)]
 pub struct MemSource<'a> {
     rest: &'a [u8],
@@ -44,7 +44,7 @@ impl Source for MemSource<'_> {
 
     ghost borrowed = { λ s. s };
 
-    /// Reads as many bytes as fit in `to`, or all that are left. Never fails.
+    /// Reads as many bytes as fit in `to`, or all remaining bytes. Never fails.
     fn pull(&mut self, to: &mut [u8]) -> Result<usize, Failed>
         ensures all { result ≡ Ok (min (length self.old) (length to.old)) }
         ensures bound { ReadsAtMost result to.new }
@@ -64,7 +64,7 @@ impl Source for MemSource<'_> {
         0
     }
 
-    /// Returns all bytes that are left.
+    /// Returns all remaining bytes.
     fn buffered(&self) -> &[u8]
         ensures all { result.now ≡ self.now }
         ensures bytes { AreNext result.now (Some self.now) }
@@ -73,7 +73,7 @@ impl Source for MemSource<'_> {
         self.rest
     }
 
-    /// Skips `count` bytes, if the slice has that many left.
+    /// Skips `count` bytes if at least `count` bytes remain in the slice.
     #[tactic(auto, using(crate::proofs::BufferLemmas::skip_memory_front))]
     fn skip_bytes(&mut self, count: usize) -> bool
         ensures buffered { (result ≡ true) ↔ (count ≤ length self.old) }
@@ -113,9 +113,9 @@ impl<'a> Model for MemSink<'a> {
 }
 
 impl<'a> MemSink<'a> {
-    /// Creates an empty sink for as many bytes as `room` is long.
+    /// Creates an empty sink for `room.len()` bytes.
     ///
-    /// The contents of `room` are unspecified once the sink is gone: read `written` before.
+    /// The contents of `room` are unspecified after the sink is dropped; use `written` before that.
     pub fn new(room: &'a mut [u8]) -> Self
         ensures { result ≡ record { bytes = []; room = length room.old; failure_count = 0 } }
     {
@@ -126,7 +126,7 @@ impl<'a> MemSink<'a> {
         }
     }
 
-    /// Returns the bytes that the sink has taken, in order.
+    /// Returns the bytes written to the sink, in order.
     pub fn written(&self) -> &[u8]
         ensures { result.now ≡ self.now.bytes }
     {
@@ -166,7 +166,7 @@ impl Sink for MemSink<'_> {
         Ok(n)
     }
 
-    /// Returns how many pushes found the slice full.
+    /// Returns the number of pushes that failed because the slice was full.
     fn failures(&self) -> u64 {
         self.failures
     }

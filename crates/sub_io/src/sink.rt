@@ -1,4 +1,4 @@
-//! The traits of sinks, which are devices that take bytes, and functions that write to a sink.
+//! Traits of sinks, the output devices, and functions that write to them.
 
 ghost use Rattle.std.specs.Prelude.{◌≡◌, ℕ, ◌<◌, ◌≤◌, List, length, Option, IfErr, IfOk};
 ghost use Rattle.std.specs.Prelude.{OnOk, take, is_ok};
@@ -8,16 +8,16 @@ ghost use Rattle.sub_io.specs.Device.{CanFail, CountsFailure, Pushes, Writes};
 
 use crate::Failed;
 
-/// A device that takes bytes, such as a file or a slice of memory.
+/// An output device to which bytes are written, such as a file or a slice of memory.
 pub trait Sink {
-    // All bytes that the sink has taken so far, if they are known.
+    // All bytes written to the sink so far, or `None` if they are unknown.
     ghost contents: { Self → Option (List ℕ) };
 
-    // How many calls of the sink have failed.
+    // The number of failed calls of the sink.
     ghost failure_count: { Self → ℕ };
 
-    // How a push changes the sink, if the sink specifies that: the state before, the bytes offered,
-    // how many were taken (`None` if the push failed), the state after.
+    // How a push changes the sink, if the sink specifies it. Arguments: old state, offered bytes,
+    // number of bytes taken (`None` if the push failed), new state.
     ghost is_push: { Self → List ℕ → Option ℕ → Self → Type 0 } = { any_call };
 
     /// Takes bytes from the front of `from`, which must not be empty. Returns the number of bytes
@@ -36,19 +36,19 @@ pub trait Sink {
         ensures bytes { Pushes (contents self.old) (contents self.new) from.now result }
         ensures count { CountsFailure (failure_count self.old) result (failure_count self.new) };
 
-    /// Returns how many calls of the sink have failed.
+    /// Returns the number of failed calls of the sink.
     fn failures(&self) -> u64
         ensures { result ≡ failure_count self.now };
 }
 
-/// A sink that may buffer bytes it has taken, such as `BufferedSink`.
+/// A sink that may buffer written bytes, such as `BufferedSink`.
 ///
-/// Errors of writing these bytes appear late: at a later push, or only at `flush`.
+/// So a write error may be reported only by a later push, or by `flush`.
 pub trait Flush: Sink {
-    // How many of the bytes taken are still buffered.
+    // The number of bytes that are still buffered.
     ghost buffered: { Self → ℕ };
 
-    /// Writes all buffered bytes. The list of bytes taken does not change.
+    /// Writes all buffered bytes to the underlying device.
     ///
     /// # Errors
     ///
@@ -62,12 +62,12 @@ pub trait Flush: Sink {
             (Self.failure_count self.new) };
 }
 
-/// Pushes all of `from` into the sink, in as many calls as needed; each call offers all bytes that
-/// are left.
+/// Writes all of `from` to the sink, in as many pushes as needed. Each push offers all remaining
+/// bytes.
 ///
 /// # Errors
 ///
-/// Returns `Failed` at the first push that fails. The sink has taken a prefix of `from`.
+/// Returns `Failed` at the first push that fails. A prefix of `from` has been written.
 pub fn put_all<K: Sink>(sink: &mut K, from: &[u8]) -> Result<(), Failed>
     requires { CanFail (K.failure_count sink.old) }
     ensures calls { PutsByPushes K.is_push sink.old from.now (is_ok result) sink.new }
@@ -80,8 +80,8 @@ pub fn put_all<K: Sink>(sink: &mut K, from: &[u8]) -> Result<(), Failed>
     }
 }
 
-// Pushes all of `from` into the sink. If a push fails, the error is the number of bytes taken
-// before it.
+// Writes all of `from` to the sink. If a push fails, returns the number of bytes written before it
+// as the error.
 pub(crate) fn push_all<K: Sink>(sink: &mut K, from: &[u8]) -> Result<(), usize>
     requires { CanFail (K.failure_count sink.old) }
     ensures calls { PutsByPushes K.is_push sink.old from.now (is_ok result) sink.new }

@@ -1,5 +1,4 @@
-//! The trait of sources, which are devices that provide bytes, and functions that read from a
-//! source.
+//! The trait of sources, the input devices, and functions that read from them.
 
 ghost use Rattle.std.specs.Prelude.{◌≡◌, ◌≢◌, ℕ, ◌+◌, ◌<◌, ◌≤◌, List, [], length, take, Option, Ok};
 ghost use Rattle.std.specs.Prelude.{IfOk, OnErr, Some, false, is_ok, true};
@@ -10,28 +9,28 @@ ghost use Rattle.sub_io.specs.Device.{CanFail, CountsFailure, Fills, SkipsOver, 
 ghost use Rattle.sub_io.specs.Borrowed.{BeginBorrowed, PullsBorrowed, no_borrowed_bytes};
 ghost use Rattle.sub_io.specs.Reading.{AreBytes, AreNext, IfKnown};
 
-/// The error of a call of a source or sink. The failed call has transferred no bytes.
+/// The error of a failed call of a source or sink. The failed call has transferred no bytes.
 #[derive(Clone, Copy, Debug, PartialEq, Eq)]
 pub struct Failed;
 
-/// A device that provides bytes, such as a file or a slice of memory.
+/// An input device from which bytes are read, such as a file or a slice of memory.
 pub trait Source {
-    // The bytes that the source has left, if they are known.
+    // The remaining bytes of the source, or `None` if they are unknown.
     ghost remaining: { Self → Option (List ℕ) };
 
-    // How many calls of the source have failed.
+    // The number of failed calls of the source.
     ghost failure_count: { Self → ℕ };
 
-    // How a pull changes the source, if the source specifies that: the state before, the size of
-    // the buffer, how many bytes were read (`None` if the pull failed), the state after.
+    // How a pull changes the source, if the source specifies it. Arguments: old state, size of the
+    // buffer, number of bytes read (`None` if the pull failed), new state.
     ghost is_pull: { Self → ℕ → Option ℕ → Self → Type 0 } = { any_call };
 
-    // The bytes that the source can return without calling the device below it, which may block and
-    // may fail.
+    // The buffered bytes, which the source can return without a call of its underlying device. Such
+    // a call may block and may fail.
     ghost borrowed: { Self → List ℕ } = { no_borrowed_bytes };
 
-    /// Reads bytes to the front of `to`, and returns their number. 0 for a nonempty `to` means the
-    /// end of the source.
+    /// Reads bytes into the front of `to`, and returns their number. If `to` is not empty, 0 means
+    /// the end of the source.
     ///
     /// # Errors
     ///
@@ -45,12 +44,12 @@ pub trait Source {
         ensures borrowed { PullsBorrowed (borrowed self.old) (borrowed self.new) to.new result }
         ensures count { CountsFailure (failure_count self.old) result (failure_count self.new) };
 
-    /// Returns how many calls of `pull` have failed.
+    /// Returns the number of failed calls of `pull`.
     fn failures(&self) -> u64
         ensures { result ≡ failure_count self.now };
 
-    /// Returns buffered bytes in place: those that the source returns next, without calling the
-    /// device below it. Empty if the source buffers no bytes or cannot lend them.
+    /// Borrows the buffered bytes, which the next pulls return without a call of the underlying
+    /// device. Empty if the source has no buffered bytes or cannot lend them.
     fn buffered(&self) -> &[u8]
         ensures bytes { AreNext result.now (remaining self.now) }
         ensures borrowed { BeginBorrowed result.now (borrowed self.now) }
@@ -58,12 +57,12 @@ pub trait Source {
         &[]
     }
 
-    /// Reads ahead until the source can lend bytes, if it derives its bytes from a device below it.
-    /// Other sources do nothing. Consumes none of the bytes that `pull` returns.
+    /// Reads ahead until buffered bytes can be borrowed, if the source derives its bytes from an
+    /// underlying device. Other sources do nothing. Consumes no bytes.
     ///
     /// # Errors
     ///
-    /// Returns `Failed` if the device below the source fails.
+    /// Returns `Failed` if the underlying device fails.
     fn read_on(&mut self) -> Result<(), Failed>
         requires { CanFail (failure_count self.old) }
         ensures bytes { Keeps (remaining self.old) (remaining self.new) }
@@ -73,8 +72,8 @@ pub trait Source {
         Ok(())
     }
 
-    /// Skips `count` of the bytes that the source lends, like a pull of them, and returns `true`.
-    /// If the source lends fewer bytes, does nothing and returns `false`.
+    /// Consumes `count` buffered bytes, as a pull does, and returns `true`. If fewer bytes can be
+    /// borrowed, does nothing and returns `false`.
     fn skip_bytes(&mut self, count: usize) -> bool
         requires some { 0 < count }
         requires count { CanFail (failure_count self.old) }
@@ -87,8 +86,9 @@ pub trait Source {
 
 /// Pulls until `to` is full or the source ends, and returns how many bytes were read.
 ///
-/// Reads fewer than `to.len()` bytes only at the end of the source. Each pull offers the rest of
-/// `to`. No pull follows a pull that read nothing or failed, and none follows once `to` is full.
+/// Reads fewer than `to.len()` bytes only at the end of the source. Each pull offers the unfilled
+/// part of `to`. `fill` makes no further pull once `to` is full, or after a pull that read nothing
+/// or failed.
 ///
 /// # Errors
 ///
@@ -102,8 +102,8 @@ pub fn fill<S: Source>(source: &mut S, to: &mut [u8]) -> Result<usize, Failed>
         Consumes (S.remaining source.old) (S.remaining source.new) (take n to.new)) }
     ensures end { IfOk result (λ n. n < length to.new → IsAtEnd (S.remaining source.new)) }
 
-    // The clause `fills` states `bound`, `bytes` and the end of the source in one record; `told`
-    // states what follows if the source's bytes are known.
+    // The clause `fills` combines the clauses `bound` and `bytes` with the end of the source. The
+    // clause `told` applies if the bytes of the source are known.
     ensures fills { IfOk result (λ n.
         Fills (S.remaining source.old) n (S.remaining source.new) to.new) }
     ensures told { IfKnown (S.remaining source.old) (λ bytes.
@@ -117,7 +117,7 @@ pub fn fill<S: Source>(source: &mut S, to: &mut [u8]) -> Result<usize, Failed>
     fill_up(source, to)
 }
 
-// Does what `fill` does, without the clauses of its contract that follow from the others.
+// The loop of `fill`, with a shorter contract from which that of `fill` follows.
 #[inline(always)]
 fn fill_up<S: Source>(source: &mut S, to: &mut [u8]) -> Result<usize, Failed>
     requires { CanFail (S.failure_count source.old) }

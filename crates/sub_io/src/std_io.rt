@@ -1,7 +1,7 @@
 //! Devices over std's readers and writers: files, standard input and output.
 //!
-//! No failed call is repeated, not even an interrupted one. A retry would hide a device that never
-//! recovers, and would need a bound.
+//! A failed call is never repeated, even if it was interrupted. Retries would hide a device that
+//! never recovers, and would need a limit.
 
 ghost use Rattle.std.specs.Prelude.{◌≡◌, ◌+◌, ◌<◌, ◌≤◌, [], ◌++◌, IfOk, OnOk, Some, length, take};
 ghost use Rattle.std.specs.Prelude.{IsErr};
@@ -14,7 +14,7 @@ use crate::{Failed, Flush, Sink, Source};
 use std::io::{Read, Write};
 use std::marker::Model;
 
-/// A source over a std reader, such as a buffered file. One pull is one `read`.
+/// A source over a std reader, such as a file. Each pull calls `read` once.
 ///
 /// Every error of the reader is a failure, including `Interrupted`.
 ///
@@ -60,20 +60,21 @@ impl<R: Read> Source for FromRead<R> {
         }
     }
 
-    /// Returns how many reads have failed.
+    /// Returns the number of failed reads.
     fn failures(&self) -> u64 {
         self.failures
     }
 
-    /// Returns `false`, since this source lends no bytes.
+    /// Returns `false`, since no bytes can be borrowed from this source.
     fn skip_bytes(&mut self, _count: usize) -> bool {
         false
     }
 }
 
-/// A sink over a std writer. One push is one `write`, and a flush is the writer's.
+/// A sink over a std writer. Each push calls `write` once, and `flush` calls the writer's `flush`.
 ///
-/// Every error of the writer is a failure, including `Interrupted`. So is a write of 0 bytes.
+/// Every error of the writer is a failure, including `Interrupted`. A write of 0 bytes is a failure
+/// too.
 ///
 /// Its model has the writer, the bytes that the writer reported as written, and the failure count.
 #[derive(Drop)]
@@ -140,15 +141,16 @@ impl<W: Write> Sink for IntoWrite<W> {
         }
     }
 
-    /// Returns how many writes failed or wrote no byte, plus how many flushes failed.
+    /// Returns the number of writes that failed or wrote no byte, plus the number of failed
+    /// flushes.
     fn failures(&self) -> u64 {
         self.failures
     }
 }
 
 impl<W: Write> Flush for IntoWrite<W> {
-    // Nothing is buffered, since every push writes at once. A buffer inside the writer is not
-    // visible here: a file of the operating system has none, but a buffered writer of std has one.
+    // Nothing is buffered, since every push calls `write`. A buffer inside the writer is not
+    // counted: a file of the operating system has none, but a buffered writer of std has one.
     ghost buffered = { buffers_nothing };
 
     /// Flushes the writer.

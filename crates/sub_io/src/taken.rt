@@ -5,8 +5,8 @@ ghost use Rattle.std.specs.Borrow.{ftrue};
 
 use std::marker::Model;
 
-/// The bytes that a writer reported as written. Only contracts use the value: the type has no size,
-/// and its functions do nothing. So each caller must record what its writer reported.
+/// The bytes that a writer has reported as written, for contracts only. The type has no size and
+/// its functions do nothing, so the code must record each write itself.
 #[derive(Drop)]
 pub struct Taken {
     /// The bytes written so far, in order.
@@ -17,15 +17,15 @@ impl Model for Taken {
     ghost also_owns = { λ _. ftrue };
 }
 
-/// The bytes that a writer took in one call.
+/// The bytes that a writer reported as written in one call.
 #[derive(Clone, Copy)]
 pub struct BorrowedChunk<'a> {
-    /// The bytes that the writer took, in order.
+    /// The bytes, in order.
     pub bytes: &'a [u8],
 }
 
 impl Taken {
-    /// Returns a record without bytes.
+    /// Returns an empty record.
     pub fn nothing() -> Taken
         ensures { result.bytes ≡ [] }
     {

@@ -1,5 +1,4 @@
--- Each iteration of `push_all` appends the bytes of one push to those of the pushes before it, by
--- Appends-more.
+-- Each iteration of `push_all` appends the bytes of one push to those of the earlier pushes.
 use Rattle.std.proofs.Common.{refl, rules}
 use Rattle.sub_io.proofs.DeviceLemmas.{Appends-more}
 use Rattle.std.proofs.lemmas.List.{take_rest}

@@ -1,5 +1,4 @@
--- After each iteration of `push_all` the sink has taken the first `at` bytes, and no push has
--- failed.
+-- After each iteration of `push_all`, the first `at` bytes are written, and no push has failed.
 use Rattle.std.proofs.Common.{length, ◌-◌, ◌≡◌, ◌≤◌, Bool, drop, take}
 use Rattle.std.specs.Io.KnownBytes.{Appends}
 use Rattle.sub_io.specs.Calls.{PutsByPushes}

@@ -1,4 +1,4 @@
--- If the bytes of a source are known, `fill` determines which bytes are left, by Told-from_result.
+-- If the bytes of a source are known, `fill` determines the remaining bytes.
 use Rattle.sub_io.proofs.DeviceLemmas.{Told-from_result}
 use Rattle.sub_io.proofs.source.fill.Goals as goal
 

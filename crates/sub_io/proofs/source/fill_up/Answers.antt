@@ -1,5 +1,4 @@
--- Each iteration of `fill_up` reads bytes and places them after those of the pulls before it, by
--- Consumes-more.
+-- Each iteration of `fill_up` stores the bytes of one pull after those of the earlier pulls.
 use Rattle.std.proofs.Common.{rules}
 use Rattle.sub_io.proofs.DeviceLemmas.{Consumes-more}
 use Rattle.sub_io.proofs.CallLemmas.{fills-more}

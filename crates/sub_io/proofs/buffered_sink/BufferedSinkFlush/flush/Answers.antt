@@ -1,5 +1,4 @@
--- If flushing a buffered sink fails, the bytes that the inner sink did not take stay in the buffer,
--- by buffered-parts and buffered-moved.
+-- If flushing a buffered sink fails, the unwritten bytes stay in the buffer.
 use Rattle.std.proofs.Common.{rules}
 use Rattle.sub_io.proofs.BufferLemmas.{buffered-parts, buffered-moved}
 use Rattle.sub_io.proofs.buffered_sink.BufferedSinkFlush.flush.Goals as goal

@@ -1,5 +1,5 @@
--- `move_buffered` copies the first buffered bytes to the caller's slice and leaves the others, by
--- buffered-split.
+-- `move_buffered` copies the first buffered bytes to the caller's slice; the other bytes stay
+-- buffered.
 use Rattle.std.proofs.Common.{◌≡◌, ◌+◌, length, take, slice_range, ap, ◌∙◌, arith, length-take}
 use Rattle.sub_io.proofs.BufferLemmas.{buffered-split}
 use Rattle.sub_io.proofs.buffered_source.BufferedSource.move_buffered.Goals as goal

@@ -1,4 +1,4 @@
--- The bytes that a buffered source has left begin with its buffered bytes, by buffered_are_next.
+-- The remaining bytes of a buffered source begin with its buffered bytes.
 use Rattle.std.proofs.Common.{slice_range}
 use Rattle.sub_io.proofs.BufferLemmas.{buffered_are_next}
 use Rattle.sub_io.proofs.buffered_source.BufferedSourceSource.buffered.Goals as goal

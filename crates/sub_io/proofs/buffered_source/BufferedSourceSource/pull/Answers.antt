@@ -1,5 +1,4 @@
--- With an empty buffer, a pull of at least the buffer's size is a pull of the inner source, by
--- Pulls-past.
+-- If the buffer is empty, a pull of at least the buffer's size is a pull of the inner source.
 use Rattle.std.proofs.Common.{rules}
 use Rattle.sub_io.proofs.BufferLemmas.{Pulls-past}
 use Rattle.sub_io.proofs.buffered_source.BufferedSourceSource.pull.Goals as goal

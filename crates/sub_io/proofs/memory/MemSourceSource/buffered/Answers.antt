@@ -1,4 +1,4 @@
--- A source over memory lends all its bytes, by all_are_next.
+-- All remaining bytes of a source over memory can be borrowed.
 use Rattle.sub_io.proofs.BufferLemmas.{all_are_next}
 use Rattle.sub_io.proofs.memory.MemSourceSource.buffered.Goals as goal
 
