@@ -1,5 +1,4 @@
--- `blocks_of`: the blocks written for a subtitle are the blocks of that subtitle; main lemmas:
--- joined_more, joined_end, blocks_made, blocks_again.
+-- The blocks that are written for a subtitle are read back as that subtitle.
 use Rattle.std.proofs.Common.{rules, ◌≡◌, ◌*◌, ℕ, true, List, [], ◌∷◌, ◌++◌, length, refl, ap}
 use Rattle.std.proofs.Common.{append_assoc, arith, length-append, take, drop, zero, suc, ◌+◌, ◌-◌}
 use Rattle.std.proofs.Common.{◌<◌, ◌≤◌, replicate, length-take}

@@ -1,5 +1,5 @@
--- `IsFile`: bytes are a subtitle file if and only if they can be read without a fault, and the
--- first 12,800,897 bytes decide; main lemmas: file_read, one_file, outcome_of-first.
+-- Bytes are a subtitle file if and only if they can be read without a fault. Only the first
+-- 12,800,897 bytes matter.
 use Rattle.std.proofs.Common.{◌≡◌, ◌*◌, ℕ, false, List, [], ◌++◌, length, refl, sym, ap, ◌∙◌, arith}
 use Rattle.std.proofs.Common.{length-append, take, drop, None, Result, Ok, Err, subst, ◌+◌}
 use Rattle.std.proofs.Common.{inl, inr, length-take-le, ltb}

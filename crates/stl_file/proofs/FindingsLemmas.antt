@@ -1,5 +1,4 @@
--- The results of reading blocks, `findings_at`: the bytes that determine them, and their block
--- numbers; main lemmas: findings_block, findings_at-first, findings_are_later.
+-- The bytes of the next blocks determine the results of reading them.
 use Rattle.std.proofs.Common.{◌≡◌, ◌*◌, ℕ, List, [], ◌∷◌, ◌++◌, length, refl, arith}
 use Rattle.std.proofs.Common.{length-append, length-take, take, drop, Option, Some, None, Result}
 use Rattle.std.proofs.Common.{zero, suc, ◌+◌, ◌-◌, ◌<◌, ◌≤◌, inl, inr}
@@ -57,8 +56,8 @@ module _ (scope : Scope) where
       rw (e, findings_step next begun (b ++ rest) (omega (arith, length-append b rest)))
       (rw (take_at b rest 128 size, drop_at b rest 128 size) refl)
 
--- The results depend only on the bytes of `room` blocks and one byte more, since reading stops at
--- the byte after the last permitted block.
+-- The results depend only on the permitted blocks and the first byte after them, at which reading
+-- stops.
 pub findings_at-first : (scope : Scope) (room : ℕ) (begun : Option StartedSubtitle) (b : List ℕ)
     → findings_at scope room begun (take (128 * room + 1) b) ≡ findings_at scope room begun b
 findings_at-first scope zero begun b = grind (arith, nat_tests, findings_full)

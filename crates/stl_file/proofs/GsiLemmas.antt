@@ -1,5 +1,4 @@
--- Reading the GSI block, and setting its counts of blocks and subtitles; main lemmas: gsi_sound,
--- gsi_complete, counted_is_gsi.
+-- A GSI block is accepted if and only if its fields satisfy the definition, whatever counts it has.
 use Rattle.std.proofs.Common.{◌≡◌, ℕ, Bool, List, ◌++◌, length, refl, sym, ap, ◌∙◌, append_assoc}
 use Rattle.std.proofs.Common.{arith}
 use Rattle.std.proofs.Common.{length-append, take, drop, false, Ok, ◌+◌, ◌≤◌}

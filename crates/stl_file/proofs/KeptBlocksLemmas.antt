@@ -1,5 +1,4 @@
--- A file without the blocks of subtitles outside the scope has the same results, apart from block
--- numbers; main lemmas: scope_law, day_law.
+-- Removing the subtitles outside the scope from a file changes no result except block numbers.
 use Rattle.std.proofs.Common.{◌≡◌, ℕ, Bool, false, true, List, [], ◌∷◌, ◌++◌, length, refl}
 use Rattle.std.proofs.Common.{arith, length-append, Option, Some, None, Result, Ok, Err}
 use Rattle.std.proofs.Common.{zero, suc, ◌-◌, ◌<◌, ◌≤◌, ◌⊎◌, inl, inr, ◌∙◌, sym, ltb}
@@ -30,8 +29,8 @@ pub day_law : LawOfWholeDay
 unfolding begins_outside
 day_law scope b = grind (arith, nat_tests, in_day (tci b))
 
--- The current subtitles of the two readings agree: both are none; both are equal; or the file has a
--- skipped subtitle, whose blocks were removed from the other file.
+-- The states of reading both files agree: neither has a current subtitle, both have the same one,
+-- or the original file has a skipped subtitle whose blocks the other file lacks.
 abbrev HaveStarted : Option Bool → Option StartedSubtitle → Option StartedSubtitle → Type 0
 HaveStarted None full cut = (full ≡ None) × (cut ≡ None)
 HaveStarted (Some true) full cut = (o : StartedSubtitle) × (full ≡ Some o) × (cut ≡ Some o)

@@ -1,5 +1,4 @@
--- The counts of a normal form, by `normal_counts` and `given`, in each pass of `normal` over the
--- blocks; main lemmas: left_eq, took, counted_cons, written_cons.
+-- Both passes of `normal` over the blocks of a file count the same blocks and subtitles.
 use Rattle.std.proofs.Common.{◌≡◌, ℕ, true, false, Bool, cond, List, length, arith, length-append}
 use Rattle.std.proofs.Common.{Option, Some, Result, Ok, Err, ◌+◌, ◌≤◌, is_ok}
 use Rattle.std.proofs.lemmas.Bool.Decides.{nat_tests}

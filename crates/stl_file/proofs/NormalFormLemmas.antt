@@ -1,5 +1,4 @@
--- The normal form: a file with the same subtitles, and the results of `normal`; main lemmas:
--- normal_is_file, normal_twice, refused_body, all_written.
+-- The normal form of a file is a file with the same subtitles.
 use Rattle.std.proofs.Common.{rules, ◌≡◌, ℕ, List, [], ◌∷◌, ◌++◌, length, refl, ap, ◌∙◌, arith}
 use Rattle.std.proofs.Common.{length-append, take, drop, false, Option, Ok, Err}
 use Rattle.std.specs.Prelude.{filter}

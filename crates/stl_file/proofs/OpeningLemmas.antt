@@ -1,5 +1,4 @@
--- `gsi_of`: reading the GSI block is sound, and no file begins with rejected bytes; main lemmas:
--- gsi_of-sound, opened_sound, open_complete, bad_opening.
+-- A file is opened only if it has a valid GSI block, and no file begins with rejected bytes.
 use Rattle.std.proofs.Common.{◌≡◌, ℕ, Bool, List, ◌++◌, length, refl, sym, ap, ◌∙◌, arith}
 use Rattle.std.proofs.Common.{length-append, take, drop, Option, Some, Result, Ok, Err, ◌<◌, ◌≤◌}
 use Rattle.std.proofs.Common.{length-take, false}

@@ -1,5 +1,5 @@
--- The loop over blocks: the bytes read so far and any further bytes determine the results; main
--- lemmas: reads_on, leads_given, leads_refused, fails_reading.
+-- In the loop over the blocks of a file, the bytes read so far and the bytes after them determine
+-- the results.
 use Rattle.std.proofs.Common.{rules, ◌≡◌, ◌*◌, ℕ, false, true, List, [], ◌++◌, length, refl}
 use Rattle.std.proofs.Common.{sym, ap, ◌∙◌}
 use Rattle.std.proofs.Common.{append_assoc, arith, length-append, take, drop, Option, None, Result}
@@ -28,7 +28,7 @@ use Rattle.stl_file.proofs.FindingsLemmas.{findings_block, findings_full, findin
 use Rattle.stl_file.proofs.FindingsLemmas.{findings_are_later}
 
 -- The bytes read in the current call, after `from` blocks, are complete blocks up to number
--- `block`, and the results of these bytes followed by any further bytes are known.
+-- `block`, and they determine the results, whatever bytes follow.
 pub record HasRead
     (scope : Scope) (from : ℕ) (refused : Option StartedSubtitle) (old now : Option (List ℕ))
     (block : ℕ)

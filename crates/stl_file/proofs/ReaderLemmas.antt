@@ -1,5 +1,4 @@
--- The bytes that a call of a reader consumes, and its result; main lemmas: takes_subtitle,
--- takes_skipped, refuses; left-then.
+-- The bytes that a call of a reader consumes determine its result.
 use Rattle.std.proofs.Common.{◌≡◌, ℕ, true, List, [], ◌∷◌, ◌++◌, refl, sym, ap, ◌∙◌}
 use Rattle.std.proofs.Common.{append_assoc, arith, Option, Some, None, Result, Ok, Err, ◌-◌, length}
 use Rattle.std.proofs.lemmas.Bool.Decides.{nat_tests}

@@ -1,5 +1,4 @@
--- `AreSubtitleBlocks`: bytes are read without a fault if and only if they are the blocks of
--- subtitles; main lemmas: read_complete, read_sound.
+-- Bytes are read without a fault if and only if they are the blocks of subtitles.
 use Rattle.std.proofs.Common.{◌≡◌, ℕ, false, true, cond, List, [], ◌∷◌, ◌++◌, length, refl, sym}
 use Rattle.std.proofs.Common.{ap, ◌∙◌, append_assoc, arith, take, drop, Option, Some, None, Result}
 use Rattle.std.proofs.Common.{Ok, Err, subst, zero, suc, ◌+◌, ◌-◌, ◌<◌, ◌≤◌, length-append, inl}

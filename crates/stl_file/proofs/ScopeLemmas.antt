@@ -1,5 +1,4 @@
--- In the scope of the whole day, no subtitle is outside the scope; main lemmas: all_inside,
--- none_outside.
+-- In the scope of the whole day, no subtitle is outside the scope.
 use Rattle.std.proofs.Common.{◌≡◌, ℕ, false, List, [], ◌∷◌, refl, ap, arith}
 use Rattle.std.proofs.lemmas.Bool.Decides.{nat_tests}
 use Rattle.std.specs.Prelude.{filter}

@@ -1,5 +1,4 @@
--- `step_at`: blocks that are read without a fault are the blocks of subtitles; main lemmas:
--- step_sound, first_kept, further_kept, step_kept, step_skipped.
+-- A block that is read without a fault belongs to the current subtitle or is skipped.
 use Rattle.std.proofs.Common.{◌≡◌, ℕ, Bool, false, true, cond, List, [], ◌∷◌, ◌++◌, length, refl}
 use Rattle.std.proofs.Common.{arith, length-append, Option, Some, None, Result, Ok, ◌+◌, ◌<◌, ◌≤◌}
 use Rattle.std.proofs.Common.{◌⊎◌}

@@ -1,5 +1,4 @@
--- The number of bytes in the blocks of a subtitle, and the bounds of its text; main lemmas:
--- length-concat, linked_text, blocks_subtitle.
+-- The blocks of a subtitle have 128 bytes each, and at most 112 bytes of text.
 use Rattle.std.proofs.Common.{◌≡◌, ◌*◌, ℕ, List, [], ◌∷◌, length, refl, arith, length-append, ◌<◌}
 use Rattle.std.proofs.Common.{◌≤◌}
 use Rattle.std.proofs.lemmas.Bool.Decides.{nat_tests}

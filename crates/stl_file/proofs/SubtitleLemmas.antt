@@ -1,4 +1,4 @@
--- Texts without unused space (8F); main lemmas: used, before_unused_of_text, text_short.
+-- The text of a block ends before the first unused space (8F) of its text field.
 use Rattle.std.proofs.Common.{◌≡◌, ℕ, true, List, [], ◌∷◌, ◌++◌, length, refl, append_assoc, arith}
 use Rattle.std.proofs.Common.{take, drop, zero, suc, ◌+◌, ◌<◌, ◌≤◌, get_or, replicate}
 use Rattle.std.specs.List.{flat_map}

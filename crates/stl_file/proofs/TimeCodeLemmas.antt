@@ -1,5 +1,5 @@
--- Time codes: four valid bytes are a frame of the day, and the bytes of a frame are valid; main
--- lemmas: in_day, time_in_range.
+-- The four bytes of a valid time code give a frame of the day, and the bytes of each frame are a
+-- valid time code.
 use Rattle.std.proofs.Common.{◌≡◌, ℕ, true, List, arith, ◌<◌, ◌/◌, ◌%◌}
 use Rattle.std.proofs.lemmas.Bool.Decides.{nat_tests}
 use Rattle.stl_file.specs.TimeCode.{day, frame_in, is_time, is_time_code}

@@ -1,5 +1,5 @@
--- The buffer of all texts: appending a text changes no earlier text, subtitles_kept, and the new
--- cue points to the new text, subtitles_added.
+-- Appending a text to the buffer of all texts changes no earlier text, and the new cue points to
+-- the new text.
 use Rattle.std.proofs.Common.{◌≡◌, ℕ, suc, ◌+◌, ◌<◌, ◌≤◌, List, [], ◌∷◌, ◌++◌, length}
 use Rattle.std.proofs.Common.{refl, ap, ◌∙◌, arith, take, drop, map, get_or}
 use Rattle.std.proofs.Common.{length-append, length-drop, leb, true, false, Result, Ok, Err, OnErr}

@@ -1,4 +1,4 @@
--- The parts of a text at the first occurrence of a character, for `first_text`: cut_at-first.
+-- The parts of a text at the first occurrence of a character.
 use Rattle.std.proofs.Common.{◌≡◌, ℕ, ◌<◌, ◌≤◌, List, [], ◌∷◌, length, refl, ◌==◌, arith}
 use Rattle.std.proofs.Common.{Bool, Option, Some, None, option_map, nat_lt, subst, sym}
 use Rattle.std.proofs.lemmas.Bool.{ltb-false, ltb-true}

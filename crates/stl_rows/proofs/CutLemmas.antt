@@ -1,4 +1,4 @@
--- The lines of a text are its cells, cut at each new line, for `draw_by`: cut_flat.
+-- The lines of a text are its cells, cut at each new line.
 use Rattle.std.proofs.Common.{◌≡◌, ℕ, zero, suc, ◌+◌, List, [], ◌∷◌, ◌++◌, refl}
 use Rattle.std.proofs.Common.{arith, Some, Err, false}
 use Rattle.std.proofs.lemmas.Bool.Decides.{nat_tests}

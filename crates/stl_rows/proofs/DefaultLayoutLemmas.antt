@@ -1,5 +1,4 @@
--- The default layout draws a subtitle plainly, with each line in a box of its own:
--- drawn_by-default.
+-- The default layout draws a subtitle plainly, with each line in a box of its own.
 use Rattle.std.proofs.Common.{◌≡◌, ℕ, ◌+◌, ◌≤◌, Bool, false, List, [], ◌∷◌, ◌++◌}
 use Rattle.std.proofs.Common.{length, map, refl, ap, ◌∙◌, arith}
 use Rattle.std.proofs.Common.{append_assoc, None, Some, Result}

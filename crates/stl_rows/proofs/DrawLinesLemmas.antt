@@ -1,4 +1,4 @@
--- Drawing lines one by one, for `draw_lines`: line-fault, line-next, line-end.
+-- The lines of a subtitle are drawn one after another; the first fault ends the drawing.
 use Rattle.std.proofs.Common.{◌≡◌, ℕ, ◌+◌, ◌≤◌, List, [], ◌∷◌, map, refl, ap, ◌∙◌, sym, arith}
 use Rattle.std.proofs.Common.{Option, Some, None, Ok, Err}
 use Rattle.std.proofs.lemmas.Bool.Decides.{nat_tests}

@@ -1,5 +1,4 @@
--- The first subtitle whose TCO is after a frame decides the expected page and the next cue:
--- due_is_shown, none_is_blank and next_edge-tci.
+-- The first subtitle whose TCO is after a frame decides the expected page and the next cue.
 use Rattle.std.proofs.Common.{rules, ◌≡◌, ◌≢◌, ℕ, zero, suc, ◌+◌, ◌-◌, ◌<◌, ◌≤◌, Bool, true, false}
 use Rattle.std.proofs.Common.{List, [], ◌∷◌, Option, Some, None, MatchOption, option_map, length}
 use Rattle.std.proofs.Common.{Ok}

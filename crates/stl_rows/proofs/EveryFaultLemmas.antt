@@ -1,4 +1,4 @@
--- `load` returns the first of all faults of a file; main lemmas: reports-first, none-reported.
+-- `load` returns the first fault of a file.
 use Rattle.std.proofs.Common.{◌≡◌, ℕ, List, ◌∷◌, Option, Some, None, []}
 use Rattle.std.proofs.Common.{Ok, map, inl, inr}
 use Rattle.std.proofs.Common.{Err, refl, sym, ◌<◌, ◌≤◌, ◌⊎◌, Bool, true, false, arith, take}

@@ -1,4 +1,4 @@
--- The block at which the source fails, and the faults reported before; main lemma: fails-next.
+-- If the source fails, the faults of all earlier blocks were reported.
 use Rattle.std.proofs.Common.{◌≡◌, ℕ, ◌+◌, ◌*◌, ◌/◌, List, ◌∷◌, ◌++◌, length, Option, [], Some}
 use Rattle.std.proofs.Common.{Result, true, refl, arith, length-append}
 use Rattle.std.specs.Prelude.{is_ok}

@@ -1,4 +1,4 @@
--- Finding the first line of a text, cell by cell: first_line-more, first_line-end, first_line-all.
+-- Finding the first line of a text, cell by cell.
 use Rattle.std.proofs.lemmas.Bool.Decides.{nat_tests}
 use Rattle.std.proofs.Common.{arith}
 use Rattle.std.proofs.Common.{◌≡◌, ℕ, ◌+◌, ◌<◌, ◌≤◌, List, [], ◌∷◌, ◌++◌, length, get_or, take}

@@ -1,5 +1,4 @@
--- Each reliable subtitle draws a page: judged_drawn. In a file without faults, all subtitles are
--- reliable: all_decided. Frames whose expected page is unknown: undecided-last, undecided-next.
+-- Each reliable subtitle can be drawn. In a file without faults, all subtitles are reliable.
 use Rattle.std.proofs.Common.{◌≡◌, ℕ, Bool, false, true, List, [], ◌∷◌, ◌++◌, Option, Some, None}
 use Rattle.std.proofs.Common.{map, refl, ap, arith, Result, Ok, Err, zero, suc, ◌<◌, ◌≤◌}
 use Rattle.std.proofs.Common.{get_or, length}

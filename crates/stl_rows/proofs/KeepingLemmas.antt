@@ -1,6 +1,5 @@
 -- The subtitles kept so far, followed by the reliable subtitles of the rest, are the reliable
--- subtitles of the file: judged-start, judged-refused, judged-next, judged-end. The test for
--- overlap: ordered.
+-- subtitles of the file.
 use Rattle.std.proofs.Common.{◌≡◌, ℕ, zero, suc, ◌+◌, ◌-◌, ◌<◌, ◌≤◌, Bool, false, true, List, []}
 use Rattle.std.proofs.Common.{◌∷◌, ◌++◌, length, take, drop, map, replicate, Option, Some, None}
 use Rattle.std.proofs.Common.{refl, sym}

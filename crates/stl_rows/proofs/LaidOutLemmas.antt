@@ -1,5 +1,5 @@
 -- Drawing lines by a layout, one after another, gives the page that shows the lines, or their first
--- fault: drawn_from-is. The lines of a drawn page have no fault: drawn_by-lines.
+-- fault. The lines of a drawn page have no fault.
 use Rattle.std.proofs.Common.{◌≡◌, ℕ, ◌+◌, ◌-◌, ◌<◌, ◌≤◌, Bool, true, false, List, [], ◌∷◌}
 use Rattle.std.proofs.Common.{length, map, get_or, refl, sym, ap, ◌∙◌, arith}
 use Rattle.std.proofs.Common.{None, Result, Ok, Err}

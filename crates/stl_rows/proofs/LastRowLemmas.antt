@@ -1,4 +1,4 @@
--- Row 24 of each expected page is blank: `last_row_blank`.
+-- Row 24 of each expected page is blank.
 use Rattle.std.proofs.lemmas.Bool.Decides.{nat_tests}
 use Rattle.std.proofs.Common.{arith}
 use Rattle.std.proofs.Common.{◌≡◌, ℕ, List, [], Ok, refl}

@@ -1,4 +1,4 @@
--- A file is loaded if and only if its subtitles do not overlap and can all be drawn: loading_is.
+-- A file is loaded if and only if its subtitles do not overlap and can all be drawn.
 use Rattle.std.proofs.Common.{◌≡◌, ℕ, suc, ◌-◌, ◌<◌, ◌≤◌, List, [], ◌∷◌, ◌++◌, Some, None, Result}
 use Rattle.std.proofs.Common.{Ok, length, take, map, refl, sym, ◌∙◌, ap, arith, append_assoc}
 use Rattle.std.proofs.Common.{append-nil, length-append}

@@ -1,5 +1,5 @@
--- The loop of `load_all`: faults reported so far and faults of the rest of the file; main lemmas:
--- continues-next, reports-unread.
+-- In the loop of `load_all`, the faults reported so far and the faults of the rest of the file are
+-- all faults of the file.
 use Rattle.std.proofs.Common.{rules, ◌≡◌, ◌<◌, ◌≤◌, ◌+◌, ℕ, Bool, true, false, List, ◌∷◌, ◌++◌, []}
 use Rattle.std.proofs.Common.{take, length, map, Option, Some, None, refl, sym}
 use Rattle.std.proofs.Common.{◌∙◌, ◌-◌, ap, inl, inr, arith, length-take, append_assoc, append-nil}

@@ -1,5 +1,5 @@
 -- Loading a part of a file gives the same as loading the file from which the other subtitles were
--- removed: part_is.
+-- removed.
 use Rattle.std.proofs.Common.{◌≡◌, ℕ, List, [], ◌∷◌, Option, Some, None, map, refl, sym}
 use Rattle.std.proofs.Common.{ap, ◌∙◌}
 use Rattle.std.proofs.lemmas.List.{map-append}

@@ -1,5 +1,4 @@
--- Counting the codes at the end of a line: trailing_at, trailing_all. Adding only the codes that
--- fit at the end: framed-fits.
+-- The codes at the end of a line are counted, and only codes that fit in the row are added there.
 use Rattle.std.proofs.Common.{◌≡◌, ℕ, zero, suc, ◌+◌, ◌-◌, ◌<◌, ◌≤◌, true, false, List, [], ◌∷◌}
 use Rattle.std.proofs.Common.{length}
 use Rattle.std.proofs.Common.{get_or, drop, refl, arith, ◌++◌, take, max, ap, ◌∙◌}

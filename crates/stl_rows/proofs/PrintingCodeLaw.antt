@@ -1,4 +1,4 @@
--- A page has the printable characters of its text: law_of_printing_codes.
+-- A page has the printable characters of its text.
 use Rattle.std.proofs.Common.{◌≡◌, ◌≢◌, ℕ, zero, suc, ◌+◌, ◌<◌, ◌≤◌, Bool, true, false, List, []}
 use Rattle.std.proofs.Common.{◌∷◌, ◌++◌, map, refl, sym, ap, ◌∙◌, arith, Option}
 use Rattle.std.proofs.Common.{None, Ok, inl, inr, ◌⊎◌}

@@ -1,5 +1,4 @@
--- A line, its prepared form and the row that shows it have the same printable characters:
--- printed-prepared, printed-row.
+-- A line, its prepared form and the row that shows it have the same printable characters.
 use Rattle.std.proofs.Common.{◌≡◌, ℕ, zero, suc, ◌+◌, ◌-◌, ◌≤◌, Bool, true, List, []}
 use Rattle.std.proofs.Common.{◌∷◌, ◌++◌, length, take, drop, replicate, refl, sym, ap, ◌∙◌}
 use Rattle.std.proofs.Common.{arith, Option, Some, None, append-nil}

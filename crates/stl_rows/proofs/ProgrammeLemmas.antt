@@ -1,4 +1,4 @@
--- A programme and one more subtitle without faults are a programme: IsProgramme-push.
+-- A programme and one more subtitle without faults are a programme.
 use Rattle.std.proofs.Common.{◌≡◌, ℕ, ◌-◌, ◌<◌, ◌≤◌, List, [], ◌∷◌, ◌++◌, Result, ◌∙◌, ap, Some}
 use Rattle.std.proofs.Common.{length, get_or, arith, length-append}
 use Rattle.std.proofs.lemmas.Bool.{cases_lt}

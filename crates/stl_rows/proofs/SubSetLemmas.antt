@@ -1,5 +1,5 @@
--- National options: the cells of all characters are below 128, cell_in-small, and each option has
--- its own name, word_of_option.
+-- The cells of all national characters are codes below 128, and no two national options have the
+-- same name.
 use Rattle.std.proofs.Common.{◌≡◌, ◌↔◌, ℕ, ◌<◌, List, [], ◌∷◌, Option, Some, find, sym}
 use Rattle.std.proofs.Common.{arith}
 use Rattle.std.proofs.lemmas.Slice.Eq.{bytes_eq-Decides}

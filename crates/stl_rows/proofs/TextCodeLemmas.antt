@@ -1,5 +1,5 @@
--- One or two bytes of a text are one text code: text_codes-common, text_codes-pair. The cell of a
--- text code is below 128: code_before-small. The table of common bytes: common_by_table.
+-- One or two bytes of a text are one text code. The cell of a text code is below 128. The table of
+-- common bytes agrees with its definition.
 use Rattle.std.proofs.Common.{◌≡◌, ℕ, ◌+◌, ◌<◌, List, ◌∷◌, Option, Some, length, get_or, drop}
 use Rattle.std.proofs.Common.{refl, arith, true, ◌==◌}
 use Rattle.std.proofs.Common.{add-one, drop-cons}

@@ -1,4 +1,4 @@
--- A clock finds the frame of a PTS: frame_found, no_frame_found, and the laws of clocks.
+-- A clock converts the PTS of a frame back to that frame.
 use Rattle.std.proofs.lemmas.Bool.Decides.{nat_tests}
 use Rattle.std.proofs.Common.{◌≡◌, ◌≢◌, ℕ, zero, suc, ◌+◌, ◌-◌, ◌/◌, ◌%◌, ◌^◌, ◌<◌}
 use Rattle.std.proofs.Common.{◌↔◌, Option, Some, None, refl, sym, ◌∙◌, arith, MatchOption}

@@ -1,4 +1,4 @@
--- The expected page stays the same from one cue to the next: still_due.
+-- The expected page stays the same from one cue to the next.
 use Rattle.std.proofs.Common.{◌≡◌, ℕ, ◌-◌, ◌<◌, ◌≤◌, List, ◌∙◌, arith, inl, inr}
 use Rattle.std.proofs.lemmas.Bool.{cases_lt}
 use Rattle.ttx_page.specs.Page.{Rows}

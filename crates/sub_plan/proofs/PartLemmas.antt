@@ -1,5 +1,5 @@
--- Writing page transmissions one after another: part-more if they were written, prefix-more if a
--- write failed.
+-- Page transmissions are written one after another; if a write fails, the sink has a prefix of
+-- them.
 use Rattle.std.proofs.Common.{◌≡◌, ℕ, ◌+◌, ◌-◌, ◌%◌, ◌==◌, Bool, List, ◌∷◌, ◌++◌, Option, All, []}
 use Rattle.std.proofs.Common.{length, refl, sym, ap, ◌∙◌, arith, append_assoc, append-nil, filter}
 use Rattle.std.proofs.Common.{length-append}

@@ -1,5 +1,4 @@
--- The bases of a schedule, and the page transmissions that follow from them: last_base,
--- last_sending, sending_in_gap.
+-- The last base before a frame decides which frames have a page transmission.
 use Rattle.std.proofs.Common.{◌≡◌, ℕ, zero, suc, ◌+◌, ◌-◌, ◌%◌, ◌<◌, ◌≤◌, ◌==◌, Bool, true, false}
 use Rattle.std.proofs.Common.{◌++◌, refl, sym, ap, ◌∙◌, arith, inl, inr, All, Decides}
 use Rattle.std.proofs.Math.Bool.{or-true}

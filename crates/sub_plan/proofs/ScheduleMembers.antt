@@ -1,5 +1,4 @@
--- The frames that have a page transmission, however they are computed: law_of_sendings,
--- law_of_gaps.
+-- The computed list of frames contains exactly the frames that have a page transmission.
 use Rattle.std.proofs.Common.{◌≡◌, ℕ, zero, suc, ◌+◌, ◌-◌, ◌<◌, ◌≤◌, Bool, true, List, [], ◌∷◌}
 use Rattle.std.proofs.Common.{arith, inl, inr, filter, Decides}
 use Rattle.std.proofs.lemmas.Bool.Decides.{nat_tests, Decides-eqb, Decides-like, Decides-or}

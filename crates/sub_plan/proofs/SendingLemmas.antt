@@ -1,5 +1,4 @@
--- A page transmission and the page that a receiver shows after it: law_of_sending, all_sent,
--- law_of_cut_sendings.
+-- After a page transmission, a receiver shows the transmitted page.
 use Rattle.std.proofs.Common.{rules, ◌≡◌, ℕ, zero, suc, ◌+◌, ◌-◌, ◌<◌, ◌≤◌, inl, inr, Bool, true}
 use Rattle.std.proofs.Common.{false, not, ◌==◌, cond, List, [], ◌∷◌, ◌++◌, length, map, filter}
 use Rattle.std.proofs.Common.{take, find, flat_map, option_map, unwrap_or, slice_index, All, refl}

@@ -1,5 +1,4 @@
--- The number of packets of a page transmission, which fit in one PES packet: law_of_size,
--- law_of_pes_values, sending_made.
+-- The packets of a page transmission fit in one PES packet.
 use Rattle.std.proofs.Common.{rules, ◌≡◌, ℕ, ◌+◌, ◌-◌, ◌*◌, ◌^◌, ◌<◌, ◌≤◌, Bool, false, cond, List}
 use Rattle.std.proofs.Common.{[], ◌∷◌, ◌++◌, length, filter, All, refl, ap, ◌∙◌, arith, lit<}
 use Rattle.std.proofs.Common.{append-nil}

@@ -1,5 +1,5 @@
--- The packets of a page transmission: the values that a receiver reads, made_row, and the packet
--- kinds, kind_row.
+-- A receiver reads the packets of a page transmission as a header of the page, its rows and the
+-- closing header.
 use Rattle.std.proofs.Common.{rules, ◌≡◌, ℕ, ◌+◌, ◌-◌, ◌*◌, ◌/◌, ◌%◌, ◌<◌, ◌≤◌, Bool, List, [], ◌∷◌}
 use Rattle.std.proofs.Common.{◌++◌, length, map, replicate, slice_index, All, refl, arith, lit<}
 use Rattle.std.proofs.Common.{eq-eqb, ne_eqb}

@@ -1,5 +1,4 @@
--- The page transmissions of a schedule, from base to base: sendings-step splits off those from one
--- base to the next, steps-more the first of them.
+-- The page transmissions of a schedule are those from each base up to the next base, joined.
 use Rattle.std.proofs.Common.{◌≡◌, ℕ, zero, suc, ◌+◌, ◌-◌, ◌%◌, ◌<◌, ◌≤◌, ◌==◌, Bool, false, []}
 use Rattle.std.proofs.Common.{List, ◌∷◌, ◌++◌, refl, ap, ◌∙◌, arith, filter, eq-eqb, ne_eqb}
 use Rattle.std.proofs.lemmas.Bool.Decides.{nat_tests}

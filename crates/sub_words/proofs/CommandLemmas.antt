@@ -1,5 +1,4 @@
--- The contract of clap, applied to the program's own commands. Main lemmas: command_in-parsed,
--- refusals-parsed and IsFaultOfCommand-refused; request_by_command-met.
+-- The contract of `clap`, applied to the program's commands.
 use Rattle.std.proofs.Common.{◌≡◌, ◌≢◌, ◌∙◌, true, false, List, [], Option, Some, None, Ok, Err}
 use Rattle.std.proofs.Common.{Bool, ◌||◌}
 use Rattle.std.proofs.Common.{refl, ap, subst, sym, inl, inr, arith, drop, get_or, ◌+◌, ◌≤◌}
@@ -34,13 +33,14 @@ use Rattle.sub_request.specs.declared.request.Request.{Request}
 use Rattle.sub_request.specs.declared.request.UsageFault.{UsageFault}
 use Rattle.sub_request.specs.declared.request.UsageFault.TheVariants as fault
 
--- The contract of clap promises exact matches only for a simple command, which the program is.
+-- The contract of `clap` determines its matches only for a simple command. The program is a simple
+-- command.
 is_simple-subttx : is_simple subttx_app ≡ true
 unfolding subttx_app clap_on_literals
 is_simple-subttx = refl
 
--- The contract of clap promises exact refusals only if no argument has a rule about another
--- argument, which is so here.
+-- The contract of `clap` determines its refusals only if no argument has a rule about another
+-- argument. No argument of the program has such a rule.
 is_free-subttx : is_simple_and_free subttx_app ≡ true
 unfolding subttx_app clap_on_literals
 is_free-subttx = refl

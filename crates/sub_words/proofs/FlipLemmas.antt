@@ -1,5 +1,4 @@
--- The flips of a text change no byte of a packet twice, so at most one bit of each byte:
--- `law_of_flips`.
+-- The option `--flip` changes at most one bit in each byte of a packet.
 use Rattle.std.proofs.Common.{◌≡◌, ◌∙◌, ap, refl, sym, subst, arith, ℕ, zero, suc, ◌<◌}
 use Rattle.std.proofs.Common.{◌^◌, ◌==◌, inl, inr, Bool, true, false, List, []}
 use Rattle.std.proofs.Common.{◌∷◌, ◌++◌, slice_index, Option, Some, None}
@@ -33,7 +32,7 @@ near-set (c ∷ cs) (g ∷ gs) zero bit near same below =
 near-set (c ∷ cs) (g ∷ gs) (suc k) bit near same below =
     (near.0, near-set cs gs k bit near.1 same below)
 
--- A flip in a byte without a wrong bit leaves at most one wrong bit in each byte.
+-- After one more flip, in a byte that had no flip, each byte still has at most one wrong bit.
 with_flip-near : (f : Flip) (number : ℕ) (sent got : List ℕ)
     → AreNear sent got
     → (f.packet ≡ number → slice_index got f.byte ≡ slice_index sent f.byte)

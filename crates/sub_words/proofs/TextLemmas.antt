@@ -1,5 +1,4 @@
--- Parsing numbers with the standard library: the value and its bound. Main lemmas: parse-digits,
--- read-hex_digits.
+-- The standard library parses digits as their value, which is below a power of the base.
 use Rattle.std.proofs.Common.{◌≡◌, ℕ, ◌^◌, ◌<◌, ◌≤◌, ◌∙◌, sym, ap, refl, List, [], ◌∷◌, ◌&&◌}
 use Rattle.std.proofs.Common.{length, Ok, true, false, arith, ◌==◌, lit<, subst}
 use Rattle.std.specs.Prelude.{Result}

@@ -1,5 +1,4 @@
--- The packets of a stream are found in all bytes that were received: is_at_place-start,
--- is_at_place-next, is_at_place-kept; at the end they are counted: counted-all.
+-- All transport packets in the received bytes are found, and counted at the end of the stream.
 use Rattle.std.proofs.Common.{◌≡◌, ◌≤◌, ◌+◌, ◌-◌, ◌*◌, ◌∙◌, Bool, List, [], ◌∷◌, ◌++◌, ℕ, ap}
 use Rattle.std.proofs.Common.{append-nil, arith, drop, drop-drop, false, length, length-append}
 use Rattle.std.proofs.Common.{length-drop, refl, subst, sym, true}

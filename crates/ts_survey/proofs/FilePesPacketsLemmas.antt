@@ -1,5 +1,4 @@
--- The PES packets of a file are counted one after another: counts-next and counts-end, for
--- `take_complete`.
+-- The PES packets of a file are counted one after another.
 use Rattle.std.proofs.Common.{◌≡◌, ◌<◌, ℕ, List, arith, drop, length, subst, sym}
 use Rattle.std.proofs.lemmas.Bool.Decides.{nat_tests}
 use Rattle.std.specs.Prelude.{Some, None}

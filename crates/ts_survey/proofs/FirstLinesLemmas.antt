@@ -1,5 +1,4 @@
--- The first lines of the output for a recording: found-following-head, found-with-head; after more
--- was read: reported-on, reported-kept; the bytes received so far: received-all, still-buffered.
+-- The first lines of the output stay the same when more of the recording is read.
 use Rattle.std.proofs.Common.{◌≡◌, Bool, false, List, [], ◌++◌, ℕ, ◌∷◌, ◌∙◌, ap, append-nil}
 use Rattle.std.proofs.Common.{append_assoc, arith, refl, subst, sym, ◌≤◌, drop, length-append, take}
 use Rattle.std.proofs.Common.{true}
@@ -323,7 +322,7 @@ long-on true has received more long enough is =
     let e = length-append received more in omega (arith, e, long refl)
 long-on false has received more long enough is = enough refl is
 
--- As long as no line is printed, all bytes received stay in the buffer.
+-- Until the first line is printed, all received bytes stay in the buffer.
 pub received-all : (received buffered now bytes more : List ℕ)
     → buffered ≡ received
     → now ≡ buffered ++ more

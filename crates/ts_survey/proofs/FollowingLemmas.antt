@@ -1,5 +1,4 @@
--- Receiving the bytes of a PID part by part: first-taken for each part; all parts together are what
--- the packets of the PID carry, law_of_following.
+-- The bytes of a PID that are received part by part are the bytes that its packets carry.
 use Rattle.std.proofs.Common.{◌≡◌, ◌<◌, ℕ, Bool, true, false, List, [], ◌∷◌, ◌++◌, length}
 use Rattle.std.proofs.Common.{refl, sym, ap, ◌∙◌, subst, arith, length-append}
 use Rattle.std.proofs.lemmas.List.Folds.{concat-append}
@@ -13,7 +12,7 @@ use Rattle.mpeg_ts.proofs.CarriedLemmas.{carried_given}
 use Rattle.ttx_page.proofs.RunLemmas.{RunsBy-append}
 use Rattle.ts_survey.specs.Following.{FollowsNotes, GivesNext, LawOfFollowing, TakesBytes}
 
--- If the rest of the bytes is received too, everything has been received.
+-- Once the remaining bytes are also received, all bytes were received.
 abbrev pub Continues :
     {T : Type 0} → (T → List ℕ → T → Type 0) → T → List ℕ → T → List ℕ → Type 0
 Continues {T} IsTaken old whole now left =
@@ -96,8 +95,7 @@ follows-note IsTaken j note more old new false begun is over going =
     let here = rw begun at is in
     rw begun (taken-after IsTaken old here.0 new _ _ here.1 (going here.0 here.2))
 
--- All that is received for the events of a PID is the output of these events (by induction over the
--- events).
+-- By induction over the events of a PID: the receiver gets exactly the output of these events.
 follows :
     {T : Type 0} (IsTaken : T → List ℕ → T → Type 0) (j : JoiningValue) (all : List Note)
     (old new : T)

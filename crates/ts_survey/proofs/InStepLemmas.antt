@@ -1,5 +1,5 @@
--- Finding transport packets in bytes that arrive part by part: starts, skipped_on, found_none,
--- found_packet and found_skips; two calls find what one call finds: law_of_two_calls.
+-- Two calls that each receive a part of the bytes find the same transport packets as one call that
+-- receives all bytes.
 use Rattle.std.proofs.Common.{◌≡◌, ℕ, zero, suc, ◌+◌, ◌-◌, ◌*◌, ◌<◌, ◌≤◌, Bool, true, false}
 use Rattle.std.proofs.Common.{List, [], ◌∷◌, ◌++◌, ◌∙◌, drop, take, length, replicate}
 use Rattle.std.proofs.Common.{refl, sym, ap, subst, arith, append-nil, append_assoc}
@@ -35,8 +35,8 @@ size_far ErrorCorrected = omega arith
 
 pub ruleset sizes = (size_at_least_188, size_far)
 
--- Whether a packet begins at an offset of the bytes depends on the bytes received so far, and
--- possibly on the byte at the distance after it.
+-- Whether a packet begins at an offset depends only on the bytes received so far and on the byte
+-- one packet size later.
 pub begins_by_needed_bytes : (distance place : ℕ) (in_step : Bool) (bytes more : List ℕ)
     → place < length bytes
     → begins_packet distance in_step (drop place (bytes ++ more))
@@ -159,7 +159,7 @@ skipped_after-skipped zero run small = grind (arith, nat_tests)
 skipped_after-skipped (suc k) run small =
     grind (arith, nat_tests, skipped_after-skipped k (counted_on run 1))
 
--- A gap among skipped bytes is reported once, if it ends among them.
+-- A gap is reported once, at the skipped byte that completes it.
 reported_of-skipped : (distance k run : ℕ)
     → distance ≤ 204
     → run ≤ 0xFFFF_FFFF_FFFF_FFFF

@@ -1,5 +1,4 @@
--- Reading on changes neither the kind of a recording nor the requested options, what_goes_on and
--- as-requested-on; the end of the output: reported-end.
+-- Reading more of a recording changes neither its kind nor the requested options.
 use Rattle.std.proofs.Common.{◌≡◌, Bool, false, List, [], ◌++◌, ℕ, Option, Some, None, ◌∷◌, ◌∙◌, ap}
 use Rattle.std.proofs.Common.{append-nil, append_assoc, refl, subst, sym, take, true}
 use Rattle.std.proofs.KnownBytes.{Appends-trans}

@@ -1,5 +1,4 @@
--- New bytes are appended to the buffered bytes, holds_more; dropped bytes are no longer buffered,
--- buffered_without.
+-- New bytes are appended to the buffered bytes; dropped bytes are no longer buffered.
 use Rattle.std.proofs.Common.{◌≡◌, ℕ, ◌+◌, ◌-◌, ◌≤◌, List, ◌++◌, length, take, drop, Option}
 use Rattle.std.proofs.Common.{ap, sym, ◌∙◌, append_assoc, arith, length-drop, length-take-le}
 use Rattle.std.specs.Io.KnownBytes.{Consumes}

@@ -1,5 +1,4 @@
--- The PIDs that are followed: after one more requested PID, one-more-requested; after a change of
--- one stream, one_changed, map-same.
+-- Processing a packet adds no PID that was not requested to the followed PIDs.
 use Rattle.std.proofs.Common.{◌≡◌, zero, suc, ◌<◌, ◌++◌, ◌∙◌, ◌∷◌, [], ℕ, Bool, List, Option}
 use Rattle.std.proofs.Common.{true, ap, arith, length, map, refl}
 use Rattle.std.proofs.Common.{if◌then◌else◌, slice_index_or, slice_set}

@@ -1,5 +1,4 @@
--- Words that are added to a text one after another make up a line: adds-word, adds-last and
--- adds-words.
+-- Words that are added to a text one after another form a line.
 use Rattle.std.proofs.Common.{◌≡◌, ◌∙◌, true, false, Bool, List, [], ◌++◌, ℕ, sym, ap, refl}
 use Rattle.std.proofs.Common.{subst}
 use Rattle.std.proofs.Common.{append-nil}

@@ -1,5 +1,4 @@
--- The character sets that `survey` reports (EN 300 706, packets X/28 and M/29;
--- docs/manual/survey.md).
+-- The character sets that `survey` reports (EN 300 706, packets X/28 and M/29).
 use Rattle.std.specs.Prelude.{ℕ, ◌+◌, ◌-◌, ◌*◌, ◌/◌, ◌%◌, ◌^◌, ◌==◌, ◌&&◌, ◌||◌, not, nat_lt}
 use Rattle.std.specs.Prelude.{Bool, if◌then◌else◌, List, bit_and, bit_xor}
 use Rattle.std.specs.Prelude.{count_ones, slice_index, Option, Some, None}

@@ -1,5 +1,5 @@
--- Counting a transport stream, which is read from an offset of a recording to its end: its packets,
--- and the bytes that belong to no packet.
+-- The counts of a transport stream that is read from an offset of a recording to its end: its
+-- packets, and the bytes that belong to no packet.
 use Rattle.std.specs.Prelude.{◌≡◌, ◌≤◌, ⊤, ℕ, ◌+◌, ◌-◌, ◌*◌, Bool, true, List, drop, length}
 use Rattle.mpeg_ts.specs.PacketSize.{bytes_of}
 use Rattle.mpeg_ts.specs.PacketsInStep.{Item, lead_size}
@@ -26,7 +26,7 @@ abbrev pub BeginsStream : ℕ → Kind → Type 0
 BeginsStream passed (Stream packets multiplex) = BeginsAt passed packets
 BeginsStream passed _ = ⊤
 
--- The transport packets in these bytes were processed, whatever receives them.
+-- The transport packets in these bytes were processed by some receiver.
 abbrev pub TakesAny : PacketsInStep → List ℕ → Bool → ℕ → PacketsInStep → Type 0
 TakesAny old bytes is_end used new =
     TakesAll {T = Unit {0}} any_pes_packet old (tt {0}) bytes is_end used new (tt {0})

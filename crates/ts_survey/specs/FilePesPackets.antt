@@ -1,6 +1,5 @@
 -- The PES packets of a file: each is as long as its PES_packet_length says (ISO/IEC 13818-1,
--- PES_packet), followed by the bytes after the last complete PES packet (own;
--- docs/manual/survey.md).
+-- PES_packet). Other bytes may follow the last complete PES packet.
 use Rattle.std.specs.Prelude.{◌≡◌, ℕ, ◌&&◌, ◌||◌, not, nat_le, nat_lt, Bool, if◌then◌else◌}
 use Rattle.std.specs.Prelude.{List, length, drop, Option, Some, None}
 use Rattle.ttx_pes.specs.Reading.{is_start, stated_size}

@@ -1,5 +1,5 @@
--- The first lines of a survey: the first bytes and the kind of the recording, and the requested PID
--- (own; docs/manual/survey.md).
+-- The first lines of a survey: the first bytes and the kind of the recording, and the requested
+-- PID.
 use Rattle.std.specs.Prelude.{◌≡◌, ◌==◌, ◌&&◌, ◌||◌, not, nat_le, nat_lt, ℕ, Bool, true, false}
 use Rattle.std.specs.Prelude.{if◌then◌else◌, List, [], ◌∷◌, ◌++◌, Option, Some, None, codes, length}
 use Rattle.std.specs.Prelude.{slice_index, take}
@@ -27,7 +27,7 @@ abbrev pub head_texts : List ℕ → List (List ℕ)
 head_texts head =
     codes "survey 1\nhead" ∷ space_of head ∷ hex_word head ∷ line_end ∷ []
 
--- The line `size N` with the distance of transport packets.
+-- The line `size N` with the packet size.
 abbrev pub size_line : ℕ → List (List ℕ)
 size_line size = codes "size" ∷ number_word size ∷ line_end ∷ []
 
@@ -66,7 +66,7 @@ abbrev pub is_pes : Kind → Bool
 is_pes (Pes file) = true
 is_pes _ = false
 
--- The lines `survey 1` and `head`, once the first bytes of the recording have come.
+-- The lines `survey 1` and `head`, once the first bytes of the recording are received.
 abbrev pub head_so_far : Bool → List ℕ → List (List ℕ)
 head_so_far has_head head = if has_head then head_texts head else []
 
@@ -74,7 +74,7 @@ head_so_far has_head head = if has_head then head_texts head else []
 abbrev pub head_reported : Bool → List ℕ → Bool → List (List ℕ)
 head_reported before bytes after = if before then [] else head_so_far after (take head_size bytes)
 
--- Determining the kind of a recording printed exactly the lines of that kind.
+-- When the kind of a recording was determined, exactly the lines of that kind were printed.
 pub record FindsKind (old : Recording) (bytes : List ℕ) (before after : Text) (new : Recording)
     : Type 0 where
   pub reported :

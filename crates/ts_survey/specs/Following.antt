@@ -1,5 +1,5 @@
--- Everything that the packets of a PID carry is received, part by part: the joined parts are all of
--- it.
+-- The receiver of a PID gets the data in the PID's packets in parts; the joined parts are all of
+-- that data.
 use Rattle.std.specs.Prelude.{◌≡◌, ℕ, List, [], ◌∷◌, ◌++◌, MatchBool}
 use Rattle.std.specs.List.{concat}
 use Rattle.mpeg_ts.specs.Carried.{carried}
@@ -42,7 +42,8 @@ FollowsNotes {T} IsTaken j old (note ∷ more) new =
     ((mid : T) × TakesBytes IsTaken old (after_note j note).pending mid
     × FollowsNotes IsTaken (delivered (after_note j note)) mid more new)
 
--- What is received from the transport packets of a PID is what they carry in the recording.
+-- The data received from the transport packets of a PID is the data that they carry in the
+-- recording.
 abbrev pub LawOfFollowing : {T : Type 0} → (T → List ℕ → T → Type 0) → Type 0
 LawOfFollowing {T} IsTaken =
     (number distance : ℕ) (recording : List ℕ) (old new : T)

@@ -1,5 +1,4 @@
--- The Teletext packets of a PES packet, whatever else it contains (EN 300 472, data field syntax):
--- those of its data units, one after another.
+-- The Teletext packets in the data units of a PES packet, in order (EN 300 472, data field syntax).
 use Rattle.std.specs.Prelude.{ℕ, ◌+◌, ◌==◌, ◌&&◌, ◌||◌, nat_lt, Bool}
 use Rattle.std.specs.Prelude.{if◌then◌else◌, List, [], ◌∷◌, length, drop, map}
 use Rattle.std.specs.Prelude.{slice_index, Option, Some, None}

@@ -1,6 +1,5 @@
--- Finding the packets of a transport stream in bytes that arrive part by part: packets in step, and
--- bytes that belong to no packet, as in mpeg_ts.specs.PacketsInStep; and what is passed on to the
--- receiver.
+-- The transport packets and the bytes that belong to no packet, in bytes that arrive part by part
+-- (by mpeg_ts.specs.PacketsInStep), and the packets that the receiver gets.
 use Rattle.std.specs.Prelude.{◌≡◌, ℕ, suc, ◌+◌, ◌-◌, ◌*◌, ◌<◌, ◌≤◌, ◌==◌, min, Bool, true, false}
 use Rattle.std.specs.Prelude.{if◌then◌else◌, List, [], ◌∷◌, ◌++◌, length, drop}
 use Rattle.mpeg_ts.specs.GoodPackets.{loss_size}
@@ -43,7 +42,7 @@ skipped_after run (Skipped ∷ more) = skipped_after (counted_on run 1) more
 abbrev pub loss_reported : ℕ → ℕ → List (List ℕ)
 loss_reported distance run = if run == loss_size distance then [] ∷ [] else []
 
--- What is passed on to the receiver for these items, after `run` skipped bytes: each transport
+-- The packets that the receiver gets for these items, after `run` skipped bytes: each transport
 -- packet, and [] for each gap.
 unfoldable pub reported_of : ℕ → ℕ → List Item → List (List ℕ)
 reported_of distance run [] = []

@@ -1,4 +1,4 @@
--- The words of the lines of a survey (own; docs/manual/survey.md).
+-- The words of an output line of `survey`.
 use Rattle.std.specs.Prelude.{ℕ, List, [], ◌∷◌}
 use Rattle.std.specs.Prelude.{decimal}
 use Rattle.std.specs.List.{concat}

@@ -1,6 +1,5 @@
 -- The output of `survey` begins with the kind of the recording and the requested options, and ends
--- with the number of its packets and of the bytes that belong to no packet (own;
--- docs/manual/survey.md).
+-- with the numbers of its packets and of the bytes that belong to no packet.
 use Rattle.std.specs.Prelude.{◌≡◌, ⊤, true, false, ℕ, List, [], ◌∷◌, ◌++◌, Option, IfSome}
 use Rattle.std.specs.Prelude.{codes, take}
 use Rattle.std.specs.Io.KnownBytes.{Appends}
@@ -21,8 +20,8 @@ use Rattle.ts_survey.specs.declared.text.Text.{Text}
 
 -- ---- the requested options
 
--- If the recording is a transport stream, its packets have the requested distance, the requested
--- PID and page are followed, and no other PID is followed.
+-- If the recording is a transport stream, it has the requested packet size, the requested PID and
+-- page are followed, and no other PID is followed.
 abbrev pub IsAsRequested : SurveyOptions → Kind → Type 0
 IsAsRequested options (Stream packets multiplex) =
     (IfSome options.packet_size (λ size. packets.size ≡ size))
@@ -31,7 +30,7 @@ IsAsRequested options (Stream packets multiplex) =
     × (others_followed multiplex ≡ [])
 IsAsRequested options _ = ⊤
 
--- More packets of a stream were processed, with the same distance of packets and the same requested
+-- More packets of a stream were processed, with the same packet size and the same requested
 -- options.
 pub record TakesMore (packets : PacketsInStep) (multiplex : Multiplex) (after : PacketsInStep)
     (reported : Multiplex) : Type 0 where
@@ -77,7 +76,8 @@ pub record ReportsEnd (r : Recording) (new : Text) : Type 0 where
 
 -- ---- the lines of a recording
 
--- The output for a recording after the bytes received: the lines of its kind, followed by others.
+-- The output for a recording after the bytes received: the lines of its kind, followed by other
+-- lines.
 pub record IsReported (recording : Recording) (received listing : List ℕ) : Type 0 where
   pub more : List ℕ
   pub reported :
@@ -89,8 +89,8 @@ pub record IsReported (recording : Recording) (received listing : List ℕ) : Ty
       recording.has_head ≡ true → is_pes recording.kind ≡ begins_pes (take head_size received)
 
 -- The output for a complete recording: the first lines; the lines of its kind, with the requested
--- options; others; and a last line with the number of bytes that belong to no packet and the number
--- of packets.
+-- options; other lines; and a last line with the number of bytes that belong to no packet and the
+-- number of packets.
 pub record IsSurveyed
     (options : SurveyOptions) (recording : Option (List ℕ)) (listing : List ℕ) : Type 0 where
   pub received : List ℕ

@@ -1,4 +1,4 @@
--- What begins in the payload of a transport packet.
+-- Detects Teletext in the payload of a transport packet.
 use Rattle.std.specs.Prelude.{ℕ, ◌+◌, ◌/◌, ◌==◌, ◌&&◌, nat_le, nat_lt, Bool, List, length}
 use Rattle.std.specs.Prelude.{slice_index}
 

@@ -3,7 +3,7 @@ use Rattle.std.specs.Prelude.{◌≡◌, ℕ, List, ◌++◌, Option}
 use Rattle.std.specs.Io.KnownBytes.{Consumes}
 
 -- The size of the buffer in bytes: room for the longest PES packet of a file, 65,541 bytes, and for
--- all that is read at once.
+-- the bytes of one read.
 abbrev pub read_buffer_size : ℕ
 read_buffer_size = 135168
 

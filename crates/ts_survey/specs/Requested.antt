@@ -1,4 +1,4 @@
--- Which PID is followed and which page is searched for in a transport stream.
+-- The PID and the page that the user requests of a survey.
 use Rattle.std.specs.Prelude.{◌≡◌, ◌==◌, ℕ, Bool, true, List, [], ◌∷◌, Option, Some, None, map}
 use Rattle.std.specs.Prelude.{if◌then◌else◌}
 use Rattle.ts_survey.specs.declared.carrier.Carrier.{Carrier}

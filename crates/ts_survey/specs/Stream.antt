@@ -1,4 +1,4 @@
--- Reading a recording that is a transport stream.
+-- The effect of one call on a recording that is a transport stream.
 use Rattle.std.specs.Prelude.{ℕ, Bool, true, false, List}
 use Rattle.ts_survey.specs.Requested.{keeps_requested}
 use Rattle.ts_survey.specs.InStep.{TakesAll}

@@ -10,7 +10,7 @@ use std::alloc::Global;
 use sub_io::{Failed, Source};
 
 /// The size of the buffer in bytes: room for the longest PES packet of a file, 65,541 bytes, and
-/// for all that is read at once.
+/// for the bytes of one read.
 const BUFFER_SIZE: usize = 135_168;
 
 /// The number of bytes that are read at once; a feed returns fewer. A source that reads ahead at

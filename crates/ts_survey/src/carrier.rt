@@ -1,4 +1,4 @@
-//! A PID with Teletext that is followed: what its transport packets carry, and what is missing.
+//! Follows a PID with Teletext: its PES packets, its lost packets, and its timing.
 ghost use Rattle.std.specs.Prelude.{◌≡◌, IfSome};
 
 use crate::adaptation::is_scrambled;
@@ -18,8 +18,8 @@ use ttx_packet::PageId;
 /// The maximum number of irregular PCRs that wait for more data.
 const PENDING: usize = 4;
 
-/// The number of packets after an irregular PCR up to which the counters of other PIDs show what
-/// happened.
+/// The number of packets after an irregular PCR in which counter breaks of other PIDs are looked
+/// for.
 pub const INSPECTED_PACKETS: u64 = 5000;
 
 /// An irregular PCR, and the PTS before and after it.
@@ -41,8 +41,8 @@ pub struct Carrier {
     packets: u64,
     scrambled: u64,
     header: PesHeader,
-    // The PTS of the last PES packet that began, of the last PES packet that was compared with the
-    // clock, and of the PES packet that began last before the last PCR.
+    // The PTS of the last PES packet that began, of the last one that was compared with the clock,
+    // and of the last one that began before the last PCR.
     begun: Option<u64>,
     sampled: Option<u64>,
     before_pcr: Option<u64>,
@@ -99,9 +99,9 @@ impl Carrier {
         }
     }
 
-    // Counts packets that are lost before a packet, and notes a seam before it. Returns the PTS
-    // whose PES header becomes complete with the packet. A repeat of the last good packet changes
-    // nothing.
+    // Counts the packets lost before a packet, and records an announced jump of the counter.
+    // Returns the PTS if the packet completes a PES header with a PTS. A repeat of the last good
+    // packet changes nothing.
     fn note(&mut self, packet: &[u8; PACKET]) -> Option<u64>
         ensures { self.new.pid ≡ self.old.pid }
     {
@@ -161,8 +161,7 @@ impl Carrier {
         self.packets_of.note_loss();
     }
 
-    /// Records a PCR of the PID's programme. The next PCR is compared with the PTS that began
-    /// before it.
+    /// Records a PCR of the PID's programme, and the PTS that began before the PCR.
     pub fn note_pcr(&mut self, strange: Option<IrregularPcr>, pids: &Pids, text: &mut Text)
         ensures { self.new.pid ≡ self.old.pid }
     {
@@ -186,8 +185,8 @@ impl Carrier {
         });
     }
 
-    /// Records a PTS that began in a packet. Irregular PCRs before the packet use this PTS, and if
-    /// a second has passed since the last comparison, the PTS is compared with the clock.
+    /// Records the PTS of a PES packet. The PTS is stored with pending irregular PCRs, and is
+    /// compared with the clock if a second has passed since the last comparison.
     pub fn note_pts(&mut self, pts: u64, pcr: Option<u64>, text: &mut Text)
         ensures { self.new.pid ≡ self.old.pid }
     {
@@ -215,7 +214,7 @@ impl Carrier {
         }
     }
 
-    /// Records a PTS that began in a packet after a picture of the same programme.
+    /// Records the PTS of a PES packet that began after a picture of the same programme.
     pub fn take_lead(&mut self, pts: u64, picture: &Picture, text: &mut Text)
         ensures { self.new.pid ≡ self.old.pid }
     {
@@ -276,7 +275,7 @@ impl Carrier {
         self.packets_of.to.flush(text);
     }
 
-    /// Ends the recording: prints what is left of the PID, with the line of its counts last.
+    /// Ends the recording: prints the remaining lines of the PID, the counts last.
     pub fn end(&self, text: &mut Text) {
         self.packets_of.to.end(text);
         self.report_end(text);
@@ -331,7 +330,7 @@ fn report_clock(pid: u16, one: &Pending, reported: &[u8], text: &mut Text) {
     text.put(b"\n");
 }
 
-// Returns a word that says whether the PES packet that began last is incomplete.
+// Returns ` 1` if the PES packet that began last is incomplete, and otherwise ` 0`.
 fn cut_word(is_cut: bool) -> &'static [u8] {
     if is_cut { b" 1" } else { b" 0" }
 }

@@ -9,12 +9,13 @@ pub const SECOND: u64 = 90_000;
 /// The shortest interval in ticks after which a PCR may count as late: 0.1 s (ISO/IEC 13818-1).
 const LEAST_LATENESS: u64 = 9_000;
 
-/// The number of intervals whose median is the usual interval; fewer intervals determine none.
+/// The number of last intervals whose median is the usual interval, and the least number of
+/// intervals that determines a median.
 const MEDIAN_INTERVALS: usize = 100;
 
 const FEWEST: usize = 5;
 
-/// The last numbers of a kind, such as intervals in ticks.
+/// The last numbers of a series, such as the intervals between PCRs in ticks.
 #[derive(Clone, Copy)]
 struct Numbers {
     kept: [u64; MEDIAN_INTERVALS],
@@ -41,7 +42,8 @@ impl Numbers {
         }
     }
 
-    // Returns the median of the numbers, the upper one of two; 0 if the list is empty.
+    // Returns the median of the numbers, or the upper median if their count is even; 0 if the list
+    // is empty.
     fn middle(&self) -> u64 {
         let mut sorted = self.kept;
         let (some, _) = sorted.split_at_mut(self.count.min(MEDIAN_INTERVALS));
@@ -74,8 +76,8 @@ fn is_usual(ticks: u64, count: usize, middle: u64) -> bool {
     ticks <= LEAST_LATENESS || count < FEWEST || ticks <= middle.saturating_mul(3)
 }
 
-/// An irregular PCR, which comes late or goes back: the packets of this PCR and the PCR before it,
-/// and the usual interval.
+/// An irregular PCR, which is late or smaller than the PCR before it: the numbers of the packets
+/// with the two PCRs, and the usual interval.
 #[derive(Clone, Copy, Default)]
 pub struct IrregularPcr {
     pub first: u64,
@@ -119,8 +121,8 @@ impl Clock {
         self.is_announced = self.is_announced || announces_jump(packet);
     }
 
-    /// Processes a PCR in packet number `number`, and prints the PCR once a second. Returns how the
-    /// PCR is irregular, if it is.
+    /// Processes a PCR in packet number `number`, and prints the PCR once a second. Returns the
+    /// interval before the PCR if the PCR is irregular.
     pub fn take(&mut self, pcr: u64, number: u64, text: &mut Text) -> Option<IrregularPcr> {
         let is_due = match self.reported {
             None => true,

@@ -1,5 +1,5 @@
-//! Finds out whether the pictures that are shown before the flagged picture of a group can be
-//! decoded without the group before, from the first bytes of the flagged picture.
+//! Determines whether a group of pictures can be decoded without the group before it, from the
+//! first bytes of the picture at its random access point.
 ghost use Rattle.std.specs.Prelude.{◌≤◌, length};
 
 /// The stream_type values (ISO/IEC 13818-1, table 2-34) of MPEG-1, MPEG-2, H.264 and HEVC.
@@ -16,7 +16,7 @@ const HEVC: u8 = 0x24;
 pub enum Form {
     /// All pictures of the group can be decoded without the group before.
     Closed,
-    /// Pictures before the flagged picture may need the group before.
+    /// Pictures that are shown before the random access point may need the group before.
     Open,
     /// The form of the group is unknown.
     Unknown,
@@ -59,8 +59,8 @@ impl FormReader {
     }
 }
 
-// Returns the form of a group that stream_type alone determines: no field of H.264 says that a
-// group is closed.
+// Returns the form of a group if stream_type alone determines it. H.264 has no field for closed
+// groups, so its groups count as open.
 fn known_form(kind: u8) -> Option<Form> {
     match kind {
         MPEG_1 | MPEG_2 | HEVC => None,
@@ -134,9 +134,9 @@ fn form_of_unit(bytes: &[u8; 4]) -> Option<Form> {
     Some(form_of_slice(kind))
 }
 
-// Returns the form of a group by nal_unit_type: BLA_W_RADL, BLA_N_LP, IDR_W_RADL and IDR_N_LP (17
-// to 20) have no pictures before them that need others; BLA_W_LP (16) and CRA_NUT (21) may have
-// such pictures.
+// Returns the form of a group by the nal_unit_type of its first slice. BLA_W_RADL, BLA_N_LP,
+// IDR_W_RADL and IDR_N_LP (17 to 20) have no leading pictures that need the group before; BLA_W_LP
+// (16) and CRA_NUT (21) may have such pictures.
 fn form_of_slice(kind: u8) -> Form {
     if kind >= 17 && kind <= 20 {
         Form::Closed

@@ -6,12 +6,12 @@ use crate::pid_packets::TakesPesPackets;
 use crate::text::Text;
 use ttx_pes::{is_gap_marker, size_of};
 
-/// What was received from a PID so far.
+/// The state of receiving the data of a PID.
 #[derive(Drop)]
 pub struct Given {
     lines: PesLines,
-    // Whether a gap marker came after the last PES packet; and whether a gap marker had come when
-    // the last transport packet came, or came with it.
+    // Whether a gap marker came after the last PES packet, and whether data is missing before the
+    // contents of the last transport packet.
     is_after_gap: bool,
     is_broken: bool,
     // After the last PES packet: whether a gap marker for missing packets is pending, and the
@@ -23,7 +23,7 @@ pub struct Given {
     has_seam: bool,
     // Whether the PES packet that began last is incomplete.
     is_cut: bool,
-    // The number of the fault for which nothing more is received; 0 if no fault was found.
+    // The number of the fault after which nothing more is received; 0 if no fault was found.
     refusal: u16,
 }
 
@@ -68,12 +68,13 @@ impl Given {
         self.scrambled = self.scrambled.saturating_add(1);
     }
 
-    /// Returns the number of the fault for which nothing more is received; 0 if no fault was found.
+    /// Returns the number of the fault after which nothing more is received; 0 if no fault was
+    /// found.
     pub fn refusal(&self) -> u16 {
         self.refusal
     }
 
-    /// Records that the next packet has come.
+    /// Begins the next transport packet.
     pub fn go_on(&mut self) {
         self.is_broken = self.is_after_gap;
     }

@@ -9,7 +9,9 @@ use ttx_packet::unham;
 /// The events of a PES packet, which are compared with those of the PES packet before.
 #[derive(Drop)]
 pub struct Heard {
-    /// The characters of the events: `c`, `h`, `e` in order of the packets, then `o`, `b`, `s`.
+    /// The characters of the events: for each packet, `h` (a header of the page), `e` (C4, erase
+    /// page) or `c` (a header that ends the page); then `o` (the page is open), `b` (the page is
+    /// blank) and `s` (rows after the end of the page).
     characters: ArrayVec<u8, 160>,
     /// The eight numbers of each header of the page in the PES packet.
     control: ArrayVec<u8, 640>,

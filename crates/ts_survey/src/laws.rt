@@ -1,5 +1,5 @@
-//! Laws of `survey`: what is followed of a PID is what its packets carry; and packets are processed
-//! in the same way, whatever parts a recording arrives in.
+//! Laws of `survey`: the receiver of a PID gets exactly the data in the PID's packets, and the
+//! output does not depend on the parts in which a recording arrives.
 //!
 //! The functions do nothing: the contract of each function is a law about the definitions in
 //! `specs/`.
@@ -9,8 +9,8 @@ ghost use Rattle.ts_survey.specs.InStep.{LawOfTwoCalls};
 use crate::packets_in_step::TakesPackets;
 use crate::pid_packets::TakesPesPackets;
 
-/// What is received part by part from the packets of a PID is what they carry in the recording: PES
-/// packets, and gap markers for missing data.
+/// The data received part by part from the packets of a PID is the data that they carry in the
+/// recording: PES packets, and gap markers for missing data.
 #[tactic(auto, using(crate::proofs::FollowingLemmas::law_of_following))]
 pub fn law_of_following<T: TakesPesPackets>()
     ensures { LawOfFollowing T.is_taken }

@@ -11,11 +11,10 @@ pub struct Picture {
     pub number: u64,
 }
 
-/// What was printed so far about how far a PID is ahead of the pictures.
+/// The state of printing how far a PID is ahead of the pictures.
 #[derive(Drop)]
 pub struct Lead {
-    // The video PID, and the number of its PES packet after which a PES packet with Teletext began
-    // last.
+    // The video PID and the number of the picture before the last PES packet with Teletext.
     following: Option<(u16, u64)>,
     // The PTS in the last line that was printed.
     last: Option<u64>,

@@ -1,8 +1,8 @@
 //! Lists the contents of a recording of a transport stream (ISO/IEC 13818-1) line by line: tables,
-//! PIDs with Teletext, their PES packets and the decoded page, clocks, first pictures.
+//! PIDs with Teletext, their PES packets and the decoded page, clocks, and the first pictures.
 //!
-//! `mpeg_ts` defines what the packets of a PID carry, `ttx_pes` why a PES packet is refused, and
-//! `ttx_page` what a receiver decodes.
+//! `mpeg_ts` defines the data that the packets of a PID carry, `ttx_pes` the faults of a PES
+//! packet, and `ttx_page` the page that a receiver decodes.
 //!
 //! ```text
 //! let options = SurveyOptions { page, pid: None, packet_size: None };

@@ -1,4 +1,4 @@
-//! Follows all that `survey` reports of a transport stream, one packet after another.
+//! Processes the packets of a transport stream for `survey`, one after another.
 ghost use Rattle.std.specs.Prelude.{◌≡◌, ◌<◌, [], IfSome};
 ghost use Rattle.std.specs.Prelude.{length, true};
 ghost use Rattle.ts_survey.specs.Requested.{KeepsRequested, is_requested, keeps_requested};
@@ -27,7 +27,7 @@ use ttx_packet::PageId;
 /// The maximum number of PIDs with Teletext, of clocks and of video PIDs that are followed.
 const MOST: usize = 64;
 
-/// The state of following a transport stream.
+/// The state of processing a transport stream.
 #[derive(Drop)]
 pub struct Multiplex {
     alloc: Global,
@@ -231,8 +231,8 @@ impl Multiplex {
         }
     }
 
-    // Processes a packet of interest. Few packets are of interest, and this function is not
-    // inlined, so that it takes no registers of the loop over all packets.
+    // Processes a packet that is needed. Not inlined, since few packets are needed, and inlining
+    // would take registers from the loop over all packets.
     #[inline(never)]
     fn show_on(
         &mut self,
@@ -545,7 +545,7 @@ impl TakesPackets for Multiplex {
         }
         self.pids.count(pid, packet, number);
         let state = self.pids.get(pid);
-        // Most packets of a recording neither begin anything nor belong to a followed PID.
+        // Most packets of a recording begin no payload unit and belong to no followed PID.
         if begins(packet) || is_followed(&state) {
             self.read_on(pid, &state, packet, text);
         }

@@ -14,15 +14,13 @@ use ttx_page::{Blank, PacketKind, Page, Receiver};
 /// The number of Teletext pages: eight magazines of 256 pages.
 const PAGES: usize = 2048;
 
-/// What was recorded about the Teletext packets of a PID.
+/// Notes on the Teletext packets of a PID.
 #[derive(Drop)]
 pub struct Notes {
-    // The rows that the receiver received, with the cells that were hit; and the rows that were
-    // printed last.
+    // The received rows, with marks for bytes of even parity, and the rows that were printed last.
     rows: Rows,
     reported: Option<Rows>,
-    // Rows that came in this PES packet after the end of the page; and such rows that were printed
-    // last.
+    // The rows in this PES packet after the end of the page, and those that were printed last.
     strays: Rows,
     reported_strays: Rows,
     has_stray: bool,

@@ -1,8 +1,8 @@
-//! Detects the distance of transport packets from the first bytes of a recording.
+//! Detects the packet size from the first bytes of a recording.
 
 use mpeg_ts::{PACKET, PacketSize, SYNC_BYTE};
 
-/// The number of transport packets in a row that determine the distance.
+/// The number of transport packets in a row that determine the packet size.
 const IN_A_ROW: usize = 5;
 
 // Returns whether a transport packet may begin at an offset, or the recording ended before that
@@ -15,7 +15,7 @@ fn may_be_packet_at(bytes: &[u8], place: usize, is_end: bool) -> bool {
 }
 
 // Returns whether transport packets begin at an offset and at this distance after it, as many as
-// determine the distance, or up to the end of the recording.
+// determine the packet size, or up to the end of the recording.
 fn is_at(bytes: &[u8], place: usize, distance: usize, is_end: bool) -> bool {
     let mut at = place;
     for _ in 0..IN_A_ROW {
@@ -27,7 +27,7 @@ fn is_at(bytes: &[u8], place: usize, distance: usize, is_end: bool) -> bool {
     true
 }
 
-// Returns the distance of the transport packets from an offset on, or `None` if no packets begin
+// Returns the packet size of the transport packets from an offset on, or `None` if no packets begin
 // there.
 fn size_at(bytes: &[u8], place: usize, is_end: bool) -> Option<PacketSize> {
     if !may_be_packet_at(bytes, place, is_end) {
@@ -45,8 +45,8 @@ fn size_at(bytes: &[u8], place: usize, is_end: bool) -> Option<PacketSize> {
     None
 }
 
-/// Returns the distance at the first offset with transport packets, or `None` if no distance is
-/// found yet.
+/// Returns the packet size at the first offset with transport packets, or `None` if no packet size
+/// is found yet.
 pub fn find_size(bytes: &[u8], is_end: bool) -> Option<PacketSize> {
     for place in 0..bytes.len().saturating_sub(PACKET - 1) {
         match size_at(bytes, place, is_end) {

@@ -36,11 +36,11 @@ pub trait TakesPackets {
         ensures { is_taken self.old [] self.new };
 }
 
-/// How far the packets of a transport stream were found.
+/// The state of finding the packets of a transport stream.
 #[derive(Drop)]
 pub struct PacketsInStep {
     size: PacketSize,
-    // How many bytes are skipped before the next byte that is examined.
+    // The number of bytes to skip before the next byte that is examined.
     lead: usize,
     in_step: bool,
     // The number of transport packets found so far.
@@ -74,8 +74,8 @@ fn packet_at(bytes: &[u8], place: usize) -> Option<&[u8; PACKET]>
 }
 
 impl PacketsInStep {
-    /// Creates the state at the start of a stream with this distance of packets, after `skipped`
-    /// bytes that belong to no packet.
+    /// Creates the state at the start of a stream with this packet size, after `skipped` bytes that
+    /// belong to no packet.
     pub fn new(size: PacketSize, skipped: u64) -> PacketsInStep
         ensures size { result.size ≡ size }
         ensures lead { result.lead ≡ lead_size (bytes_of size) }
@@ -110,7 +110,7 @@ impl PacketsInStep {
         self.skipped
     }
 
-    // Returns the distance of transport packets in bytes.
+    // Returns the packet size in bytes.
     #[inline(always)]
     #[tactic(auto, using(crate::proofs::InStepLemmas::sizes))]
     fn distance(&self) -> usize

@@ -8,7 +8,7 @@ use std::alloc::Global;
 use ttx_packet::{PageId, SentPacket};
 use ttx_page::{Blank, Page, Receiver};
 
-/// A receiver of the page, and what was recorded about the packets that it received.
+/// A receiver of the page, and notes on the Teletext packets that it received.
 #[derive(Drop)]
 pub struct Following {
     receiver: Blank,
@@ -57,7 +57,7 @@ impl Following {
         self.receiver.heard() && self.notes.is_changed()
     }
 
-    /// Returns what was recorded about the packets of the page.
+    /// Returns the notes on the received Teletext packets.
     pub fn notes(&self) -> &Notes {
         &self.notes
     }

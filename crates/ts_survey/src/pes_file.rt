@@ -13,7 +13,7 @@ use std::alloc::Global;
 use ttx_packet::PageId;
 use ttx_pes::is_gap_marker;
 
-/// How far a file of PES packets was read.
+/// The state of reading a file of PES packets.
 #[derive(Drop)]
 pub struct PesFile {
     lines: PesLines,
@@ -85,7 +85,7 @@ impl PesFile {
         bytes.len() - rest.len()
     }
 
-    // Prints that the file cannot be read on, if bytes are left at its end.
+    // Prints that the rest of the file cannot be read, if bytes are left at its end.
     fn end_at(&mut self, rest: &[u8], is_end: bool, text: &mut Text) {
         if is_end && !rest.is_empty() {
             self.report_damage(b" cut\n", text);
@@ -126,7 +126,7 @@ impl PesFile {
         self.lines.take(pes_packet, text);
     }
 
-    // Prints that the file cannot be read on.
+    // Prints that the rest of the file cannot be read.
     fn report_damage(&mut self, why: &[u8], text: &mut Text) {
         self.is_damaged = true;
         self.lines.flush(text);

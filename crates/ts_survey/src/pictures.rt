@@ -1,5 +1,5 @@
-//! The pictures of a video PID: the first pictures, from one that can be shown alone to the next
-//! such picture, and the decoding time of the last picture.
+//! Reports the first group of pictures of a video PID, from one random access point to the next,
+//! and the decoding time of the last picture.
 
 use crate::adaptation::{begins_access, is_scrambled, payload_in};
 use crate::clock::SECOND;
@@ -10,14 +10,14 @@ use crate::pid_state::PacketLink;
 use crate::text::{CLOCK, Text, forward};
 use mpeg_ts::{PACKET, announces_jump, begins, has_adaptation, has_payload, is_wrong};
 
-/// How far the first pictures have been received.
+/// How much of the first group of pictures has been received.
 #[derive(Clone, Copy, PartialEq, Eq)]
 enum Reach {
-    /// No picture that can be shown alone has begun.
+    /// No random access point has been received.
     Before,
-    /// A picture that can be shown alone has begun, and the next such picture has not.
+    /// The first random access point has been received, and the second has not.
     Within,
-    /// The next picture that can be shown alone has begun, or ten seconds have passed.
+    /// The second random access point has been received, or ten seconds have passed.
     Over,
 }
 
@@ -26,27 +26,28 @@ enum Reach {
 pub struct Pictures {
     pid: u16,
     reach: Reach,
-    // Whether each packet of the PID is of interest, not only packets in which a PES packet begins.
+    // Whether every packet of the PID is needed, not only packets in which a PES packet begins.
     needs_each: bool,
-    // The last packet that was processed, and whether it was sent twice.
+    // The last packet that was processed, and whether a repeat of it was received.
     packet: [u8; PACKET],
     has_repeat: bool,
-    // Of the PES packet that began last: its header, and whether random_access_indicator was set;
-    // and whether a packet without a payload has set that indicator for the next packet.
+    // The header of the PES packet that began last, whether random_access_indicator was set for it,
+    // and whether a packet without a payload has set that indicator for the next PES packet.
     header: PesHeader,
     is_flagged: bool,
     flags_next: bool,
     // The number of PES packets that began, and the last picture with a decoding time.
     count: u64,
     last: Option<Picture>,
-    // Whether the flagged picture continues, and how many bytes are left of its PES header.
+    // Whether the next payload continues the picture at the random access point, and how many bytes
+    // of its PES header are still missing.
     is_first: bool,
     header_left: usize,
     passed: u64,
     lost: u64,
     scrambled: u64,
-    // Of the group of pictures: the PTS of the flagged picture, the least PTS, and the form that
-    // its bytes show.
+    // The PTS of the picture at the random access point, the least PTS of the group, and the reader
+    // that determines the form of the group.
     flagged: Option<u64>,
     first: Option<u64>,
     reader: FormReader,
@@ -87,14 +88,14 @@ impl Pictures {
         self.last
     }
 
-    /// Returns whether each packet of the PID is of interest. After the first pictures, only the
-    /// headers of PES packets are of interest.
+    /// Returns whether every packet of the PID is needed. After the first group of pictures, only
+    /// the headers of PES packets are needed.
     #[inline(always)]
     pub fn needs_each(&self) -> bool {
         self.needs_each
     }
 
-    /// Processes a packet of interest of the PID, whose stream_type in the PMT is `kind`.
+    /// Processes a packet of the PID. `kind` is the stream_type of the PID in the PMT.
     pub fn take(&mut self, packet: &[u8; PACKET], kind: u8, link: PacketLink, text: &mut Text) {
         if packet[1] >= 0x80 {
             return;
@@ -139,7 +140,7 @@ impl Pictures {
             && after_adaptation(packet) == after_adaptation(&self.packet)
     }
 
-    // Counts breaks of the counter and scrambled packets among the first pictures.
+    // Counts breaks of the counter and scrambled packets in the first group of pictures.
     fn count_lost(&mut self, packet: &[u8; PACKET], link: PacketLink) {
         match self.reach {
             Reach::Within => {
@@ -164,8 +165,8 @@ impl Pictures {
         }
     }
 
-    // Processes a payload that cannot be read. If the payload is scrambled, a picture may begin in
-    // it, without a time.
+    // Processes a payload that cannot be read. A scrambled payload in which a PES packet begins
+    // counts as a picture without a PTS.
     fn process_unreadable(&mut self, packet: &[u8; PACKET], kind: u8, text: &mut Text) {
         self.header.clear();
         self.header_left = 0;
@@ -217,7 +218,7 @@ impl Pictures {
         }
     }
 
-    // Processes a payload with more bytes of the flagged picture, if no other picture has begun.
+    // Reads more bytes of the picture at the random access point, unless another picture has begun.
     fn read_on(&mut self, payload: &[u8]) {
         if !self.is_first {
             return;
@@ -227,7 +228,7 @@ impl Pictures {
         self.reader.read(picture);
     }
 
-    // Begins the flagged picture, and prints the lines `video` and `picture`.
+    // Begins the first group of pictures, and prints the lines `video` and `picture`.
     fn begin(&mut self, kind: u8, text: &mut Text) {
         self.report_video(text);
         self.show(text);
@@ -243,7 +244,7 @@ impl Pictures {
         text.put(b"\n");
     }
 
-    // Records one of the first pictures, and prints its line.
+    // Records a picture of the first group, and prints its line.
     fn show(&mut self, text: &mut Text) {
         self.reach = Reach::Within;
         let pts = self.header.pts();
@@ -260,7 +261,7 @@ impl Pictures {
         text.put(b"\n");
     }
 
-    // Stores the least PTS, and ends the first pictures ten seconds after it.
+    // Stores the least PTS, and ends the group ten seconds after it.
     fn move_to(&mut self, now: u64, text: &mut Text) {
         let first = least_of(self.first, now);
         self.first = Some(first);
@@ -269,7 +270,7 @@ impl Pictures {
         }
     }
 
-    // Ends the first pictures.
+    // Ends the first group of pictures.
     fn close(&mut self, text: &mut Text) {
         self.reach = Reach::Over;
         self.report_group(text);
@@ -277,7 +278,7 @@ impl Pictures {
         text.put(b"\n");
     }
 
-    // Prints the beginning that both lines about pictures have in common.
+    // Prints the fields that both forms of the line `pictures` begin with.
     fn report_counts(&self, text: &mut Text) {
         text.put(b"pictures");
         text.number(self.pid as u64);
@@ -285,7 +286,7 @@ impl Pictures {
         text.number(self.scrambled);
     }
 
-    // Prints the group of the flagged picture.
+    // Prints the line `group` of the first group of pictures.
     fn report_group(&self, text: &mut Text) {
         text.put(b"group");
         text.number(self.pid as u64);
@@ -294,7 +295,8 @@ impl Pictures {
         text.put(form_word(self.reader.form()));
     }
 
-    /// Ends the recording: prints the first pictures if they have not ended.
+    /// Ends the recording: prints the counts of the first group of pictures if the group has not
+    /// ended.
     pub fn end(&self, text: &mut Text) {
         match self.reach {
             Reach::Over => {}
@@ -365,8 +367,8 @@ fn counted_if(is_so: bool, number: u64) -> u64 {
     }
 }
 
-// Returns the lesser of the least PTS so far and a new PTS. A PTS is less than another if it comes
-// before the other on the shorter way around the clock.
+// Returns the earlier of the least PTS so far and a new PTS. A PTS is earlier than another if it
+// precedes the other by less than half the 33-bit range.
 fn least_of(first: Option<u64>, now: u64) -> u64 {
     match first {
         Some(first) => {

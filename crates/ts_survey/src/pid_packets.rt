@@ -1,4 +1,4 @@
-//! Reassembles the packets of a PID, and passes what they carry to a receiver.
+//! Reassembles the data in the packets of a PID, and passes it to a receiver.
 ghost use Rattle.std.specs.Prelude.{◌≡◌, List, ℕ, [], false, true};
 ghost use Rattle.mpeg_ts.specs.GoodPackets.{Loss, note_of};
 ghost use Rattle.mpeg_ts.specs.Joining.{after_note, delivered, has_ended, initial_joining};
@@ -10,7 +10,7 @@ ghost use Rattle.ts_survey.specs.Following.{GivesNext, TakesBytes, any_pes_packe
 use crate::text::Text;
 use mpeg_ts::{Joining, Next, PACKET};
 
-/// Receives what the packets of a PID carry: PES packets and gap markers; and at the end perhaps
+/// Receives the data in the packets of a PID: PES packets and gap markers, and at the end perhaps
 /// bytes that are neither.
 pub trait TakesPesPackets {
     // How a call changes the receiver: its state before the call, the bytes, and its state
@@ -55,7 +55,7 @@ impl<T: TakesPesPackets> PidPackets<T> {
     }
 
     /// Returns whether a jump of the counter was announced between the last good packet and this
-    /// packet, and no data is known to be lost.
+    /// packet, and no loss of data is known.
     pub fn is_after_seam(&self, packet: &[u8; PACKET]) -> bool
         ensures { result ≡ is_seam (link_after self.now.joining self.now.joining.last packet.now) }
     {

@@ -9,11 +9,11 @@ pub const PIDS: usize = 8192;
 /// The PID of null packets.
 pub const NULL_PID: u16 = 0x1FFF;
 
-/// The index that stands for nothing, for example for a PID without a clock.
+/// The index that means "none", for example for a PID without a clock.
 pub const NO_INDEX: u8 = 0xFF;
 
-/// A flag of a stored counter: a jump was announced after its packet (discontinuity_indicator), by
-/// a packet without a payload.
+/// A flag in a stored counter: a later packet without a payload announced a jump of the counter
+/// (discontinuity_indicator).
 const JUMP: u8 = 0x80;
 
 /// How a packet follows the packet before it in its PID, by continuity_counter.
@@ -44,7 +44,7 @@ pub struct PidState {
     pub clock_pid: u16,
     pub kind: u8,
     /// The indices of the sections, the clock, the pictures and the PES packets of this PID;
-    /// `NO_INDEX` if it has none of a kind.
+    /// `NO_INDEX` for each that the PID does not have.
     pub table: u8,
     pub clock: u8,
     pub video: u8,
@@ -61,10 +61,10 @@ pub struct Break {
     pub at: u64,
 }
 
-/// The number of last breaks that are stored.
+/// The number of most recent breaks that are stored.
 const BREAKS: usize = 256;
 
-/// The states of all PIDs, and the last breaks of their counters.
+/// The states of all PIDs, and the most recent breaks of their counters.
 #[derive(Drop)]
 pub struct Pids {
     states: Vec<PidState>,
@@ -89,7 +89,7 @@ fn unknown() -> PidState {
     }
 }
 
-// Returns this many PIDs without any packets. Returns `None` if memory runs out.
+// Returns the states of `count` PIDs without any packets. Returns `None` if memory runs out.
 fn unknown_pids(alloc: Global, count: usize) -> Option<Vec<PidState>> {
     let mut states = Vec::new(alloc);
     for _ in 0..count {
@@ -210,7 +210,7 @@ impl Pids {
         self.set(pid, state);
     }
 
-    /// Follows the counter of a PID at packet number `number`.
+    /// Updates the state of a PID with its packet number `number`.
     #[inline(always)]
     pub fn count(&mut self, pid: u16, packet: &[u8; PACKET], number: u64) {
         let Some(state) = self.states.get_mut(pid as usize) else {
@@ -225,8 +225,8 @@ impl Pids {
         }
     }
 
-    // Follows the counter of a PID at a packet before which other packets are missing. Not inlined,
-    // since few packets are of this kind.
+    // Updates the state of a PID with a packet before which packets are missing. Not inlined, since
+    // it is rarely called.
     #[inline(never)]
     fn count_break(&mut self, pid: u16, packet: &[u8; PACKET], number: u64) {
         let mut state = self.get(pid);
@@ -246,8 +246,8 @@ impl Pids {
         self.next = (place + 1) % BREAKS;
     }
 
-    /// Returns what the counters of other PIDs show about the packets between two numbers:
-    /// `broken`, `whole`, or nothing.
+    /// Returns whether the counters of other PIDs broke between two packet numbers: `broken`,
+    /// `whole` or `unknown`.
     pub fn reported_between(&self, pid: u16, first: u64, second: u64) -> &'static [u8] {
         if is_broken_between(&self.breaks, pid, first, second) {
             return b" broken";

@@ -21,14 +21,14 @@ use std::alloc::Global;
 /// The number of first bytes of a recording that are printed.
 const HEAD: usize = 11;
 
-/// The number of bytes that are examined together to detect the distance of packets.
-/// `MOST_INSPECTED` limits how many bytes are examined in all.
+/// The number of bytes that are examined together to detect the packet size. `MOST_INSPECTED`
+/// limits how many bytes are examined in all.
 const INSPECTED_PACKETS: usize = 65_536;
 
 const MOST_INSPECTED: u64 = 0x100_0000;
 
-// The number of last bytes that are examined again, if no distance was found in the bytes. Packets
-// may begin in these bytes.
+// The number of last bytes that are examined again, if no packet size was found in the bytes.
+// Packets may begin in these bytes.
 const RETAINED_BYTES: usize = 1024;
 
 /// The kind of a recording.
@@ -216,8 +216,7 @@ impl Recording {
         }
     }
 
-    // Searches the bytes for the distance of packets. Returns how many bytes need not be examined
-    // again.
+    // Searches the bytes for the packet size. Returns how many bytes need not be examined again.
     fn inspect(&mut self, bytes: &[u8], is_end: bool, first: &mut Text) -> usize
         ensures within { result ≤ length bytes.now }
         ensures kept { is_unknown self.new.kind ≡ true → self.new.out_of_memory ≡ false
@@ -256,7 +255,7 @@ impl Recording {
         used
     }
 
-    // Begins a transport stream with this distance of packets, and prints its lines.
+    // Begins a transport stream with this packet size, and prints its lines.
     fn begin(&mut self, size: PacketSize, first: &mut Text)
         ensures known { self.new.out_of_memory ≡ false → is_unknown self.new.kind ≡ false }
         ensures same { self.new.requested ≡ self.old.requested }
@@ -385,7 +384,7 @@ fn space_before(word: &[u8]) -> &'static [u8]
     b" "
 }
 
-// Prints the distance of the packets of a stream.
+// Prints the packet size of a stream.
 fn put_size(size: PacketSize, text: &mut Text)
     ensures { AddsTexts text.old (size_line (bytes_of size)) text.new }
 {
@@ -404,7 +403,7 @@ fn put_over(skipped: u64, number: u64, text: &mut Text)
     text.put(b"\n");
 }
 
-// Returns the distance of packets: the requested distance, or else the distance that is detected.
+// Returns the packet size: the requested packet size, or else the detected packet size.
 fn size_in(requested: Option<PacketSize>, bytes: &[u8], is_end: bool) -> Option<PacketSize>
     ensures found { IfSome result (λ size. IfSome requested (λ other. size ≡ other)) }
 {

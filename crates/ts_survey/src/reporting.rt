@@ -23,7 +23,8 @@ pub enum SurveyFault {
     Memory,
 }
 
-/// Reads a recording to its end, and writes a line for each fact (own; `docs/manual/survey.md`).
+/// Reads a recording to its end, and writes a line for each fact, as `docs/manual/survey.md`
+/// describes.
 ///
 /// All output is flushed before more of the recording is read. The memory needed does not grow with
 /// the recording.

@@ -1,11 +1,11 @@
-//! The rows of a page, with marks for cells that were hit.
+//! The rows of a page, with a mark for each byte that was received with even parity.
 ghost use Rattle.std.specs.Prelude.{◌≤◌, ◌<◌};
 
 use crate::text::Text;
 use ttx_packet::{Packet, is_odd};
 use ttx_page::Page;
 
-/// The mark of a space whose byte had even parity.
+/// The mark for a cell whose byte was received with even parity.
 pub const HIT: u8 = 0xA0;
 
 /// A row of 40 spaces.
@@ -74,7 +74,7 @@ impl Rows {
 }
 
 // Returns the cells of a row as they are printed: the codes of the receiver's page, with `HIT` for
-// spaces whose bytes were hit.
+// spaces whose bytes had even parity.
 fn reported_cells(stored: &[u8; 40], heard: &[u8; 40]) -> [u8; 40] {
     let mut cells = *stored;
     for column in 0..40usize {
@@ -84,7 +84,7 @@ fn reported_cells(stored: &[u8; 40], heard: &[u8; 40]) -> [u8; 40] {
 }
 
 // Returns a cell as it is printed: the code of the receiver's page, or `HIT` for a space whose byte
-// was hit.
+// had even parity.
 fn reported_cell(stored: u8, heard: u8) -> u8 {
     if stored == 0x20 && heard == HIT {
         HIT

@@ -108,8 +108,8 @@ pub fn name_of(section: &[u8]) -> Option<SectionName>
     })
 }
 
-/// Returns current_next_indicator of a section: whether the section is in force now, and not only
-/// the next one to be in force.
+/// Returns current_next_indicator of a section: whether the section applies now, and is not only
+/// the next one to apply.
 pub fn is_current(section: &[u8]) -> bool
     ensures { result ≡ is_current section.now }
 {

@@ -161,7 +161,8 @@ impl Tables {
         }
     }
 
-    /// Returns whether a complete section is new and in force. Stores such a section.
+    /// Returns whether a complete section is new and current (current_next_indicator), and stores
+    /// it if so.
     pub fn is_new(&mut self, section: &[u8]) -> bool {
         let Some(name) = name_of(section) else {
             return false;

@@ -9,7 +9,7 @@ use std::alloc::Global;
 /// second (ISO/IEC 13818-1).
 pub const CLOCK: u64 = 1 << 33;
 
-// The characters of a space, a sign and a number in decimal.
+// A space, a sign and a decimal number as characters.
 type Word = ArrayVec<u8, 32>;
 
 /// Lines of output in memory. If memory runs out, the text that was to be added is lost, and so is
@@ -92,8 +92,8 @@ impl Text {
         self.put(word.as_slice());
     }
 
-    /// Adds a space and a distance in ticks around the clock, on the shorter way: `forward` of half
-    /// the clock or more is printed as a negative number.
+    /// Adds a space and a difference in ticks. `forward` is the difference modulo 2^33; a value of
+    /// 2^32 or more is printed as a negative number.
     pub fn ticks(&mut self, forward: u64) {
         if forward < CLOCK / 2 || forward > CLOCK {
             return self.number(forward);

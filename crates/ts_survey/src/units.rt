@@ -1,4 +1,5 @@
-//! The Teletext packets of a PES packet, whatever else it contains (EN 300 472, data units).
+//! The Teletext packets in the data units of a PES packet, in order (EN 300 472, data field
+//! syntax).
 ghost use Rattle.std.specs.Prelude.{◌≡◌, ◌+◌, ◌≤◌, ◌<◌, length, slice_index, IfNone, IfSome, drop};
 ghost use Rattle.std.specs.Prelude.{take};
 ghost use Rattle.ts_survey.specs.Heard.{first_place, borrowed_packets, unit_packets};

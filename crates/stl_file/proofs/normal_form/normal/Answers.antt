@@ -1,4 +1,4 @@
--- Each return of `normal`: the sink received nothing, a prefix of the normal form, or all of it.
+-- At each return of `normal`, the sink received nothing, a prefix of the normal form, or all of it.
 use Rattle.std.proofs.Common.{ap, refl, Some}
 use Rattle.std.proofs.lemmas.Result.{err_from_is_err_and}
 use Rattle.stl_file.proofs.NormalCountsLemmas.{no_failure}

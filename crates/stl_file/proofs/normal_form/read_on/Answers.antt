@@ -1,4 +1,4 @@
--- `read_on`: a source in memory never fails, so the remaining bytes determine the result.
+-- A source in memory never fails, so the remaining bytes determine the result of `read_on`.
 use Rattle.std.proofs.Common.{arith}
 use Rattle.std.proofs.lemmas.Bool.Decides.{nat_tests}
 use Rattle.stl_file.proofs.NormalCountsLemmas.{left_eq, no_failure, took}

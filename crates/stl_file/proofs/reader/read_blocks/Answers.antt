@@ -1,4 +1,4 @@
--- `read_blocks`: each return of the loop over TTI blocks, and each step to the next block.
+-- At each return of `read_blocks`, the blocks read so far determine its result.
 use Rattle.std.proofs.Common.{rules, refl, arith}
 use Rattle.std.proofs.lemmas.Bool.Decides.{nat_tests}
 use Rattle.std.proofs.lemmas.Bool.{ne_eqb}

@@ -1,4 +1,4 @@
--- `read_gsi`: the bytes of the file determine the result, and no file begins with rejected bytes.
+-- The bytes of the file determine the result of `read_gsi`, and no file begins with rejected bytes.
 use Rattle.std.proofs.Common.{arith, rules}
 use Rattle.std.proofs.lemmas.Grind.{common_steps}
 use Rattle.stl_file.proofs.OpeningLemmas.{bad_opening, if_err, if_ok, open_rest, open_short}

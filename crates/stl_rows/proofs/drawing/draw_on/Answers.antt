@@ -1,6 +1,5 @@
--- `draw_on`: with the default layout, a subtitle without faults draws the page of its lines:
--- drawn-none, no_line_faults, drawn-page. Another layout draws the subtitle by its items:
--- drawn-some.
+-- `draw_on`: with the default layout, a subtitle without faults draws the page of its lines.
+-- Another layout draws the subtitle by its items.
 use Rattle.std.proofs.Common.{arith}
 use Rattle.std.proofs.lemmas.Bool.Decides.{nat_tests}
 use Rattle.stl_rows.proofs.DefaultLayoutLemmas.{drawn-none, drawn-some}

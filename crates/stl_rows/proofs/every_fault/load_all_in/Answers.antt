@@ -1,6 +1,5 @@
--- The faults reported so far and the faults of the rest, in each iteration and at each return:
--- continues-next, reports-end, reports-stop, fails-next; and the subtitles used for checking:
--- can_judge-enough, can_judge-not, can_judge-broken.
+-- In each iteration and at each return of `load_all_in`, the reported faults are those of the
+-- blocks that were read.
 use Rattle.std.proofs.Common.{◌∙◌, ◌++◌, ◌<◌, refl, rules, sym, [], ◌∷◌, map, arith}
 use Rattle.std.proofs.Common.{drop, inl, inr}
 use Rattle.std.proofs.lemmas.Bool.Decides.{nat_tests}

@@ -1,5 +1,4 @@
--- If the audience stops at a subtitle's last fault, all faults of the subtitle were reported:
--- stops-last.
+-- If the audience stops at a subtitle's last fault, all faults of the subtitle were reported.
 use Rattle.std.proofs.Common.{arith}
 use Rattle.std.proofs.lemmas.Bool.Decides.{nat_tests}
 use Rattle.stl_rows.proofs.LoadingLemmas.{stops-last}

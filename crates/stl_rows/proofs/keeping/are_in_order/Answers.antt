@@ -1,5 +1,4 @@
--- `are_in_order`: testing one subtitle for overlap, and the end of the list: in_order-next,
--- in_order-end.
+-- `are_in_order`: testing one subtitle for overlap, and the end of the list.
 use Rattle.std.proofs.Common.{arith, sym, ◌∙◌}
 use Rattle.std.proofs.lemmas.Bool.Decides.{nat_tests}
 use Rattle.stl_rows.proofs.KeepingLemmas.{in_order-all, in_order-end, in_order-next}

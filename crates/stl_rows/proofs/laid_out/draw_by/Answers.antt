@@ -1,5 +1,4 @@
--- `draw_by`: a rejected byte is reported, drawn_by-refused; otherwise the lines decide,
--- drawn_by-cut.
+-- `draw_by`: a rejected byte is reported; otherwise the lines decide.
 use Rattle.std.proofs.Common.{arith}
 use Rattle.std.proofs.lemmas.Bool.Decides.{nat_tests}
 use Rattle.stl_rows.proofs.CutLemmas.{cut_small, drawn_by-cut, drawn_by-refused}

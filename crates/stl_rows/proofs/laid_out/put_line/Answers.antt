@@ -1,4 +1,4 @@
--- A line that has cells and no fault fits in a row of the page: sound_line.
+-- A line that has cells and no fault fits in a row of the page.
 use Rattle.std.proofs.Common.{arith}
 use Rattle.std.proofs.lemmas.Bool.Decides.{nat_tests}
 use Rattle.stl_rows.proofs.LaidOutLemmas.{sound_line}

@@ -1,5 +1,4 @@
--- `codes_of_text` parses one pair of digits after another: codes_filled-step, codes_filled-odd,
--- codes_filled-end.
+-- `codes_of_text` parses one pair of digits after another.
 use Rattle.std.proofs.Common.{arith, Some}
 use Rattle.std.proofs.lemmas.Bool.Decides.{nat_tests}
 use Rattle.std.proofs.lemmas.List.{length-set}

@@ -1,4 +1,4 @@
--- `first_text`: the text before the first comma is the first part of the text: cut_at-first.
+-- `first_text`: the text before the first comma is the first part of the text.
 use Rattle.stl_rows.proofs.CutAtLemmas.{cut_at-first}
 use Rattle.stl_rows.proofs.layout_text.first_text.Goals as goal
 

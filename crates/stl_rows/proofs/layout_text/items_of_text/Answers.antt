@@ -1,4 +1,4 @@
--- `items_of_text` parses one item after another: items_set-more.
+-- `items_of_text` parses one item after another.
 use Rattle.std.proofs.Common.{arith}
 use Rattle.std.proofs.lemmas.Bool.Decides.{nat_tests}
 use Rattle.std.proofs.lemmas.List.{length-set}

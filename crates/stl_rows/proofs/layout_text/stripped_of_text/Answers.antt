@@ -1,4 +1,4 @@
--- `stripped_of_text` parses one pair of digits after another: stripped_with-more.
+-- `stripped_of_text` parses one pair of digits after another.
 use Rattle.std.proofs.Common.{arith}
 use Rattle.std.proofs.lemmas.Bool.Decides.{nat_tests}
 use Rattle.std.proofs.lemmas.List.{length-set}

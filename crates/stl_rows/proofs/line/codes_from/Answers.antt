@@ -1,5 +1,4 @@
--- `codes_from`: copying a line onto a row of spaces gives the row that shows the line:
--- row_from-put, row_from-codes.
+-- `codes_from`: copying a line onto a row of spaces gives the row that shows the line.
 use Rattle.std.proofs.Common.{arith}
 use Rattle.std.proofs.lemmas.Bool.Decides.{nat_tests}
 use Rattle.stl_rows.proofs.LineLemmas.{row_from-codes, row_from-put}

@@ -1,5 +1,4 @@
--- `push_framed`: with `fit`, only the codes that fit are added, framed-fits; without `fit`, all
--- codes are added, framed-all.
+-- `push_framed`: with `fit`, only the codes that fit are added; without `fit`, all codes are added.
 use Rattle.std.proofs.Common.{arith}
 use Rattle.std.proofs.lemmas.Bool.Decides.{nat_tests}
 use Rattle.stl_rows.proofs.PreparedLineLemmas.{framed-all, framed-fits}

@@ -1,5 +1,4 @@
--- `trailing`: the count ends at a cell outside the range of codes, trailing_at, or at the start of
--- the line, trailing_all.
+-- `trailing`: the count ends at a cell outside the range of codes, or at the start of the line.
 use Rattle.std.proofs.Common.{arith}
 use Rattle.std.proofs.lemmas.Bool.Decides.{nat_tests}
 use Rattle.stl_rows.proofs.PreparedLineLemmas.{trailing_all, trailing_at}

@@ -1,5 +1,4 @@
--- The next cue is the TCI or TCO of the first subtitle whose TCO is after the frame: next_edge-tci,
--- next_edge-tco.
+-- The next cue is the TCI or TCO of the first subtitle whose TCO is after the frame.
 use Rattle.std.proofs.Common.{arith, rules}
 use Rattle.stl_rows.proofs.DuePageLemmas.{next_edge-tci, next_edge-tco}
 use Rattle.stl_rows.proofs.programme.cue_after.Goals as goal

@@ -1,5 +1,5 @@
 -- The last cue is the TCI of the first subtitle whose TCO is after the frame, or the TCO of the
--- subtitle before it: last_edge-tci, last_edge-gap.
+-- subtitle before it.
 use Rattle.std.proofs.Common.{arith, rules}
 use Rattle.stl_rows.proofs.DuePageLemmas.{last_edge-gap, last_edge-tci, starts_after}
 use Rattle.stl_rows.proofs.programme.cue_until.Goals as goal

@@ -1,5 +1,4 @@
--- The TCOs of a programme do not decrease, so a binary search finds the first TCO after a frame:
--- tco_rises.
+-- The TCOs of a programme do not decrease, so a binary search finds the first TCO after a frame.
 use Rattle.stl_rows.proofs.DuePageLemmas.{tco_rises}
 use Rattle.stl_rows.proofs.programme.first_after.Goals as goal
 

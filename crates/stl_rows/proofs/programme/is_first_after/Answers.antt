@@ -1,5 +1,4 @@
--- `is_first_after`: the previous subtitle has ended by the frame, and this one has not:
--- ended-until, left-from.
+-- `is_first_after`: the previous subtitle has ended by the frame, and this one has not.
 use Rattle.std.proofs.Common.{arith}
 use Rattle.std.proofs.lemmas.Bool.Decides.{nat_tests}
 use Rattle.stl_rows.proofs.DuePageLemmas.{ended-until, left-from}

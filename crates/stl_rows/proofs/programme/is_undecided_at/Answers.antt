@@ -1,5 +1,5 @@
 -- After all subtitles, the expected page is unknown if an unreliable subtitle follows the last;
--- otherwise the first subtitle that ends after the frame decides: undecided-last, undecided-next.
+-- otherwise the first subtitle that ends after the frame decides.
 use Rattle.std.proofs.Common.{arith, length, sym, ◌≡◌}
 use Rattle.std.proofs.lemmas.Bool.Decides.{nat_tests}
 use Rattle.stl_rows.proofs.JudgedLemmas.{undecided-last, undecided-next, undecided-none}

@@ -1,5 +1,4 @@
--- `text_code_at`: one or two bytes are one text code, text_codes-common, text_codes-pair. All cells
--- are below 128: cell_of_pair-small, cell_of-small, other-small.
+-- `text_code_at`: one or two bytes are one text code. All cells are below 128.
 use Rattle.std.proofs.Common.{arith, subst, sym}
 use Rattle.std.proofs.lemmas.Bool.Decides.{nat_tests}
 use Rattle.std.specs.Prelude.{IfSome}

@@ -1,4 +1,4 @@
--- `first_fault` returns the first of all faults of a subtitle: reported-faults, drawn-first.
+-- `first_fault` returns the first fault of a subtitle.
 use Rattle.std.proofs.Common.{arith}
 use Rattle.std.proofs.lemmas.Bool.Decides.{nat_tests}
 use Rattle.stl_rows.proofs.DefaultLayoutLemmas.{drawn-none, drawn-some}

@@ -1,4 +1,4 @@
--- `next_change`: the expected page does not change from one cue to the next, by still_due.
+-- `next_change`: the expected page does not change from one cue to the next.
 use Rattle.std.proofs.Common.{arith, inl, inr}
 use Rattle.std.proofs.lemmas.Bool.Decides.{nat_tests}
 use Rattle.std.proofs.lemmas.Bool.{cases_lt}

@@ -1,4 +1,4 @@
--- `send_steps` writes one page transmission after another, by steps-more and part-one.
+-- `send_steps` writes one page transmission after another.
 use Rattle.std.proofs.Common.{arith, rules}
 use Rattle.std.proofs.lemmas.Result.{err_from_is_err_and}
 use Rattle.sub_plan.proofs.StepLemmas.{steps-more, steps-none}

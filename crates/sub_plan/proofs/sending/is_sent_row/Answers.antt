@@ -1,4 +1,4 @@
--- A row of the page is sent if and only if it is not blank: sent_by_blank.
+-- A row of the page is sent if and only if it is not blank.
 use Rattle.sub_plan.proofs.SendingLemmas.{sent_by_blank}
 use Rattle.sub_plan.proofs.sending.is_sent_row.Goals as goal
 

@@ -1,4 +1,4 @@
--- The standard library parses one to ten digits as their value: parse-digits.
+-- The standard library parses one to ten digits as their value.
 use Rattle.std.proofs.Common.{arith}
 use Rattle.std.proofs.lemmas.Grind.{common_steps}
 use Rattle.sub_words.specs.Texts.{number_of_text}

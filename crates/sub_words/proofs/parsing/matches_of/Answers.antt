@@ -1,5 +1,4 @@
--- The matches that clap returns for the program's command line are exact, by command_in-parsed,
--- has_subcommand-parsed, refusals-parsed and IsFaultOfCommand-refused.
+-- `clap` returns exactly the matches that the definition of the command line determines.
 use Rattle.std.proofs.Common.{◌∙◌}
 use Rattle.sub_words.specs.Commands.{texts_of}
 use Rattle.sub_words.proofs.CommandLemmas.{IsFaultOfCommand-refused, command_in-parsed}

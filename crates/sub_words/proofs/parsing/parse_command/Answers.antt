@@ -1,4 +1,4 @@
--- `parse_command` returns the request of the command's arguments: request_by_command-met.
+-- `parse_command` returns the request of the command's arguments.
 use Rattle.std.proofs.Common.{rules}
 use Rattle.clap.specs.Words.{found_of, rows_of}
 use Rattle.clap.specs.declared.parser.matches.ArgMatches.TheViews.{out-ArgMatches}

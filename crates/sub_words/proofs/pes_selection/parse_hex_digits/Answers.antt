@@ -1,4 +1,4 @@
--- The standard library parses one to eight hexadecimal digits as their value: read-hex_digits.
+-- The standard library parses one to eight hexadecimal digits as their value.
 use Rattle.std.proofs.Common.{arith}
 use Rattle.std.proofs.lemmas.Grind.{common_steps}
 use Rattle.sub_words.specs.PesTexts.{number_of_hex_digits}

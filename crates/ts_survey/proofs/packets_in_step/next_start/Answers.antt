@@ -1,4 +1,4 @@
--- Each byte that `next_start` skips belongs to no packet: skipped_on.
+-- Each byte that `next_start` skips belongs to no packet.
 use Rattle.std.proofs.Common.{◌≤◌, ◌+◌, length, rules}
 use Rattle.ts_survey.proofs.InStepLemmas.{skipped_on}
 use Rattle.ts_survey.proofs.packets_in_step.next_start.Goals as goal

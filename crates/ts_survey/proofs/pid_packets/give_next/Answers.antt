@@ -1,4 +1,4 @@
--- The bytes that `give_next` passes on were the first of those that are ready.
+-- `give_next` passes on the first of the bytes that are ready.
 use Rattle.ts_survey.proofs.pid_packets.give_next.Goals as goal
 
 pub returns : goal.returns

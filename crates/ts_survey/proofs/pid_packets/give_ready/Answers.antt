@@ -1,4 +1,4 @@
--- Each iteration of `give_ready` passes on one part: first-taken, same-rest.
+-- Each iteration of `give_ready` passes on one part of the bytes that are ready.
 use Rattle.ts_survey.proofs.FollowingLemmas.{first-taken, same-rest}
 use Rattle.ts_survey.proofs.pid_packets.give_ready.Goals as goal
 

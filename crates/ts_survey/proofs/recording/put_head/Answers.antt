@@ -1,4 +1,4 @@
--- The lines `survey 1` and `head` are printed word by word: adds-word.
+-- The lines `survey 1` and `head` are printed word by word.
 use Rattle.ts_survey.proofs.TextLemmas.{adds-last, adds-word}
 use Rattle.ts_survey.proofs.recording.put_head.Goals as goal
 

@@ -1,4 +1,4 @@
--- The line `over` is printed word by word: adds-word.
+-- The line `over` is printed word by word.
 use Rattle.ts_survey.proofs.TextLemmas.{adds-last, adds-word}
 use Rattle.ts_survey.proofs.recording.put_over.Goals as goal
 

@@ -1,5 +1,4 @@
--- The first lines are written before the others: grows-more; flushing does not change what was
--- written: appends-kept.
+-- The first lines are written before the other lines. Flushing does not change the written bytes.
 use Rattle.ts_survey.proofs.ListedLemmas.{appends-kept}
 use Rattle.ts_survey.proofs.SurveyLemmas.{grows-more}
 use Rattle.ts_survey.proofs.reporting.flush_pending.Goals as goal

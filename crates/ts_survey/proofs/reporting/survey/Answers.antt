@@ -1,5 +1,4 @@
--- Each iteration of `survey` appends to the output: grows-more, reported-on and reported-kept; the
--- end of the output: reported-end.
+-- Each iteration of `survey` appends lines to the output.
 use Rattle.std.proofs.Common.{◌≡◌, ◌≤◌, ◌++◌, ◌∙◌, [], ap, false, length, refl, rules, subst}
 use Rattle.std.proofs.Common.{sym, take}
 use Rattle.std.proofs.KnownBytes.{Appends-trans, Consumes-nil, Consumes-trans}

@@ -1,4 +1,4 @@
--- Setting the counts does not change the length of the GSI block.
+-- Setting TNB and TNS does not change the length of the GSI block.
 use Rattle.std.proofs.Common.{◌∙◌}
 use borrow.Rule.Slice.PartMut.{same_len_mid}
 use Rattle.stl_file.proofs.gsi.Gsi.set_counts.Goals as goal

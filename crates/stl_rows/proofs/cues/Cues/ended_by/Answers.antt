@@ -1,5 +1,4 @@
--- A binary search among the cues finds the same index as one among the subtitles: ended-before,
--- ended-after.
+-- A binary search among the cues finds the same index as one among the subtitles.
 use Rattle.std.proofs.Common.{leb, arith, rules, sym}
 use Rattle.std.proofs.lemmas.List.Sorted.{IsPartitionPoint-from_clause, IsPartitionedBy-leb}
 use Rattle.std.proofs.lemmas.List.{length-map}

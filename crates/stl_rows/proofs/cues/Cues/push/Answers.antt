@@ -1,5 +1,4 @@
--- Appending a text changes no earlier text, and the new subtitle is the last: subtitles_kept,
--- subtitles_added.
+-- Appending a text changes no earlier text, and the new subtitle is the last.
 use Rattle.std.proofs.Common.{◌≡◌, ◌∙◌, ◌++◌, ◌∷◌, [], ap, map}
 use Rattle.stl_rows.specs.Cues.{subtitle_in}
 use Rattle.stl_rows.proofs.CuesLemmas.{all_added, on_err, subtitles_added, subtitles_kept}

@@ -1,4 +1,4 @@
--- A national option is found only by its own name: word_of_option.
+-- A national option is found only by its own name.
 use Rattle.std.proofs.Common.{rules, ◌≡◌}
 use Rattle.stl_rows.specs.SubSets.{option_named, sub_set}
 use Rattle.stl_rows.proofs.SubSetLemmas.{word_of_option}

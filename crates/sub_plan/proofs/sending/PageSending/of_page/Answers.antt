@@ -1,4 +1,4 @@
--- `of_page` appends the packets row by row, by rows_next.
+-- `of_page` appends the packets row by row.
 use Rattle.std.proofs.Common.{arith, append_assoc, append-nil}
 use Rattle.std.proofs.lemmas.Bool.Decides.{nat_tests}
 use Rattle.std.proofs.lemmas.List.{length_push}

@@ -1,4 +1,4 @@
--- `pull` appends new bytes to the buffered bytes: holds_more.
+-- `pull` appends new bytes to the buffered bytes.
 use Rattle.std.proofs.Common.{rules}
 use Rattle.ts_survey.proofs.ReadBufferLemmas.{holds_more}
 use Rattle.ts_survey.proofs.buffer.ReadBuffer.pull.Goals as goal

@@ -1,4 +1,4 @@
--- `skip_bytes` moves the bytes that are left to the front of the buffer: buffered_without.
+-- `skip_bytes` moves the remaining bytes to the front of the buffer.
 use Rattle.std.proofs.Common.{rules}
 use Rattle.ts_survey.proofs.ReadBufferLemmas.{buffered_without}
 use Rattle.ts_survey.proofs.buffer.ReadBuffer.skip_bytes.Goals as goal

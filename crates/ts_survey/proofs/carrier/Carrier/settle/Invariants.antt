@@ -1,4 +1,4 @@
--- In each iteration of `settle`, the PID that is followed stays the same.
+-- No iteration of `settle` changes the PID of the carrier.
 use Rattle.std.proofs.Common.{◌≡◌}
 use Rattle.ts_survey.proofs.carrier.Carrier.settle.Given as goal
 

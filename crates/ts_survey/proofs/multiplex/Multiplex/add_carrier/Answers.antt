@@ -1,5 +1,4 @@
--- The PID that `add_carrier` follows is requested, one-more-requested; its line is printed word by
--- word, adds-word.
+-- The PID that `add_carrier` follows is requested; its line is printed word by word.
 use Rattle.std.proofs.Common.{refl, rules}
 use Rattle.ts_survey.proofs.RequestedLemmas.{one-more-requested}
 use Rattle.ts_survey.proofs.TextLemmas.{adds-last, adds-word}

@@ -1,4 +1,4 @@
--- Printing the irregular PCRs of a followed PID does not change which PIDs are followed: map-same.
+-- Printing the irregular PCRs of a followed PID does not change which PIDs are followed.
 use Rattle.std.proofs.Common.{◌≡◌, ◌<◌, ◌∙◌, length, map, rules, slice_set}
 use Rattle.ts_survey.specs.Requested.{pid_followed}
 use Rattle.ts_survey.proofs.RequestedLemmas.{map-same}

@@ -1,4 +1,4 @@
--- Recording a loss for a followed PID does not change which PIDs are followed: map-same.
+-- Recording a loss for a followed PID does not change which PIDs are followed.
 use Rattle.std.proofs.Common.{◌<◌, ◌∙◌, length, rules}
 use Rattle.ts_survey.specs.Requested.{pid_followed}
 use Rattle.ts_survey.proofs.RequestedLemmas.{map-same}

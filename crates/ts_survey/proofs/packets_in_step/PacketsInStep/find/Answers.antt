@@ -1,5 +1,4 @@
--- `find` begins without items and finds one item after another: found_none, found_packet and
--- found_skips.
+-- `find` begins without items and finds one item after another.
 use Rattle.std.proofs.Common.{◌≡◌, ◌≤◌, ◌∙◌, ap, arith, drop, length-drop, rules}
 use Rattle.mpeg_ts.specs.PacketSize.{bytes_of}
 use Rattle.ts_survey.proofs.InStepLemmas.{found_none, found_packet, found_skips, prefix_end}

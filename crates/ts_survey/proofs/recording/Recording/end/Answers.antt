@@ -1,4 +1,4 @@
--- The last line has the two counts, whatever was printed before: ends-reported.
+-- The last line has the two counts, whatever was printed before.
 use Rattle.ts_survey.proofs.ListedLemmas.{ends-reported}
 use Rattle.ts_survey.proofs.recording.Recording.end.Goals as goal
 

@@ -1,4 +1,4 @@
--- Processing the packets of a transport stream does not change the kind of the recording: goes-on.
+-- Processing the packets of a transport stream does not change the kind of the recording.
 use Rattle.ts_survey.proofs.ListedLemmas.{goes-on}
 use Rattle.ts_survey.proofs.recording.Recording.flush_pending.Goals as goal
 

@@ -1,4 +1,4 @@
--- As long as the kind of the recording is unknown, no line of its kind is printed: adds-nothing.
+-- As long as the kind of the recording is unknown, no line of its kind is printed.
 use Rattle.std.proofs.Common.{◌∙◌, sym}
 use Rattle.ts_survey.proofs.FirstLinesLemmas.{adds-nothing}
 use Rattle.ts_survey.proofs.recording.Recording.inspect.Goals as goal
