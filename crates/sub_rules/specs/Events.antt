@@ -1,15 +1,14 @@
--- All events of a transmission in order (own): each broken rule with its place. Some rules are
--- checked at the end of each frame and may stay broken from one frame to the next; for these rules,
--- the events give the first and the last frame at which the rule is broken. The order is that of
--- the checks, so the first event is the reason for rejecting the file.
+-- All events of a transmission, in order (own). Each broken rule is an event with its place. Some
+-- rules are checked at the end of each frame and may stay broken over several frames; for these
+-- rules, the events give the first and the last frame at which the rule is broken. The events are
+-- in the order of the checks, so the first event is the reason for rejecting the file.
 --
--- Beginning and end are separate events, since a wrong page stays until something else is sent: a
--- single event with both frames would come only then.
+-- A fault's beginning and end are separate events, because a wrong page stays on air until
+-- something else is sent: a single event with both frames would be reported only then.
 --
--- The order of the frame ends: for each PES packet, first the frames of the day after all earlier
--- PES packets and before the packet's own frame, then its own frame. The end of a frame without a
--- PES packet takes the earlier PES packets into account; the end of the packet's own frame also
--- takes that packet into account.
+-- For each PES packet, the checker first ends the frames without packets before it, then the
+-- packet's own frame. The end of a frame without a PES packet takes only the earlier PES packets
+-- into account.
 use Rattle.std.specs.Prelude.{ℕ, zero, suc, max, ◌+◌, ◌-◌, ◌&&◌, ◌==◌, Bool, true, false, not, List}
 use Rattle.std.specs.Prelude.{[], ◌∷◌, ◌++◌, map, length, take, Option, Some, None, is_some}
 use Rattle.std.specs.Prelude.{◌||◌, option_and_then, option_map, nat_le, nat_lt, if◌then◌else◌}
@@ -38,19 +37,19 @@ use Rattle.sub_rules.specs.declared.packet_rule.PacketRule.TheVariants as rule
 use Rattle.sub_rules.specs.declared.packet_rule.Watched.{Watched}
 use Rattle.sub_rules.specs.declared.active_faults.ActiveFaults.{ActiveFaults}
 
--- ---- the faults active at the end of a frame
+-- ---- the active faults at the end of a frame
 
 -- The rules checked at the end of a frame, in the order of reports.
 unfoldable pub end_rules : List EndRule
 end_rules = end.Content ∷ end.Gap ∷ end.Incomplete ∷ end.Undecided ∷ end.Silent ∷ []
 
--- The place of a broken rule about the whole frame, (0, 0), which is no cell; `None` if the rule is
--- not broken.
+-- The place of a broken rule that concerns the entire page: (0, 0), which is no cell. `None` if the
+-- rule is not broken.
 abbrev pub entire_frame : Bool → Option (ℕ × ℕ)
 entire_frame true = Some (0, 0)
 entire_frame false = None
 
--- The place at which a rule is broken; `None` if the rule is not broken.
+-- The place at which a rule is broken, given the active faults; `None` if the rule is not broken.
 abbrev pub broken_at : EndRule → ActiveFaults → Option (ℕ × ℕ)
 broken_at end.Content s = s.content
 broken_at end.Gap s = entire_frame s.gap
@@ -58,7 +57,7 @@ broken_at end.Incomplete s = entire_frame s.incomplete
 broken_at end.Undecided s = entire_frame s.undecided
 broken_at end.Silent s = entire_frame s.silent
 
--- No fault is active.
+-- The state in which no fault is active.
 abbrev pub no_active_faults : ActiveFaults
 no_active_faults = record {
   content = None;
@@ -68,41 +67,40 @@ no_active_faults = record {
   silent = false;
 }
 
--- The first cell that passes a test: the least row, 1 to 24, then the least column, 0 to 39. `None`
--- if no cell passes.
+-- The first cell that passes a test, by row (1 to 24) and then by column (0 to 39). `None` if no
+-- cell passes.
 unfoldable pub first_cell : (ℕ → ℕ → Bool) → Option (ℕ × ℕ)
 first_cell test =
     option_and_then
     (λ above. option_map (λ column. (above + 1, column)) (first_below 40 (test (above + 1))))
     (first_below 24 (λ above. is_some (first_below 40 (test (above + 1)))))
 
--- After these packets, the cell is correct for the expected page: `IsRight` as a test.
+-- After these packets, the cell has the code of the expected page: `IsRight` as a test.
 abbrev pub is_right : Bool → PageIdValue → List (List ℕ) → Rows → ℕ → ℕ → Bool
 is_right keeps page packets due row column =
     kept keeps page packets row column == cell due row column
     && (cell due row column == space || has_row page packets row)
 
--- The first cell that, after these packets, is not correct for the expected page; `None` if all
--- cells are correct.
+-- The first cell that differs from the expected page after these packets; `None` if no cell
+-- differs.
 unfoldable pub wrong_after : Bool → PageIdValue → List (List ℕ) → Rows → Option (ℕ × ℕ)
 wrong_after keeps page packets due =
     first_cell (λ row column. not (is_right keeps page packets due row column))
 
--- The first cell that is not correct at the end of frame f, after n frames of the transmission. If
--- the expected page is unknown, any cell may have any code.
+-- The first wrong cell at the end of frame f, after n frames of the transmission. `None` if the
+-- expected page is unknown, since any code may then be in any cell.
 abbrev pub wrong_cell : Criteria → Transmission → ℕ → ℕ → Option (ℕ × ℕ)
 wrong_cell g frames n f =
     if g.undecided f
     then None
     else wrong_after g.watched.keeps g.watched.page (packets_before frames n) (g.due f)
 
--- The frame s has a header of the page, and is one of the last `every` frames up to f, or later.
+-- The frame s has a header of the page, and is at most `every` - 1 frames before frame f.
 abbrev pub covers : Criteria → ℕ → SentFrame → Bool
 covers g f s = holds_header (kind g.watched.page) s.packets && nat_lt f (s.frame + g.every)
 
--- The last `every` frames up to f have no header of the page: they begin at the first frame of the
--- transmission or later, and no header of the page in the first n frames of the transmission is in
--- or after them.
+-- A header of the page is missing: none of the last `every` frames up to frame f has one, among the
+-- first n frames of the transmission. False until `every` frames have passed since the first frame.
 unfoldable pub is_gap : Criteria → Transmission → ℕ → ℕ → Bool
 is_gap g frames n f =
     nat_le (frame_at frames 0 + g.every) (f + 1) && not (list_any (covers g f) (take n frames))
@@ -112,10 +110,10 @@ unfoldable pub is_incomplete : Criteria → Transmission → ℕ → Bool
 is_incomplete g frames n =
     g.watched.complete && is_open_after (kind g.watched.page) (packets_before frames n)
 
--- ---- the number of frames within which the page must be right
+-- ---- the delay after which the page must be correct
 
--- At the end of frame f, after n frames of the transmission, the page is unfinished: a cell is not
--- correct, or complete pages are required and the page is open.
+-- The page is unfinished at the end of frame f, after n frames of the transmission: a cell is
+-- wrong, or complete pages are required and the page is open.
 abbrev pub is_unfinished : Criteria → Transmission → ℕ → ℕ → Bool
 is_unfinished g frames n f = is_some (wrong_cell g frames n f) || is_incomplete g frames n
 
@@ -124,32 +122,31 @@ unfoldable pub latest : Transmission → ℕ → ℕ
 latest frames zero = 0
 latest frames (suc n) = max (latest frames n) (frame_at frames n)
 
--- At least `pace` frames after the frame `last` have passed by the end of frame f. If no pace is
--- required, false.
+-- At least `pace` frames have passed between the frame `last` and the end of frame f. False if no
+-- pace is required.
 abbrev pub silent_for : Option ℕ → ℕ → ℕ → Bool
 silent_for None last f = false
 silent_for (Some pace) last f = nat_le (last + pace) f
 
--- A pace is required, and no PES packet is in the last `pace` frames up to f. If no PES packet was
--- sent at all, any pace is missed.
+-- No PES packet was sent in the last `pace` frames up to frame f. False if no pace is required.
 unfoldable pub is_silent : Criteria → Transmission → ℕ → ℕ → Bool
 is_silent g frames zero f = is_some g.pace
 is_silent g frames (suc n) f = silent_for g.pace (latest frames (suc n)) f
 
--- The number of frames of the day after all of the first i frames of the transmission and before
--- frame i of the transmission.
+-- The number of frames without a PES packet between frame i of the transmission and all frames
+-- before it.
 unfoldable pub gap_length : Transmission → ℕ → ℕ
 gap_length frames zero = 0
 gap_length frames (suc i) = frame_at frames (suc i) - (latest frames (suc i) + 1)
 
--- The first frame of the current run of frame ends with an unfinished page, up to the end of frame
--- f. `first_unfinished` is the first frame of the run at the previous end.
+-- The first frame of the current run of frames with an unfinished page, at the end of frame f.
+-- `first_unfinished` is the value at the end of the frame before.
 abbrev pub unfinished_from : Option ℕ → Bool → ℕ → Option ℕ
 unfinished_from first_unfinished unfinished f = if unfinished then Some (unwrap_or first_unfinished
     f) else None
 
--- The first frame of the current run of frame ends with an unfinished page, after k more frames of
--- the day without a PES packet.
+-- The first frame of the current run of frames with an unfinished page, after k more frames without
+-- a PES packet.
 unfoldable pub first_unfinished_in_gap : Criteria → Transmission → ℕ → Option ℕ → ℕ → Option ℕ
 first_unfinished_in_gap g frames n first_unfinished zero = first_unfinished
 first_unfinished_in_gap g frames n first_unfinished (suc k) =
@@ -157,8 +154,8 @@ first_unfinished_in_gap g frames n first_unfinished (suc k) =
     unfinished_from (first_unfinished_in_gap g frames n first_unfinished k)
     (is_unfinished g frames n f) f
 
--- The first frame of the current run of frame ends with an unfinished page, at the end of frame n -
--- 1 of the transmission; `None` before the first frame.
+-- The first frame of the current run of frames with an unfinished page, after the first n frames of
+-- the transmission; `None` before the first frame.
 unfoldable pub first_unfinished_in_frames : Criteria → Transmission → ℕ → Option ℕ
 first_unfinished_in_frames g frames zero = None
 first_unfinished_in_frames g frames (suc i) =
@@ -166,50 +163,49 @@ first_unfinished_in_frames g frames (suc i) =
     (gap_length frames i))
     (is_unfinished g frames (suc i) (frame_at frames i)) (frame_at frames i)
 
--- The first frame of the current run of frame ends with an unfinished page, at the end of frame f,
--- after n frames of the transmission; `None` if the page is finished there.
+-- The first frame of the current run of frames with an unfinished page, at the end of frame f,
+-- after n frames of the transmission; `None` if the page is finished at that end.
 unfoldable pub unfinished_run_start : Criteria → Transmission → ℕ → ℕ → Option ℕ
 unfinished_run_start g frames n f =
     first_unfinished_in_gap g frames n (first_unfinished_in_frames g frames n) (f - latest frames n)
 
--- The first frame of the current run of frame ends with an unfinished page, at the end before that
--- of frame f, with n frames of the transmission up to there.
+-- The first frame of the run of frames with an unfinished page, at the end of the frame before
+-- frame f, after n frames of the transmission.
 unfoldable pub first_unfinished_before : Criteria → Transmission → ℕ → ℕ → Option ℕ
 first_unfinished_before g frames zero f = None
 first_unfinished_before g frames (suc i) f = unfinished_run_start g frames (suc i) (f - 1)
 
--- The next frame is the TCO of a subtitle whose page was never finished: the subtitle began at or
--- after the first unfinished end of the run. A subtitle that began before the first frame of the
--- transmission counts too, if the run begins at that frame.
+-- A subtitle ends after this frame, and its page was unfinished in all its frames. `tci` is the
+-- subtitle's first frame. A subtitle that began before the first frame of the transmission counts
+-- too, if the page has been unfinished from the first frame on.
 abbrev pub is_missed : Option ℕ → ℕ → ℕ → Bool
 is_missed None first first_unfinished = false
 is_missed (Some tci) first first_unfinished = nat_le first_unfinished tci ||
     (first_unfinished == first && nat_lt tci first)
 
--- At the end of frame f, the page must be correct by now: it has been unfinished since
--- `first_unfinished`, and either the permitted number of frames has passed, or a subtitle ends
--- unfinished. A finished page is not overdue.
+-- The page is overdue at the end of frame f: it has been unfinished for more than `within` frames,
+-- or a subtitle ends whose page was never finished. A finished page is not overdue.
 abbrev pub is_overdue : Criteria → ℕ → Option ℕ → ℕ → Bool
 is_overdue g first None f = false
 is_overdue g first (Some first_unfinished) f =
     nat_le (first_unfinished + g.within) f || is_missed (g.ending (f + 1)) first first_unfinished
 
--- At the end of frame f, after n frames of the transmission, an unfinished page is a fault. If
--- `within` is 0, each unfinished end is a fault, otherwise only overdue ones.
+-- An unfinished page is a fault at the end of frame f, after n frames of the transmission. If
+-- `within` is 0, it always is; otherwise only if the page is overdue.
 unfoldable pub is_late : Criteria → Transmission → ℕ → ℕ → Bool
 is_late g frames n f =
     g.within == 0 || is_overdue g (frame_at frames 0) (unfinished_run_start g frames n f) f
 
--- The code was expected in the cell at frame f or at one of the n frames before f, but not before
--- the frame `first`.
+-- The code was expected in the cell at frame f or at one of the n frames before f. Frames before
+-- `first` do not count.
 unfoldable pub was_due : (ℕ → Rows) → ℕ → ℕ → ℕ → ℕ → ℕ → ℕ → Bool
 was_due due first f zero row column code = cell (due f) row column == code
 was_due due first f (suc n) row column code =
     was_due due first f n row column code
     || (nat_le (first + suc n) f && (cell (due (f - suc n)) row column == code))
 
--- The first cell that, after these packets, has neither a space nor a code that was expected at
--- frame f or at one of the n frames before f, but not before the frame `first`.
+-- The first cell whose code, after these packets, is neither a space nor expected in that cell at
+-- frame f or at one of the n frames before f. Frames before `first` do not count.
 unfoldable pub unexpected_after :
     Bool → PageIdValue → List (List ℕ) → (ℕ → Rows) → ℕ → ℕ → ℕ → Option (ℕ × ℕ)
 unexpected_after keeps page packets due first f n =
@@ -218,8 +214,8 @@ unexpected_after keeps page packets due first f n =
     not (kept keeps page packets row column == space)
     && not (was_due due first f n row column (kept keeps page packets row column)))
 
--- The expected page is unknown at frame f or at one of the n frames before f, but not before the
--- frame `first`.
+-- The expected page is unknown at frame f or at one of the n frames before f. Frames before `first`
+-- do not count.
 unfoldable pub was_undecided : (ℕ → Bool) → ℕ → ℕ → ℕ → Bool
 was_undecided undecided first f zero = undecided f
 was_undecided undecided first f (suc n) =
@@ -231,7 +227,7 @@ undecided_within g frames f = was_undecided g.undecided (frame_at frames 0) f g.
 
 -- The first cell with a code that was not expected at frame f or at one of the `within` frames
 -- before f, after n frames of the transmission. `None` if the expected page is unknown at one of
--- these frames, since any code may have been expected.
+-- these frames.
 abbrev pub unexpected_cell : Criteria → Transmission → ℕ → ℕ → Option (ℕ × ℕ)
 unexpected_cell g frames n f =
     if undecided_within g frames f
@@ -242,8 +238,8 @@ unexpected_cell g frames n f =
     f g.within
 
 -- The first cell with a fault at the end of frame f, after n frames of the transmission. If the
--- page must be correct by now, each cell must be correct; otherwise each cell must have a space or
--- a code that was expected at frame f or at one of the `within` frames before f.
+-- page is overdue, each cell must be correct; otherwise each cell must have a space or a code that
+-- was expected at frame f or at one of the `within` frames before f.
 abbrev pub broken_cell : Criteria → Transmission → ℕ → ℕ → Option (ℕ × ℕ)
 broken_cell g frames n f =
     if is_late g frames n f then wrong_cell g frames n f else unexpected_cell g frames n f
@@ -258,9 +254,9 @@ active_faults_at g frames n f = record {
   silent = is_silent g frames n f;
 }
 
--- ---- the events at the end of a frame
+-- ---- events at the end of a frame
 
--- The fault of a rule that is broken at this place at the end of frame f.
+-- The fault for a rule that is broken at this place at the end of frame f.
 abbrev pub end_fault : EndRule → ℕ → ℕ × ℕ → CheckFault
 end_fault end.Content f cell = fault.Content f cell.0 cell.1
 end_fault end.Gap f cell = fault.Gap f
@@ -268,8 +264,8 @@ end_fault end.Incomplete f cell = fault.Incomplete f
 end_fault end.Undecided f cell = fault.Undecided f
 end_fault end.Silent f cell = fault.Silent f
 
--- The events of one rule at the end of frame f, given the place at which the rule was broken at the
--- previous end, of frame `before`, and the place at which the rule is broken now.
+-- The events of one rule at the end of frame f. `old` is the place at which the rule was broken at
+-- the previous end, of frame `before`; `new` is the place at the end of f.
 abbrev pub rule_events : EndRule → Option (ℕ × ℕ) → ℕ → Option (ℕ × ℕ) → ℕ → List Event
 rule_events rule None before None f = []
 rule_events rule None before (Some new) f = Reported (end_fault rule f new) ∷ []
@@ -279,43 +275,42 @@ rule_events rule (Some old) before (Some new) f =
     then []
     else Ended rule before ∷ Reported (end_fault rule f new) ∷ []
 
--- The events of all rules at the end of frame f, given the active faults at the previous end, of
--- frame `before`, and the active faults now.
+-- The events of all rules at the end of frame f. `old` are the active faults at the previous end,
+-- of frame `before`; `new` are the active faults at the end of f.
 unfoldable pub end_events : ActiveFaults → ℕ → ActiveFaults → ℕ → List Event
 end_events old before new f =
     flat_map (λ rule. rule_events rule (broken_at rule old) before (broken_at rule new) f) end_rules
 
--- ---- the order of the ends of frames
+-- ---- the order of frame ends
 
--- The frame whose end comes before the end of frame f, after i frames of the transmission: the
--- frame of the day before f, if that frame has no PES packet, otherwise the frame of the last PES
--- packet.
+-- The frame that ends before frame f, after i frames of the transmission: the day's frame before f,
+-- if it has no PES packet; otherwise the frame of the last PES packet.
 abbrev pub end_before : Transmission → ℕ → ℕ → ℕ
 end_before frames i f =
     if nat_lt (latest frames i + 1) f then f - 1 else frame_at frames (i - 1)
 
--- The active faults at the end before that of frame f; none before the first end.
+-- The active faults at the end before frame f ends; none before the first end.
 unfoldable pub active_faults_before : Criteria → Transmission → ℕ → ℕ → ActiveFaults
 active_faults_before g frames zero f = no_active_faults
 active_faults_before g frames (suc i) f = active_faults_at g frames (suc i)
     (end_before frames (suc i) f)
 
--- The events at the end of frame f, with n frames of the transmission up to this end, and i up to
--- the previous end.
+-- The events at the end of frame f. By this end, n frames of the transmission were sent; by the
+-- previous end, i frames.
 abbrev pub events_at_end : Criteria → Transmission → ℕ → ℕ → ℕ → List Event
 events_at_end g frames i n f =
     end_events (active_faults_before g frames i f) (end_before frames i f)
     (active_faults_at g frames n f) f
 
--- ---- events of a PES packet
+-- ---- events for a PES packet
 
--- A subtitle is expected before this frame: the first TCI is earlier.
+-- The first subtitle begins before this frame.
 abbrev pub is_early : Option ℕ → ℕ → Bool
 is_early None frame = false
 is_early (Some first_tci) frame = nat_lt first_tci frame
 
--- The events for the number of frame i of the transmission: the first frame must not be after the
--- first TCI, and each other frame must be after the previous one.
+-- The events for the frame number of frame i of the transmission: the first frame must not be after
+-- the first TCI, and each later frame must be after the one before it.
 unfoldable pub order_events : Criteria → Transmission → ℕ → List Event
 order_events g frames zero =
     if is_early g.first_tci (frame_at frames 0)
@@ -326,7 +321,7 @@ order_events g frames (suc i) =
     then []
     else Reported (fault.Order (suc i)) ∷ []
 
--- The fault of packet number `packet` of a frame, which breaks this rule.
+-- The fault for packet number `packet` of a frame, which breaks the rule.
 abbrev pub packet_fault : PacketRule → ℕ → ℕ → CheckFault
 packet_fault rule.Address frame packet = fault.Address frame packet
 packet_fault rule.HeaderCode frame packet = fault.HeaderCode frame packet
@@ -336,25 +331,26 @@ packet_fault rule.Parity frame packet = fault.Parity frame packet
 packet_fault rule.RowChanged frame packet = fault.RowChanged frame packet
 packet_fault rule.Enhancement frame packet = fault.Enhancement frame packet
 
--- The events of packet k of a frame, sent after the packets `before`: one event for each rule that
+-- The events for packet k of a frame, sent after the packets `before`: one event for each rule that
 -- the packet breaks.
 unfoldable pub rules_reported : Watched → ℕ → ℕ → List (List ℕ) → List ℕ → List Event
 rules_reported w frame k before p =
     map (λ (r : PacketRule). Reported (packet_fault r frame k)) (broken_rules w before p)
 
--- The events of the first n of `packets`, which belong to one frame and are numbered from `from`
--- on. The packets `before` were sent before them.
+-- The events for the first n of `packets`, which are packets of one frame, numbered from `from`.
+-- The packets `before` were sent earlier.
 unfoldable pub packets_reported : Watched → ℕ → ℕ → List (List ℕ) → List (List ℕ) → ℕ → List Event
 packets_reported w frame from before packets zero = []
 packets_reported w frame from before packets (suc n) =
     packets_reported w frame from before packets n
     ++ rules_reported w frame (from + n) (before ++ take n packets) (slice_index_or packets n [])
 
--- The events of the first n packets of a frame, numbered from 0, after the packets `before`.
+-- The events for the first n packets of a frame, numbered from 0. The packets `before` were sent
+-- earlier.
 abbrev pub packet_events : Watched → ℕ → List (List ℕ) → List (List ℕ) → ℕ → List Event
 packet_events w frame before packets n = packets_reported w frame 0 before packets n
 
--- The event of the first frame, after its packets, if the frame has no header of the page.
+-- The event `NoFirstHeader`, if the first frame has no header of the page.
 unfoldable pub first_header_events : Criteria → Transmission → ℕ → List Event
 first_header_events g frames zero =
     if holds_header (kind g.watched.page) (packets_of_frame frames 0)
@@ -364,52 +360,52 @@ first_header_events g frames (suc i) = []
 
 -- ---- events of the whole transmission
 
--- The events at the last end of a file: each active fault ends.
+-- The events at the end of the file: each active fault ends.
 abbrev pub endings : ActiveFaults → ℕ → List Event
 endings last frame = end_events last frame no_active_faults frame
 
--- The fault of the bytes after the frames, at PES packet number `pes`. If there are no frames and
--- no bytes, the fault is that the file is empty.
+-- The fault for the bytes after the last frame that was read, at PES packet number `pes`. `Empty`
+-- if all bytes were read, for a file without frames.
 abbrev pub unread_fault : ℕ → Option Unread → CheckFault
 unread_fault pes (Some (BadPacket f)) = fault.Pes pes f
 unread_fault pes (Some NoFrame) = fault.OffFrame pes
 unread_fault pes None = fault.Empty
 
--- The transmission is too short: the last TCO is after this frame.
+-- A subtitle ends after this last frame.
 abbrev pub is_short : Option ℕ → ℕ → Bool
 is_short None frame = false
 is_short (Some last_tco) frame = nat_lt frame last_tco
 
--- At the last end, the page is unfinished, but that is no fault yet: the page could have become
--- correct in a frame that is missing.
+-- The page is unfinished at the last end, but still had time to become correct in a frame that the
+-- file does not have.
 unfoldable pub is_pending : Criteria → Transmission → Bool
 is_pending g frames =
     let n = length frames in
     is_some (unfinished_run_start g frames n (end_frame frames))
     && not (is_late g frames n (end_frame frames))
 
--- The event `Late` after the last frame, if the last TCO is after that frame, or if the page is
--- unfinished at its end but that is no fault yet.
+-- The event `Late`, if a subtitle ends after the last frame, or if the page is unfinished at its
+-- end but not yet overdue.
 abbrev pub late_events : Criteria → Transmission → List Event
 late_events g frames =
     if is_short g.last_tco (end_frame frames) || is_pending g frames
     then Reported (fault.Late (end_frame frames)) ∷ []
     else []
 
--- The events after the last frame, given why the rest of the file cannot be read, if it cannot.
+-- The events after the end of the last frame. `unread` says why the rest of the file could not be
+-- read.
 abbrev pub rest_events : Criteria → Transmission → Option Unread → List Event
 rest_events g frames (Some unread) = Reported (unread_fault (length frames) (Some unread)) ∷ []
 rest_events g frames None = late_events g frames
 
--- All events after the last frame of the transmission. For an empty list, the event says why there
--- are no frames.
+-- All events at the end of the file. If there are no frames, the only event says why.
 unfoldable pub closing_events : Criteria → Transmission → ℕ → List Event
 closing_events g frames zero = Reported (unread_fault 0 g.unread) ∷ []
 closing_events g frames (suc n) =
     endings (active_faults_at g frames (suc n) (end_frame frames)) (end_frame frames)
     ++ rest_events g frames g.unread
 
--- The first fault among the events; `None` if no event reports a fault.
+-- The first fault among the events; `None` if no event is a fault.
 abbrev pub first_reported : List Event → Option CheckFault
 first_reported [] = None
 first_reported (Reported f ∷ more) = Some f

@@ -1,6 +1,5 @@
--- The table of the faults of a pair of files: for each fault the number and the name in reports
--- (own), the place, and the consequences. Also which faults come from a device, from memory or from
--- the subtitle file.
+-- The table of faults of a subtitle file and a PES file (own): the number and name of each fault,
+-- its place, and its consequences.
 use Rattle.std.specs.Prelude.{ℕ, List, Bool, true, false, Option, Some, None}
 use Rattle.std.specs.Prelude.{codes, unwrap_or}
 use Rattle.sub_io.specs.FaultCode.{FaultCodeValue, fault_code}
@@ -20,7 +19,7 @@ use Rattle.ttx_pes.specs.Fault as pes
 use Rattle.ttx_pes.specs.Fault.{is_of_pes_packet, pes_code}
 use Rattle.ttx_pes.specs.declared.fault.PesFault.TheVariants.{Read}
 
--- The number and the name of the fault for a broken rule of a frame's end.
+-- The number and name of the fault for a rule that is checked at the end of a frame.
 abbrev pub rule_code : EndRule → FaultCodeValue
 rule_code end.Content = fault_code 72 (codes "Content")
 rule_code end.Gap = fault_code 73 (codes "Gap")
@@ -28,26 +27,26 @@ rule_code end.Incomplete = fault_code 77 (codes "Incomplete")
 rule_code end.Undecided = fault_code 78 (codes "Undecided")
 rule_code end.Silent = fault_code 79 (codes "Silent")
 
--- The place of a fault of loading: a TTI block, and for a fault in the text of a subtitle also the
--- position in the text.
+-- The place of a fault in the subtitle file: the TTI block and, for a fault in a subtitle's text,
+-- the position in the text.
 abbrev pub load_place : LoadFaultKind → ℕ → FaultPlace
 load_place (Row f) block = place.Text block f.at
 load_place _ block = place.Block block
 
 -- ---- the table of faults
 
--- The row of a fault with this code and place, for which no PES packet is skipped.
+-- The table row of a fault whose PES packet is not skipped.
 abbrev pub coded_row : FaultCodeValue → FaultPlace → Bool → FaultRow
 coded_row code place invalidates =
     record { code = code; place = place; invalidates = invalidates; is_skipped = false }
 
--- The row of a fault with this number, name and place, for which no PES packet is skipped.
+-- The table row of a fault with this number and name, whose PES packet is not skipped.
 abbrev pub rule_row : ℕ → List ℕ → FaultPlace → Bool → FaultRow
 rule_row number name place invalidates = coded_row (fault_code number name) place invalidates
 
--- The row of a fault: its number and name; its place; whether the fault affects receivers, so that
--- its frame is no longer fault-free; and whether the PES packet is skipped. Receivers depend
--- neither on C11 nor on packets X/25 to X/28.
+-- The table row of a fault: its number and name, its place, whether it affects receivers, and
+-- whether its PES packet is skipped. The receivers of the model ignore C11 and packets X/25 to
+-- X/28.
 abbrev pub fault_row : CheckFault → FaultRow
 fault_row (fault.Subtitles f) = coded_row (load_code f.kind) (load_place f.kind f.block) false
 fault_row (fault.Pes n f) =
@@ -72,18 +71,18 @@ fault_row (fault.Undecided f) = coded_row (rule_code end.Undecided) (place.Frame
 fault_row (fault.Silent f) = coded_row (rule_code end.Silent) (place.Frame f) true
 fault_row (fault.Late f) = rule_row 74 (codes "Late") (place.Frame f) false
 
--- The number and the name of a fault of a pair of files.
+-- The number and name of a fault.
 abbrev pub check_code : CheckFault → FaultCodeValue
 check_code f = (fault_row f).code
 
--- The place of a fault of a pair of files.
+-- The place of a fault.
 abbrev pub place_of : CheckFault → FaultPlace
 place_of f = (fault_row f).place
 
--- The first frame that is no longer trusted because of a fault at this place; `None` if the fault
--- does not affect receivers. For a faulty PES packet it is `last`, the frame of the previous PES
--- packet, to which the faulty contents may belong. For a page that is wrong for too long, it is
--- `late`, the frame since which the page is wrong.
+-- The first frame that is no longer trusted because of a fault; `None` if the fault does not affect
+-- receivers. For a faulty PES packet, it is `last`, the frame of the previous PES packet, to which
+-- the faulty packet may belong. For an overdue page, it is `late`, the first frame with the
+-- unfinished page.
 abbrev pub invalidated_frame : ℕ → Option ℕ → Bool → FaultPlace → Option ℕ
 invalidated_frame last late true (place.Pes n) = Some last
 invalidated_frame last late true (place.Frame f) = Some (unwrap_or late f)
@@ -91,7 +90,7 @@ invalidated_frame last late true (place.Packet f k) = Some f
 invalidated_frame last late true (place.Cell f r c) = Some (unwrap_or late f)
 invalidated_frame last late _ _ = None
 
--- The fault with another PES packet number in its place, if its place is a PES packet.
+-- The same fault with PES packet number `pes`, if its place is a PES packet.
 abbrev pub fault_at_pes : ℕ → CheckFault → CheckFault
 fault_at_pes pes (fault.Order index) = fault.Order pes
 fault_at_pes pes (fault.Pes index f) = fault.Pes pes f
@@ -100,34 +99,33 @@ fault_at_pes pes refusal = refusal
 
 -- ---- causes of faults
 
--- The fault means that the source of the PES file failed.
+-- The PES file could not be read.
 abbrev pub is_pes_read : CheckFault → Bool
 is_pes_read (fault.Pes index f) = pes.is_read f
 is_pes_read _ = false
 
--- The fault means that a sink of PES packets failed. No check reports this fault.
+-- A PES packet could not be written. The checker never reports this fault.
 abbrev pub is_pes_write : CheckFault → Bool
 is_pes_write (fault.Pes index f) = pes.is_write f
 is_pes_write _ = false
 
--- The fault means that the source of the subtitle file failed.
+-- The subtitle file could not be read.
 abbrev pub is_stl_read : CheckFault → Bool
 is_stl_read (fault.Subtitles f) = load.is_load_read f
 is_stl_read _ = false
 
--- The fault belongs to the subtitle file.
+-- The fault is in the subtitle file.
 abbrev pub is_subtitle_fault : CheckFault → Bool
 is_subtitle_fault (fault.Subtitles f) = true
 is_subtitle_fault _ = false
 
--- The fault of loading means that the source failed or memory could not be allocated.
+-- The subtitle file could not be loaded, because it could not be read or memory ran out.
 abbrev pub is_failure_kind : LoadFaultKind → Bool
 is_failure_kind Memory = true
 is_failure_kind (File stl.Read) = true
 is_failure_kind _ = false
 
--- The fault means that a source failed or memory could not be allocated, so it says nothing about
--- the files.
+-- A file could not be read or memory ran out, so the fault says nothing about the files.
 abbrev pub is_failure : CheckFault → Bool
 is_failure (fault.Subtitles f) = is_failure_kind f.kind
 is_failure (fault.Pes index Read) = true

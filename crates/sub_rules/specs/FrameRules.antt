@@ -1,5 +1,4 @@
--- The requirements at the end of each frame, for the first n frames of a transmission and the
--- criteria of the check.
+-- The requirements at the end of each frame, and the criteria of a check.
 use Rattle.std.specs.Prelude.{◌≡◌, ℕ, ◌+◌, ◌-◌, ◌<◌, ◌⊎◌, ◌&&◌, Bool, false, true, List, []}
 use Rattle.std.specs.Prelude.{Option, Some, map, take, length, IsTrue, IsFalse}
 use Rattle.std.specs.Prelude.{slice_index, slice_index_or, flat_map}
@@ -16,25 +15,25 @@ use Rattle.sub_rules.specs.Kept.{IsRight}
 use Rattle.sub_rules.specs.Transmission.{SentFrame, Transmission}
 use Rattle.sub_rules.specs.declared.packet_rule.Watched.{Watched}
 
--- Why the rest of a PES file cannot be read as frames: the next bytes are no valid PES packet, for
--- this fault, or a PES packet whose PTS is that of no frame of the day.
+-- The reason why the rest of a PES file cannot be read as frames: the next bytes are no valid PES
+-- packet, or the PTS of the next PES packet belongs to no frame of the day.
 pub data Unread : Type 0 where
   BadPacket : PesFault → Unread
   NoFrame : Unread
 
 -- The criteria of a check:
 --
---   watched      the page and its national option, and what its repeats may do
---   every        repeat bound in frames
---   within       the due page must be right within so many frames
---   pace         maximum distance of PES packets in frames, if it is limited
---   due          the due page at each frame
---   ending       the TCI of the subtitle with a given TCO
+--   watched      the page, its national option, and the requirements on its headers
+--   every        the repeat bound in frames
+--   within       the number of frames within which the page must become correct
+--   pace         the longest interval between PES packets in frames, if it is limited
+--   due          the expected page at each frame
+--   ending       for a TCO, the TCI of its subtitle
 --   first_tci    the first TCI
 --   last_tco     the last TCO
---   any_refused  subtitles of the file were rejected
---   undecided    the frames at which the due page is unknown because of rejected subtitles
---   unread       why the rest of the PES file cannot be read, if it cannot
+--   any_refused  whether subtitles of the file were rejected
+--   undecided    the frames with an unknown expected page, because of rejected subtitles
+--   unread       why the rest of the PES file could not be read, if it could not
 pub record Criteria : Type 0 where
   pub watched : Watched
   pub every : ℕ
@@ -48,8 +47,8 @@ pub record Criteria : Type 0 where
   pub undecided : ℕ → Bool
   pub unread : Option Unread
 
--- The page to check: its identifier from the options, the national option of the programme, whether
--- complete pages are required, and whether repeats may have C4 (erase page) clear.
+-- The page to check: its number, the national option of the subtitles, whether complete pages are
+-- required, and whether repeats may have C4 (erase page) clear.
 abbrev pub watched_of : ProgrammeValue → OptionsValue → Watched
 watched_of programme options = record {
   page = options.page;
@@ -58,8 +57,8 @@ watched_of programme options = record {
   keeps = options.keeps;
 }
 
--- The criteria for a programme without rejected subtitles, for this page, repeat bound, number of
--- frames until the page must be correct, and pace.
+-- The criteria for subtitles of which none was rejected, with this page, repeat bound, delay and
+-- pace.
 abbrev pub criteria_with : ProgrammeValue → Watched → ℕ → ℕ → Option ℕ → Option Unread → Criteria
 criteria_with programme watched every within pace unread = record {
   watched = watched;
@@ -75,18 +74,17 @@ criteria_with programme watched every within pace unread = record {
   unread = unread;
 }
 
--- The criteria for a programme without rejected subtitles, and options.
+-- The criteria for subtitles of which none was rejected, with these options.
 abbrev pub criteria_of : ProgrammeValue → OptionsValue → Option Unread → Criteria
 criteria_of programme options unread =
     criteria_with programme (watched_of programme options) options.every options.within options.pace
     unread
 
--- The expected page is unknown at this frame, because subtitles of the file were rejected.
+-- The expected page is unknown at this frame, because subtitles were rejected.
 abbrev pub is_due_undecided : JudgedValue → ℕ → Bool
 is_due_undecided j frame = has_refused j && is_undecided_in j frame
 
--- The criteria for the reliable subtitles of a file. If no subtitle was rejected, the criteria are
--- those of the programme.
+-- The criteria for the reliable subtitles of a file, of which others may have been rejected.
 abbrev pub criteria_of_judged : JudgedValue → OptionsValue → Option Unread → Criteria
 criteria_of_judged j options unread =
     record (criteria_of j.programme options unread) {
@@ -102,7 +100,7 @@ frame_at frames i = slice_index (map (λ (s : SentFrame). s.frame) frames) i
 abbrev pub packets_of_frame : Transmission → ℕ → List (List ℕ)
 packets_of_frame frames i = slice_index_or (map (λ (s : SentFrame). s.packets) frames) i []
 
--- The packets of the first n entries of the transmission, joined.
+-- The packets of the first n entries of the transmission, in one list.
 abbrev pub packets_before : Transmission → ℕ → List (List ℕ)
 packets_before frames n = flat_map (λ (s : SentFrame). s.packets) (take n frames)
 
@@ -114,20 +112,20 @@ end_frame frames = frame_at frames (length frames - 1)
 abbrev pub HasHeader : Criteria → Transmission → ℕ → Type 0
 HasHeader g frames i = holds_header (kind g.watched.page) (packets_of_frame frames i) ≡ true
 
--- At the end of frame f of the day, after n entries of the transmission, the cell is correct.
+-- The cell is correct at the end of frame f, after n entries of the transmission.
 abbrev pub ShowsDue : Criteria → Transmission → ℕ → ℕ → ℕ → ℕ → Type 0
 ShowsDue g frames n f row column =
     IsRight g.watched.keeps g.watched.page (packets_before frames n) (g.due f) row column
 
--- Among the last `every` frames of the day up to f, one is before the first frame of the
--- transmission, or has a header of the page.
+-- One of the last `every` frames up to frame f has a header of the page, or is before the first
+-- frame of the transmission.
 abbrev pub IsCovered : Criteria → Transmission → ℕ → ℕ → Type 0
 IsCovered g frames n f =
     (f + 1 < frame_at frames 0 + g.every)
     ⊎ ((j : ℕ) × (j < n) × (f < frame_at frames j + g.every) × HasHeader g frames j)
 
--- If a pace is required, one of the first n entries of the transmission is less than that many
--- frames before frame f, or after f.
+-- If a pace is required, a PES packet was sent less than that many frames before the end of frame
+-- f.
 abbrev pub IsPaced : Criteria → Transmission → ℕ → ℕ → Type 0
 IsPaced g frames n f =
     (pace : ℕ) → g.pace ≡ Some pace → (j : ℕ) × (j < n) × (f < frame_at frames j + pace)

@@ -1,7 +1,7 @@
--- The seven rules of a good transmission. The rules apply to the packets as they are transmitted.
+-- The seven rules of a good transmission, for the packets as they are transmitted.
 --
--- Complete pages are not required by these rules: the main theorem holds without them, and real
--- transmissions do not always have complete pages. The option `--complete` requires them.
+-- These rules don't require complete pages: the main theorem does not need them, and real
+-- transmissions often have incomplete pages. The option `--complete` requires them.
 use Rattle.std.specs.Prelude.{◌≡◌, ℕ, ◌+◌, ◌<◌, ◌≤◌, List, Some, length, take}
 use Rattle.std.specs.Prelude.{All, IfSome, IsTrue, IsFalse, Option}
 use Rattle.ttx_packet.specs.declared.header.Header.{Header}
@@ -25,8 +25,8 @@ use Rattle.sub_rules.specs.FrameRules.{frame_at}
 use Rattle.sub_rules.specs.Transmission.{Transmission, IsRising, EachPacket, first_frame}
 use Rattle.sub_rules.specs.Transmission.{last_frame, packets_of, on_air_until}
 
--- Two packets agree on the transmission mode, parallel or serial: if both are page headers, of
--- whatever page and magazine, they have the same C11, magazine serial (EN 300 706).
+-- If both packets are page headers, of any page and magazine, they have the same C11 (magazine
+-- serial, EN 300 706), so both are in serial or both in parallel mode.
 abbrev pub IsInOneMode : List ℕ → List ℕ → Type 0
 IsInOneMode one other =
     (h k : Header) → header one ≡ Some h → header other ≡ Some k → c11 h ≡ c11 k
@@ -48,23 +48,22 @@ abbrev pub IsControlled : National → PageIdValue → List ℕ → Type 0
 IsControlled national page packet =
     (h : Header) → kind page packet ≡ ThisPage h → IsSubtitleHeader national h
 
--- The packet is a packet X/25 to X/28 of the page's magazine, which could change more of the page
--- than its rows. Packets X/29, which belong to the magazine, are allowed.
+-- The packet is a packet X/25 to X/28 of the page's magazine, which could change the page. Packets
+-- X/29, which belong to the entire magazine, are allowed.
 abbrev pub IsEnhancement : PageIdValue → List ℕ → Type 0
 IsEnhancement page packet =
     (a : PacketAddress) × (address packet ≡ Some a) × (a.magazine ≡ page.magazine)
     × (25 ≤ a.packet_number) × (a.packet_number ≤ 28)
 
--- The packets of a span are clean: each row has 40 bytes of odd parity, two packets of the same row
--- are equal, and no packet is X/25 to X/28 of the page's magazine. A span is the list of packets
--- after a header of the page, up to the next page header that ends the page.
+-- The rows of an open page are clean: each has 40 bytes of odd parity, packets of the same row are
+-- equal, and no packet X/25 to X/28 of the magazine is sent. `packets` are those between a header
+-- of the page and the header that ends it.
 pub record IsCleanSpan (page : PageIdValue) (packets : List (List ℕ)) : Type 0 where
   pub odd : All (IsOddRow page) packets
   pub same : All (λ first. All (IsSameRow page first) packets) packets
   pub plain : All (λ packet. IsEnhancement page packet → ⊥) packets
 
--- At any packet and at the end of any frame, the packets after the last header of the page, up to
--- the next page header that ends the page, are clean.
+-- While the page is open, its rows are clean, at each packet of the transmission.
 abbrev pub HasCleanSpans : PageIdValue → Transmission → Type 0
 HasCleanSpans page transmission =
     (f n : ℕ) → f ≤ last_frame transmission
@@ -74,8 +73,8 @@ HasCleanSpans page transmission =
 abbrev pub HoldsHeader : PageIdValue → Transmission → ℕ → Type 0
 HoldsHeader page transmission f = IsTrue (holds_header (kind page) (packets_of transmission f))
 
--- Among any `every` consecutive frames of the day, from the first frame of the transmission to the
--- last, at least one contains a header of the page.
+-- At least one of any `every` consecutive frames, from the first frame of the transmission to the
+-- last, has a header of the page.
 abbrev pub Repeats : PageIdValue → ℕ → Transmission → Type 0
 Repeats page every transmission =
     (start : ℕ)
@@ -83,9 +82,9 @@ Repeats page every transmission =
     → start + every ≤ last_frame transmission + 1
     → (f : ℕ) × (start ≤ f) × (f < start + every) × HoldsHeader page transmission f
 
--- If a maximum distance of PES packets is required (at least 1 frame), each frame of the day from
--- the first to the last is at or after a frame of the transmission, by less than that distance. No
--- transmission keeps a distance of 0; options exclude it.
+-- If the options limit the interval between PES packets, each frame from the first to the last is
+-- less than that many frames after a frame with a PES packet. Options never limit the interval to
+-- 0.
 abbrev pub KeepsPace : Option ℕ → Transmission → Type 0
 KeepsPace pace transmission =
     (frames f : ℕ)
@@ -96,7 +95,7 @@ KeepsPace pace transmission =
     × (frame_at transmission j ≤ f)
     × (f < frame_at transmission j + frames)
 
--- At the end of each frame from the first to the last, even without packets of its own, each cell
+-- At the end of each frame from the first to the last, whether or not it has packets, each cell
 -- shows the code of the expected page.
 abbrev pub ShowsDuePages : ProgrammeValue → PageIdValue → Transmission → Type 0
 ShowsDuePages programme page transmission =
@@ -105,8 +104,7 @@ ShowsDuePages programme page transmission =
     → IsCell row column
     → shown page (on_air_until transmission f) row column ≡ cell (due_in programme f) row column
 
--- Rules 1 to 6, which are about everything but the shown text, for a transmission of a programme on
--- a page with a repeat bound. The options' PTS of frame 0 is not used here.
+-- Rules 1 to 6 of a good transmission, which concern everything except the displayed text.
 pub record KeepsRules
     (programme : ProgrammeValue) (transmission : Transmission) (options : OptionsValue)
     : Type 0 where
@@ -133,10 +131,10 @@ pub record KeepsRules
   -- consecutive frames.
   pub opens : HoldsHeader options.page transmission (first_frame transmission)
   pub repeats : Repeats options.page options.every transmission
-  -- PES packets are no further apart than the options require, if they require a distance.
+  -- The interval between PES packets is within the limit of the options, if they have one.
   pub paced : KeepsPace options.pace transmission
 
--- A good transmission of a programme keeps all seven rules.
+-- A transmission of these subtitles is good if it keeps all seven rules.
 pub record Good
     (programme : ProgrammeValue) (transmission : Transmission) (options : OptionsValue)
     : Type 0 where

@@ -1,6 +1,6 @@
--- The requirements on a cell and a header if repeats may have C4 (erase page) clear: inserters set
--- C4, erase page, when the text changes, and many clear C4 when they repeat the same page. A repeat
--- must then contain the whole page, unchanged.
+-- The requirements if repeats may have C4 (erase page) clear. Inserters set C4 when the text
+-- changes, and many clear it when they repeat the page. Such a repeat must contain the entire page,
+-- unchanged.
 use Rattle.std.specs.Prelude.{◌≡◌, ◌≢◌, ◌↔◌, ℕ, ◌⊎◌, Bool, false, List, [], ◌∷◌}
 use Rattle.std.specs.Prelude.{Option, Some, None, IsTrue, IsFalse}
 use Rattle.std.specs.List.{list_any}
@@ -20,33 +20,32 @@ use Rattle.stl_rows.specs.SubSets.{sub_set}
 use Rattle.sub_plan.specs.Sending.{national_bits}
 use Rattle.sub_rules.specs.declared.packet_rule.Watched.{Watched}
 
--- ---- when a cell is right
+-- ---- correct cells
 
--- Since the last header of the page, a packet of the row was sent, and no other page header has
--- ended the page before it.
+-- A packet of the row was received since the last header of the page, while the page was open.
 abbrev pub has_row : PageIdValue → List (List ℕ) → ℕ → Bool
 has_row page packets row =
     list_any (λ packet. is_row row (kind page packet)) (span (kind page) packets)
 
--- The cell is correct after these packets: it has the code of the expected page, and unless that
--- code is a space, its row was sent after the last header of the page.
+-- The cell is correct after these packets: it has the expected code, and unless that code is a
+-- space, its row was sent after the last header of the page.
 pub record IsRight
     (keeps : Bool) (page : PageIdValue) (packets : List (List ℕ)) (due : Rows) (row column : ℕ)
     : Type 0 where
   pub kept_eq : kept keeps page packets row column ≡ cell due row column
   pub again : cell due row column ≢ space → IsTrue (has_row page packets row)
 
--- If repeats must have C4 (erase page) set, a cell is correct if and only if it shows the expected
--- code. So `Good` is the requirement for pages that each header erases.
+-- If each header of the page has C4 (erase page) set, a cell is correct if and only if it shows the
+-- expected code, as `Good` requires.
 abbrev pub LawOfRightCells : Type 0
 LawOfRightCells =
     (page : PageIdValue) (packets : List (List ℕ)) (due : Rows) (row column : ℕ)
     → IsRight false page packets due row column
     ↔ (shown page packets row column ≡ cell due row column)
 
--- ---- when a header may keep the page
+-- ---- headers with C4 (erase page) clear
 
--- The page header in the packet, if the packet is a header of the checked page.
+-- The page header, if the packet is a header of the checked page.
 abbrev pub header_of_page : PacketKind → Option Header
 header_of_page (ThisPage h) = Some h
 header_of_page _ = None
@@ -56,15 +55,14 @@ abbrev pub last_header : PageIdValue → List (List ℕ) → Option Header
 last_header page [] = None
 last_header page (p ∷ ps) = option_or (last_header page ps) (header_of_page (kind page p))
 
--- The header h of the page, sent after these packets, repeats the page: it has the sub-code of the
--- page's previous header, if there was one; and if complete pages are required, the page is not
--- open.
+-- The header h repeats the page: it has the sub-code of the page's previous header; and if complete
+-- pages are required, the page has ended.
 pub record IsRepeat (complete : Bool) (page : PageIdValue) (before : List (List ℕ)) (h : Header)
     : Type 0 where
   pub subcode : (last : Header) → last_header page before ≡ Some last → h.subcode ≡ last.subcode
   pub closed : IsTrue complete → IsFalse (is_open_after (kind page) before)
 
--- If the packet is a header of the page, it erases the page (C4) or repeats the page.
+-- If the packet is a header of the page, it has C4 (erase page) set or repeats the page.
 abbrev pub ErasesOrRepeats : Bool → PageIdValue → List (List ℕ) → List ℕ → Type 0
 ErasesOrRepeats complete page before packet =
     (h : Header)
@@ -84,9 +82,8 @@ abbrev pub IsOfSubtitle : National → PageIdValue → List ℕ → Type 0
 IsOfSubtitle national page packet =
     (h : Header) → kind page packet ≡ ThisPage h → HasSubtitleBits national h
 
--- The rule for a header of the page, sent after the packets `before`: the header has the control
--- bits of a subtitle, and it erases the page or, if repeats may have C4 (erase page) clear, repeats
--- it.
+-- The rule for a header of the page that is sent after the packets `before`: it has the control
+-- bits of a subtitle page, and has C4 (erase page) set or, if that is allowed, repeats the page.
 pub record IsControlledBy (w : Watched) (before : List (List ℕ)) (packet : List ℕ) : Type 0 where
   pub control : IsOfSubtitle w.national w.page packet
   pub erases : IsFalse w.keeps → ErasesPage w.page packet

@@ -1,5 +1,5 @@
--- The rules for a packet that is sent after other packets. Each rule takes all packets before this
--- packet into account, from the first packet of the transmission on.
+-- The seven rules for Teletext packets. Whether a packet breaks a rule depends on all packets
+-- before it.
 use Rattle.std.specs.Prelude.{◌≡◌, ℕ, ◌<◌, List, [], ◌∷◌, take, length, slice_index_or}
 use Rattle.std.specs.Prelude.{Option, Some, None, IsTrue, filter, map, drop}
 use Rattle.std.specs.List.{AllByRecursion}
@@ -26,7 +26,7 @@ abbrev pub first_header : List (List ℕ) → Option Header
 first_header [] = None
 first_header (p ∷ ps) = option_or (header p) (first_header ps)
 
--- The 40 codes of a packet's text, without parity bits.
+-- The 40 codes of a row, without parity bits.
 abbrev pub codes_of : List ℕ → List ℕ
 codes_of packet = map code_of (drop 2 packet)
 
@@ -47,15 +47,14 @@ KeepsRule rule.Mode w before p =
     → header p ≡ Some h
     → first_header before ≡ Some first
     → c11 h ≡ c11 first
--- Control: a header of the page has the control bits of a subtitle, and it erases the page or, if
--- repeats may have C4 (erase page) clear, repeats it.
+-- Control: a header of the page has the control bits of a subtitle page, and has C4 (erase page)
+-- set or, if that is allowed, repeats the page.
 KeepsRule rule.Control w before p = IsControlledBy w before p
 -- Parity: while the page is open, its rows have 40 bytes of odd parity.
 KeepsRule rule.Parity w before p =
     IsTrue (is_open_after (kind w.page) before) → IsOddRow w.page p
--- RowChanged: while the page is open, a row equals each packet of the same row since the last
--- header of the page; if repeats may have C4 (erase page) clear, since the last header that erases
--- it.
+-- RowChanged: while the page is open, a row equals the earlier packets of the same row since the
+-- page was last erased.
 KeepsRule rule.RowChanged w before p =
     IsTrue (is_open_after (kind w.page) before)
     → (row : ℕ)
@@ -70,7 +69,7 @@ KeepsRule rule.Enhancement w before p =
 abbrev pub KeepsAllRules : Watched → List (List ℕ) → List ℕ → Type 0
 KeepsAllRules w before p = (f : PacketRule) → KeepsRule f w before p
 
--- The packets are well-formed, and each keeps all seven rules after the packets before it.
+-- Each packet has 42 bytes, and keeps all seven rules after the packets before it.
 abbrev pub AreClean : Watched → List (List ℕ) → Type 0
 AreClean w packets =
     (k : ℕ)

@@ -1,5 +1,5 @@
--- The rules for a packet as tests. A packet may break several rules, and is tested even if earlier
--- packets broke some. Page header and address are read with a single wrong bit per byte corrected.
+-- The rules for Teletext packets as tests. A packet is tested even if earlier packets broke rules.
+-- The address and the page header are read with single-bit errors corrected.
 use Rattle.std.specs.Prelude.{ℕ, zero, suc, ◌+◌, ◌&&◌, ◌||◌, ◌==◌, Bool, true, false, not, List, []}
 use Rattle.std.specs.Prelude.{◌∷◌, Option, Some, None, option_map, is_some, nat_le, slice_index}
 use Rattle.std.specs.List.{filter, find}
@@ -29,7 +29,7 @@ unfoldable pub is_word_below : ℕ → ℕ → Bool
 is_word_below b zero = false
 is_word_below b (suc n) = b == code_word n || is_word_below b n
 
--- The n bytes of a packet from the place `from` on are code words without a wrong bit (EN 300 706,
+-- The n bytes of a packet from position `from` on are code words without a wrong bit (EN 300 706,
 -- 8.2).
 unfoldable pub are_code_words : ℕ → ℕ → List ℕ → Bool
 are_code_words from zero packet = true
@@ -41,7 +41,7 @@ abbrev pub is_of_header : Option PacketAddress → Bool
 is_of_header None = false
 is_of_header (Some a) = a.packet_number == 0
 
--- Both headers exist, and their bits C11 differ.
+-- Both values of C11 are known, and they differ.
 abbrev pub is_other_mode : Option Bool → Option Bool → Bool
 is_other_mode (Some true) (Some false) = true
 is_other_mode (Some false) (Some true) = true
@@ -52,7 +52,7 @@ abbrev pub is_same_bit : Bool → Bool → Bool
 is_same_bit true b = b
 is_same_bit false b = not b
 
--- The bits C12, C13 and C14 of both options are equal.
+-- Both national options have the same bits C12, C13 and C14.
 abbrev pub is_same_option : NationalBits → NationalBits → Bool
 is_same_option one other =
     is_same_bit one.c12 other.c12 && is_same_bit one.c13 other.c13 && is_same_bit one.c14 other.c14
@@ -63,32 +63,33 @@ has_subtitle_bits national h =
     not (c5 h) && c6 h && c7 h && not (c10 h)
     && is_same_option (national_bits h) (sub_set national).bits
 
--- The header h has the sub-code of the header `last`, if there is one.
+-- The header h has the same sub-code as `last`, the previous header of the page, if there was one.
 abbrev pub is_same_subcode : Option Header → Header → Bool
 is_same_subcode None h = true
 is_same_subcode (Some last) h = h.subcode == last.subcode
 
--- The header h of the page, sent after these packets, repeats the page: `IsRepeat` as a test.
+-- The header h of the page repeats the page that was sent before: `IsRepeat` as a test.
 abbrev pub repeats_page : Bool → PageIdValue → List (List ℕ) → Header → Bool
 repeats_page complete page before h =
     is_same_subcode (last_header page before) h
     && not (complete && is_open_after (kind page) before)
 
--- The header h of the page, sent after these packets, erases the page or, if repeats may have C4
--- (erase page) clear, repeats it.
+-- The header h of the page has C4 (erase page) set or, if that is allowed, repeats the page.
 abbrev pub may_follow_as_header : Watched → List (List ℕ) → Header → Bool
 may_follow_as_header w before h = c4 h || (w.keeps && repeats_page w.complete w.page before h)
 
--- The header h may be sent after these packets, and has the control bits of a subtitle.
+-- The header h of the page is allowed after these packets, and has the control bits of a subtitle
+-- page.
 abbrev pub is_subtitle_header : Watched → List (List ℕ) → Header → Bool
 is_subtitle_header w before h = may_follow_as_header w before h && has_subtitle_bits w.national h
 
--- The packet is a header of the page that must not be sent here, or has wrong control bits.
+-- The packet is a header of the page that is not allowed after these packets, or has wrong control
+-- bits.
 abbrev pub is_wrong_header : Watched → List (List ℕ) → PacketKind → Bool
 is_wrong_header w before (ThisPage h) = not (is_subtitle_header w before h)
 is_wrong_header w before _ = false
 
--- The packet q exists, and the codes of its text differ from `codes`.
+-- The packet q exists, and its text differs from `codes`.
 abbrev pub is_other_text : Option (List ℕ) → List ℕ → Bool
 is_other_text None codes = false
 is_other_text (Some q) codes = not (row_differing (codes_of q) codes == 0)
@@ -97,8 +98,8 @@ is_other_text (Some q) codes = not (row_differing (codes_of q) codes == 0)
 abbrev pub first_of_row : PageIdValue → List (List ℕ) → ℕ → Option (List ℕ)
 first_of_row page packets row = find (λ q. is_row row (kind page q)) packets
 
--- The packet p is a row whose codes differ from those of the first packet of the same row among
--- these packets.
+-- The packet p is a row whose text differs from the first packet of the same row among these
+-- packets.
 abbrev pub is_other_row : PageIdValue → List (List ℕ) → List ℕ → PacketKind → Bool
 is_other_row page packets p (Row row) = is_other_text (first_of_row page packets row) (codes_of p)
 is_other_row page packets p _ = false

@@ -1,5 +1,5 @@
--- How PES packets form a transmission: each PTS is that of a frame of the day, given the PTS of
--- frame 0 (EN 300 472, PTS: 33 bits at 90 kHz).
+-- PES packets and the frames that they carry. The PTS of each packet determines its frame, given
+-- the PTS of frame 0 (EN 300 472: 33 bits at 90 kHz).
 use Rattle.std.specs.Prelude.{◌≡◌, ℕ, ◌<◌, ◌≤◌, List, length, map, Some}
 use Rattle.std.specs.List.{AllZip, concat}
 use Rattle.ttx_pes.specs.DataUnit.{UnitValue}
@@ -10,17 +10,15 @@ use Rattle.sub_plan.specs.FrameTime.{Clock, pts_of}
 use Rattle.sub_rules.specs.PesPackets.{joined}
 use Rattle.sub_rules.specs.Transmission.{SentFrame, Transmission, IsRising}
 
--- The PES packet carries the frame s: it has the PTS of the frame, which is a frame of the day, and
--- its Teletext units carry the frame's packets in order. Stuffing units and other data units carry
--- no packet.
+-- The PES packet carries the frame s: it has the PTS of that frame, and its Teletext data units are
+-- the packets of s, in order. Stuffing units carry no packet.
 pub record IsSentAs (origin : ℕ) (pes : PesValue) (s : SentFrame) : Type 0 where
   pub in_day : s.frame < day
   pub pts : pes.pts ≡ pts_of origin s.frame
   pub packets : s.packets ≡ map (λ (u : UnitValue). u.packet) pes.units
 
--- The bytes are a PES file with this transmission: valid PES packets, joined, at most as many as a
--- day has frames. Given the PTS of frame 0, each PES packet carries one frame, and the frame
--- numbers increase.
+-- The bytes are a PES file that carries these frames: valid PES packets, at most as many as a day
+-- has frames, one packet for each frame, with increasing frame numbers.
 pub record Carries (origin : ℕ) (bytes : List ℕ) (frames : Transmission) : Type 0 where
   pub values : List PesValue
   pub packets : List (List ℕ)
@@ -30,15 +28,15 @@ pub record Carries (origin : ℕ) (bytes : List ℕ) (frames : Transmission) : T
   pub sent : AllZip (IsSentAs origin) values frames
   pub rising : IsRising frames
 
--- The clock converts the PTS of the PES packet to the frame of s, and the Teletext units of the PES
--- packet carry the packets of s.
+-- The clock converts the PTS of the PES packet to the frame s, and the Teletext data units of the
+-- PES packet are the packets of s.
 pub record IsReadAs (clock : Clock) (pes : PesValue) (s : SentFrame) : Type 0 where
   pub frame : clock pes.pts ≡ Some s.frame
   pub packets : s.packets ≡ map (λ (u : UnitValue). u.packet) pes.units
 
--- The bytes are a PES file with this transmission, read by a clock: valid PES packets, joined, at
--- most as many as a day has frames. The clock converts each PTS to a frame, consecutive PES packets
--- of the same frame are merged, and the frame numbers increase.
+-- The bytes are a PES file that carries these frames, if the clock converts each PTS to a frame
+-- number: valid PES packets, at most as many as a day has frames. Consecutive PES packets of one
+-- frame are merged, and the frame numbers increase.
 pub record CarriesBy
     (clock : Clock) (within : ℕ) (bytes : List ℕ) (frames : Transmission)
     : Type 0 where

@@ -1,10 +1,10 @@
 -- The events of a PES file if reading continues after skipped PES packets (own): the events of the
--- transmission, with the fault of each skipped packet in its place. For consecutive skipped packets
--- with the same fault, the first is reported, and the last directly before the next event.
+-- transmission, and the fault of each skipped packet. For consecutive skipped packets with the same
+-- fault, only the first and the last are reported.
 --
--- A checker cannot look ahead: its steps for a PES packet depend only on the frames so far. If
--- `within` is not 0, consecutive PES packets of the same frame are merged, so the frame ends only
--- when a PES packet of another frame comes, or the file ends.
+-- A checker cannot look ahead, so its steps for a PES packet depend only on the frames before it.
+-- If `within` is not 0, consecutive PES packets of one frame are merged, so a frame ends only when
+-- a PES packet of another frame comes, or the file ends.
 use Rattle.std.specs.Prelude.{ℕ, zero, suc, ◌+◌, ◌-◌, ◌&&◌, ◌||◌, ◌==◌, ◌≡◌, Bool, false, not}
 use Rattle.std.specs.Prelude.{List, []}
 use Rattle.std.specs.Prelude.{◌∷◌, ◌++◌, length, map, Option, Some, None, is_some, if◌then◌else◌}
@@ -31,15 +31,13 @@ use Rattle.sub_rules.specs.declared.fault.CheckFault.{CheckFault}
 use Rattle.sub_rules.specs.declared.fault_place.FaultPlace.{FaultPlace}
 use Rattle.sub_rules.specs.declared.fault_place.FaultPlace.TheVariants as place
 
--- ---- the ends of frames
+-- ---- frame ends
 
--- The checker needs `GoesBack` steps: subtitles were rejected, and the page may take some frames to
--- become correct.
+-- The checker needs `GoesBack` steps: subtitles were rejected, and `within` is not 0.
 abbrev pub goes_back : Criteria → Bool
 goes_back g = g.any_refused && not (g.within == 0)
 
--- A `GoesBack` step with the frame since which the page is unfinished, if the checker needs such
--- steps.
+-- A `GoesBack` step with the first frame of the unfinished run, if the checker needs such steps.
 abbrev pub steps_before : Criteria → Option ℕ → List CheckStep
 steps_before g first_unfinished = if goes_back g then GoesBack first_unfinished ∷ [] else []
 
@@ -57,17 +55,16 @@ steps_at_end g frames i n f =
     else AtEnd f (unfinished_run_start g frames n f) (is_late g frames n f) ∷ [])
     ++ map Emits (events_at_end g frames i n f)
 
--- The steps at the ends of n frames of the day without a PES packet, which follow the first i
--- frames of the transmission.
+-- The steps at the ends of n frames without a PES packet, after i frames of the transmission.
 unfoldable pub steps_of_gap : Criteria → Transmission → ℕ → ℕ → List CheckStep
 steps_of_gap g frames i zero = []
 steps_of_gap g frames i (suc n) =
     steps_of_gap g frames i n ++ steps_at_end g frames i i (latest frames i + suc n)
 
--- ---- the events of one PES packet
+-- ---- steps for one PES packet
 
--- The steps before the packets of frame i of the transmission: the events for its number, and the
--- ends of the frames of the day before it.
+-- The steps before the packets of frame i of the transmission: the check of its frame number, and
+-- the ends of the frames without a PES packet before it.
 abbrev pub steps_of_arrival : Criteria → Transmission → ℕ → List CheckStep
 steps_of_arrival g frames i =
     map Emits (order_events g frames i)
@@ -91,14 +88,14 @@ steps_of_ending g frames i =
     (holds_beginning g.watched.keeps (kind g.watched.page) (packets_of_frame frames i))
     (has_no_active_faults (active_faults_at g frames (suc i) (frame_at frames i))) ∷ []
 
--- The steps at the end of the last frame, if `within` is not 0. Such a frame ends only when a PES
--- packet of another frame comes, or the file ends.
+-- The steps at the end of the last frame. If `within` is 0, there are none, since the frame has
+-- already ended.
 unfoldable pub steps_of_pending_end : Criteria → Transmission → List CheckStep
 steps_of_pending_end g [] = []
 steps_of_pending_end g (s ∷ sent) =
     if g.within == 0 then [] else steps_of_ending g (s ∷ sent) (length sent)
 
--- The steps for more Teletext packets of the last frame.
+-- The steps for a PES packet that has more Teletext packets of the last frame.
 abbrev pub steps_of_more : Criteria → Transmission → List (List ℕ) → List CheckStep
 steps_of_more g sent packets =
     map Emits
@@ -106,7 +103,7 @@ steps_of_more g sent packets =
     (length (packets_of_frame sent (length sent - 1)))
     (packets_before sent (length sent)) packets (length packets))
 
--- The steps for a new frame s after the frames `sent`.
+-- The steps for a PES packet of a new frame s, after the frames `sent`.
 abbrev pub steps_of_next : Criteria → Transmission → SentFrame → List CheckStep
 steps_of_next g sent s =
     let frames = sent ++ s ∷ [] in
@@ -115,15 +112,15 @@ steps_of_next g sent s =
     ++ steps_of_packets g frames i
     ++ (if g.within == 0 then steps_of_ending g frames i else [])
 
--- The steps for a PES packet of frame s, sent after the frames `sent`.
+-- The steps for a PES packet of frame s, after the frames `sent`.
 unfoldable pub steps_of_sent : Criteria → Transmission → ℕ → SentFrame → List CheckStep
 steps_of_sent g sent pes s =
     if continues_with g.within sent s
     then AtPes pes ∷ steps_of_more g sent s.packets
     else steps_of_pending_end g sent ++ AtPes pes ∷ steps_of_next g sent s
 
--- The steps for PES packets, of which the first has the number `pes`, after the frames `sent`. A
--- skipped packet may put anything on air, so its fault affects the frame before it.
+-- The steps for PES packets, the first with number `pes`, after the frames `sent`. The fault of a
+-- skipped packet affects the frame before it, since the packet may carry anything.
 unfoldable pub steps_of_each : Criteria → Transmission → ℕ → List PesPacket → List CheckStep
 steps_of_each g sent pes [] = []
 steps_of_each g sent pes (Sent s ∷ pes_packets) =
@@ -133,8 +130,7 @@ steps_of_each g sent pes (Skipped u ∷ pes_packets) =
     AtPes pes ∷ Emits (Reported (unread_fault pes (Some u)))
     ∷ steps_of_each g sent (suc pes) pes_packets
 
--- The events of a file with PES packets but no frames: only why the rest of the file cannot be
--- read.
+-- The events of a file without frames: the reason why the rest of the file cannot be read.
 abbrev pub reported_of_unread : ℕ → Option Unread → List Event
 reported_of_unread pes None = []
 reported_of_unread pes (Some u) = Reported (unread_fault pes (Some u)) ∷ []
@@ -152,7 +148,7 @@ steps_of_closing g frames pes n =
     (g.any_refused || not (reports_none (closing_of_pes_packets g frames pes n)))
     ∷ map Emits (closing_of_pes_packets g frames pes n)
 
--- The frames of these PES packets. If `within` is not 0, consecutive PES packets of the same frame
+-- The frames that the PES packets carry. If `within` is not 0, consecutive PES packets of one frame
 -- are merged.
 abbrev pub sent_by_pes_packets : Criteria → List PesPacket → Transmission
 sent_by_pes_packets g pes_packets = joined g.within (frames_of pes_packets)
@@ -167,30 +163,30 @@ steps_of_pes_packets g pes_packets =
 
 -- ---- consecutive skipped PES packets
 
--- The second place is the PES packet directly after the first place.
+-- The second place is the PES packet right after the first place.
 abbrev pub is_after : FaultPlace → FaultPlace → Bool
 is_after (place.Pes last) (place.Pes pes) = pes == suc last
 is_after _ _ = false
 
--- The fault `refusal` belongs to a skipped packet directly after the packet of the fault `last`,
--- and has the same number.
+-- The fault `refusal` continues a run of skipped packets: its packet comes right after the packet
+-- of the fault `last`, and both faults have the same number.
 unfoldable pub continues : CheckFault → CheckFault → Bool
 continues last refusal =
     (fault_row refusal).is_skipped
     && is_after (place_of last) (place_of refusal)
     && ((check_code refusal).number == (check_code last).number)
 
--- A run of consecutive skipped packets whose faults have the same number: the fault of the last
--- packet (`None` if the last packet was not skipped), and whether the run has several packets.
+-- A run of consecutive skipped packets with the same fault: the fault of the last packet, and
+-- whether the run has several packets.
 pub record SkippedRun : Type 0 where
   pub last : Option CheckFault
   pub many : Bool
 
--- The state without a run: the last packet was not skipped.
+-- The state between runs: the last packet was not skipped.
 abbrev pub no_run : SkippedRun
 no_run = record { last = None; many = false }
 
--- The fault continues a run whose last fault is `last`; false if there is no run.
+-- The fault continues the run that ends with `last`; false if there is no run.
 abbrev pub continues_after : Option CheckFault → CheckFault → Bool
 continues_after None refusal = false
 continues_after (Some last) refusal = continues last refusal
@@ -200,7 +196,7 @@ unfoldable pub joins : SkippedRun → Event → Bool
 joins run (Reported refusal) = continues_after run.last refusal
 joins run event = false
 
--- The run that ends with this fault; no run if the packet of the fault is not skipped.
+-- The run after this fault; no run if the packet of the fault is not skipped.
 abbrev pub run_with : CheckFault → Bool → SkippedRun
 run_with refusal many = record {
   last = if (fault_row refusal).is_skipped then Some refusal else None;
@@ -212,21 +208,21 @@ unfoldable pub skipped_run_after : SkippedRun → Event → SkippedRun
 skipped_run_after run (Reported refusal) = run_with refusal (continues_after run.last refusal)
 skipped_run_after run event = no_run
 
--- The event `SkippedUntil` for the last fault of a run; none if there is no run.
+-- The event that reports the last packet of a run.
 abbrev pub until : Option CheckFault → List Event
 until None = []
 until (Some refusal) = SkippedUntil refusal ∷ []
 
--- The event at the end of a run of skipped packets, if the run has several packets.
+-- The event at the end of a run with several packets; none for a single packet.
 abbrev pub ended_run : SkippedRun → List Event
 ended_run run = if run.many then until run.last else []
 
--- The events to report for an event after the run: nothing if the event continues the run,
--- otherwise the end of the run and the event.
+-- The events to report when an event follows a run: none if it continues the run, otherwise the
+-- run's end and the event.
 unfoldable pub announced : SkippedRun → Event → List Event
 announced run event = if joins run event then [] else ended_run run ++ event ∷ []
 
--- The events to report for a list of events, the first of which comes after the run.
+-- The events to report for a list of events that follow a run.
 unfoldable pub all_announced : SkippedRun → List Event → List Event
 all_announced run [] = []
 all_announced run (e ∷ es) = announced run e ++ all_announced (skipped_run_after run e) es
@@ -238,30 +234,30 @@ skipped_after_all run (e ∷ es) = skipped_after_all (skipped_run_after run e) e
 
 -- ---- all events of a PES file
 
--- The events of the PES packets of a file, without the events after the last packet.
+-- The events for the PES packets of a file, without the events at its end.
 unfoldable pub events_of_pes_packets : Criteria → List PesPacket → List Event
 events_of_pes_packets g pes_packets = all_announced no_run
     (reported_after [] (steps_of_each g [] 0 pes_packets))
 
--- The events of a PES file before runs of skipped packets are grouped.
+-- The events of a PES file, with each skipped packet.
 unfoldable pub reported_of_pes_packets : Criteria → List PesPacket → List Event
 reported_of_pes_packets g pes_packets = reported_after [] (steps_of_pes_packets g pes_packets)
 
--- All events of a PES file if reading continues after skipped PES packets.
+-- All events of a PES file, with runs of skipped PES packets grouped.
 unfoldable pub all_of_pes_packets : Criteria → List PesPacket → List Event
 all_of_pes_packets g pes_packets =
     let reported = reported_of_pes_packets g pes_packets in
     all_announced no_run reported ++ ended_run (skipped_after_all no_run reported)
 
--- ---- the first event of a PES file
+-- ---- the first fault of a PES file
 
 -- The criteria for a file that ends at its first skipped packet.
 abbrev pub until_skipped : Criteria → List PesPacket → Criteria
 until_skipped g pes_packets = record g { unread = (read_until_skipped pes_packets g.unread).unread }
 
 -- If `within` is 0, the first fault is the same whether reading continues after skipped PES packets
--- or stops at the first one. So in a list of all events, the first fault is the one with which a
--- check would stop.
+-- or stops at the first. So a report of all faults begins with the fault at which a simple check
+-- stops.
 abbrev pub LawOfFirstReported : Type 0
 LawOfFirstReported =
     (g : Criteria) (pes_packets : List PesPacket)

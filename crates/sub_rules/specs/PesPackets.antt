@@ -1,5 +1,5 @@
--- Defines a PES file as a list of PES packets. Each PES packet is sent (it carries a frame of the
--- day) or skipped (it does not match the grammar, or its PTS is that of no frame of the day) (own).
+-- A PES file as a list of PES packets (own). A PES packet is sent if it carries a frame of the day.
+-- It is skipped if it is not valid or its PTS belongs to no frame of the day.
 use Rattle.std.specs.Prelude.{◌≡◌, ℕ, ◌+◌, ◌==◌, ◌&&◌, Bool, false, not, if◌then◌else◌, List, []}
 use Rattle.std.specs.Prelude.{◌∷◌, ◌++◌, length, map, Option, Some, None, Result, Ok, Err, IfOk}
 use Rattle.std.specs.Prelude.{IsSome}
@@ -21,30 +21,29 @@ use Rattle.sub_rules.specs.declared.pes_packet.NextPesPacket.{NextPesPacket}
 use Rattle.sub_rules.specs.declared.pes_packet.NextPesPacket.TheVariants as next
 use Rattle.sub_rules.specs.declared.sending.Sending.{Sending}
 
--- A PES packet of a file: it carries a frame, or is skipped for a reason.
+-- A PES packet of a file: it carries a frame, or is skipped for this reason.
 pub data PesPacket : Type 0 where
   Sent : SentFrame → PesPacket
   Skipped : Unread → PesPacket
 
--- The contents of a PES file: the PES packets, and why the rest of the file cannot be read, if it
--- cannot.
+-- The contents of a PES file: its PES packets, and why the rest of the file cannot be read.
 pub record PesPacketFileValue : Type 0 where
   pub pes_packets : List PesPacket
   pub unread : Option Unread
 
--- The PES packet with this frame and these Teletext packets. If its PTS is that of no frame, the
--- packet is skipped.
+-- The PES packet with this frame and these Teletext packets. It is skipped if its PTS belongs to no
+-- frame.
 abbrev pub pes_packet_with : Option ℕ → List (List ℕ) → PesPacket
 pes_packet_with None packets = Skipped NoFrame
 pes_packet_with (Some frame) packets = Sent (record { frame = frame; packets = packets })
 
--- The PES packet of a result of reading. `clock` converts the PTS to a frame.
+-- The PES packet for a result of the reader. `clock` converts the PTS to a frame.
 unfoldable pub pes_packet_of : Clock → Result PesValue PesFault → PesPacket
 pes_packet_of clock (Ok v) = pes_packet_with (clock v.pts) (packets_of_units v.units)
 pes_packet_of clock (Err f) = Skipped (BadPacket f)
 
--- Why the rest of the file cannot be read, given the fault of the next bytes; `None` if the file
--- was read to its end.
+-- Why the rest of the file cannot be read, given the reader's fault; `None` if the entire file was
+-- read.
 abbrev pub unread_by : Option PesFault → Option Unread
 unread_by None = None
 unread_by (Some f) = Some (BadPacket f)
@@ -60,17 +59,16 @@ file_of_pes_packets clock value = record {
 unfoldable pub pes_packets_at : Clock → ℕ → List ℕ → PesPacketFileValue
 pes_packets_at clock given bytes = file_of_pes_packets clock (pes_packets_after given bytes)
 
--- The contents of a whole PES file. Reading continues after a skipped packet.
+-- The contents of a PES file. Reading continues after a skipped packet.
 abbrev pub pes_packet_file_of : Clock → List ℕ → PesPacketFileValue
 pes_packet_file_of clock bytes = pes_packets_at clock 0 bytes
 
--- The bytes after `given` PES packets contain exactly `pes_packets`, followed by the unread rest.
+-- The bytes after `given` PES packets are exactly `pes_packets`, followed by the unread rest.
 abbrev pub ReadsPesPackets : Clock → ℕ → List ℕ → List PesPacket → Option Unread → Type 0
 ReadsPesPackets clock given bytes pes_packets unread =
     pes_packets_at clock given bytes ≡ record { pes_packets = pes_packets; unread = unread }
 
--- `pes_packet` is the first of `pes_packets`, and the others are in the bytes that follow the
--- packet.
+-- The bytes begin with `pes_packet`, the first of `pes_packets`; the others follow it.
 pub record ReadsPesPacket
     (clock : Clock) (n : ℕ) (bytes : List ℕ) (pes_packets : List PesPacket) (unread : Option Unread)
     (pes_packet : PesPacket)
@@ -79,17 +77,16 @@ pub record ReadsPesPacket
   pub first : pes_packets ≡ pes_packet ∷ more
   pub left : ReadsPesPackets clock (n + 1) (rest_after_pes_packet bytes) more unread
 
--- `IsSo` holds if the result is a PES packet.
+-- The property `IsSo` holds if the result is a PES packet.
 abbrev pub OnPesPacket : Result (Option NextPesPacket) CheckFault → Type 0 → Type 0
 OnPesPacket answer IsSo = IfOk answer (λ pes_packet. IsSome pes_packet → IsSo)
 
--- `IsSo` holds for the frame of a PES packet, if the result is a packet that is sent.
+-- The property `IsSo` holds for the frame of the result, if the result is a packet that is sent.
 abbrev pub IfSent : Result (Option NextPesPacket) CheckFault → (Sending → Type 0) → Type 0
 IfSent answer IsSo = (sending : Sending) → answer ≡ Ok (Some (next.Sent sending)) → IsSo sending
 
--- A result of `next_pes_packet` agrees with the bytes after n PES packets. It is the first of
--- `pes_packets`, with the value v if the packet is sent; or no packet is left, and `unread` says
--- why.
+-- A result of `next_pes_packet` agrees with the bytes after n PES packets: it is the first of
+-- `pes_packets`, with the value v; or no packet is left, for the reason `unread`.
 abbrev pub ReportsPesPacket : Clock → ℕ → List ℕ → List PesPacket → Option Unread → PesValue
     → Result (Option NextPesPacket) CheckFault → Type 0
 ReportsPesPacket clock n bytes pes_packets unread v (Ok None) = (pes_packets ≡ []) × (unread ≡ None)
@@ -117,7 +114,8 @@ pub record TakesPesPackets (n : ℕ) (old new : Option (List ℕ)) : Type 0 wher
   pub each : AllByRecursion IsPesPacket pes_packets
   pub consumed : Consumes old new (concat pes_packets)
 
--- The source failed within PES packet n, counted from 0. The packets before it were consumed.
+-- The source failed while PES packet n, counted from 0, was read. The packets before it were
+-- consumed.
 pub record FailsAtPesPacket (n : ℕ) (old new : Option (List ℕ)) : Type 0 where
   pub following : Option (List ℕ)
   pub before : TakesPesPackets n old following
@@ -136,7 +134,7 @@ with_packets packets (s ∷ []) =
     record { frame = s.frame; packets = s.packets ++ packets } ∷ []
 with_packets packets (s ∷ next ∷ frames) = s ∷ with_packets packets (next ∷ frames)
 
--- With `--within`, a PES packet with the frame number of the last frame belongs to that frame.
+-- The PES packet continues the last frame: it has the same frame number, and `within` is not 0.
 abbrev pub continues_with : ℕ → Transmission → SentFrame → Bool
 continues_with within [] s = false
 continues_with within (first ∷ sent) s =
@@ -152,12 +150,12 @@ unfoldable pub joined_after : ℕ → Transmission → Transmission → Transmis
 joined_after within sent [] = sent
 joined_after within sent (s ∷ frames) = joined_after within (sent_after within sent s) frames
 
--- The transmission of PES packets: consecutive PES packets with the same frame number are merged
--- into one frame. If `within` is 0, each PES packet is a frame of its own.
+-- The frames of a list of PES packets. If `within` is not 0, consecutive PES packets of one frame
+-- are merged; otherwise each PES packet is a frame.
 abbrev pub joined : ℕ → Transmission → Transmission
 joined within frames = joined_after within [] frames
 
--- The frames of a PES file, and why the rest of the file cannot be read, if it cannot.
+-- The frames of a PES file, and why the rest of the file cannot be read.
 pub record PesFileValue : Type 0 where
   pub frames : Transmission
   pub unread : Option Unread

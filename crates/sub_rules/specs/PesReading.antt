@@ -1,5 +1,5 @@
--- A PES file as one value: the frames in its bytes, given the PTS of frame 0 (EN 300 472, PTS), and
--- why the rest of the file cannot be read, if it cannot.
+-- The frames of a PES file, given the PTS of frame 0 (EN 300 472), and why the rest of the file
+-- cannot be read.
 use Rattle.std.specs.Prelude.{◌≡◌, ◌↔◌, ℕ, List, Option}
 use Rattle.sub_rules.specs.FrameRules.{Unread}
 use Rattle.sub_plan.specs.FrameTime.{Clock, clock_of}
@@ -16,13 +16,13 @@ file_at clock given bytes = until_first_skipped (pes_packets_at clock given byte
 abbrev pub pes_file_of : Clock → List ℕ → PesFileValue
 pes_file_of clock bytes = file_at clock 0 bytes
 
--- The bytes after `given` PES packets contain exactly these frames, followed by the unread rest.
+-- The bytes after `given` PES packets are exactly these frames, followed by the unread rest.
 abbrev pub ReadsAs : Clock → ℕ → List ℕ → Transmission → Option Unread → Type 0
 ReadsAs clock given bytes frames unread =
     file_at clock given bytes ≡ record { frames = frames; unread = unread }
 
--- If `within` is 0, the clock of the options and the exact PTS of each frame give the same
--- transmissions of a file. So results for any `within` also hold for the exact PTS.
+-- If `within` is 0, a file carries a transmission with the clock of the options if and only if each
+-- PTS is exact. So results for any `within` also hold for exact PTS values.
 abbrev pub LawOfExactFrames : Type 0
 LawOfExactFrames =
     (options : OptionsValue) (bytes : List ℕ) (frames : Transmission)

@@ -1,4 +1,4 @@
--- One frame of a transmission, by its index.
+-- An entry of a transmission: one frame and its packets.
 use Rattle.std.specs.Prelude.{◌≡◌, ℕ, ◌<◌, List, length}
 use Rattle.sub_rules.specs.FrameRules.{frame_at, packets_of_frame}
 use Rattle.sub_rules.specs.Transmission.{Transmission}

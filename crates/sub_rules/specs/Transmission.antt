@@ -1,20 +1,20 @@
--- A transmission: the frames that carry Teletext, each with its packets; and the packets on air
--- between two frames.
+-- A transmission as a list of frames with Teletext packets, and the packets that are on air between
+-- two frames.
 use Rattle.std.specs.Prelude.{ℕ, ◌+◌, ◌<◌, ◌&&◌, List, [], ◌∷◌, nat_lt, nat_le, if◌then◌else◌}
 use Rattle.std.specs.Prelude.{drop, flat_map, All, AllPairs}
 
--- A frame that carries Teletext: its frame number, and its packets of 42 bytes in the order of
--- transmission. A frame is a 25th of a second of the day, counted from 0 at midnight (own).
+-- A frame with Teletext: its number, and its packets of 42 bytes in the order of transmission.
+-- Frames last 1/25 of a second and are counted from midnight (own).
 pub record SentFrame : Type 0 where
   pub frame : ℕ
   pub packets : List (List ℕ)
 
--- A transmission: the frames that carry Teletext, in the order of transmission. A frame of the day
--- that is not listed carries no packet.
+-- A transmission: its frames with Teletext packets, in the order of transmission. A frame that is
+-- not in the list has no packet.
 abbrev pub Transmission : Type 0
 Transmission = List SentFrame
 
--- The frame numbers of the transmission rise strictly.
+-- The frame numbers of the transmission strictly increase.
 abbrev pub IsRising : Transmission → Type 0
 IsRising frames = AllPairs (λ earlier later. earlier.frame < later.frame) frames
 
@@ -29,14 +29,14 @@ last_frame [] = 0
 last_frame (s ∷ []) = s.frame
 last_frame (s ∷ next ∷ frames) = last_frame (next ∷ frames)
 
--- The packets of the frames from `from` to before `end`.
+-- The packets of the frames from `from` up to, but not including, `end`.
 abbrev pub packets_between : Transmission → ℕ → ℕ → List (List ℕ)
 packets_between frames from end =
     flat_map
     (λ (s : SentFrame). if nat_le from s.frame && nat_lt s.frame end then s.packets else [])
     frames
 
--- The packets of one frame; none if the transmission does not list the frame.
+-- The packets of a frame; none if the frame is not in the transmission.
 abbrev pub packets_of : Transmission → ℕ → List (List ℕ)
 packets_of frames frame = packets_between frames frame (frame + 1)
 

@@ -1,21 +1,20 @@
--- Trusted frames: the frames that can stay on air unchanged, which are reported in addition to the
--- faults (own).
+-- Trusted frames (own): the frames that can be broadcast again unchanged, whatever is wrong
+-- elsewhere in the file. The checker reports them in addition to the faults.
 --
--- Checking a file produces a list of steps: events, and the positions of PES packets, of frames and
--- of their ends. All definitions are about the steps so far, `past`, the latest first.
+-- Checking a file produces a list of steps: events, and the starts and ends of PES packets and
+-- frames. In the definitions, `past` is the list of the steps so far, the latest first.
 --
--- A frame is fault-free if its packets have no fault that affects receivers, and no fault is active
--- at its end. If frame numbers do not increase, no later frame is fault-free. A later PES packet,
--- or bytes that cannot be read, may belong to the last frame before them, so that frame is not
--- trusted either. In each run of fault-free frames, the trusted frames begin with the first frame
--- that has a header of the page; if repeats may have C4 (erase page) clear, with the first frame
--- that has a header that erases it. Trusted frames are reported at the end of the run, before the
--- event that ends the run.
+-- A frame is fault-free if none of its packets has a fault that affects receivers, and no fault is
+-- active at its end. If frame numbers do not increase, no later frame is fault-free. The last frame
+-- before a PES packet or bytes that cannot be read is not trusted, since these may belong to it.
+-- The trusted frames of a run of fault-free frames begin with the first header of the page that has
+-- C4 (erase page) set, or with any header of the page if C4 must always be set. They are reported
+-- when the run ends.
 --
--- If the page need not be correct at each frame end, the run is trusted only if the page was
--- correct at one of the ends; and if the run ends with a page that is wrong for too long, the
--- frames since which the page is wrong are not trusted. If subtitles were rejected, this applies to
--- every end of a run, since the next expected page is unknown.
+-- If the page need not be correct at each frame end, a run is trusted only if the page was correct
+-- at one of its ends. If the run ends because the page is overdue, the frames with the wrong page
+-- are not trusted. If subtitles were rejected, this applies to every end of a run, since the next
+-- expected page is unknown.
 use Rattle.std.specs.Prelude.{ℕ, suc, ◌-◌, ◌&&◌, ◌||◌, Bool, true, false, not, List, [], ◌∷◌}
 use Rattle.std.specs.Prelude.{◌++◌, Option, Some, None, is_none, is_some, nat_lt, unwrap_or}
 use Rattle.std.specs.Prelude.{if◌then◌else◌}
@@ -28,29 +27,29 @@ use Rattle.sub_rules.specs.declared.event.Event.TheVariants.{Reported, Trusted}
 use Rattle.sub_rules.specs.declared.fault.CheckFault.TheVariants as fault
 use Rattle.sub_rules.specs.declared.active_faults.ActiveFaults.{ActiveFaults}
 
--- A step of checking a PES file.
+-- A step in checking a PES file.
 pub data CheckStep : Type 0 where
   -- The following steps belong to the PES packet with this number.
   AtPes : ℕ → CheckStep
   -- An event of the check.
   Emits : Event → CheckStep
-  -- The following Teletext packets belong to the frame with this number.
+  -- The following Teletext packets belong to this frame.
   Begins : ℕ → CheckStep
   -- The following steps belong to the end of this frame. The second argument is the first frame of
-  -- the current run of ends with an unfinished page, if the page is unfinished; the third says
-  -- whether that is a fault.
+  -- the current run of frames with an unfinished page, if there is one; the third says whether the
+  -- page is overdue.
   AtEnd : ℕ → Option ℕ → Bool → CheckStep
-  -- A frame with PES packets ends: its number; whether it has a header of the page (if repeats may
-  -- have C4 (erase page) clear, a header that erases it); and whether no fault is active.
+  -- A frame with PES packets ends. The arguments are its number, whether it has a header with which
+  -- trusted frames can begin, and whether no fault is active.
   Ends : ℕ → Bool → Bool → CheckStep
-  -- The file ends: whether there are unread bytes, which may belong to the last frame, and whether
-  -- trusted frames are reported even without an event.
+  -- The file ends. The arguments say whether there are unread bytes, and whether trusted frames are
+  -- reported even if there was no event.
   Closes : Bool → Bool → CheckStep
-  -- The first frame of the run of ends with an unfinished page, up to the end before the frame that
-  -- now comes or ends; `None` if the page was finished there.
+  -- The first frame of the run of frames with an unfinished page, up to the frame before; `None` if
+  -- the page was finished there.
   GoesBack : Option ℕ → CheckStep
 
--- ---- the position in a transmission: PES packet, Teletext packet and frame
+-- ---- the position in the transmission
 
 -- The number of the PES packet to which the current events belong.
 unfoldable pub current_pes : List CheckStep → ℕ
@@ -64,63 +63,63 @@ last_packet_frame [] = 0
 last_packet_frame (Begins f ∷ past) = f
 last_packet_frame (m ∷ past) = last_packet_frame past
 
--- The first frame of the run of ends with an unfinished page, up to the last end; `None` if the
--- page was finished there.
+-- The first frame of the current run of frames with an unfinished page; `None` if the page was
+-- finished at the last frame end.
 unfoldable pub first_unfinished_of : List CheckStep → Option ℕ
 first_unfinished_of [] = None
 first_unfinished_of (AtEnd f first_unfinished late ∷ past) = first_unfinished
 first_unfinished_of (m ∷ past) = first_unfinished_of past
 
--- The first frame of the run of ends with an unfinished page, if at the last end that is a fault.
+-- The first frame of the current run of frames with an unfinished page, if the page is overdue.
 unfoldable pub late_of : List CheckStep → Option ℕ
 late_of [] = None
 late_of (AtEnd f first_unfinished late ∷ past) = if late then first_unfinished else None
 late_of (m ∷ past) = late_of past
 
--- The frame of the last `GoesBack` step: the first frame of the run of ends with an unfinished
--- page, up to the end before the current frame.
+-- The frame of the last `GoesBack` step: the first frame of the run of frames with an unfinished
+-- page, up to the frame before.
 unfoldable pub back_of : List CheckStep → Option ℕ
 back_of [] = None
 back_of (GoesBack first_unfinished ∷ past) = first_unfinished
 back_of (m ∷ past) = back_of past
 
--- The step of the check is an event.
+-- The step is an event.
 abbrev pub is_emitted : CheckStep → Bool
 is_emitted (Emits e) = true
 is_emitted m = false
 
 -- ---- fault-free frames
 
--- The first frame that is no longer trusted because of this event; `None` for an event that is no
--- fault. If the page is wrong for too long, this is the frame since which it is wrong.
+-- The first frame that is no longer trusted because of this event; `None` if the event is no fault
+-- that affects receivers. For an overdue page, it is the first frame with the unfinished page.
 unfoldable pub invalidated_by : List CheckStep → Event → Option ℕ
 invalidated_by past (Reported f) =
     invalidated_frame (last_packet_frame past) (late_of past) (fault_row f).invalidates
     (fault_row f).place
 invalidated_by past event = None
 
--- The step reports that a frame is not after the previous one.
+-- The step reports that frame numbers do not increase.
 unfoldable pub reports_order_fault : CheckStep → Bool
 reports_order_fault (Emits (Reported (fault.Order pes))) = true
 reports_order_fault m = false
 
--- The current frame is fault-free so far: frame numbers have increased up to it, and no fault since
--- its beginning affects receivers.
+-- The current frame is fault-free so far: frame numbers have increased, and none of its packets has
+-- a fault that affects receivers.
 unfoldable pub stays_fault_free : List CheckStep → Bool
 stays_fault_free [] = true
 stays_fault_free (Begins f ∷ past) = not (list_any reports_order_fault past)
 stays_fault_free (Emits e ∷ past) = stays_fault_free past && is_none (invalidated_by past e)
 stays_fault_free (m ∷ past) = stays_fault_free past
 
--- No fault is active at the end of a frame.
+-- No fault is active.
 abbrev pub has_no_active_faults : ActiveFaults → Bool
 has_no_active_faults s = not (list_any (λ rule. is_some (broken_at rule s)) end_rules)
 
 -- ---- runs of fault-free frames
 
--- The first frame of the current run of fault-free frames that has a header of the page (if repeats
--- may have C4 (erase page) clear, a header that erases it); `None` if there is no such frame. A
--- frame without a PES packet belongs to the run around it; an event at its end may end the run.
+-- The first frame of the current run of fault-free frames that has a header with which trusted
+-- frames can begin; `None` if there is no such frame. Frames without a PES packet belong to the
+-- run.
 unfoldable pub run_of : List CheckStep → Option ℕ
 run_of [] = None
 run_of (Emits e ∷ past) = if is_none (invalidated_by past e) then run_of past else None
@@ -131,12 +130,12 @@ run_of (Ends f has_beginning none ∷ past) =
 run_of (Closes are_left more ∷ past) = None
 run_of (m ∷ past) = run_of past
 
--- The frame f, if the page was correct at its end.
+-- The frame f, if the page was finished at its end.
 abbrev pub correct_at : ℕ → Option ℕ → Option ℕ
 correct_at f first_unfinished = if is_none first_unfinished then Some f else None
 
 -- The first frame of the current run, from its first header on, at whose end the page was correct.
--- Meaningless without a current run.
+-- Has no meaning without a current run.
 unfoldable pub first_correct_of : List CheckStep → Option ℕ
 first_correct_of [] = None
 first_correct_of (AtEnd f first_unfinished late ∷ past) = option_or (first_correct_of past)
@@ -148,41 +147,41 @@ first_correct_of (m ∷ past) = first_correct_of past
 
 -- ---- trusted frames, and when they are reported
 
--- The event for the frames from a run's first header to before frame f, if the page was correct at
--- the end of one of these frames; `whole` is the first such frame.
+-- The event for the trusted frames of a run that ends before frame f. `run` is the frame of the
+-- run's first header, and `whole` is the first frame at whose end the page was correct. There is no
+-- event without such a frame.
 abbrev pub trusted : Option ℕ → Option ℕ → ℕ → List Event
 trusted (Some from) (Some whole) f = if nat_lt whole f then Trusted from (f - 1) ∷ [] else []
 trusted run whole f = []
 
--- The event for the trusted frames that end because frame f is no longer trusted: the frames before
--- f, without the last ones with an unfinished page if subtitles were rejected.
+-- The event for the trusted frames that end because frame f is no longer trusted. If subtitles were
+-- rejected, it excludes the last frames with an unfinished page.
 abbrev pub trusted_up_to : List CheckStep → Option ℕ → List Event
 trusted_up_to past None = []
 trusted_up_to past (Some f) = trusted (run_of past) (first_correct_of past)
     (unwrap_or (back_of past) f)
 
--- The first frame that is not trusted at the end of the file: the frame since which the page is
--- unfinished; otherwise the last frame, if unread bytes may belong to it; otherwise the frame after
--- the last.
+-- The first frame that is not trusted at the end of the file: the first frame with the unfinished
+-- page; otherwise the last frame, if unread bytes may belong to it; otherwise the frame after the
+-- last.
 abbrev pub closing_at : List CheckStep → Bool → ℕ
 closing_at past left =
     unwrap_or (first_unfinished_of past)
     (if left then unwrap_or (back_of past) (last_packet_frame past) else suc
     (last_packet_frame past))
 
--- The event with `pes` as the PES packet number of its fault. `pes` counts skipped packets too.
+-- The event with PES packet number `pes`, which counts skipped packets too.
 unfoldable pub at_pes : ℕ → Event → Event
 at_pes pes (Reported refusal) = Reported (fault_at_pes pes refusal)
 at_pes pes event = event
 
--- The list has no events.
+-- The list of events is empty.
 abbrev pub reports_none : List Event → Bool
 reports_none [] = true
 reports_none (e ∷ es) = false
 
--- The events to report for a step: the event of the step, preceded by the frames that were trusted
--- until then. At the end of the file, the trusted frames of the last run are reported only if any
--- fault was reported, about either file.
+-- The events to report for a step: the trusted frames that end with this step, and then the event
+-- of the step. At the end of the file, trusted frames are reported only if any fault was reported.
 unfoldable pub reported_at : List CheckStep → CheckStep → List Event
 reported_at past (Emits e) = trusted_up_to past (invalidated_by past e) ++ at_pes (current_pes past)
     e ∷ []
@@ -192,7 +191,7 @@ reported_at past (Closes left more) =
     else []
 reported_at past m = []
 
--- The events to report for a list of steps, after the steps in `past`.
+-- The events to report for a list of steps that follow the steps in `past`.
 unfoldable pub reported_after : List CheckStep → List CheckStep → List Event
 reported_after past [] = []
 reported_after past (m ∷ ms) = reported_at past m ++ reported_after (m ∷ past) ms

@@ -1,4 +1,4 @@
--- What every receiver shows if a check rejects the contents of a transmission.
+-- What receivers show if a check rejects a transmission because of wrong text.
 use Rattle.std.specs.Prelude.{◌≡◌, ◌≢◌, ℕ, ◌<◌, ◌≤◌, ◌⊎◌, length, take, IsFalse}
 use Rattle.ttx_page.specs.Page.{cell}
 use Rattle.ttx_page.specs.Receiver.{State, Hears}
@@ -8,9 +8,9 @@ use Rattle.sub_rules.specs.FrameRules.{frame_at}
 use Rattle.sub_plan.specs.Schedule.{due_in}
 use Rattle.sub_rules.specs.Transmission.{Transmission, IsRising, last_frame, on_air_until}
 
--- `read` has the frames of the transmission up to the end of frame f of the day: the first n
--- entries, which rise up to f. The next entry is after f; or the last entry read is f itself, and
--- the next one was not read.
+-- `read` is the part of the transmission up to the end of frame f. Its frame numbers increase, and
+-- no later entry of the transmission belongs to frame f or an earlier frame, unless it was not
+-- read.
 pub record AreReadUpTo (frames : Transmission) (f : ℕ) (read : Transmission) : Type 0 where
   pub n : ℕ
   pub some : 0 < n
@@ -20,8 +20,8 @@ pub record AreReadUpTo (frames : Transmission) (f : ℕ) (read : Transmission) :
   pub up_to : last_frame read ≤ f
   pub next : n < length frames → (last_frame read ≡ f) ⊎ (f < frame_at frames n)
 
--- Every receiver that starts at the first packet, gets no wrong bits and has any old page, shows in
--- this cell at the end of frame f another code than the expected page.
+-- In this cell, every receiver that starts at the first packet and receives without errors shows a
+-- code other than the expected one at the end of frame f, whatever page it showed before.
 pub record IsWrongEverywhere
     (programme : ProgrammeValue) (options : OptionsValue) (frames : Transmission)
     (f row column : ℕ)

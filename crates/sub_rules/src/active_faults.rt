@@ -1,4 +1,4 @@
-//! The rules that are broken at the end of a frame.
+//! The faults that are active at the end of a frame.
 ghost use Rattle.std.specs.Prelude.{◌≡◌, ◌↔◌, IsTrue};
 ghost use Rattle.sub_rules.specs.Events.{broken_at, no_active_faults, entire_frame};
 ghost use Rattle.sub_rules.specs.Trusted.{has_no_active_faults};
@@ -10,13 +10,13 @@ use crate::end_rule::EndRule;
 pub struct ActiveFaults {
     /// The row, 1 to 24, and the column, 0 to 39, of the first wrong cell, if there is one.
     pub content: Option<(u8, u8)>,
-    /// Whether the page has had no header for as many frames as the repeat bound.
+    /// Whether the repeat bound is exceeded: so many frames had no header of the page.
     pub gap: bool,
     /// Whether complete pages are required, and the page is open.
     pub incomplete: bool,
-    /// Whether the expected page is unknown, since a subtitle was rejected.
+    /// Whether the expected page is unknown, because a subtitle was rejected.
     pub undecided: bool,
-    /// Whether no PES packet has come for as many frames as the pace.
+    /// Whether the pace is exceeded: so many frames had no PES packet.
     pub silent: bool,
 }
 
@@ -41,12 +41,12 @@ impl ActiveFaults {
         ensures is_none { IsTrue result ↔ (self.now ≡ no_active_faults) }
         ensures none { result ≡ has_no_active_faults self.now }
     {
-        // A single test without branches, since `has_none` runs at the end of each frame.
+        // One test without branches, because `has_none` runs at the end of each frame.
         self.content.is_none() & !self.gap & !self.incomplete & !self.undecided & !self.silent
     }
 
     /// Returns the place at which a rule is broken: the first wrong cell, or row 0 and column 0 for
-    /// a rule about the whole frame. Returns `None` if the rule is not broken.
+    /// a rule about the entire page. Returns `None` if the rule is not broken.
     pub fn at(&self, rule: EndRule) -> Option<(u8, u8)>
         ensures { result ≡ broken_at rule self.now }
     {
@@ -60,8 +60,7 @@ impl ActiveFaults {
     }
 }
 
-// Returns row 0 and column 0 for a broken rule about the whole frame, or `None` if the rule is not
-// broken.
+// Returns row 0 and column 0 if a rule about the entire page is broken; otherwise `None`.
 fn entire_frame(is_broken: bool) -> Option<(u8, u8)>
     ensures { result ≡ entire_frame is_broken }
 {

@@ -3,27 +3,25 @@ ghost use Rattle.std.specs.Prelude.{◌≡◌};
 
 use sub_io::FaultCode;
 
-/// A rule that is checked at the end of each frame. Once broken, the rule may stay broken for some
-/// frames.
+/// A rule that is checked at the end of each frame. It may stay broken for several frames.
 #[derive(Clone, Copy, Debug, PartialEq, Eq)]
 pub enum EndRule {
-    /// At the end of the frame, the page that is shown is the expected page.
+    /// The page that is shown is the expected page.
     Content,
-    /// At the end of the frame, the page has had a header within the repeat bound.
+    /// The page has had a header within the repeat bound.
     Gap,
-    /// At the end of the frame, the page is not open, if complete pages are required.
+    /// The page is not open, if complete pages are required.
     Incomplete,
-    /// At the end of the frame, the expected page is known: no rejected subtitle may be expected.
+    /// The expected page is known: no rejected subtitle may be expected.
     Undecided,
-    /// At the end of the frame, a PES packet has come within the maximum distance, if one is
-    /// required.
+    /// A PES packet has come within the pace, if a pace is required.
     Silent,
 }
 
 impl EndRule {
     ghost use Rattle.sub_rules.specs.Fault.{rule_code};
 
-    /// Returns the number and the name of the fault for a broken rule (own).
+    /// Returns the number and name of the fault for a broken rule (own).
     pub fn code(self) -> FaultCode
         ensures { result ≡ rule_code self }
     {

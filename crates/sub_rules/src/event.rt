@@ -2,25 +2,25 @@
 use crate::end_rule::EndRule;
 use crate::fault::CheckFault;
 
-/// An event of checking a PES file: a rule is broken, or no longer broken; or frames can stay on
-/// air unchanged.
+/// An event of checking a PES file: a fault, the end of a fault, or frames that can be broadcast
+/// again unchanged.
 #[derive(Clone, Copy, Debug, PartialEq, Eq)]
 pub enum Event {
-    /// A fault: a rule is broken at this place. A rule of a frame's end is reported only if it was
-    /// not broken at the previous end, or, for the contents of the page, not at this cell.
+    /// A rule is broken at this place. For a rule that is checked at the end of each frame, the
+    /// event is reported only if the fault was not already active at the end of the frame before.
     Reported(CheckFault),
-    /// A fault of a frame's end is over.
+    /// An active fault has ended.
     Ended {
         /// The rule that was broken.
         rule: EndRule,
         /// The last frame at whose end the rule was broken.
         frame: u32,
     },
-    /// Several consecutive PES packets were skipped for the same fault. The fault of the first
-    /// packet was reported; this event has the fault of the last packet.
+    /// Several consecutive PES packets were skipped because of the same fault. The fault of the
+    /// first packet was reported before; this event has the fault of the last.
     SkippedUntil(CheckFault),
-    /// A run of trusted frames, which can stay on air unchanged, whatever is broken elsewhere: the
-    /// frames have no fault that affects receivers, and the first frame has a header of the page.
+    /// Trusted frames: frames that can be broadcast again unchanged, whatever is wrong elsewhere.
+    /// They have no fault that affects receivers, and the first frame has a header of the page.
     Trusted {
         /// The first trusted frame.
         from: u32,

@@ -1,4 +1,4 @@
-//! Faults of a subtitle file and a PES file, with their places.
+//! The faults of a subtitle file and a PES file, with their places.
 ghost use Rattle.std.specs.Prelude.{◌≡◌, ◌≤◌, false, length, true};
 ghost use Rattle.sub_rules.specs.Fault.{coded_row, fault_row, rule_code, rule_row};
 ghost use Rattle.sub_rules.specs.declared.fault_place.FaultPlace.TheVariants.{Frame, Packet};
@@ -17,9 +17,9 @@ use ttx_pes::PesFault;
 /// Teletext units of its PES packet. `row` is 1 to 24, `column` 0 to 39.
 #[derive(Clone, Copy, Debug, PartialEq, Eq)]
 pub enum CheckFault {
-    /// The subtitle file is rejected.
+    /// The subtitle file was rejected.
     Subtitles(LoadFault),
-    /// A PES packet is not a valid PES packet with Teletext, or the source failed.
+    /// A PES packet is not a valid PES packet with Teletext, or reading the file failed.
     Pes {
         /// The number of the PES packet, counted from 0.
         pes: u32,
@@ -28,17 +28,17 @@ pub enum CheckFault {
     },
     /// The PES file has no PES packet.
     Empty,
-    /// The PTS of a PES packet does not belong to any frame of the day.
+    /// The PTS of a PES packet belongs to no frame of the day.
     OffFrame {
         /// The number of the PES packet, counted from 0.
         pes: u32,
     },
-    /// The frame of a PES packet does not come after the previous frame.
+    /// The frame of a PES packet is not after the frame of the previous PES packet.
     Order {
         /// The number of the PES packet, counted from 0.
         pes: u32,
     },
-    /// A subtitle is expected before the first frame of the transmission.
+    /// The first subtitle begins before the first frame of the transmission.
     Early {
         /// The first frame of the transmission.
         frame: u32,
@@ -57,30 +57,30 @@ pub enum CheckFault {
         /// The number of the Teletext packet in its frame, counted from 0.
         packet: u32,
     },
-    /// C11, magazine serial, of a page header differs from C11 of the first page header.
+    /// C11 (magazine serial) of a page header differs from that of the first page header.
     Mode {
         /// The frame of the Teletext packet.
         frame: u32,
         /// The number of the Teletext packet in its frame, counted from 0.
         packet: u32,
     },
-    /// A header of the page does not have the control bits of a subtitle: C4, C6 or C7 is clear, C5
-    /// or C10 is set, or C12 to C14 are not those of the national option.
+    /// A header of the page does not have the control bits of a subtitle page: C4, C6 or C7 is
+    /// clear, C5 or C10 is set, or C12 to C14 are not those of the national option.
     Control {
         /// The frame of the Teletext packet.
         frame: u32,
         /// The number of the Teletext packet in its frame, counted from 0.
         packet: u32,
     },
-    /// A row of the open page has a byte of even parity.
+    /// A row of the open page has a byte with even parity.
     Parity {
         /// The frame of the Teletext packet.
         frame: u32,
         /// The number of the Teletext packet in its frame, counted from 0.
         packet: u32,
     },
-    /// A row of the open page differs from an earlier packet of the same row since the page's last
-    /// header.
+    /// A row of the open page differs from an earlier packet of the same row, sent since the last
+    /// header of the page.
     RowChanged {
         /// The frame of the Teletext packet.
         frame: u32,
@@ -100,9 +100,8 @@ pub enum CheckFault {
         frame: u32,
     },
     /// At the end of a frame, a cell of the page differs from the expected page. If the page may
-    /// take some frames to become correct, this is checked only at an end at which the page must be
-    /// correct; at any other end, a cell must have a space or a code that was expected within these
-    /// frames.
+    /// take `within` frames to become correct, the fault is reported when it is overdue, or at once
+    /// if the cell has a code that was not expected within these frames.
     Content {
         /// The frame at whose end the cell is wrong.
         frame: u32,
@@ -111,32 +110,31 @@ pub enum CheckFault {
         /// The column of the cell, 0 to 39.
         column: u8,
     },
-    /// At the end of a frame, the page has had no header for as many frames as the repeat bound.
+    /// The repeat bound is exceeded: no frame within it had a header of the page.
     Gap {
         /// The last of the frames without a header of the page.
         frame: u32,
     },
-    /// At the end of a frame, complete pages are required and the page is open: no later header has
-    /// ended the page. If the page may take some frames to become correct, this is checked only at
-    /// an end at which the page must be correct.
+    /// At the end of a frame, the page is open although complete pages are required: no later
+    /// header has ended it. If the page may take `within` frames to become correct, the fault is
+    /// reported only when it is overdue.
     Incomplete {
         /// The frame at whose end the page is open.
         frame: u32,
     },
-    /// At the end of a frame, the expected page is unknown, since a subtitle was rejected. If the
-    /// page may take some frames to become correct, also if the expected page was unknown within
-    /// these frames.
+    /// At the end of a frame, the expected page is unknown because a subtitle was rejected; or it
+    /// was unknown at one of the `within` frames before.
     Undecided {
         /// The frame at whose end the expected page is unknown.
         frame: u32,
     },
-    /// At the end of a frame, no PES packet has come for as many frames as the pace.
+    /// The pace is exceeded: no frame within it had a PES packet.
     Silent {
         /// The last of the frames without a PES packet.
         frame: u32,
     },
-    /// The last TCO is after the last frame. If the page may take some frames to become correct,
-    /// also if the page is not correct at the end of the last frame but still had time.
+    /// A subtitle ends after the last frame. If the page may take `within` frames to become
+    /// correct, also if it is still wrong at the end of the last frame but not yet overdue.
     Late {
         /// The last frame of the transmission.
         frame: u32,
@@ -189,22 +187,22 @@ impl CheckFault {
         }
     }
 
-    /// Returns the number and the name of the fault for reports (own).
+    /// Returns the number and name of the fault (own).
     pub fn code(self) -> FaultCode
         ensures { result ≡ check_code self }
     {
         self.row().code
     }
 
-    /// Returns the place of the fault: the PES packet or the TTI block, for a text fault also the
-    /// position in the text; or a frame, a packet or a cell of the transmission.
+    /// Returns the place of the fault: a TTI block or a text position in the subtitle file; or a
+    /// PES packet, a frame, a Teletext packet or a cell.
     pub fn place(self) -> FaultPlace
         ensures { result ≡ place_of self }
     {
         self.row().place
     }
 
-    /// Returns the fault with another PES packet number in its place, if its place is a PES packet.
+    /// Returns the same fault with PES packet number `pes`, if its place is a PES packet.
     pub fn at_pes(self, pes: u32) -> CheckFault
         ensures { result ≡ fault_at_pes pes self }
     {
@@ -239,7 +237,7 @@ fn pes_row(pes: u32, fault: PesFault) -> FaultRow
     }
 }
 
-// Returns the row, in the table of faults, of a fault for which no PES packet is skipped.
+// Returns the table row of a fault whose PES packet is not skipped.
 fn coded_row(code: FaultCode, place: FaultPlace, invalidates: bool) -> FaultRow
     ensures { result ≡ coded_row code place invalidates }
 {

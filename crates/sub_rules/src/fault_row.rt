@@ -5,26 +5,25 @@ ghost use Rattle.sub_rules.specs.Fault.{invalidated_frame};
 use crate::fault_place::FaultPlace;
 use sub_io::FaultCode;
 
-/// A row of the table of the faults of a subtitle file and a PES file. Returned by
-/// `CheckFault::row`.
+/// A row of the table of faults, which `CheckFault::row` returns.
 #[derive(Drop)]
 pub struct FaultRow {
-    /// The number and the name of the fault in reports.
+    /// The number and name of the fault.
     pub code: FaultCode,
-    /// The place of the fault: the PES packet or the TTI block, for a text fault also the position
-    /// in the text; or a frame, a packet or a cell of the transmission.
+    /// The place of the fault: a TTI block or a text position in the subtitle file; or a PES
+    /// packet, a frame, a Teletext packet or a cell.
     pub place: FaultPlace,
-    /// Whether the fault affects receivers, so its frame cannot stay on air unchanged.
+    /// Whether the fault affects receivers, so its frame cannot be broadcast again unchanged.
     pub invalidates: bool,
-    /// Whether the PES packet is skipped, and reading continues after it.
+    /// Whether the PES packet is skipped: reading continues after it.
     pub is_skipped: bool,
 }
 
 impl FaultRow {
-    /// Returns the first frame that cannot stay on air unchanged because of the fault, or `None` if
-    /// the fault does not affect receivers. The frame is that of the fault's place. A faulty PES
-    /// packet may belong to the frame `last` of the previous PES packet. A page that is wrong for
-    /// too long has been wrong since the frame `late`.
+    /// Returns the first frame that is no longer trusted because of the fault, or `None` if the
+    /// fault does not affect receivers. It is the frame of the fault's place, with two exceptions:
+    /// a faulty PES packet may belong to `last`, the frame of the previous PES packet, and an
+    /// overdue page has been wrong since the frame `late`.
     pub fn invalidated(&self, last: u32, late: Option<u32>) -> Option<u32>
         ensures { result ≡ invalidated_frame last late self.now.invalidates self.now.place }
     {

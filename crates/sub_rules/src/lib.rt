@@ -1,10 +1,8 @@
 //! The requirements on a transmission, and the faults of a transmission that breaks them.
 //!
-//! Builds on `ttx_page` for the codes that packets show, on `stl_rows` for the expected page, on
-//! `ttx_pes` for PES packets, and on `sub_plan` for the options. `specs/` defines a transmission
-//! and how it is read from the bytes of a PES file, a good transmission, `Good`, and all events for
-//! any transmission in order, `Events`. The checker, the receiver of a file and the laws build on
-//! this crate.
+//! `specs/` defines a transmission, how it is read from the bytes of a PES file, the rules of a good
+//! transmission (`Good`), and the events that a check reports (`Events`). `sub_checker` checks these
+//! rules.
 //!
 //! ```text
 //! next_pes_packet(&mut reader, &mut source, &options, 0)?;

@@ -1,21 +1,19 @@
-//! The rules for a single Teletext packet, and the parameters of checking.
+//! The rules for a single Teletext packet, and the page to check.
 
 use stl_rows::National;
 use ttx_packet::PageId;
 
-/// A rule for a Teletext packet. The order of the variants is the order of the checks.
-///
-/// The faults of `check` from `Address` to `Enhancement` belong to these rules; the contract of
-/// `check` names them.
+/// A rule for Teletext packets, in the order of the checks. The faults from `CheckFault::Address`
+/// to `CheckFault::Enhancement` belong to these rules.
 #[derive(Clone, Copy, Debug, PartialEq, Eq)]
 pub enum PacketRule {
-    /// Both address bytes of the packet are code words.
+    /// Both address bytes of the packet are Hamming 8/4 code words.
     Address,
-    /// The eight coded bytes of a packet X/0 are code words.
+    /// The eight coded bytes of a packet X/0 are Hamming 8/4 code words.
     HeaderCode,
-    /// All page headers, of any page and magazine, agree on C11, magazine serial.
+    /// All page headers, of any page and magazine, have the same C11 (magazine serial).
     Mode,
-    /// A header of the page has the control bits of a subtitle.
+    /// A header of the page has the control bits of a subtitle page.
     Control,
     /// A row of the open page has odd parity.
     Parity,
@@ -25,19 +23,16 @@ pub enum PacketRule {
     Enhancement,
 }
 
-/// The page to check, the national option of its headers, whether complete pages are required, and
-/// whether repeats may have C4 (erase page) clear.
-///
-/// `check` derives these parameters from the options and the programme; its contract names them.
+/// The page to check: its number, the national option of its headers, whether complete pages are
+/// required, and whether repeats may have C4 (erase page) clear.
 #[derive(Clone, Copy)]
 pub struct Watched {
-    /// The page to check.
+    /// The number of the page.
     pub page: PageId,
     /// The national option of the page's headers.
     pub national: National,
     /// Whether complete pages are required.
     pub complete: bool,
-    /// Whether repeats may have C4 (erase page) clear: their headers may have C4, erase page,
-    /// clear.
+    /// Whether repeats may have C4 (erase page) clear.
     pub keeps: bool,
 }

@@ -1,4 +1,4 @@
-//! Reads a PES file one PES packet at a time, and skips invalid PES packets.
+//! Reads a PES file, one PES packet at a time.
 ghost use Rattle.std.specs.Prelude.{◌≡◌, ◌≢◌, ℕ, ◌+◌, ◌<◌, ◌≤◌, List, IfErr, IfOk, IsSome, Option};
 ghost use Rattle.std.specs.Prelude.{Ok, Some, false, true};
 ghost use Rattle.sub_io.specs.Device.{CanFail, CountsIf, failed};
@@ -21,13 +21,13 @@ use crate::sending::Sending;
 use sub_plan::Options;
 use ttx_pes::{Compared, ComparingReader, PesFault, PesPackets};
 
-/// The next PES packet of a file: a start code, and as many bytes as `PES_packet_length` gives (EN
-/// 300 472).
+/// The next PES packet of a file.
 #[derive(Clone, Copy, Debug, PartialEq, Eq)]
 pub enum NextPesPacket {
-    /// The packet is valid, and its PTS is that of a frame of the day (EN 300 472, PTS).
+    /// The PES packet is valid, and its PTS belongs to a frame of the day.
     Sent(Sending),
-    /// The packet is skipped: it is invalid (`Pes`), or its PTS is that of no frame (`OffFrame`).
+    /// The PES packet is skipped: it is invalid (`Pes`), or its PTS belongs to no frame
+    /// (`OffFrame`).
     Skipped(CheckFault),
 }
 
@@ -66,7 +66,7 @@ pub fn next_pes_packet<P: PesPackets>(
     ensures progress { OnPesPacket result (reader.new.progress ≡ Reading (pes + 1)) }
     // A file with more PES packets than a day has frames is rejected.
     ensures below { OnPesPacket result (pes < most_packets) }
-    // If `again` is set, the data units are those of the previous PES packet.
+    // If `again` is set, the data units equal those of the previous PES packet.
     ensures again { IfSent result (λ sending. sending.again ≡ true
         → reader.new.frame.units ≡ reader.old.frame.units) }
     // If `again` is clear, the data field differs from that of the previous PES packet.
@@ -74,7 +74,7 @@ pub fn next_pes_packet<P: PesPackets>(
         → reader.new.data_field ≢ reader.old.data_field) }
     ensures day { IfSent result (λ sending. sending.frame < day) }
     ensures own { failed is_subtitle_fault result ≡ false }
-    // A failing source never counts as an invalid PES packet.
+    // A failure of the source never counts as an invalid PES packet.
     ensures skipped { (fault : CheckFault) → result ≡ Ok (Some (NextPesPacket.Skipped fault))
         → (is_pes_read fault ≡ false) × (is_subtitle_fault fault ≡ false) }
     // A failure of the source is reported for the PES packet in which it happened.
@@ -84,7 +84,7 @@ pub fn next_pes_packet<P: PesPackets>(
         → FailsWithin (P.remaining source.old) (P.left source.new)) }
     // The call reads nothing beyond the PES packet.
     ensures settled { OnPesPacket result (P.left source.new ≡ P.remaining source.new) }
-    // The call cannot fail if the source needs no device for the PES packet.
+    // The call cannot fail if the source already has the bytes of the PES packet.
     ensures ready { P.ready source.old ≡ true → failed is_pes_read result ≡ false }
     ensures device { P.device source.new ≡ P.device source.old }
     ensures count { CountsIf P.failure_count source.old (failed is_pes_read result) source.new }
@@ -103,7 +103,7 @@ pub fn next_pes_packet<P: PesPackets>(
     }
 }
 
-// Converts a PTS to a frame of the day. If the PTS belongs to no frame, the PES packet is skipped.
+// Converts a PTS to a frame of the day. The PES packet is skipped if the PTS belongs to no frame.
 fn pes_packet_of(pts: u64, options: &Options, pes: u32, again: bool) -> NextPesPacket
     ensures exact { (v : PesValue) (bytes : List ℕ) (pes_packets : List PesPacket)
         (unread : Option Unread)

@@ -1,19 +1,20 @@
-//! The PES packets of a file, each with its frame.
+//! The frame of a valid PES packet, and whether its contents repeat the previous ones.
 ghost use Rattle.std.specs.Prelude.{◌≡◌, ◌≤◌, length};
 ghost use Rattle.ttx_pes.specs.PesGrammar.{IsPesValue, most_units};
 
 use ttx_pes::{ComparingReader, SentUnits};
 
-/// A PES packet that is sent, with its frame.
+/// A valid PES packet, with its frame.
 #[derive(Clone, Copy, Debug, PartialEq, Eq)]
 pub struct Sending {
     /// The frame of the day to which the PTS belongs.
     pub frame: u32,
-    /// Whether the Teletext packets repeat those of the previous PES packet, byte for byte.
+    /// Whether the Teletext packets are the same as those of the previous PES packet, byte for
+    /// byte.
     pub again: bool,
 }
 
-/// Returns the Teletext units of the PES packet that `reader` read last, borrowed from its bytes.
+/// Returns the Teletext data units of the PES packet that `reader` read last.
 pub fn units_of(reader: &ComparingReader) -> SentUnits<'_>
     ensures value { result ≡ reader.now.frame.units }
     ensures few { length result ≤ most_units }
