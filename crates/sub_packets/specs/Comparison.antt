@@ -1,20 +1,20 @@
--- The page that is shown, and the expected page. In other crates, only contracts of private
--- functions use this record.
+-- Compares the page that the packets show with the expected page.
 use Rattle.std.specs.Prelude.{◌≡◌, ℕ, ◌+◌, ◌-◌, IfSome, Option, Some, None}
 use Rattle.ttx_page.specs.Differing.{differing}
 use Rattle.ttx_page.specs.Page.{Rows, blank}
 
+-- The contents of a comparison: the page that the packets show, and the expected page.
 pub record ComparisonValue : Type 0 where
   pub page : Rows
   pub due : Rows
 
--- `wrong`, if known, and `blank_wrong` are the numbers of cells in which the page that is shown and
--- the blank page differ from the expected page.
+-- `wrong`, if it is known, is the number of cells in which the shown page differs from the expected
+-- page; `blank_wrong` is that number for a blank page.
 pub record IsCounted (page due : Rows) (wrong : Option ℕ) (blank_wrong : ℕ) : Type 0 where
   pub wrong_eq : IfSome wrong (λ n. n ≡ differing page due)
   pub blank_is : blank_wrong ≡ differing blank due
 
--- The number of differing cells after one row changed from `before` to `after` differing cells.
+-- The number of wrong cells after the wrong cells of one row changed from `before` to `after`.
 abbrev pub recounted : Option ℕ → ℕ → ℕ → Option ℕ
 recounted None before after = None
 recounted (Some n) before after = Some (n - before + after)

@@ -1,13 +1,11 @@
--- Properties of the page that a listener stores. In other crates, only contracts of private
--- functions use these definitions.
+-- The wrong and the unexpected cells of the page that a listener stores.
 use Rattle.std.specs.Prelude.{ℕ, ◌-◌, ◌&&◌, ◌||◌, ◌==◌, Bool, Option, false, not, slice_index_or}
 use Rattle.ttx_page.specs.Page.{Rows, cell, space}
 use Rattle.sub_rules.specs.Events.{first_cell, was_due}
 use Rattle.sub_packets.specs.declared.listener.Listener.{Listener}
 
--- A cell of the stored page is correct: it has the expected code, and, if repeats may have C4
--- (erase page) clear and the expected code is no space, its row came since the last header of the
--- page.
+-- A cell of the stored page is correct: it has the expected code and, if repeats may have C4 (erase
+-- page) clear and that code is no space, its row was received since the last header of the page.
 abbrev pub is_right_kept : Listener → ℕ → ℕ → Bool
 is_right_kept s row column =
     cell s.comparison.page row column == cell s.comparison.due row column
@@ -28,6 +26,6 @@ unexpected_kept s due first f n =
     not (cell s.comparison.page row column == space)
     && not (was_due due first f n row column (cell s.comparison.page row column)))
 
--- Complete pages are required, and the stored page is still open.
+-- Complete pages are required, and the stored page is open.
 abbrev pub is_incomplete_kept : Listener → Bool
 is_incomplete_kept s = s.watched.complete && s.is_open

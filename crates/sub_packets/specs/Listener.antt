@@ -1,5 +1,5 @@
--- How the state of a listener follows from the packets that it received, whether or not they break
--- rules. In other crates, only contracts of private functions use these definitions.
+-- How the state of a listener follows from the packets that it received, whether or not they broke
+-- rules.
 use Rattle.std.specs.Prelude.{◌≡◌, ℕ, ◌-◌, ◌<◌, ◌≤◌, Bool, false, List, [], ◌∷◌, ◌++◌, Option}
 use Rattle.std.specs.Prelude.{None, Some, if◌then◌else◌, is_some, length, option_map, not}
 use Rattle.std.specs.Prelude.{◌+◌, ◌*◌, ◌&&◌, ◌||◌, ◌==◌, nat_lt, true}
@@ -18,9 +18,9 @@ use Rattle.sub_packets.specs.declared.listener.Listener.{Listener}
 use Rattle.sub_rules.specs.declared.packet_rule.PacketRule.{PacketRule}
 use Rattle.sub_rules.specs.declared.packet_rule.Watched.{Watched}
 
--- ---- a set of rules
+-- ---- sets of rules
 
--- The set of those rules of a list that pass a test: one bit per rule, the first rule in the lowest
+-- The rules of a list that pass a test, as a set: one bit per rule, the first rule in the lowest
 -- bit.
 unfoldable pub rule_set : (PacketRule → Bool) → List PacketRule → ℕ
 rule_set test [] = 0
@@ -28,20 +28,19 @@ rule_set test (r ∷ rules) = (if test r then 1 else 0) + 2 * rule_set test rule
 
 -- ---- the state of a listener
 
--- The codes of a row, given its first packet; spaces if no packet of the row was received.
+-- The codes of a row's first packet; spaces if no packet of the row was received.
 abbrev pub held : Option (List ℕ) → List ℕ
 held None = blank_row
 held (Some p) = codes_of p
 
--- The stored state of a listener is the one that the definitions of `sub_rules` compute from all
--- packets received.
+-- The listener's state is the one that `sub_rules` defines for the packets received so far,
+-- `heard`.
 pub record Knows (heard : List (List ℕ)) (s : Listener) : Type 0 where
   pub serial_eq : s.serial ≡ option_map (λ (h : Header). c11 h) (first_header heard)
   pub open_eq : s.is_open ≡ is_open_after (kind s.watched.page) heard
   pub subcode_eq :
       s.subcode ≡ option_map (λ (h : Header). h.subcode) (last_header s.watched.page heard)
-  -- The rows received since the text of the page began, and the codes of the first packet of each
-  -- row.
+  -- The rows received since the page was last erased, with the codes of each row's first packet.
   pub sent_eq : (row : ℕ) → 1 ≤ row → row ≤ 24
       → slice_index_or s.sent (row - 1) false
       ≡ is_some
@@ -54,13 +53,13 @@ pub record Knows (heard : List (List ℕ)) (s : Listener) : Type 0 where
   pub again_is : (row : ℕ) → 1 ≤ row → row ≤ 24
       → slice_index_or s.again (row - 1) false ≡ has_row s.watched.page heard row
 
--- The first n packets of a frame, sent after the packets `before`, break no rule.
+-- The first n packets of a frame break no rule. The packets `before` were sent earlier.
 abbrev pub BreakNoRule : Watched → List (List ℕ) → List (List ℕ) → ℕ → Type 0
 BreakNoRule w before packets n =
     (k : ℕ) → k < n → broken_rules w (before ++ take k packets) (slice_index_or packets k []) ≡ []
 
--- The last packets received begin with a header that begins the text of the page, contain `headers`
--- headers of the page, and break no rule.
+-- The packets `last`, the last ones received, begin with a header that erases the page, contain
+-- `headers` headers of the page, and break no rule.
 pub record WereJudged (w : Watched) (heard last : List (List ℕ)) (headers : ℕ) : Type 0 where
   pub before : List (List ℕ)
   pub heard_eq : heard ≡ before ++ last
@@ -68,42 +67,41 @@ pub record WereJudged (w : Watched) (heard last : List (List ℕ)) (headers : �
   pub clean : BreakNoRule w before last (length last)
   pub count : header_count w.page last ≡ headers
 
--- The text of the page begins with a packet of a frame: with one of its first `from` packets, or
--- with one of `packets`.
+-- The frame has a header that erases the page: among its first `from` packets, or among `packets`.
 abbrev pub begins_frame : Watched → ℕ → Bool → List (List ℕ) → Bool
 begins_frame w from before packets =
     (nat_lt 0 from && before) || holds_beginning w.keeps (kind w.page) packets
 
--- A listener's state agrees with all packets received, `heard`, and with the last ones, `last`.
+-- The listener's state agrees with all packets received, `heard`, and with those of the last frame,
+-- `last`.
 pub record KnowsLast (heard last : List (List ℕ)) (s : Listener) : Type 0 where
   pub knows : Knows heard s
   pub last_is : (headers : ℕ) → s.last ≡ Some headers → WereJudged s.watched heard last headers
   pub started_eq : (headers : ℕ) → s.last ≡ Some headers → s.begun ≡ true
 
--- ---- packets that need not be examined
+-- ---- packets that can be skipped
 
--- A header whose C11 is `serial` has the C11 of the first page header; false if no page header was
--- received.
+-- A header with the C11 `serial` has the same C11 (magazine serial) as the first page header; false
+-- if no page header was received.
 abbrev pub is_of_mode : Option Bool → Bool → Bool
 is_of_mode None serial = false
 is_of_mode (Some first) serial = is_same_bit first serial
 
--- A header without coding errors needs no examination: it has the C11 of the first page header, is
--- no header of the page, and does not end the page while it is open.
+-- A page header can be skipped: it has the C11 of the first page header, is no header of the page,
+-- and does not end the open page.
 abbrev pub is_skipped_header : ℕ → Header → Listener → Bool
 is_skipped_header magazine h s =
     is_of_mode s.serial (c11 h)
     && (if s.is_open then not (magazine == s.watched.page.magazine) && not (c11 h)
     else not (magazine == s.watched.page.magazine && h.page == s.watched.page.page))
 
--- The packet p, received after `heard`, breaks no rule and leaves the state of the listener as it
--- is.
+-- The packet p, received after `heard`, breaks no rule and does not change the listener's state.
 pub record IsSkipped (heard : List (List ℕ)) (p : List ℕ) (s : Listener) : Type 0 where
   pub breaks_none : rule_set (λ r. breaks r s.watched heard p) packet_rules ≡ 0
   pub knows : Knows (heard ++ p ∷ []) s
 
--- Whenever the packet p comes while the listener is in state s, it is no header of the page, breaks
--- no rule, and leaves the state as it is.
+-- The packet p can always be skipped in state s: it is no header of the page, breaks no rule, and
+-- does not change the state.
 pub record IsAlwaysSkipped (p : List ℕ) (s : Listener) : Type 0 where
   pub no_header : is_this_page (kind s.watched.page p) ≡ false
   pub skipped : (heard : List (List ℕ)) → Knows heard s → IsSkipped heard p s

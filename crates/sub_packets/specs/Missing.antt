@@ -1,13 +1,12 @@
--- Defines which of two cells of a page comes first. In other crates, only contracts of private
--- functions use these definitions.
+-- Which of two cells of a page comes first.
 use Rattle.std.specs.Prelude.{ℕ, ◌==◌, ◌&&◌, ◌||◌, Option, Some, None, nat_le, nat_lt, Bool}
 use Rattle.std.specs.Prelude.{if◌then◌else◌}
 
--- Cell a is not after cell b, by row and then by column.
+-- Cell a is cell b or comes before it, by row and then by column.
 abbrev pub is_not_after : ℕ × ℕ → ℕ × ℕ → Bool
 is_not_after a b = nat_lt a.0 b.0 || (a.0 == b.0 && nat_le a.1 b.1)
 
--- The earlier of two optional cells, by row and then by column; the other cell if one is `None`.
+-- The first of two optional cells, by row and then by column; `None` if both are `None`.
 abbrev pub earlier : Option (ℕ × ℕ) → Option (ℕ × ℕ) → Option (ℕ × ℕ)
 earlier None other = other
 earlier (Some a) None = Some a

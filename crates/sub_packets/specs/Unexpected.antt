@@ -1,5 +1,4 @@
--- A page in which each code that was expected is replaced by a space. In other crates, only
--- contracts of private functions use these definitions.
+-- The codes of a page that were not expected in any of the last frames.
 use Rattle.std.specs.Prelude.{◌≡◌, ℕ, if◌then◌else◌, ◌==◌}
 use Rattle.ttx_page.specs.Page.{IsCell, Rows, cell, space}
 use Rattle.sub_rules.specs.Events.{was_due}
@@ -8,8 +7,8 @@ use Rattle.sub_rules.specs.Events.{was_due}
 abbrev pub unless_due : ℕ → ℕ → ℕ
 unless_due due shown = if due == shown then space else shown
 
--- `left` has the codes of `shown`, with a space for each code that was expected in its cell at
--- frame f or at one of the n frames before f. Frames before `first` do not count.
+-- `left` has the codes of `shown`, but a space for each code that was expected in its cell at frame
+-- f or at one of the n frames before f. Frames before `first` do not count.
 abbrev pub IsLeft : (ℕ → Rows) → ℕ → ℕ → ℕ → Rows → Rows → Type 0
 IsLeft due first f n shown left =
     (row column : ℕ)

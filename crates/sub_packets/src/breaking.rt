@@ -1,4 +1,4 @@
-//! The rules that a packet breaks, given the packets before it.
+//! Finds the rules that a packet breaks, given the packets before it.
 ghost use Rattle.std.specs.Prelude.{◌≡◌, ℕ, ◌-◌, ◌<◌, ◌≤◌, ◌&&◌, ◌==◌, List, drop, false, is_some};
 ghost use Rattle.std.specs.Prelude.{not, slice_index_or};
 ghost use Rattle.ttx_packet.specs.PacketAddress.{address};
@@ -25,9 +25,8 @@ use ttx_page::PacketKind;
 impl Listener {
     ghost use Rattle.sub_packets.specs.Listener.{Knows};
 
-    /// Returns the rules that the packet breaks, given the packets received before it. `found` is
-    /// its kind, and `page_header` its page header. The set is built from the last rule to the
-    /// first.
+    /// Returns the rules that the packet breaks. `found` is its kind, and `page_header` its page
+    /// header. The set is built from the last rule to the first.
     #[inline(always)]
     pub(crate) fn broken_rules(
         &self,
@@ -47,8 +46,8 @@ impl Listener {
             .with_before(has_wrong_address(packet))
     }
 
-    // Returns which rules from `Control` on the packet breaks. They depend on the packet's kind;
-    // the first three rules do not.
+    // Returns which of the rules from `Control` on the packet breaks. Only these depend on the kind
+    // of the packet.
     #[inline(always)]
     fn broken_later(&self, packet: &Packet, found: PacketKind) -> RuleSet
         requires kind { found ≡ kind self.now.watched.page packet.now }
@@ -68,8 +67,8 @@ impl Listener {
         }
     }
 
-    // Returns whether a header of the page has the control bits of a subtitle, and erases the page
-    // or is an allowed repeat.
+    // Returns whether a header of the page has the control bits of a subtitle page, and has C4
+    // (erase page) set or is an allowed repeat.
     fn is_subtitle(&self, header: &Header) -> bool
         ensures { (heard : List (List ℕ)) → Knows heard self.now
             → result ≡ is_subtitle_header self.now.watched heard header.now }
@@ -77,8 +76,7 @@ impl Listener {
         self.may_follow_as_header(header) && has_subtitle_bits(self.watched.national, header)
     }
 
-    // Returns whether a header of the page erases the page, or repeats the last header if repeats
-    // may have C4 (erase page) clear.
+    // Returns whether a header of the page has C4 (erase page) set or is an allowed repeat.
     fn may_follow_as_header(&self, header: &Header) -> bool
         ensures { (heard : List (List ℕ)) → Knows heard self.now
             → result ≡ may_follow_as_header self.now.watched heard header.now }
@@ -86,8 +84,8 @@ impl Listener {
         is_erasing(header) || (self.watched.keeps && self.repeats_page(header))
     }
 
-    // Returns whether a header of the page repeats the last header: it has the same subcode, and
-    // the page is complete if complete pages are required.
+    // Returns whether a header of the page repeats the page: it has the sub-code of the last
+    // header, and the page has ended if complete pages are required.
     fn repeats_page(&self, header: &Header) -> bool
         ensures { (heard : List (List ℕ)) → Knows heard self.now → result
             ≡ repeats_page self.now.watched.complete self.now.watched.page heard header.now }
@@ -95,14 +93,14 @@ impl Listener {
         is_same_subcode(self.subcode, header) && !self.is_incomplete()
     }
 
-    // Returns whether the page is open and the packet of a row has a byte with even parity.
+    // Returns whether the page is open and the row has a byte with even parity.
     fn has_even_row(&self, packet: &Packet) -> bool
         ensures { result ≡ (self.now.is_open && is_some (first_even_byte packet.now)) }
     {
         self.is_open && has_even_byte(packet)
     }
 
-    // Returns whether the page is open and the row was received before with other codes.
+    // Returns whether the page is open and the row was received before with different codes.
     fn has_changed(&self, row: u8, packet: &Packet) -> bool
         requires { IsRow row }
         ensures { result ≡ (self.now.is_open && slice_index_or self.now.sent (row - 1) false
@@ -112,7 +110,7 @@ impl Listener {
         self.is_open && self.sent[row as usize - 1] && self.comparison.differs_from(row, packet)
     }
 
-    // Returns whether the page is open and the packet is X/25 to X/28 of its magazine.
+    // Returns whether the page is open and the packet is a packet X/25 to X/28 of its magazine.
     fn is_enhanced(&self, packet: &Packet) -> bool
         ensures { result
             ≡ (self.now.is_open && is_of_enhancement self.now.watched.page (address packet.now)) }

@@ -1,4 +1,4 @@
-//! The page that the packets show, the expected page, and the number of cells in which they differ.
+//! Compares the page that the packets show with the expected page.
 ghost use Rattle.std.specs.Prelude.{◌≡◌, ◌↔◌, ℕ, ◌-◌, ◌≤◌, ◌==◌, not, IfSome, IsTrue, MatchOption};
 ghost use Rattle.std.specs.Prelude.{Some, slice_set};
 ghost use Rattle.ttx_page.specs.Differing.{row_differing};
@@ -16,20 +16,19 @@ use stl_rows::Programme;
 use ttx_packet::Packet;
 use ttx_page::{Page, differing_columns};
 
-/// The page that is shown, and the expected page.
+/// The page that the packets show, the expected page, and the number of wrong cells.
 ///
-/// After another page becomes due, the number of differing cells is unknown up to the next header.
-/// From there on each row updates it.
+/// After the expected page has changed, the number is unknown until the next header. From then on,
+/// each row updates it.
 #[derive(Drop)]
 pub struct Comparison {
     page: Page,
     due: Page,
-    // The number of cells in which the page that is shown differs from the expected page, 0 to 960.
-    // `None` after another page became due, up to the next header, which usually comes before the
-    // number is needed.
+    // The number of wrong cells, 0 to 960. `None` if the expected page has changed since the last
+    // header; usually a header comes before the number is needed.
     wrong: Option<u16>,
-    // The number of cells in which a blank page differs from the expected page: the value of
-    // `wrong` after a header.
+    // The number of cells in which a blank page differs from the expected page, which is the value
+    // of `wrong` after a header.
     blank_wrong: u16,
 }
 
@@ -44,7 +43,7 @@ impl Model for Comparison {
 }
 
 impl Comparison {
-    /// Returns the comparison of a blank page with the expected page.
+    /// Returns the comparison of a blank page with `due`, the expected page.
     pub(crate) fn new(due: Page) -> Self
         ensures { result ≡ record { page = blank; due = due } }
     {
@@ -57,7 +56,7 @@ impl Comparison {
         }
     }
 
-    /// Draws the page expected at a frame, and returns what `Programme::draw_due` returns.
+    /// Draws the expected page of a frame, and returns the result of `Programme::draw_due`.
     pub(crate) fn draw_due(
         &mut self,
         programme: &Programme,
@@ -74,7 +73,7 @@ impl Comparison {
         drawn
     }
 
-    /// Makes the page that is shown blank.
+    /// Erases the shown page.
     pub(crate) fn clear(&mut self)
         ensures { self.new ≡ record self.old { page = blank } }
     {
@@ -82,7 +81,7 @@ impl Comparison {
         self.wrong = Some(self.blank_wrong);
     }
 
-    /// Sets a row of the page that is shown.
+    /// Sets a row of the shown page.
     pub(crate) fn set_row(&mut self, row: u8, codes: &[u8; 40])
         requires row { IsRow row }
         requires codes { AreCodes codes.now }
@@ -97,7 +96,7 @@ impl Comparison {
         self.wrong = recounted(self.wrong, before, after);
     }
 
-    /// Returns whether the row of the page that is shown differs from the codes of the packet.
+    /// Returns whether a row of the shown page differs from the packet.
     pub(crate) fn differs_from(&self, row: u8, packet: &Packet) -> bool
         requires { IsRow row }
         ensures { result
@@ -106,8 +105,7 @@ impl Comparison {
         differing_columns(self.page.row(row), &text_codes(packet)) != 0
     }
 
-    /// Returns whether the count shows that no cell differs from the expected page. `false` if the
-    /// count is unknown.
+    /// Returns whether no cell is wrong; `false` if the number of wrong cells is unknown.
     #[inline(always)]
     #[tactic(auto, using(ttx_page::proofs::DifferingLemmas::cells_same))]
     pub(crate) fn is_known_right(&self) -> bool
@@ -117,7 +115,7 @@ impl Comparison {
         is_zero(self.wrong)
     }
 
-    /// Returns the page that is shown.
+    /// Returns the shown page.
     pub(crate) fn shown(&self) -> &Page
         ensures { result.now ≡ self.now.page }
     {
@@ -131,8 +129,8 @@ impl Comparison {
         &self.due
     }
 
-    /// Returns the row (1 to 24) and column (0 to 39) of the first cell that differs from the
-    /// expected page. If the count is known to be 0, no cell is compared.
+    /// Returns the row (1 to 24) and column (0 to 39) of the first wrong cell. No cell is compared
+    /// if the number of wrong cells is known to be 0.
     #[tactic(auto, using(ttx_page::proofs::DifferingLemmas::cells_same))]
     pub(crate) fn first_wrong(&self) -> Option<(u8, u8)>
         ensures { MatchOption result
@@ -148,8 +146,8 @@ impl Comparison {
     }
 }
 
-// Returns the number of differing cells after one row changed from `before` to `after` differing
-// cells.
+// Returns the number of wrong cells after the wrong cells of one row changed from `before` to
+// `after`.
 fn recounted(wrong: Option<u16>, before: u16, after: u16) -> Option<u16>
     requires wrong { IfSome wrong (λ n. (before ≤ n) × (n ≤ 960)) }
     requires after { after ≤ 40 }

@@ -1,8 +1,7 @@
-//! Checks the packets of a frame against the rules for single packets, and keeps the page that they
-//! show.
+//! Checks Teletext packets against the rules for packets, and stores the page that they show.
 //!
-//! `sub_rules` defines the rules, and `ttx_page` the page that packets show. The checker,
-//! `sub_checker`, passes each frame to this crate, and asks at its end what the page shows.
+//! `sub_rules` defines the rules. `sub_checker` passes the packets of each PES packet to this crate,
+//! and reads the stored page at the end of each frame.
 //!
 //! ```text
 //! let mut listener = Listener::new(watched, due);

@@ -1,4 +1,4 @@
-//! Stores what the rules need to know about the packets received so far.
+//! Receives Teletext packets, and stores the state on which the rules for later packets depend.
 ghost use Rattle.std.specs.Prelude.{◌≡◌, ◌≢◌, ℕ, ◌+◌, ◌-◌, ◌<◌, ◌≤◌, ◌++◌, List, [], ◌∷◌};
 ghost use Rattle.std.specs.Prelude.{length, IsTrue, true, false, map};
 ghost use Rattle.std.specs.Prelude.{replicate};
@@ -32,44 +32,43 @@ use ttx_packet::{Header, Packet, SentPacket};
 use ttx_page::{PacketKind, Page};
 use ttx_pes::SentUnits;
 
-/// What the rules need to know about the packets received so far.
+/// Receives Teletext packets, and stores the page that they show.
 ///
-/// Which rules a packet breaks depends on the packets before it: on the first page header, whether
-/// the page is open, the subcode of its last header, and the rows received since its text began.
-/// The listener stores these facts, the page that the packets show, and the expected page.
+/// Which rules a packet breaks depends on earlier packets: on the first page header, whether the
+/// page is open, the sub-code of its last header, and the rows received since the page was erased.
+/// The listener stores this state and the expected page.
 #[derive(Drop)]
 pub struct Listener {
     /// The page, its national option, whether complete pages are required, and whether repeats may
     /// have C4 (erase page) clear.
     pub watched: Watched,
-    // C11 (magazine serial) of the first page header; `None` before a header was received.
+    // C11 (magazine serial) of the first page header; `None` before a page header was received.
     pub(crate) serial: Option<bool>,
-    // Whether the page is open: rows that are received now belong to the page.
+    // Whether the page is open: the next rows belong to it.
     pub(crate) is_open: bool,
-    // The subcode of the last header of the page; `None` before a header of the page was received.
+    // The sub-code of the last header of the page; `None` before a header of the page was received.
     pub(crate) subcode: Option<u16>,
-    // The rows received since the last header with which the text of the page began; row 1 is at
-    // index 0.
+    // The rows received since the page was last erased; row 1 is at index 0.
     pub(crate) sent: [bool; 24],
     // The rows received since the last header of the page; row 1 is at index 0.
     pub(crate) again: [bool; 24],
     /// The page that the packets show, and the expected page.
     pub comparison: Comparison,
-    /// Whether the text of the page begins with one of the packets of the last frame.
+    /// Whether a packet of the last frame erases the page.
     pub begun: bool,
-    // The number of headers of the page in the last packets, if the text begins with the first of
-    // them and none breaks a rule.
+    // The number of headers of the page in the last frame, if its first packet erases the page and
+    // none of its packets breaks a rule.
     last: Option<u8>,
 }
 
-// Whether a received packet is a header of the page, begins the text, and breaks no rule.
+// The properties of a received packet.
 #[derive(Clone, Copy)]
 struct Heard {
-    // The packet is a header of the page.
+    // Whether the packet is a header of the page.
     is_header: bool,
-    // The text of the page begins with the packet.
+    // Whether the packet is a header that erases the page.
     begins: bool,
-    // The packet breaks no rule.
+    // Whether the packet breaks no rule.
     is_clean: bool,
 }
 
@@ -79,7 +78,7 @@ impl Listener {
     ghost use Rattle.sub_packets.specs.Listener.{begins_frame};
     ghost use Rattle.sub_packets.specs.Listener.{is_skipped_header, rule_set};
 
-    /// Returns the state before the first packet. `due` is the expected page.
+    /// Returns the state before the first packet, with the expected page `due`.
     pub fn new(watched: Watched, due: Page) -> Self
         ensures watched { result.watched ≡ watched }
         ensures due { result.comparison.due ≡ due }
@@ -98,7 +97,7 @@ impl Listener {
         }
     }
 
-    /// Draws the page expected at a frame, and returns what `Programme::draw_due` returns.
+    /// Draws the expected page of a frame, and returns the result of `Programme::draw_due`.
     pub fn draw_due(
         &mut self,
         programme: &Programme,
@@ -114,19 +113,20 @@ impl Listener {
         self.comparison.draw_due(programme, frame, guess)
     }
 
-    /// Returns whether complete pages are required and the page is still open.
+    /// Returns whether complete pages are required and the page is open.
     pub fn is_incomplete(&self) -> bool
         ensures { result ≡ is_incomplete_kept self.now }
     {
         self.watched.complete && self.is_open
     }
 
-    /// Receives packets of a frame, reports the rules that they break, and returns the number of
-    /// headers of the page. `again`: the packets equal the last packets. `from` is the number of
-    /// the first packet in its frame, which is 0 except after PES packets of the same frame.
+    /// Receives the packets of a PES packet, reports the rules that they break, and returns the
+    /// number of headers of the page. `again` says that the packets equal those of the previous PES
+    /// packet. `from` is the number of the first packet in its frame: 0, except if the frame has an
+    /// earlier PES packet.
     ///
-    /// If packets that begin the text and break no rule are sent again, they break no rule and
-    /// change nothing, so they are not examined.
+    /// If packets that begin with a header that erases the page and break no rule are sent again,
+    /// they change nothing, so they are not examined.
     #[inline(always)]
     pub fn hear_sending<A: Taker>(
         &mut self,
@@ -158,7 +158,7 @@ impl Listener {
         self.hear_all(units, frame, from, taker)
     }
 
-    // Receives packets of a frame, and reports the rules that the packets break.
+    // Receives the packets of a PES packet, and reports the rules that they break.
     #[inline(never)]
     fn hear_all<A: Taker>(
         &mut self,
@@ -203,12 +203,11 @@ impl Listener {
         headers
     }
 
-    // Returns the number of the first packet from `from` on that has to be examined, or the number
-    // of packets if no packet has to be.
+    // Returns the number of the first packet, from `from` on, that must be examined, or the number
+    // of packets if none must be.
     //
-    // Most packets of a service need not be examined. This function is separate so that the loop
-    // keeps its values in registers, and so that it is compiled once for an open page and once for
-    // a closed page.
+    // Most packets of a service can be skipped. This is a separate function so that the loop keeps
+    // its values in registers and is compiled once for an open page and once for a closed page.
     #[inline(never)]
     fn next_heard(&self, units: &SentUnits<'_>, from: usize) -> usize
         requires { from ≤ length units.now }
@@ -226,8 +225,8 @@ impl Listener {
         units.len()
     }
 
-    // Returns whether a packet breaks no rule and changes nothing, as its first two bytes show, or
-    // the first ten of a page header.
+    // Returns whether a packet can be skipped because it breaks no rule and changes nothing. The
+    // first two bytes show this, or the first ten bytes of a page header.
     #[inline(always)]
     fn is_skipped(&self, is_open: bool, packet: &SentPacket<'_>) -> bool
         requires { is_open ≡ self.now.is_open }
@@ -248,8 +247,8 @@ impl Listener {
         self.skips_header(magazine, packet)
     }
 
-    // Returns whether a page header is of the page or ends it, from its magazine and page number
-    // alone.
+    // Returns whether a page header belongs to the page or ends it. Only the magazine and the page
+    // number are compared.
     #[inline(always)]
     fn is_for_page(&self, is_open: bool, magazine: u8, packet: &SentPacket<'_>) -> bool
         ensures { magazine ≢ self.now.watched.page.magazine → result ≡ false }
@@ -266,9 +265,9 @@ impl Listener {
         !(is_open && magazine == self.watched.page.magazine())
     }
 
-    // Returns whether a page header breaks no rule and changes nothing.
+    // Returns whether a page header can be skipped because it breaks no rule and changes nothing.
     //
-    // Not inlined into `is_skipped`, which would otherwise keep fewer values in registers for other
+    // Not inlined into `is_skipped`, which would then keep fewer values in registers for other
     // packets.
     #[inline(never)]
     fn skips_header(&self, magazine: u8, packet: &SentPacket<'_>) -> bool
@@ -282,7 +281,8 @@ impl Listener {
         }
     }
 
-    // Returns whether a page header without coding errors breaks no rule and changes nothing.
+    // Returns whether a page header without coding errors can be skipped because it breaks no rule
+    // and changes nothing.
     #[inline(always)]
     fn is_skipped_header(&self, magazine: u8, header: &Header) -> bool
         ensures { result ≡ is_skipped_header magazine header.now self.now }
@@ -299,7 +299,7 @@ impl Listener {
         }
     }
 
-    // Receives a packet that has to be examined.
+    // Receives a packet that must be examined, and reports the rules that it breaks.
     #[inline(never)]
     fn judge<A: Taker>(&mut self, packet: &Packet, frame: u32, number: u32, taker: &mut A) -> Heard
         ensures watched { self.new.watched ≡ self.old.watched }
@@ -331,8 +331,8 @@ impl Listener {
         }
     }
 
-    // Receives a packet, and returns whether the packet is a header of the page. If a row is
-    // received again, the codes of its first packet are kept.
+    // Receives a packet, and returns whether it is a header of the page. If a row is sent several
+    // times, the codes of its first packet are kept.
     #[inline(always)]
     fn hear(&mut self, packet: &Packet, found: PacketKind, page_header: Option<Header>) -> bool
         requires kind { found ≡ kind self.old.watched.page packet.now }
@@ -370,7 +370,7 @@ impl Listener {
         }
     }
 
-    // Returns whether the page is open and the row was not received yet.
+    // Returns whether the page is open and the row has not been received yet.
     fn is_new(&self, row: u8) -> bool
         requires { IsRow row }
         ensures { result
@@ -379,7 +379,7 @@ impl Listener {
         self.is_open && !self.sent[row as usize - 1]
     }
 
-    // Begins the text of the page with a header: the page is blank, and no row has been received.
+    // Erases the page for a header with this sub-code: no row has been received.
     fn start(&mut self, subcode: u16)
         ensures { self.new ≡ record self.old {
           is_open = true;
@@ -396,8 +396,7 @@ impl Listener {
         self.comparison.clear();
     }
 
-    // Repeats the header of the page without erasing it: the text of the page stays, and each row
-    // has to come again.
+    // Notes a header that does not erase the page: the text stays, and each row must be sent again.
     fn repeat(&mut self, subcode: u16)
         ensures { self.new ≡ record self.old {
           is_open = true;
@@ -410,7 +409,7 @@ impl Listener {
         self.again = [false; 24];
     }
 
-    // Stores the codes of a row, and marks the row as received.
+    // Stores the codes of a row, and notes that the row was received.
     fn store(&mut self, row: u8, codes: &[u8; 40])
         requires row { (1 ≤ row) × (row ≤ 24) }
         requires codes { AreCodes codes.now }
@@ -428,7 +427,7 @@ impl Listener {
         self.comparison.set_row(row, codes);
     }
 
-    // Marks a row as received since the last header, without changing its codes.
+    // Notes that a row was received again since the last header. Its codes stay.
     fn note_repeated_row(&mut self, row: u8)
         requires { (1 ≤ row) × (row ≤ 24) }
         ensures { self.new ≡ record self.old {

@@ -1,5 +1,4 @@
-//! The rules for a single packet. The listener combines them with its stored facts about earlier
-//! packets.
+//! Tests for single packets, which the listener combines with its state.
 ghost use Rattle.std.specs.Prelude.{◌≡◌, ◌&&◌, Bool, not, Option, is_some, option_map};
 ghost use Rattle.std.specs.Option.{option_or};
 ghost use Rattle.ttx_packet.specs.PacketAddress.{IsPacket, address};
@@ -20,7 +19,7 @@ use stl_rows::{National, NationalBits};
 use ttx_packet::{Control, Header, Packet, PageId};
 use ttx_page::PacketKind;
 
-// Returns whether a packet is X/0.
+// Returns whether the packet is a packet X/0.
 fn is_header_packet(packet: &Packet) -> bool
     ensures { result ≡ is_of_header (address packet.now) }
 {
@@ -30,8 +29,8 @@ fn is_header_packet(packet: &Packet) -> bool
     }
 }
 
-/// Returns whether a packet is X/0 and one of its eight coded header bytes is no Hamming 8/4 code
-/// word. `page_header` is the packet's page header.
+/// Returns whether the packet is a packet X/0 with a coding error in its eight coded bytes.
+/// `page_header` is the packet's page header.
 #[tactic(auto, using(crate::proofs::PacketRuleLemmas::header_is_zero))]
 pub(crate) fn has_wrong_codes(packet: &Packet, page_header: Option<Header>) -> bool
     requires { page_header ≡ header packet.now }
@@ -43,21 +42,21 @@ pub(crate) fn has_wrong_codes(packet: &Packet, page_header: Option<Header>) -> b
     }
 }
 
-/// Returns whether one of the two address bytes of a packet is no Hamming 8/4 code word.
+/// Returns whether an address byte of the packet is no Hamming 8/4 code word.
 pub(crate) fn has_wrong_address(packet: &Packet) -> bool
     ensures { result ≡ not (are_code_words 0 2 packet.now) }
 {
     !packet.is_clean_address()
 }
 
-// Returns whether one of the eight coded header bytes of a packet is no Hamming 8/4 code word.
+// Returns whether one of the eight coded bytes of a page header is no Hamming 8/4 code word.
 fn has_wrong_word(packet: &Packet) -> bool
     ensures { result ≡ not (are_code_words 2 8 packet.now) }
 {
     !packet.is_clean_header()
 }
 
-/// Returns C11, magazine serial, of a page header.
+/// Returns C11 (magazine serial) of a page header.
 pub(crate) fn is_serial(header: &Header) -> bool
     ensures { result ≡ c11 header.now }
 {
@@ -75,7 +74,8 @@ pub(crate) fn is_other_mode(serial: Option<bool>, page_header: Option<Header>) -
     }
 }
 
-/// Returns C11 of the first page header, after one more packet with the page header `page_header`.
+/// Returns C11 of the first page header, once one more packet was received, whose page header is
+/// `page_header`.
 pub(crate) fn first_serial(serial: Option<bool>, page_header: Option<Header>) -> Option<bool>
     ensures { result ≡ option_or serial (option_map (λ (h : Header). c11 h) page_header) }
 {
@@ -95,7 +95,7 @@ fn is_bit(control: Control, flag: Control) -> bool
     control.contains(flag)
 }
 
-/// Returns C12, C13 and C14 of a header, which select its national option.
+/// Returns C12, C13 and C14 of a page header, which select the national option.
 fn national_bits(header: &Header) -> NationalBits
     ensures { result ≡ national_bits header.now }
 {
@@ -112,8 +112,8 @@ pub(crate) fn is_same_bit(one: bool, other: bool) -> bool
     one == other
 }
 
-/// Returns whether `is_serial` equals C11 of the first page header; `false` if no page header was
-/// received.
+/// Returns whether `is_serial` equals C11 of the first page header; `false` before a page header
+/// was received.
 pub(crate) fn is_of_mode(serial: Option<bool>, is_serial: bool) -> bool
     ensures { result ≡ is_of_mode serial is_serial }
 {
@@ -123,15 +123,15 @@ pub(crate) fn is_of_mode(serial: Option<bool>, is_serial: bool) -> bool
     }
 }
 
-/// Returns whether a header erases the page: C4 is set.
+/// Returns whether a page header has C4 (erase page) set.
 pub(crate) fn is_erasing(header: &Header) -> bool
     ensures { result ≡ c4 header.now }
 {
     is_bit(header.control, Control::C4)
 }
 
-/// Returns whether the text of the page begins with a packet of this kind: a header that erases the
-/// page, or any header of the page if repeats must have C4 (erase page) set.
+/// Returns whether a packet of this kind erases the page. If C4 (erase page) must always be set,
+/// any header of the page does.
 pub(crate) fn begins_text(keeps: bool, found: &PacketKind) -> bool
     ensures { result ≡ begins_text keeps found.now }
 {
@@ -141,8 +141,8 @@ pub(crate) fn begins_text(keeps: bool, found: &PacketKind) -> bool
     }
 }
 
-/// Returns whether a header has the subcode of the last header of the page; `true` if no header of
-/// the page was received.
+/// Returns whether a page header has the sub-code of the page's last header; `true` before a header
+/// of the page was received.
 pub(crate) fn is_same_subcode(last: Option<u16>, header: &Header) -> bool
     ensures { (o : Option Header) → last ≡ option_map (λ (h : Header). h.subcode) o
         → result ≡ is_same_subcode o header.now }
@@ -153,8 +153,8 @@ pub(crate) fn is_same_subcode(last: Option<u16>, header: &Header) -> bool
     }
 }
 
-/// Returns whether a header has the control bits of a subtitle, apart from C4: C6 and C7 are set,
-/// C5 and C10 are clear, and C12, C13 and C14 are those of the national option.
+/// Returns whether a page header has the control bits of a subtitle page, with any C4: C6 and C7
+/// are set, C5 and C10 are clear, and C12 to C14 select the national option.
 pub(crate) fn has_subtitle_bits(national: National, header: &Header) -> bool
     ensures { result ≡ has_subtitle_bits national header.now }
 {
@@ -166,7 +166,7 @@ pub(crate) fn has_subtitle_bits(national: National, header: &Header) -> bool
         && national_bits(header) == national.bits()
 }
 
-/// Returns whether a packet is X/25 to X/28 of the page's magazine.
+/// Returns whether the packet is a packet X/25 to X/28 of the page's magazine.
 pub(crate) fn is_enhancement(page: PageId, packet: &Packet) -> bool
     ensures { result ≡ is_of_enhancement page (address packet.now) }
 {
@@ -185,7 +185,7 @@ pub(crate) fn has_even_byte(packet: &Packet) -> bool
     packet.first_even().is_some()
 }
 
-/// Returns the 40 codes of a packet's text: each byte without its parity bit.
+/// Returns the 40 codes of a row: its bytes without their parity bits.
 pub(crate) fn text_codes(packet: &Packet) -> [u8; 40]
     ensures value { result ≡ codes_of packet.now }
     ensures codes { AreCodes result }

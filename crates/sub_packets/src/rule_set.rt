@@ -1,4 +1,4 @@
-//! The set of rules that a packet breaks, and the reports of these rules.
+//! The set of rules that a packet breaks.
 ghost use Rattle.std.specs.Prelude.{◌≡◌, ◌+◌, ◌*◌, ◌==◌, ◌<◌, ◌≤◌, Bool, map};
 ghost use Rattle.std.specs.Prelude.{if◌then◌else◌};
 ghost use Rattle.std.specs.List.{filter};
@@ -10,7 +10,7 @@ ghost use Rattle.sub_rules.specs.PacketTests.{packet_rules};
 use crate::taker::{Taker, report_if};
 use sub_rules::{CheckFault, Event, PacketRule};
 
-// The rules for single packets, in the order of their reports.
+// The rules for packets, in the order of their reports.
 const RULES: [PacketRule; 7] = [
     PacketRule::Address,
     PacketRule::HeaderCode,
@@ -21,8 +21,8 @@ const RULES: [PacketRule; 7] = [
     PacketRule::Enhancement,
 ];
 
-/// The rules that a packet breaks, or the last of these rules in report order: one bit per rule,
-/// the first rule in the lowest bit.
+/// The rules that a packet breaks, as a set: one bit per rule, the first rule in the lowest bit.
+/// While the set is built, it has only the last of these rules.
 #[derive(Clone, Copy)]
 pub(crate) struct RuleSet(u8);
 
@@ -34,8 +34,8 @@ impl RuleSet {
         RuleSet(0)
     }
 
-    /// Returns the set with one more rule, which comes before the others in report order. The rule
-    /// is in the set if `is_broken`.
+    /// Adds the rule that comes before all others of the set in report order, if `is_broken`, and
+    /// returns the set.
     #[inline(always)]
     pub fn with_before(self, is_broken: bool) -> RuleSet
         requires room { self.0 < 0x80 }
@@ -45,7 +45,7 @@ impl RuleSet {
         RuleSet(is_broken as u8 + 2 * self.0)
     }
 
-    /// Returns the set of the rules from `Control` on that a row breaks.
+    /// Returns which of the rules from `Control` on a row breaks.
     #[inline(always)]
     pub fn of_row(has_even_byte: bool, has_changed: bool) -> RuleSet
         ensures { result.0
@@ -54,7 +54,7 @@ impl RuleSet {
         RuleSet(2 * (has_even_byte as u8) + 4 * (has_changed as u8))
     }
 
-    /// Returns the set of the rules from `Control` on that a packet X/25 to X/28 breaks.
+    /// Returns which of the rules from `Control` on a packet X/25 to X/28 breaks.
     #[inline(always)]
     pub fn of_enhancement(is_broken: bool) -> RuleSet
         ensures { result.0 ≡ 8 * (if is_broken then 1 else 0) }
@@ -70,7 +70,7 @@ impl RuleSet {
     }
 }
 
-/// Reports each rule of a set, broken by packet `packet` of frame `frame`, in report order.
+/// Reports each rule that packet `packet` of frame `frame` breaks.
 pub(crate) fn report_rules<A: Taker>(rules: RuleSet, frame: u32, packet: u32, taker: &mut A)
     ensures { (test : PacketRule → Bool) → rules.0 ≡ rule_set test packet_rules
         → Reports A.is_reported taker.old taker.new
@@ -87,7 +87,7 @@ pub(crate) fn report_rules<A: Taker>(rules: RuleSet, frame: u32, packet: u32, ta
     }
 }
 
-// Returns the fault that reports that a packet breaks `rule`.
+// Returns the fault for a packet that breaks `rule`.
 fn fault_of(rule: PacketRule, frame: u32, packet: u32) -> CheckFault
     ensures { result ≡ packet_fault rule frame packet }
 {

@@ -1,19 +1,18 @@
-//! A consumer of events that cannot stop the checker.
+//! A receiver of events that cannot stop the checker.
 ghost use Rattle.std.specs.Prelude.{◌≡◌, [], ◌∷◌, if◌then◌else◌};
 ghost use Rattle.sub_io.specs.Reporting.{Reports};
 
 use sub_rules::Event;
 
-/// Takes events, one after another, and cannot stop the checker. An example is the wrapper that
-/// discards events once an audience has stopped.
+/// Receives events and cannot stop the checker, for example the wrapper that discards events after
+/// a device has stopped.
 pub trait Taker {
     ghost use Rattle.sub_rules.specs.declared.event.Event.{Event};
 
-    // The relation between the state of the consumer before an event, the event, and the state
-    // afterwards.
+    // Relates the receiver's state before an event, the event, and the state after it.
     ghost is_reported: { Self → Event → Self → Type 0 };
 
-    /// Takes one more event from the checker.
+    /// Receives one more event.
     fn report(&mut self, event: Event)
         ensures { Reports is_reported self.old self.new (event ∷ []) };
 }

@@ -1,4 +1,4 @@
-//! Cells with a code that was expected in none of the last frames.
+//! Finds cells with a code that was not expected in any of the last frames.
 ghost use Rattle.std.specs.Prelude.{◌≡◌, ℕ, ◌+◌, ◌-◌, ◌<◌, ◌≤◌, ◌==◌, MatchOption};
 ghost use Rattle.std.specs.Prelude.{if◌then◌else◌, slice_index};
 ghost use Rattle.ttx_page.specs.Page.{AreCodes, IsCell, IsPage, IsRow, blank_row, cell};
@@ -16,9 +16,8 @@ impl Listener {
     /// space nor expected in that cell at `frame` or at one of the `within` frames before `frame`.
     /// Frames before `first` do not count.
     ///
-    /// This search is only needed at the end of a frame if the page is wrong and still has time to
-    /// become correct. So nothing is stored for the search: the expected pages are drawn again,
-    /// each once, without allocating memory.
+    /// This search is needed only if the page is wrong at the end of a frame but not yet overdue.
+    /// So nothing is stored for it: the expected pages are drawn again.
     pub fn first_unexpected(
         &self,
         programme: &Programme,
@@ -29,8 +28,8 @@ impl Listener {
         ensures { result ≡ unexpected_kept self.now (due_in programme.now) first frame within }
     {
         let shown = self.comparison.shown();
-        // A blank page has no unexpected cell. This is usual: a header has erased the page, and the
-        // rows come in a later frame.
+        // A blank page has no unexpected cell. This is the usual case: a header has erased the
+        // page, and the rows follow in a later frame.
         if shown.cells_not_blank() == 0 {
             return None;
         }
@@ -39,7 +38,8 @@ impl Listener {
     }
 }
 
-// Returns the page with a space for each code that was expected in its cell within the last frames.
+// Returns the page with a space for each code that was expected in its cell within the last
+// `within` frames.
 fn left_of(shown: &Page, programme: &Programme, first: u32, frame: u32, within: u32) -> Page
     ensures { IsLeft (due_in programme.now) first frame within shown.now result }
 {
@@ -64,8 +64,8 @@ fn earliest(first: u32, frame: u32, within: u32) -> u32
     if from < first { first } else { from }
 }
 
-// Returns the last frame before `at` at which another page may be expected; `None` if that frame is
-// earlier than `least`.
+// Returns the last frame before `at` with another expected page; `None` if that frame is before
+// `least`.
 fn frame_before(programme: &Programme, at: u32, least: u32) -> Option<u32>
     ensures { MatchOption result
         ((f : ℕ) → least ≤ f → f ≤ at → due_in programme.now f ≡ due_in programme.now at)
@@ -78,7 +78,7 @@ fn frame_before(programme: &Programme, at: u32, least: u32) -> Option<u32>
     if edge > least { Some(edge - 1) } else { None }
 }
 
-// Replaces each cell of the page that has the expected code by a space.
+// Replaces by a space each code of the page that is the expected code of its cell.
 fn excuse(left: &mut Page, due: &Page)
     ensures { (row column : ℕ) → IsCell row column → cell left.new row column
         ≡ unless_due (cell due.now row column) (cell left.old row column) }
@@ -88,8 +88,8 @@ fn excuse(left: &mut Page, due: &Page)
     }
 }
 
-/// Replaces each cell of a row that has the expected code by a space. A blank row, the usual case,
-/// is not copied.
+/// Replaces by a space each code of a row that is the expected code of its cell. A blank row, the
+/// usual case, is not copied.
 pub(crate) fn excuse_row(left: &mut Page, due: &Page, row: u8)
     requires { IsRow row }
     ensures { (r column : ℕ) → IsCell r column → cell left.new r column
@@ -112,7 +112,7 @@ fn spaces() -> [u8; 40]
     [0x20; 40]
 }
 
-// Returns the codes of a row, with a space in each cell that has the expected code.
+// Returns the codes of a row, with a space for each code that is the expected code of its cell.
 fn excused(shown: &[u8; 40], due: &[u8; 40]) -> [u8; 40]
     requires { AreCodes shown.now }
     ensures value { (column : ℕ) → column < 40 → slice_index result column

@@ -1,5 +1,5 @@
 //! Finds the first wrong cell of the page. If repeats may have C4 (erase page) clear, each row with
-//! expected text has to come again after a repeat.
+//! text must be sent again after each header.
 ghost use Rattle.std.specs.Prelude.{◌≡◌, ℕ, ◌-◌, ◌==◌, IsTrue, None, false};
 ghost use Rattle.std.specs.Prelude.{if◌then◌else◌, slice_index_or};
 ghost use Rattle.ttx_page.specs.Page.{IsCell, cell, space};
@@ -12,8 +12,8 @@ use ttx_page::Page;
 impl Listener {
     ghost use Rattle.sub_packets.specs.KeptPage.{wrong_kept};
 
-    /// Returns whether each cell is known to be correct without a comparison. The result is `false`
-    /// if repeats may have C4 (erase page) clear, since rows may not have come again.
+    /// Returns whether the page is known to be correct without a comparison. If repeats may have C4
+    /// (erase page) clear, it is not known, since rows may be missing.
     #[inline(always)]
     pub fn is_known_right(&self) -> bool
         ensures { IsTrue result → wrong_kept self.now ≡ None }
@@ -21,9 +21,9 @@ impl Listener {
         self.comparison.is_known_right() && !self.watched.keeps
     }
 
-    /// Returns the row (1 to 24) and column (0 to 39) of the first wrong cell: a cell that differs
-    /// from the expected page or, if repeats may have C4 (erase page) clear, a cell with expected
-    /// text whose row has not come since the last header of the page.
+    /// Returns the row (1 to 24) and column (0 to 39) of the first wrong cell. A cell is wrong if
+    /// it differs from the expected page, or if its row has text and was not sent since the last
+    /// header of the page, although repeats may have C4 (erase page) clear.
     pub fn first_wrong(&self) -> Option<(u8, u8)>
         ensures { result ≡ wrong_kept self.now }
     {
@@ -35,7 +35,7 @@ impl Listener {
         earlier(differing, missing.first_difference(&Page::blank()))
     }
 
-    // Returns the expected page, with spaces in the rows that came since the last header of the
+    // Returns the expected page with spaces in the rows that were sent since the last header of the
     // page.
     fn missing(&self) -> Page
         ensures { (row column : ℕ) → IsCell row column → cell result row column
@@ -54,7 +54,7 @@ impl Listener {
     }
 }
 
-// Returns the earlier of two cells, by row and then by column.
+// Returns the first of two cells, by row and then by column.
 fn earlier(one: Option<(u8, u8)>, other: Option<(u8, u8)>) -> Option<(u8, u8)>
     ensures { result ≡ earlier one other }
 {

@@ -33,12 +33,12 @@ pub enum NextPesPacket {
 
 /// Reads PES packet number `pes`, counted from 0. Returns `None` at the end of the file.
 ///
-/// The contents of the packet stay in `reader`, which lends them. After a skipped packet, ignore
-/// `again`: it may refer to the skipped packet.
+/// The contents of the packet stay in `reader`. Ignore `again` after a skipped packet, because it
+/// compares with the skipped packet.
 ///
 /// # Errors
 ///
-/// Returns `Pes` with `Truncated`, `Start`, `Length` or `TooMany` if the bytes are no PES packet,
+/// Returns `Pes` with `Truncated`, `Start`, `Length` or `TooMany` if the next bytes are no PES packet,
 /// and with `Read` if the source fails.
 #[inline(always)]
 pub fn next_pes_packet<P: PesPackets>(
