@@ -1,4 +1,4 @@
-//! Commands of the program, and its answers to them.
+//! Arguments of commands, and functions that answer them.
 ghost use Rattle.sub_io.specs.Device.{CanFail};
 
 use std::alloc::Global;
@@ -13,13 +13,13 @@ pub const CHECK: [&str; 4] = ["subttx", "check", "a", "b"];
 /// The arguments of a check with the default options and `--all`.
 pub const CHECK_ALL: [&str; 5] = ["subttx", "check", "--all", "a", "b"];
 
-/// The line of a check of `Hi` and its schedule, with two page transmissions.
+/// The line that a check prints for the subtitle file with `Hi` and its schedule.
 pub const ACCEPTED: &str = "accepted 51 frames 2 transmissions\n";
 
 /// The arguments of a schedule with the default options.
 pub const SCHEDULE: [&str; 4] = ["subttx", "schedule", "a", "b"];
 
-/// Answers a command with two sources, an output file, and an output.
+/// Answers the command in the arguments with two sources, an output file and an output.
 pub fn answer_arguments<'a, S: Source, T: Source, F: Close, K: Flush>(
     alloc: Global,
     arguments: &'a [&'a str],
@@ -39,8 +39,8 @@ pub fn answer_arguments<'a, S: Source, T: Source, F: Close, K: Flush>(
     }
 }
 
-/// Answers the arguments of a check with `--all` after them, with two files in memory; `None` if
-/// there are too many arguments.
+/// Answers the arguments of a check, followed by `--all`, with two files in memory; `None` if there
+/// are too many arguments.
 pub(crate) fn answer_all<'a>(
     alloc: Global,
     arguments: &[&'a str],

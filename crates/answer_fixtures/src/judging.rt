@@ -1,4 +1,4 @@
-//! Compares the output of a command and the file that it writes with the expected bytes.
+//! Compares the output and the output file of a command with the expected bytes.
 ghost use Rattle.sub_io.specs.Device.{CanFail};
 
 use crate::asking::{answer_all, answer_arguments};
@@ -8,7 +8,7 @@ use std::alloc::Global;
 use sub_answer::Status;
 use sub_io::{MemSink, MemSource, Source};
 
-/// Returns whether a command prints `prefix` and then the expected end for two sources, with the
+/// Returns whether a command prints `prefix` followed by `end` for two sources, and returns the
 /// status that the last line implies.
 pub fn prints<'a, S: Source, T: Source>(
     alloc: Global,
@@ -28,8 +28,8 @@ pub fn prints<'a, S: Source, T: Source>(
     is_made_of(out.written(), prefix, end) && status == status_of(end)
 }
 
-/// Returns whether a command prints `prefix` and then `end` for one file in memory, with the status
-/// that the last line implies.
+/// Returns whether a command prints `prefix` followed by `end` for a file in memory, and returns
+/// the status that the last line implies.
 pub fn prints_of<'a>(
     alloc: Global,
     arguments: &'a [&'a str],
@@ -41,8 +41,8 @@ pub fn prints_of<'a>(
     prints(alloc, arguments, &mut file, &mut none, prefix, end)
 }
 
-// Returns whether a command prints `want` for two files in memory, with the status that the last
-// line implies.
+// Returns whether a command prints `want` for two files in memory, and returns the status that the
+// last line implies.
 fn prints_both<'a>(
     alloc: Global,
     arguments: &'a [&'a str],
@@ -54,9 +54,9 @@ fn prints_both<'a>(
     prints(alloc, arguments, &mut first, &mut second, &[], want)
 }
 
-/// Returns whether a check with `--all` prints the two expected parts for two files in memory, with
-/// the status that the last line implies; and whether the check without `--all` prints the first of
-/// these lines that is not about trusted frames.
+/// Returns whether `check --all` prints `prefix` followed by `end` for two files in memory, and
+/// returns the status that the last line implies; and whether `check` prints the first of these
+/// lines that is not a `trusted` line.
 pub fn reports_all<'a>(
     alloc: Global,
     arguments: &'a [&'a str],
@@ -80,9 +80,9 @@ pub fn reports_all<'a>(
     )
 }
 
-// Returns whether a check with `--all` prints the line of the check without `--all`: alone if
-// nothing is refused, otherwise as its first line `refused`, with the number of faults as the last
-// line.
+// Returns whether `check --all` agrees with the line that `check` prints. If nothing is rejected,
+// the line is the only output. Otherwise it is the first line that starts with `refused`, and the
+// last line is the number of faults.
 fn reports_first<'a>(
     alloc: Global,
     arguments: &[&'a str],
@@ -100,9 +100,9 @@ fn reports_first<'a>(
     is_right && status == Some(status_of(text))
 }
 
-/// Returns whether a command prints `want` for two files in memory, with the status that this line
-/// implies. For a check, also whether the check with `--all` prints the line as the first that is
-/// not about trusted frames.
+/// Returns whether a command prints `want` for two files in memory, and returns the status that
+/// this line implies. For `check`, also returns whether the first line of `check --all` that is not
+/// a `trusted` line is this line.
 pub fn reports<'a>(
     alloc: Global,
     arguments: &'a [&'a str],
@@ -120,8 +120,8 @@ pub fn reports<'a>(
     prints_both(alloc, arguments, first, second, want)
 }
 
-// Returns whether an output with less room gets the beginning of a text and is not used afterwards,
-// with the status `Fault`, and whether the written file is complete.
+// Returns whether an output that is too small receives the start of a text and is not used
+// afterwards, whether the status is `Fault`, and whether the output file is complete.
 fn cuts<'a>(
     alloc: Global,
     arguments: &'a [&'a str],
@@ -149,7 +149,7 @@ fn cuts<'a>(
     is_left_alone && out.inner.written() == text && file.written() == written
 }
 
-/// Returns whether each output with less room than a text gets the beginning of the text.
+/// Returns whether each output that is smaller than a text receives the start of the text.
 pub fn fills<'a>(
     alloc: Global,
     arguments: &'a [&'a str],

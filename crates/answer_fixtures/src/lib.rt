@@ -1,8 +1,8 @@
-//! Code that several crates with tests of answers use: commands, their answers with devices in
-//! memory, and the comparison with the expected output.
+//! Code for several crates of tests: arguments of commands, answers with devices in memory, and
+//! comparisons with the expected output.
 //!
-//! Not part of the product: only tests use this crate. It asserts nothing, since a library may
-//! contain nothing that can end the process.
+//! This crate is not part of the product. It contains no assertions, since a library must not end
+//! the process.
 #![tactic(auto)]
 
 mod asking;

@@ -1,8 +1,8 @@
-//! Lines of a text, and the status that the lines imply.
+//! Functions for the lines of a text, and for the status that the last line implies.
 
 use sub_answer::Status;
 
-/// Returns the first lines of a text, `count` of them.
+/// Returns the first `count` lines of a text.
 pub fn first_lines(text: &[u8], count: usize) -> &[u8] {
     let mut left = count;
     for (place, byte) in text.iter().enumerate() {
@@ -16,8 +16,8 @@ pub fn first_lines(text: &[u8], count: usize) -> &[u8] {
     text
 }
 
-/// Returns the status that the last line of a text implies: by the first word of the line, or by
-/// its end if the line counts faults.
+/// Returns the status that the last line of a text implies. The status depends on the first word of
+/// the line, or on its end if the line counts faults.
 pub fn status_of(text: &[u8]) -> Status {
     let mut line = text;
     for (place, byte) in text.iter().enumerate() {
@@ -40,7 +40,7 @@ pub(crate) fn is_made_of(text: &[u8], prefix: &[u8], end: &[u8]) -> bool {
     text.len() == prefix.len() + end.len() && text.starts_with(prefix) && text.ends_with(end)
 }
 
-/// Returns the text at the beginning of a buffer, without the zeros after it.
+/// Returns the text at the start of a buffer, without the zeros after it.
 pub(crate) fn text_in(buffer: &[u8]) -> &[u8] {
     for (place, byte) in buffer.iter().enumerate() {
         if *byte == 0 {
@@ -50,7 +50,7 @@ pub(crate) fn text_in(buffer: &[u8]) -> &[u8] {
     buffer
 }
 
-/// Returns the text from its first line on that is not about trusted frames.
+/// Returns the text from its first line that is not a `trusted` line.
 pub(crate) fn reported_in(text: &[u8]) -> &[u8] {
     let mut reported = text;
     for (place, byte) in text.iter().enumerate() {

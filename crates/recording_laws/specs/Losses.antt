@@ -76,8 +76,8 @@ any_unit_kept units = list_any (λ f. is_as_sent f.fate) units
 abbrev pub is_recorded : Carrier Fated → Bool
 is_recorded c = is_as_sent c.packet.fate || any_unit_kept (option_to_list c.again)
 
--- The units from a TS packet with payload up to its repeat, or none if the packet itself is recorded
--- intact.
+-- The units from a TS packet with payload up to its repeat, or none if the packet itself is
+-- recorded intact.
 abbrev pub units_before : Carrier Fated → List Fated
 units_before c = if is_as_sent c.packet.fate then [] else c.packet ∷ c.before
 

@@ -1,5 +1,5 @@
-//! When a source has the whole next PES packet in memory, and when reports are flushed before the
-//! packet is read.
+//! Sources that have the complete next PES packet in memory, and devices that are flushed before
+//! the next packet is read.
 ghost use Rattle.std.specs.Prelude.{◌≡◌, nat_eq, true};
 
 use crate::asserting::{assert_same, assert_same_in};
@@ -8,7 +8,7 @@ use std::process::Abort;
 use sub_io::{FailAt, Live, MemSource, Stopped};
 use ttx_pes::{FilePesPackets, flush_first, holds_packet};
 
-// Asserts whether `bytes` contain the whole PES packet that they begin.
+// Asserts whether `bytes` contain a complete PES packet.
 fn assert_holds(rt: &impl Abort, bytes: &[u8], holds: bool) {
     assert_same_in(rt, &holds_packet(bytes), &holds, &bytes.len());
 }
@@ -20,12 +20,13 @@ fn reports_whether_a_packet_is_borrowed_complete(rt: HostRuntime) {
     assert_holds(&rt, &FIRST[..6], false);
     assert_holds(&rt, &FIRST[..183], false);
     assert_holds(&rt, &FIRST, true);
-    // Six bytes suffice if they begin no PES packet: a wrong start code, or an invalid length.
+    // Six bytes are enough to show that no PES packet starts here: the start code is wrong, or the
+    // length is invalid.
     assert_holds(&rt, &[0; 6], true);
     assert_holds(&rt, &[0, 0, 1, 0xBD, 0, 0], true);
 }
 
-// A device that waits until it is flushed.
+// A device with pending output until it is flushed.
 #[derive(Drop)]
 struct Waiting {
     calls: u64,
@@ -59,7 +60,7 @@ fn flushes_where_a_packet_is_not_borrowed(rt: HostRuntime) {
     let unknown = FilePesPackets::new(&mut source);
     assert_same(&rt, &flush_first(&unknown, &mut device), &Ok(()));
     assert_same(&rt, &device.calls, &1);
-    // A device that does not wait is not flushed.
+    // A device without pending output is not flushed.
     device.calls = 7;
     assert_same(&rt, &flush_first(&unknown, &mut device), &Ok(()));
     assert_same(&rt, &device.calls, &7);

@@ -1,5 +1,4 @@
-//! Devices with buffers: how often the inner device is called, with which bytes, and which bytes
-//! reach it.
+//! Buffered devices: the number of calls of the inner device, and the bytes in each call.
 ghost use Rattle.std.specs.Prelude.{◌≡◌, ◌+◌, ◌<◌, ◌≤◌, None, length};
 ghost use Rattle.std.specs.Io.{ReadsAtMost};
 ghost use Rattle.sub_io.specs.Device.{CountsFailure, Pulls, Pushes};
@@ -12,7 +11,7 @@ use sub_io::{
     MemSource, Sink, Source,
 };
 
-// A source whose bytes are the length of the slice that it got; the first byte of each call is the
+// A source that fills each slice with the length of the slice. The first byte of each slice is the
 // number of calls so far.
 #[derive(Drop)]
 struct Borrowed {
@@ -43,7 +42,7 @@ impl Source for Borrowed {
     }
 }
 
-// A sink that takes as many bytes as the last byte of the slice says.
+// A sink that accepts as many bytes as the last byte of the slice states.
 #[derive(Drop)]
 struct TakesLast;
 
@@ -67,7 +66,8 @@ fn reads_once_and_only_where_nothing_is_buffered(rt: HostRuntime) {
     let mut buffer = [0; 4];
     let mut source = BufferedSource::new(Borrowed { calls: 0 }, &mut buffer);
     assert_pulls(&rt, &mut source, Ok(2), &[1, 4], 0);
-    // The buffer has fewer bytes than the slice has room for, and the inner source is not called.
+    // The buffer contains fewer bytes than the slice has room for, and the inner source is not
+    // called.
     assert_pulls(&rt, &mut source, Ok(2), &[4, 4, 0], 0);
     // A pull that is longer than the buffer bypasses it.
     assert_pulls(&rt, &mut source, Ok(5), &[2, 5, 5, 5, 5], 0);

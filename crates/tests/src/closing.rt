@@ -1,4 +1,4 @@
-//! Sinks that are stored, and closed before they are dropped.
+//! Sinks that are stored and closed before they are dropped.
 ghost use Rattle.std.specs.Prelude.{None};
 
 use crate::device_calls::{assert_flushes, assert_pushes, assert_puts, assert_stores};
@@ -8,8 +8,8 @@ use std::io::{self, Cursor, ErrorKind, Write};
 use std::process::Abort;
 use sub_io::{BufferedSink, Close, FailAt, Failed, IntoFile, MemSink};
 
-// A file that takes all bytes. When it is stored, the system returns the error `errno`, or no error
-// if `errno` is 0.
+// A file that accepts all bytes. Storing it returns the system error `errno`, or succeeds if
+// `errno` is 0.
 #[derive(Drop)]
 struct Answering {
     errno: i32,
@@ -56,7 +56,7 @@ fn a_closed_file_takes_nothing(rt: HostRuntime) {
     assert_pushes(&rt, &mut sink, b"t", Err(Failed), 1);
     assert_stores(&rt, &mut sink, Err(Failed), 2);
 
-    // The inner writer has room for five bytes, and then writes none.
+    // The inner writer has room for five bytes, and accepts no further bytes.
     let mut sink = IntoFile::new(Cursor::new([0u8; 5]));
     assert_puts(&rt, &mut sink, b"subttx", Err(Failed), 1);
 }
@@ -83,12 +83,12 @@ fn assert_stored(rt: &impl Abort, errno: i32, answer: Result<(), Failed>, failur
 
 #[test]
 fn a_file_is_stored_where_nothing_is_lost(rt: HostRuntime) {
-    // EINVAL, ENOSYS and ENOTSUP: a pipe, a terminal or a device stores nothing, which is no
-    // failure.
+    // With EINVAL, ENOSYS and ENOTSUP the file is a pipe, a terminal or a device, which stores
+    // nothing. This is no failure.
     for errno in [0, 22, 38, 95] {
         assert_stored(&rt, errno, Ok(()), 0);
     }
-    // The errors EIO, EBADF, ENOSPC, EROFS, ESTALE and EDQUOT are failures to store.
+    // With EIO, EBADF, ENOSPC, EROFS, ESTALE and EDQUOT storing has failed.
     for errno in [5, 9, 28, 30, 116, 122] {
         assert_stored(&rt, errno, Err(Failed), 1);
     }
@@ -102,7 +102,8 @@ fn buffered_bytes_are_written_before_it_is_stored(rt: HostRuntime) {
     assert_stores(&rt, &mut sink, Ok(()), 0);
     assert!(rt; sink.into_inner().written() == b"sub".as_slice());
 
-    // First the push of the buffer fails, and nothing is stored; then the store itself fails.
+    // In the first case writing the buffer fails, so nothing is stored. In the second case storing
+    // fails.
     for call in 0..2 {
         let (mut bytes, mut buffer) = ([0; 8], [0; 4]);
         let inner = FailAt::new(MemSink::new(&mut bytes), call);

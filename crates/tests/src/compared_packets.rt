@@ -1,4 +1,4 @@
-//! PES packets that are sent again: the results of a reader that compares them.
+//! A reader that compares repeated PES packets.
 use crate::asserting::assert_same;
 use fixtures::{Drip, ROW, every_second};
 use std::process::Abort;
@@ -9,8 +9,7 @@ use ttx_pes::{Compared, ComparingReader, FilePesPackets, PesFault, Unit};
 // The PTS of frame 10:00:00:00.
 const TEN: u64 = 3_240_000_000;
 
-// Asserts the result of a reader for the next PES packet, and the PTS and the number of data units
-// afterwards.
+// Asserts the result of reading the next PES packet, its PTS, and its number of data units.
 fn assert_compares(
     rt: &impl Abort,
     reader: &mut ComparingReader,
@@ -85,7 +84,7 @@ fn goes_on_after_a_pes_packet_that_is_refused(rt: HostRuntime) {
     );
 }
 
-// Returns the result for the first PES packet of a file if the pull after `bytes` bytes fails.
+// Returns the result for the first PES packet of a file if reading fails after `bytes` bytes.
 fn answer_before(file: &[u8; 552], bytes: u64) -> Result<Compared, PesFault> {
     let mut source = FailAt::new(Drip { rest: file }, bytes);
     ComparingReader::new().next(&mut FilePesPackets::new(&mut source))

@@ -1,4 +1,4 @@
-//! One call of a device: its result, and how often the device has failed afterwards.
+//! Assertions about one call of a device: its result, and the number of failed calls afterwards.
 ghost use Rattle.std.specs.Prelude.{◌<◌};
 ghost use Rattle.sub_io.specs.Device.{CanFail};
 
@@ -6,7 +6,7 @@ use crate::asserting::assert_same;
 use std::process::Abort;
 use sub_io::{Close, Failed, Flush, Sink, Source, fill, put_all};
 
-/// Asserts the result of a pull into a slice of zeros, and the slice afterwards.
+/// Asserts the result of `pull` for a slice of zeros, and the contents of the slice afterwards.
 pub fn assert_pulls<S: Source>(
     rt: &impl Abort,
     source: &mut S,
@@ -24,7 +24,7 @@ pub fn assert_pulls<S: Source>(
     assert!(rt; source.failures() == failures && failures < 9);
 }
 
-/// Asserts the result of `fill` for a slice of zeros, and the slice afterwards.
+/// Asserts the result of `fill` for a slice of zeros, and the contents of the slice afterwards.
 pub fn assert_fills<S: Source>(
     rt: &impl Abort,
     source: &mut S,
@@ -42,7 +42,7 @@ pub fn assert_fills<S: Source>(
     assert!(rt; source.failures() == failures && failures < 9);
 }
 
-/// Asserts the result of a push, and how often the sink has failed afterwards.
+/// Asserts the result of `push`, and the number of failed calls afterwards.
 pub fn assert_pushes<K: Sink>(
     rt: &impl Abort,
     sink: &mut K,
@@ -58,7 +58,7 @@ pub fn assert_pushes<K: Sink>(
     assert!(rt; sink.failures() == failures && failures < 9);
 }
 
-/// Asserts the result of `put_all`, and how often the sink has failed afterwards.
+/// Asserts the result of `put_all`, and the number of failed calls afterwards.
 pub fn assert_puts<K: Sink>(
     rt: &impl Abort,
     sink: &mut K,
@@ -73,7 +73,7 @@ pub fn assert_puts<K: Sink>(
     assert!(rt; sink.failures() == failures && failures < 9);
 }
 
-/// Asserts the result of a flush, and how often the sink has failed afterwards.
+/// Asserts the result of `flush`, and the number of failed calls afterwards.
 pub fn assert_flushes<F: Flush>(
     rt: &impl Abort,
     sink: &mut F,
@@ -87,7 +87,7 @@ pub fn assert_flushes<F: Flush>(
     assert!(rt; sink.failures() == failures && failures < 9);
 }
 
-/// Asserts the result of storing a file, and how often the sink has failed afterwards.
+/// Asserts the result of `store`, and the number of failed calls afterwards.
 pub fn assert_stores<F: Close>(
     rt: &impl Abort,
     sink: &mut F,

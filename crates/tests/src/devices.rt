@@ -20,8 +20,8 @@ fn gives_its_bytes_and_then_ends(rt: HostRuntime) {
     assert_fills(&rt, &mut source, Ok(0), b"\0\0\0", 0);
 }
 
-// Asserts how many of a source's five bytes are read into a slice of length `buffer`, and with how
-// many pulls.
+// Asserts how many of a source's five bytes are read into a slice of length `buffer`, and the
+// number of pulls.
 fn assert_gets(rt: &impl Abort, buffer: usize, got: usize, pulls: u64) {
     let inner = MemSource::new(b"abcde");
     let mut source = Counting { inner, pulls: 0 };
@@ -35,7 +35,7 @@ fn assert_gets(rt: &impl Abort, buffer: usize, got: usize, pulls: u64) {
 fn reads_no_more_once_a_pull_gave_nothing(rt: HostRuntime) {
     assert_gets(&rt, 0, 0, 0);
     assert_gets(&rt, 5, 5, 1);
-    // The last pull finds the end of the source.
+    // The last pull reaches the end of the source.
     assert_gets(&rt, 6, 5, 2);
     assert_gets(&rt, 9, 5, 2);
 }
@@ -79,7 +79,7 @@ fn writes_and_counts_a_call_that_writes_nothing(rt: HostRuntime) {
     let mut sink = IntoWrite::new(Cursor::new([0u8; 5]));
     assert_puts(&rt, &mut sink, b"sub", Ok(()), 0);
     assert_flushes(&rt, &mut sink, Ok(()), 0);
-    // The inner writer has room for two more bytes, and then writes none.
+    // The inner writer has room for two more bytes, and accepts no further bytes.
     assert_puts(&rt, &mut sink, b"ttx", Err(Failed), 1);
 
     let mut sink = IntoWrite::new(Interrupted { calls: 9 });
@@ -87,7 +87,7 @@ fn writes_and_counts_a_call_that_writes_nothing(rt: HostRuntime) {
     assert_flushes(&rt, &mut sink, Err(Failed), 2);
 }
 
-// Asserts that exactly call `number` of four calls of a source fails.
+// Asserts that call `number` of four calls of a source fails, and no other call.
 fn assert_fails_to_read(rt: &impl Abort, number: u64) {
     let mut source = FailAt::new(MemSource::new(b"abcdef"), number);
     for call in 0..4 {
@@ -98,8 +98,8 @@ fn assert_fails_to_read(rt: &impl Abort, number: u64) {
     assert_same(rt, &source.failures(), &1);
 }
 
-// Asserts that exactly call `number` of four calls of a sink, the second of which is a flush,
-// fails.
+// Asserts that call `number` of four calls of a sink fails, and no other call. The second of the
+// four calls is a flush.
 fn assert_fails_to_write(rt: &impl Abort, number: u64) {
     let mut buffer = [0; 6];
     let mut sink = FailAt::new(MemSink::new(&mut buffer), number);

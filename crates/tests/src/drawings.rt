@@ -1,5 +1,5 @@
-//! Texts and the rows that are drawn for them, by national option. `dev/check-every-place` tries
-//! more texts, also refused ones, on the built program.
+//! Texts and the rows in which they are drawn, by national option. `dev/check-every-place` tests
+//! more texts, including rejected texts, with the built program.
 use crate::asserting::assert_same;
 use std::process::Abort;
 use stl_file::{Subtitle, TimeCode};
@@ -8,13 +8,13 @@ use stl_rows::{Layout, National, RowFault, RowFaultKind, draw};
 // The text "Grüße", with a diaeresis on the u and a sharp s.
 const GERMAN: [u8; 6] = [0x47, 0x72, 0xC8, 0x75, 0xFB, 0x65];
 
-// Returns a subtitle with a text in the middle of row 22.
+// Returns a subtitle with this text in the middle of row 22.
 fn subtitle(rt: &impl Abort, text: &[u8]) -> Subtitle {
     let (tci, tco) = (TimeCode::of_frame(900_000), TimeCode::of_frame(900_050));
     Subtitle::new(0, 1, tci, tco, 22, 2, text).expect(rt, "a subtitle")
 }
 
-// Asserts that a text is drawn with exactly these cells of row 22, from a column on.
+// Asserts that a text is drawn with exactly these cells in row 22, from this column on.
 fn assert_draws(rt: &impl Abort, national: National, text: &[u8], column: usize, cells: &[u8]) {
     match draw(&subtitle(rt, text), national, Layout::default()) {
         Ok(page) => {

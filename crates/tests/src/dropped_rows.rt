@@ -1,5 +1,5 @@
-//! A receiver that drops rows, with each single wrong bit in the first page transmission of a
-//! subtitle.
+//! A receiver that drops damaged rows, with each single wrong bit in the first page transmission of
+//! a subtitle.
 ghost use Rattle.std.specs.Prelude.{◌<◌};
 
 use crate::asserting::{assert_same, assert_same_in};
@@ -9,7 +9,7 @@ use std::process::Abort;
 use ttx_packet::{Packet, PageId};
 use ttx_page::{DropRow, Page};
 
-// The codes of row 22 of the transmission of `Hi`.
+// The codes of row 22 with the text `Hi`.
 #[rattlefmt::skip]
 const CODES: [u8; 40] = [
     0x20, 0x20, 0x20, 0x20, 0x20, 0x20, 0x20, 0x20, 0x20, 0x20, 0x20, 0x20, 0x20, 0x20, 0x20, 0x20,
@@ -18,14 +18,14 @@ const CODES: [u8; 40] = [
     0x20,
 ];
 
-// Returns the page that the packets of a schedule show.
+// Returns the page after the packets of the schedule were received.
 fn shown_page() -> Page {
     let mut page = Page::blank();
     page.set_row(22, &CODES);
     page
 }
 
-// Returns the packets of the first page transmission of `Hi`, with wrong bits in one byte.
+// Returns the packets of the first page transmission for `Hi`, with wrong bits in one byte.
 fn sending(number: usize, place: usize, bits: u8) -> [Packet; 3]
     requires number { number < 3 }
     requires place { place < 42 }
@@ -39,8 +39,8 @@ fn sending(number: usize, place: usize, bits: u8) -> [Packet; 3]
     ]
 }
 
-// Asserts what a receiver shows after a page transmission with wrong bits in one byte, and that its
-// row is right again after the next page transmission.
+// Asserts the page of a receiver after a page transmission with wrong bits in one byte, and that
+// the row is right again after the next page transmission.
 fn assert_drops(rt: &impl Abort, number: usize, place: usize, bits: u8)
     requires number { number < 3 }
     requires place { place < 42 }
@@ -72,8 +72,8 @@ fn keeps_what_the_row_had(rt: HostRuntime) {
     let page_id = PageId::parse("888").expect(&rt, "page 888");
     let mut receiver = DropRow::tune(page_id, old_page());
     assert!(rt; receiver.watched() == page_id && !receiver.heard() && !receiver.open());
-    // The row is sent again with another code of odd parity in byte 20 and an even byte 21, so it
-    // is dropped.
+    // The row is sent again with another code of odd parity in byte 20 and even parity in byte 21,
+    // so the receiver drops it.
     let mut row = ROW;
     (row[20], row[21]) = (0xE9, 0x41);
     receiver.hear_all(&[Packet::new(HEADER), Packet::new(ROW), Packet::new(row)]);

@@ -1,5 +1,4 @@
-//! Codes of faults that no command prints. The codes of all other faults are tested by the printed
-//! lines.
+//! Codes of faults that no command prints. Other tests cover the codes in printed lines.
 use crate::asserting::assert_same;
 use std::process::Abort;
 use stl_file::StlFault;
@@ -15,7 +14,7 @@ fn assert_is(rt: &impl Abort, code: FaultCode, number: u8, name: &str) {
 fn keeps_a_number_and_a_name(rt: HostRuntime) {
     let longest = FaultCode::new(255, "SixteenLettersOf");
     assert_is(&rt, longest, 255, "SixteenLettersOf");
-    // Readers return `Ended` for calls after a fault.
+    // Readers return `Ended` if they are called after a fault.
     assert_is(&rt, StlFault::Ended.code(), 27, "Ended");
     assert_is(&rt, PesFault::Ended.code(), 43, "Ended");
 }

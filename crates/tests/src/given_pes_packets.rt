@@ -5,7 +5,7 @@ ghost use Rattle.sub_io.specs.Device.{CanFail, CountsFailure};
 use sub_io::{Failed, MemSink, Sink, put_all};
 use ttx_pes::{PesPackets, Received, TakePesPacket};
 
-/// Copies the PES packets that were read to a sink, as far as the sink has room.
+/// Copies each PES packet to a sink, if the sink has room.
 #[derive(Drop)]
 pub(crate) struct Given<'a> {
     /// The sink for the PES packets.
@@ -29,7 +29,7 @@ fn is_pes_packet(received: &Received<()>) -> bool {
     matches!(received, Received::PesPacket(()))
 }
 
-// Reads at most four PES packets, and returns what was received last.
+// Reads at most four PES packets, and returns the last result.
 fn take_four<P: PesPackets>(
     pes_packets: &mut P,
     given: &mut Given<'_>,
@@ -53,7 +53,7 @@ fn take_four<P: PesPackets>(
     pes_packets.next(given)
 }
 
-/// Reads all PES packets, at most seven, and returns what is received after them.
+/// Reads all PES packets, at most seven, and returns the result after them.
 pub(crate) fn take_all<P: PesPackets>(
     pes_packets: &mut P,
     given: &mut Given<'_>,

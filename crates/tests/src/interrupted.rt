@@ -1,13 +1,13 @@
-//! A reader and a writer whose first calls are interrupted.
+//! A reader and writer whose first calls are interrupted.
 ghost use Rattle.std.specs.Prelude.{◌≤◌, IfOk, None, length};
 
 use std::fs::{Metadata, OpenFile};
 use std::io::{self, ErrorKind, Read, Write};
 
-/// A reader and a writer whose first calls are interrupted, including a flush.
+/// A reader and writer whose first calls, including flushes, are interrupted.
 #[derive(Drop)]
 pub struct Interrupted {
-    /// The number of calls that are still to be interrupted.
+    /// The remaining number of calls to interrupt.
     pub calls: u8,
 }
 

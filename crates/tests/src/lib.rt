@@ -1,7 +1,6 @@
-//! Tests of the libraries, and values from other programs. Nothing in this crate is part of the
-//! product.
+//! Tests of the libraries. Nothing in this crate is part of the product.
 //!
-//! The libraries have no tests of their own, since a crate with tests is proved twice.
+//! The libraries contain no tests, since a crate with tests is proved twice.
 #![tactic(auto)]
 
 #[cfg(test)]

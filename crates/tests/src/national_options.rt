@@ -1,6 +1,5 @@
-//! The characters of each national option: the cells with which they are drawn, and the texts that
-//! the option refuses. The characters at the places of each sub-set were obtained by running
-//! libzvbi.
+//! The cells for the characters of each national option, and the texts that the option rejects. The
+//! characters of each sub-set were obtained from libzvbi.
 use crate::asserting::{assert_same, assert_same_in};
 use fixtures::{TEN, block, file_of_two, gsi, head, put};
 use std::alloc::Global;
@@ -10,13 +9,13 @@ use stl_file::{Scope, Subtitle, TimeCode};
 use stl_rows::{Layout, National, RowFault, RowFaultKind, draw, load};
 use sub_io::MemSource;
 
-// Returns a subtitle with a text from row `vp` on.
+// Returns a subtitle with this text from row `vp` on.
 fn subtitle(rt: &impl Abort, vp: u8, jc: u8, text: &[u8]) -> Subtitle {
     let (tci, tco) = (TimeCode::of_frame(TEN), TimeCode::of_frame(TEN + 50));
     Subtitle::new(0, 1, tci, tco, vp, jc, text).expect(rt, "a subtitle")
 }
 
-// Returns a row with cells in a box from a column on.
+// Returns a row with these cells in a box from this column on.
 fn boxed(rt: &impl Abort, column: usize, cells: &[u8]) -> [u8; 40] {
     let mut row = [0x20; 40];
     assert!(rt; column <= 16 && cells.len() <= 20);
@@ -27,7 +26,7 @@ fn boxed(rt: &impl Abort, column: usize, cells: &[u8]) -> [u8; 40] {
     row
 }
 
-// Asserts how texts that begin in row 5 are drawn in that row: each text is followed by its cells.
+// Asserts the cells of texts that start in row 5. Each text is followed by its cells.
 fn assert_draws(rt: &impl Abort, national: National, texts: &[[&[u8]; 2]]) {
     for text in texts {
         match draw(&subtitle(rt, 5, 0, text[0]), national, Layout::default()) {
@@ -37,7 +36,7 @@ fn assert_draws(rt: &impl Abort, national: National, texts: &[[&[u8]; 2]]) {
     }
 }
 
-// Asserts that a national option refuses these texts with the fault `Character` at byte `at`.
+// Asserts that a national option rejects these texts with the fault `Character` at byte `at`.
 fn assert_refuses(rt: &impl Abort, national: National, at: u16, texts: &[&[u8]]) {
     let refused = Some(RowFault {
         kind: RowFaultKind::Character,
@@ -125,7 +124,7 @@ fn draws_the_characters_of_each_option(rt: HostRuntime) {
 // The text `été`.
 const ETE: [u8; 5] = [0xC2, 0x65, 0x74, 0xC2, 0x65];
 
-// Asserts the cell of é when `ETE` is drawn in the middle of row 22.
+// Asserts the cell of é in the text `ETE`, drawn in the middle of row 22.
 fn assert_draws_ete(rt: &impl Abort, national: National, cell: u8) {
     match draw(&subtitle(rt, 22, 2, &ETE), national, Layout::default()) {
         Ok(page) => assert_same(rt, page.row(22), &boxed(rt, 16, &[cell, 0x74, cell])),
@@ -144,7 +143,7 @@ fn draws_one_character_by_the_option(rt: HostRuntime) {
     assert_refuses(&rt, National::German, 0, &[&ETE]);
 }
 
-// Texts that the Swedish, Italian and other options refuse at their first byte.
+// Texts that the Swedish, Italian and other options reject at their first byte.
 #[rattlefmt::skip]
 const NOT_SWEDISH: [&[u8]; 5] = [&[0x24], &[0xA4], &[0x40], &[0xCF, 0x73], &[0xF9]];
 
@@ -167,7 +166,7 @@ const NOT_SPANISH: [&[u8]; 6] = [
 #[rattlefmt::skip]
 const NOT_CZECH: [&[u8]; 5] = [&[0xCF, 0x6E], &[0x24], &[0xCF, 0x43], &[0xC2, 0x6F], &[0xA8]];
 
-// Texts that the French option refuses at their second byte.
+// Texts that the French option rejects at their second byte.
 #[rattlefmt::skip]
 const NOT_FRENCH_LATER: [&[u8]; 5] = [
     &[0x63, 0xFA, 0x75, 0x72], &[0x4D, 0xC8, 0x75], &[0x41, 0xC2, 0x8A, 0x65], &[0x65, 0xC2],
@@ -206,14 +205,15 @@ fn gap_marker_at_end() -> [u8; 112] {
     text
 }
 
-// Returns the fields of a TTI block for row `vp`: a block of a subtitle (EBN), or a comment (CF).
+// Returns the fields of a TTI block for row `vp`. EBN and CF make it a block of a subtitle or a
+// comment.
 fn fields(vp: u8, ebn: u8, cf: u8) -> [u8; 16] {
     let mut fields = head(TEN, TEN + 50, vp);
     (fields[3], fields[14], fields[15]) = (ebn, 0, cf);
     fields
 }
 
-// Asserts that the page of a file shows é in a row, drawn with the French option.
+// Asserts that the page for a file has é in this row, drawn with the French option.
 fn assert_shows_e(rt: &(impl Abort + Alloc<A = Global>), file: &[u8], row: u8) -> Result<(), Fail> {
     assert!(rt; row >= 1 && row <= 24);
     let programme = load(

@@ -14,7 +14,7 @@ fn refuses_a_bound_before_an_origin(rt: HostRuntime) {
     assert_same(&rt, &origin, &Some(OptionFault::Origin));
 }
 
-// Returns the options of page 888, a repeat bound of 250 frames and this PTS of frame 0.
+// Returns options with page 888, a repeat bound of 250 frames and this PTS of frame 0.
 fn of_origin(rt: &impl Abort, origin: u64) -> Options {
     match options("888", 250, origin) {
         Ok(options) => options,
@@ -22,7 +22,7 @@ fn of_origin(rt: &impl Abort, origin: u64) -> Options {
     }
 }
 
-// Asserts the PTS of a frame, given the PTS of frame 0, and that the PTS gives this frame.
+// Asserts the PTS of a frame, and the frame of this PTS, given the PTS of frame 0.
 fn assert_times(rt: &impl Abort, origin: u64, frame: u32, pts: u64) {
     let options = of_origin(rt, origin);
     assert!(rt; frame < 2_160_000);
@@ -36,8 +36,8 @@ fn reports_frames_and_their_times(rt: HostRuntime) {
     assert_times(&rt, 8_589_930_992, 0, 8_589_930_992);
     assert_times(&rt, 8_589_930_992, 1, 0); // past 33 bits
     assert_times(&rt, 1, 2_159_999, 7_775_996_401);
-    // The PTS of frame 2,160,000, which is no frame of the day; a PTS between two frames; and a
-    // number with one bit more than a PTS has.
+    // The PTS of frame 2,160,000, which is beyond the end of the day; a PTS between two frames; and
+    // a number with more bits than a PTS.
     let options = of_origin(&rt, 0);
     for pts in [7_776_000_000, 3601, 0x2_0000_0000] {
         assert_same(&rt, &options.frame_of(pts), &None);
@@ -51,7 +51,7 @@ fn requires_complete_pages_where_it_is_requested(rt: HostRuntime) {
     assert!(rt; !plain.asks_complete() && asking.asks_complete() && asking.origin() == 7);
 }
 
-// Returns the options with this PTS of frame 0 and this `within`.
+// Returns options with this PTS of frame 0 and this value of `within`.
 fn allowing(rt: &impl Abort, origin: u64, frames: u64) -> Options {
     match of_origin(rt, origin).allowing(frames) {
         Ok(options) => options,
@@ -70,7 +70,7 @@ fn allows_two_seconds_at_most(rt: HostRuntime) {
         let fault = of_origin(&rt, 7).allowing(frames).err();
         assert_same(&rt, &fault, &Some(OptionFault::Within));
     }
-    // The options given before are kept, and `within` 0 gives the plain options.
+    // The earlier options remain, and `within` 0 gives the default options.
     let asking = of_origin(&rt, 7).asking_complete().allowing(3);
     assert!(rt; asking.is_ok_and(|options| options.asks_complete() && options.within() == 3));
     let none = allowing(&rt, 7, 3).allowing(0);
@@ -88,7 +88,7 @@ fn requires_a_pace_of_a_day_at_most(rt: HostRuntime) {
     for frames in [0, 2_160_001, u64::MAX] {
         assert_same(&rt, &plain.pacing(frames).err(), &Some(OptionFault::Pace));
     }
-    // The options given before are kept.
+    // The earlier options remain.
     let asking = allowing(&rt, 7, 3).asking_complete().pacing(5);
     assert!(rt; asking.is_ok_and(|options| options.asks_complete() && options.within() == 3));
 }
@@ -122,7 +122,7 @@ fn reads_times_between_two_frames_where_frames_are_allowed(rt: HostRuntime) {
         assert_read_as(&rt, 0, frames, 5400, Some(1)); // the second field
         assert_read_as(&rt, 0, frames, 6299, Some(1));
         assert_read_as(&rt, 0, frames, 6300, Some(2));
-        // A PTS just before that of frame 0, and a PTS that passes 33 bits.
+        // A PTS just before that of frame 0, and a PTS that wraps around after 33 bits.
         assert_read_as(&rt, 0, frames, 0x1_FFFF_FC7C, Some(0));
         assert_read_as(&rt, 0, frames, 0x1_FFFF_FC7B, None);
         assert_read_as(&rt, 0x1_FFFF_FFFF, frames, 0, Some(0));

@@ -1,4 +1,4 @@
-//! Packets, page numbers, and codes for which libzvbi printed no table.
+//! Packets, page numbers, and codes that are not in the tables of libzvbi.
 use crate::asserting::{assert_same, assert_same_in};
 use bitflags::Flags;
 use fixtures::{HEADER, packet_of};
@@ -28,8 +28,7 @@ fn makes_and_reads_a_header(rt: HostRuntime) {
     );
 }
 
-// Asserts the contents of a packet as it is sent, with exact code words: its address, page and
-// header.
+// Asserts the address, the page and the control bits of a packet with exact code words.
 fn assert_header_is(
     rt: &impl Abort,
     sent: &[u8; 42],
@@ -52,8 +51,7 @@ fn reads_a_header_as_it_is_sent(rt: HostRuntime) {
     let mut sent = packet.mirrored();
     assert_same(&rt, &SentPacket::new(&sent).packet(), &packet);
     assert_header_is(&rt, &sent, Some((0, 0)), Some(0x88), packet.header());
-    // A wrong bit in the first address byte, and one in the last coded byte, are corrected only by
-    // a `Packet`.
+    // Only a `Packet` corrects a wrong bit in the first address byte and in the last coded byte.
     sent[0] ^= 0x01;
     sent[9] ^= 0x80;
     assert_header_is(&rt, &sent, None, Some(0x88), None);
@@ -66,7 +64,7 @@ fn reads_a_header_as_it_is_sent(rt: HostRuntime) {
 
 #[test]
 fn reads_addresses(rt: HostRuntime) {
-    // Two address bytes, and the magazine and packet number to which they decode.
+    // Two address bytes, and the magazine and packet number that they encode.
     for [low, high, magazine, number] in [
         [0x15, 0x8C, 0, 20],
         [0xD0, 0x8C, 0, 21],
@@ -89,7 +87,7 @@ fn makes_and_reads_a_row(rt: HostRuntime) {
     assert_same(&rt, &packet.first_even(), &None);
 }
 
-// Returns the first column with an even byte, computed byte by byte.
+// Returns the first column with a byte of even parity, computed byte by byte.
 fn plain_first_even(packet: &Packet) -> Option<u8> {
     for column in 0..40u8 {
         if !is_odd(packet.data()[column as usize]) {
@@ -113,7 +111,7 @@ fn finds_the_only_even_byte_at_each_place(rt: HostRuntime) {
             &column,
         );
     }
-    // Even bytes in the address of a packet are not part of its text.
+    // Bytes of even parity in the address of a packet are not part of its text.
     let packet = Packet::new([0x20; 42]);
     assert_same(&rt, &packet.first_even(), &plain_first_even(&packet));
 }
@@ -123,7 +121,7 @@ fn codes_hamming_8_4(rt: HostRuntime) {
     assert!(rt; ham(8) == 0xD0 && is_word(0xD0) && !is_word(0xD1));
 }
 
-// Asserts the magazine and the page number that a text names.
+// Asserts the magazine and the page number for a text.
 fn assert_names(rt: &impl Abort, text: &str, magazine: u8, page: u8) {
     let id = PageId::parse(text).expect(rt, "a page");
     assert_same_in(rt, &(id.magazine(), id.page()), &(magazine, page), &text);
@@ -133,8 +131,8 @@ fn assert_names(rt: &impl Abort, text: &str, magazine: u8, page: u8) {
 fn reads_page_numbers(rt: HostRuntime) {
     assert_names(&rt, "18a", 1, 0x8A);
     assert_names(&rt, "888", 0, 0x88); // magazine 8 is sent as 0
-    // Texts that name no page: magazines 0 and 9; a page that is not displayed; too short, no
-    // digit, too long.
+    // Invalid texts: magazines 0 and 9; a page that can't be displayed; and texts that are too
+    // short or too long, or contain other characters than digits.
     for text in ["088", "988", "8FF", "88", "8G8", "8888"] {
         assert_same_in(&rt, &PageId::parse(text).is_err(), &true, &text);
     }

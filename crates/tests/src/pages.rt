@@ -1,4 +1,4 @@
-//! Pages: their cells, and the first cell in which two pages differ.
+//! The cells of pages, and the first cell in which two pages differ.
 use crate::asserting::assert_same;
 use ttx_page::{Page, differing_columns};
 

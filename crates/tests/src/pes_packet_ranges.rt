@@ -16,7 +16,7 @@ fn range(rt: &impl Abort, first: u64, last: Option<u64>) -> PesPacketRange {
     PesPacketRange::new(first, last).expect(rt, "the last one stands behind the first")
 }
 
-// Returns the PES packets of a range.
+// Returns the PES packets of a source in this range.
 fn part_of<P: PesPackets>(all: &mut P, range: PesPacketRange) -> PartOfPesPackets<'_, P> {
     PartOfPesPackets {
         inner: LimitedPesPackets::new(all, range.most()),
@@ -24,7 +24,7 @@ fn part_of<P: PesPackets>(all: &mut P, range: PesPacketRange) -> PartOfPesPacket
     }
 }
 
-// Asserts everything that a source of PES packets gives: the bytes `expected`, and then `end`.
+// Asserts the bytes of all PES packets from a source, and the result after them.
 fn assert_next<P: PesPackets>(
     rt: &impl Abort,
     pes_packets: &mut P,
@@ -42,9 +42,9 @@ fn assert_next<P: PesPackets>(
     assert_same_in(rt, &given.sink.written(), &expected, case);
 }
 
-// Asserts which bytes of three PES packets of 184 bytes each, and a few more bytes, belong to a
-// range: their beginning and end; the number of the first PES packet of the range; and what follows
-// the range.
+// Asserts the output for a range of three PES packets of 184 bytes each, followed by a few other
+// bytes: the start and end of the range in the file, the number of its first PES packet, and the
+// result after the range.
 fn assert_output(
     rt: &(impl Abort + Copy),
     cut: usize,
@@ -90,7 +90,7 @@ fn reports_what_follows_the_last_pes_packet(rt: HostRuntime) {
     let cut = Received::Rest(PesFault::Truncated);
     let wrong = Received::Rest(PesFault::Start);
     assert_output(&rt, 0, (9, Some(9)), (0, 0, 0), Received::End);
-    // Unreadable bytes are reported if they come before the last PES packet of the range.
+    // Unreadable bytes before the last PES packet of the range are reported.
     assert_output(&rt, 551, (0, Some(1)), (0, 368, 0), Received::End);
     assert_output(&rt, 551, (2, Some(2)), (368, 368, 2), cut);
     assert_output(&rt, 551, (9, Some(9)), (368, 368, 2), cut);
@@ -110,7 +110,7 @@ fn has_no_range_that_ends_before_it_begins(rt: HostRuntime) {
 #[test]
 fn reads_nothing_after_the_last_pes_packet(rt: HostRuntime) {
     let file = every_second();
-    // The first pull after 368 bytes would fail, but is not needed.
+    // The first pull after 368 bytes would fail, but is not necessary.
     let mut source = FailAt::new(Drip { rest: &file }, 368);
     let mut all = FilePesPackets::new(&mut source);
     let mut pes_packets = part_of(&mut all, range(&rt, 0, Some(1)));
@@ -130,7 +130,7 @@ fn reports_where_it_failed_before_the_range(rt: HostRuntime) {
     let mut all = FilePesPackets::new(&mut source);
     let mut pes_packets = part_of(&mut all, range(&rt, 2, None));
     assert_same(&rt, &pes_packets.find_first(), &Err(FailedAt { pes: 1 }));
-    // After the number of the first PES packet was found, no PES packet is missing.
+    // The search for the number of the first PES packet consumes no PES packet.
     assert_same(&rt, &pes_packets.find_first(), &Ok(2));
     let (_, expected) = file.split_at(368);
     assert_next(&rt, &mut pes_packets, expected, Received::End, &(200, 2));
@@ -154,6 +154,6 @@ fn skips_a_pes_packet_that_is_borrowed_by_one_call(rt: HostRuntime) {
     };
     let mut pes_packets = FilePesPackets::new(&mut source);
     assert_next(&rt, &mut pes_packets, &file, Received::End, &(552, 0));
-    // The source is called once for each of the three PES packets, and once at the end.
+    // The source is called once for each of the three PES packets, and once for the end.
     assert_same(&rt, &source.pulls, &4);
 }

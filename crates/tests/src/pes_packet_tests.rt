@@ -1,5 +1,5 @@
-//! Files of PES packets, read and written: values from other programs, and failing devices. The
-//! refusals of PES packets are tested by the lines that the program prints.
+//! Reading and writing PES packets, compared with values from other programs, and with failing
+//! devices. Other tests cover the lines for rejected PES packets.
 ghost use Rattle.std.specs.Prelude.{◌≡◌, ◌<◌, length};
 ghost use Rattle.sub_io.specs.Device.{CanFail};
 
@@ -10,8 +10,7 @@ use sub_io::{FailAt, MemSink, MemSource, Sink, Source};
 use ttx_packet::Packet;
 use ttx_pes::{PesFault, PesFrame, PesReader, PesWriter, RepeatedPacket, Unit, put_frame};
 
-// Returns the value of a schedule's first PES packet, or an empty frame if the packet can't be
-// read.
+// Returns the first PES packet of the schedule, or an empty frame if it can't be read.
 fn first_frame() -> PesFrame {
     match PesReader::new().next(&mut MemSource::new(&FIRST)) {
         Ok(Some(frame)) => frame,
@@ -41,8 +40,8 @@ fn writes_a_schedules_first_pes_packet(rt: HostRuntime) {
     assert!(rt; buffer == FIRST);
 }
 
-// Asserts the result of a reader, and how often the source has failed afterwards. If no PES packet
-// is read, the frame has PTS 0 and no units.
+// Asserts the result of a reader, and the number of failed calls of the source. If no PES packet is
+// read, the frame has PTS 0 and no units.
 fn assert_answers<S: Source>(
     rt: &impl Abort,
     reader: &mut PesReader,
@@ -97,7 +96,7 @@ fn put_25(rt: &impl Abort) -> [u8; 1656] {
     buffer
 }
 
-// Asserts the bytes at a place of a PES packet.
+// Asserts the bytes of a PES packet at a position.
 fn assert_bytes_at(rt: &impl Abort, bytes: &[u8; 1656], at: usize, want: &[u8]) {
     assert!(rt; at < 1656);
     assert!(rt; bytes[at..].starts_with(want), "at {at}");
@@ -108,7 +107,7 @@ fn puts_25_packets_in_seven_payloads(rt: HostRuntime) {
     let bytes = put_25(&rt);
     assert_bytes_at(&rt, &bytes, 4, &[0x05, 0x02]);
     assert_bytes_at(&rt, &bytes, 9, &[0x27, 0x04, 0x79, 0xF4, 0x01]);
-    // The PES packet ends in two stuffing units.
+    // The last two units of the PES packet are stuffing units.
     assert_bytes_at(&rt, &bytes, 1196, &[0xFF, 0x2C, 0xFF]);
     assert_bytes_at(&rt, &bytes, 1242, &[0xFF, 0x2C, 0xFF]);
 }
@@ -116,7 +115,7 @@ fn puts_25_packets_in_seven_payloads(rt: HostRuntime) {
 #[test]
 fn numbers_the_lines_of_25_packets(rt: HostRuntime) {
     let bytes = put_25(&rt);
-    // The data units are on lines 7 to 22 of the first field, and from line 7 on of the second
+    // The data units are on lines 7 to 22 of the first field, and from line 7 on in the second
     // field.
     for number in 0..25u8 {
         let line = if number < 16 {
@@ -158,7 +157,7 @@ fn a_frame_gives_back_a_36th_unit(rt: HostRuntime) {
     assert_same(&rt, &frame.add(unit), &Err(unit));
 }
 
-// Returns a schedule's first PES packet, twice.
+// Returns the first PES packet of the schedule, two times.
 fn twice() -> [u8; 368]
     ensures { length result ≡ 368 }
 {
@@ -168,8 +167,8 @@ fn twice() -> [u8; 368]
     file
 }
 
-// Asserts that a reader of two PES packets, from a source that gives one byte per pull, returns the
-// PES packets that were pulled completely, and then reports the pull that fails, once.
+// Asserts that a reader of two PES packets returns the PES packets that were read completely, and
+// then reports the failed pull once. The source returns one byte per pull.
 fn assert_reports_pull(rt: &impl Abort, number: u64, file: &[u8]) {
     let mut source = FailAt::new(Drip { rest: file }, number);
     let mut reader = PesReader::new();
@@ -186,7 +185,7 @@ fn assert_reports_pull(rt: &impl Abort, number: u64, file: &[u8]) {
 #[test]
 fn a_failing_pull_is_reported_at_once_and_ends_the_reader(rt: HostRuntime) {
     let file = twice();
-    // The source gives a byte in each of 368 pulls, and then reports its end.
+    // The source returns one byte in each of 368 pulls, and then its end.
     for number in 0..=368u64 {
         assert_reports_pull(&rt, number, &file);
     }
@@ -217,12 +216,12 @@ fn a_failing_push_ends_the_writer(rt: HostRuntime) {
             &number,
         );
     }
-    // The sink takes one byte per push, so 184 pushes are needed.
+    // The sink accepts one byte per push, so 184 pushes are necessary.
     let answer = PesWriter::new().put(&mut FailAt::new(Trickle, 184), &frame);
     assert_same(&rt, &answer, &Ok(()));
 }
 
-// Asserts which bytes of a frame are written if the sink has room for `len` bytes.
+// Asserts the bytes of a frame that are written if the sink has room for `len` bytes.
 fn assert_leaves(rt: &impl Abort, frame: &PesFrame, len: usize) {
     let mut buffer = [0; 184];
     assert!(rt; len < 184);

@@ -1,5 +1,5 @@
-//! Subtitle files and their programmes; refused allocations. Refused files are tested by the lines
-//! that the program prints.
+//! Subtitle files and their programmes, and a lack of memory. Other tests cover the lines for
+//! rejected files.
 ghost use Rattle.std.specs.Prelude.{⊤, false};
 
 use crate::asserting::{assert_same, assert_same_in};
@@ -16,8 +16,8 @@ use stl_rows::{
 use sub_io::{Audience, MemSource, Stopped};
 use ttx_page::Page;
 
-// Asserts the first frame after `frame` at which another page may be due, and the first cell other
-// than a space of the page that is due at `frame`.
+// Asserts the next frame at which the expected page may change, and the first cell other than a
+// space in the expected page.
 fn assert_due(
     rt: &impl Abort,
     programme: &Programme,
@@ -34,7 +34,7 @@ fn assert_due(
     );
 }
 
-// Asserts the due pages of a programme of two subtitles, of two seconds each.
+// Asserts the expected pages of a programme with two subtitles of two seconds each.
 fn assert_both_due(rt: &impl Abort, programme: &Programme) {
     assert_due(rt, programme, TEN - 1, Some(TEN), None);
     assert_due(rt, programme, TEN, Some(TEN + 50), Some((22, 16)));
@@ -43,7 +43,7 @@ fn assert_both_due(rt: &impl Abort, programme: &Programme) {
     assert_due(rt, programme, TEN + 100, None, None);
 }
 
-// Asserts the number of subtitles, the times and the national option of the programme of two
+// Asserts the number of subtitles, the times and the national option of the programme with two
 // subtitles.
 fn assert_holds(rt: &impl Abort, programme: &Programme) {
     assert_same(rt, &(programme.len(), programme.is_empty()), &(2, false));
@@ -52,7 +52,7 @@ fn assert_holds(rt: &impl Abort, programme: &Programme) {
     assert_same(rt, &programme.national(), &National::German);
 }
 
-// Asserts at which frames one of the two subtitles of a programme ends.
+// Asserts the last frames of both subtitles of a programme.
 fn assert_both_end(rt: &impl Abort, programme: &Programme) {
     for frame in [0, TEN - 1, TEN, TEN + 49, TEN + 51, TEN + 99, TEN + 101] {
         assert_same_in(rt, &programme.tci_of_ending(frame), &None, &frame);
@@ -91,8 +91,8 @@ fn file_of_nine() -> [u8; 2176] {
     file
 }
 
-// Loads a file of nine subtitles with this much memory. Returns the block at whose end an
-// allocation was refused, if any.
+// Loads a file of nine subtitles with this much memory. Returns the block at which memory ran out,
+// if it did.
 fn refused_block(rt: &(impl Abort + Alloc<A = Global>), file: &[u8], size: usize) -> Option<u32> {
     let heap = LocalHeap::new(rt.alloc(), size).expect(rt, "memory for the heap");
     let drawing = Drawing {
@@ -115,7 +115,7 @@ fn refused_block(rt: &(impl Abort + Alloc<A = Global>), file: &[u8], size: usize
 #[test]
 fn reports_each_growth_that_is_refused(rt: HostRuntime) {
     let file = file_of_nine();
-    // With more and more memory, an allocation is refused at a later block.
+    // The more memory there is, the later is the block at which memory runs out.
     let mut reported = [false; 10];
     for size in 0..80 {
         if let Some(block) = refused_block(&rt, &file, 16 * size) {
@@ -130,7 +130,7 @@ fn reports_each_growth_that_is_refused(rt: HostRuntime) {
     assert_same(&rt, &reported, &growths);
 }
 
-// An audience that counts the reported faults.
+// Counts the reported faults.
 #[derive(Drop)]
 struct Counts {
     reported: u32,
@@ -147,7 +147,7 @@ impl Audience<LoadFault> for Counts {
     }
 }
 
-// Asserts whether the due page is known at these frames.
+// Asserts whether the expected page is known at these frames.
 fn assert_undecided(rt: &impl Abort, judging: &Judging<'_>, frames: &[u32], undecided: bool) {
     for frame in frames {
         assert_same_in(rt, &judging.is_undecided(*frame), &undecided, frame);

@@ -1,12 +1,11 @@
-//! The states of the two receivers, `Keep` and `Blank`, after short lists of packets, by the rules
-//! of the standard.
+//! The states of receivers of the types `Keep` and `Blank` after a few packets (EN 300 706).
 use crate::asserting::{assert_same, assert_same_in};
 use fixtures::packet_of;
 use std::process::Abort;
 use ttx_packet::{Packet, PageId};
 use ttx_page::{Blank, Keep, PacketKind, Page, Receiver, hear_all, show_all};
 
-// The following constants are the first ten bytes of packets; the other 32 bytes are spaces.
+// The following constants are the first ten bytes of packets. The other 32 bytes are spaces.
 
 // A header of page 888 with C4, C6 and C7 set.
 #[rattlefmt::skip]
@@ -17,7 +16,7 @@ const WITHOUT_C4: [u8; 10] = [0x15, 0x15, 0xD0, 0xD0, 0x15, 0x15, 0x15, 0xD0, 0x
 // A header of page 888 with two wrong bits in its page tens.
 #[rattlefmt::skip]
 const TENS_16: [u8; 10] = [0x15, 0x15, 0xD0, 0x16, 0x15, 0xD0, 0x15, 0xD0, 0x02, 0x15];
-// The closing header, page 8FF.
+// The header of page 8FF, which ends other pages.
 #[rattlefmt::skip]
 const CLOSING: [u8; 10] = [0x15, 0x15, 0xEA, 0xEA, 0xEA, 0x2F, 0xEA, 0x5E, 0x15, 0x15];
 // A header of page 188 with C11 clear.
@@ -26,10 +25,10 @@ const PAGE_188: [u8; 10] = [0x02, 0x15, 0xD0, 0xD0, 0x15, 0xD0, 0x15, 0xD0, 0x02
 // A header of page 188 with C11 set.
 #[rattlefmt::skip]
 const SERIAL_188: [u8; 10] = [0x02, 0x15, 0xD0, 0xD0, 0x15, 0xD0, 0x15, 0xD0, 0x02, 0x02];
-// Row 22 of magazine 8: the letter A, then a byte 41 with even parity.
+// Row 22 of magazine 8: the letter A, and then byte 41, which has even parity.
 #[rattlefmt::skip]
 const ROW_22: [u8; 10] = [0x15, 0x9B, 0xC1, 0x41, 0x20, 0x20, 0x20, 0x20, 0x20, 0x20];
-// Row 22 of magazine 1: the letter A, then a byte 41 with even parity.
+// Row 22 of magazine 1: the letter A, and then byte 41, which has even parity.
 #[rattlefmt::skip]
 const ROW_122: [u8; 10] = [0x02, 0x9B, 0xC1, 0x41, 0x20, 0x20, 0x20, 0x20, 0x20, 0x20];
 // A packet whose address bytes can't be decoded.
@@ -43,8 +42,7 @@ fn packets(starts: &[[u8; 10]; 3]) -> [Packet; 3] {
     [packet(starts[0]), packet(starts[1]), packet(starts[2])]
 }
 
-/// Returns a page that a receiver may contain before it is tuned in: 3F, a question mark, in every
-/// cell.
+/// Returns the page of a receiver before it is tuned: code 3F, a question mark, in every cell.
 pub(crate) fn old_page() -> Page {
     let mut page = Page::blank();
     for row in 1..25u8 {
@@ -53,9 +51,8 @@ pub(crate) fn old_page() -> Page {
     page
 }
 
-// Asserts the state of a receiver, which began with the old page, after three packets with these
-// first bytes: whether a header was received, whether the page is open, and cells 0 and 1 of row
-// 22.
+// Asserts the state of a receiver, which started with the old page, after three packets: whether a
+// header was received, whether the page is open, and the codes of cells 0 and 1 in row 22.
 fn assert_becomes<R: Receiver + Drop>(
     rt: &impl Abort,
     starts: &[[u8; 10]; 3],
@@ -76,7 +73,7 @@ fn assert_becomes<R: Receiver + Drop>(
 }
 
 // Asserts the states of both receivers after three packets: whether a header was received, whether
-// the page is open, cell 0 of row 22, and cell 1 of `Keep` and of `Blank`.
+// the page is open, the code of cell 0 in row 22, and the codes of cell 1 for `Keep` and `Blank`.
 fn assert_both_become(
     rt: &impl Abort,
     starts: &[[u8; 10]; 3],
@@ -90,11 +87,12 @@ fn assert_both_become(
 #[rattlefmt::skip]
 #[test]
 fn blanks_at_c4_alone_and_stores_odd_bytes(rt: HostRuntime) {
-    // A header with C4 set blanks the old page; a header with C4 clear keeps it.
+    // A header with C4 set erases the old page, and a header with C4 clear does not.
     assert_both_become(&rt, &[HEADER, NO_ADDRESS, NO_ADDRESS], [true, true], [0x20, 0x20, 0x20]);
     assert_both_become(&rt, &[WITHOUT_C4, NO_ADDRESS, NO_ADDRESS], [true, true],
         [0x3F, 0x3F, 0x3F]);
-    // A row with a byte of even parity; a row before any header; a header that can't be decoded.
+    // Three cases: a row has a byte of even parity; no header was received before a row; a header
+    // can't be decoded.
     assert_both_become(&rt, &[WITHOUT_C4, ROW_22, NO_ADDRESS], [true, true], [0x41, 0x3F, 0x20]);
     assert_both_become(&rt, &[ROW_22, NO_ADDRESS, NO_ADDRESS], [false, false], [0x3F, 0x3F, 0x3F]);
     assert_both_become(&rt, &[TENS_16, ROW_22, NO_ADDRESS], [false, false], [0x3F, 0x3F, 0x3F]);
@@ -103,8 +101,8 @@ fn blanks_at_c4_alone_and_stores_odd_bytes(rt: HostRuntime) {
 #[rattlefmt::skip]
 #[test]
 fn ends_its_page_by_the_standard(rt: HostRuntime) {
-    // A header of another page ends the page; so does a header of another magazine with C11 set,
-    // but not with C11 clear.
+    // A header of another page ends the page. A header of another magazine ends it only if C11 is
+    // set.
     assert_both_become(&rt, &[HEADER, CLOSING, ROW_22], [true, false], [0x20, 0x20, 0x20]);
     assert_both_become(&rt, &[HEADER, SERIAL_188, ROW_22], [true, false], [0x20, 0x20, 0x20]);
     assert_both_become(&rt, &[HEADER, PAGE_188, ROW_22], [true, true], [0x41, 0x20, 0x20]);
@@ -112,7 +110,8 @@ fn ends_its_page_by_the_standard(rt: HostRuntime) {
     assert_both_become(&rt, &[HEADER, ROW_122, NO_ADDRESS], [true, true], [0x20, 0x20, 0x20]);
 }
 
-// Asserts cell 0 of row 22 on a receiver's screen, which was empty before, after three packets.
+// Asserts the code of cell 0 in row 22 on a receiver's screen after three packets. The screen was
+// empty before.
 fn assert_shows(rt: &impl Abort, starts: &[[u8; 10]; 3], want: Option<u8>) {
     let page_id = PageId::parse("888").expect(rt, "page 888");
     let mut receiver = Keep::tune(page_id, old_page());
@@ -130,7 +129,7 @@ fn shows_a_page_when_another_page_ends_it(rt: HostRuntime) {
     assert_shows(&rt, &[HEADER, ROW_22, NO_ADDRESS], None);
     assert_shows(&rt, &[HEADER, ROW_22, CLOSING], Some(0x41));
     assert_shows(&rt, &[HEADER, ROW_22, SERIAL_188], Some(0x41));
-    // At another header of its page the receiver waits, and its screen does not change.
+    // At another header of its page, this receiver does not change its screen.
     assert_shows(&rt, &[HEADER, ROW_22, HEADER], None);
     assert_shows(&rt, &[HEADER, CLOSING, HEADER], Some(0x20));
 }

@@ -1,12 +1,12 @@
-//! A subtitle file that is read on after a refused subtitle.
+//! Reading a subtitle file after a rejected subtitle.
 
 use crate::asserting::assert_same;
 use fixtures::file_of_three;
 use stl_file::{Found, ResumingReader, Scope, StlFault, Subtitle};
 use sub_io::MemSource;
 
-// Returns the blocks of a file at which a subtitle, a refused subtitle of two blocks and the end
-// are found.
+// Returns the block numbers after a subtitle, after a rejected subtitle of two blocks, and at the
+// end of the file.
 fn blocks_found(file: &[u8]) -> [u32; 3] {
     let mut source = MemSource::new(file);
     let mut subtitle = Subtitle::empty();
@@ -37,9 +37,9 @@ fn finds_what_comes_after_a_refused_subtitle(rt: HostRuntime) {
     assert_same(&rt, &blocks_found(&file), &[1, 2, 3]);
 }
 
-// Returns how many subtitles, at most two, are read before anything else is found in a file that
-// has three subtitles at 900,000, 900,050 and 900,100, of which the second is cumulative; 9 if the
-// file is refused.
+// Returns the number of subtitles, at most two, that are read before any other result. The file has
+// three subtitles at frames 900,000, 900,050 and 900,100, of which the second is cumulative.
+// Returns 9 if the file is rejected.
 fn taken(display: u8, takes_open: bool, from: u32, to: u32) -> u32 {
     let mut file = file_of_three(2, 1);
     file[11] = display;

@@ -1,5 +1,5 @@
-//! The schedule of a small subtitle file, byte for byte. Other outputs and refusals are tested by
-//! the lines that the program prints.
+//! The schedule of a small subtitle file, byte for byte. Other tests cover other schedules and
+//! rejected files.
 use crate::asserting::assert_same;
 use fixtures::{every, file_of_hi, schedule_of_hi};
 use std::alloc::Global;
@@ -10,9 +10,8 @@ use stl_rows::{Layout, National, load};
 use sub_io::{MemSink, MemSource};
 use sub_plan::schedule;
 
-// Asserts the schedule that is written with a national option in a transmission mode: byte 9 of the
-// page's header and of the closing header, as carried in the PES packet; all other bytes are those
-// of the schedule of `Hi`.
+// Asserts the schedule with a national option and a transmission mode. Only byte 9 of the page's
+// header and of the header that ends the page differ from the schedule for `Hi`.
 fn assert_writes(
     rt: &(impl Abort + Alloc<A = Global>),
     national: National,
@@ -48,7 +47,8 @@ fn writes_each_byte(rt: HostRuntime) -> Result<(), Fail> {
     assert_writes(&rt, National::English, true, 0x40, 0x40)?;
     assert_writes(&rt, National::German, false, 0x0B, 0xA8)?;
     assert_writes(&rt, National::German, true, 0xE3, 0x40)?;
-    // The values of byte 9 in the bit order of EN 300 706 are 64 73, A1 B6, 49 5E, 8C 9B, 38 2F.
+    // In the bit order of EN 300 706, the values of byte 9 are 64, 73, A1, B6, 49, 5E, 8C, 9B, 38
+    // and 2F.
     assert_writes(&rt, National::Swedish, false, 0x26, 0xA8)?;
     assert_writes(&rt, National::Swedish, true, 0xCE, 0x40)?;
     assert_writes(&rt, National::Italian, false, 0x85, 0xA8)?;

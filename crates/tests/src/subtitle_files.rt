@@ -1,5 +1,5 @@
-//! Subtitle files that are read and normalised, one topic per file. `dev/check-every-place` tries
-//! refused files on the built program.
+//! Reading and normalising subtitle files. `dev/check-every-place` tests rejected files with the
+//! built program.
 
 mod devices;
 mod fields;

@@ -1,5 +1,5 @@
-//! How the transport packets of a PID are split into PES packets: at announced jumps, at the end,
-//! and after other bytes.
+//! Splitting the TS packets of a PID into PES packets: at announced jumps, at the end, and after
+//! other bytes.
 
 use crate::transport_recordings::{
     BACK_1, BEGINS_0, BEGINS_1, BEGINS_2, BEGINS_9, FILL, GAP_MARKER_HEAD, GAP_MARKER_REST, JUMP,
@@ -15,7 +15,8 @@ fn follows_an_announced_jump(rt: HostRuntime) {
         &[&BEGINS_0, &FIRST, &JUMP, &JUMP_FILL, &BEGINS_9, &SECOND],
         &both,
     );
-    // A jump that another PID announces, or that has no room for the flag, does not count.
+    // A jump is ignored if another PID announces it, or if the adaptation field has no room for the
+    // flag.
     let others: [&[u8]; 6] = [
         &BEGINS_0,
         &FIRST,
@@ -42,7 +43,7 @@ fn follows_an_announced_jump(rt: HostRuntime) {
 
 #[test]
 fn cuts_parts_at_an_announced_jump(rt: HostRuntime) {
-    // A jump is announced within a PES packet, although the counter continues.
+    // A jump is announced within a PES packet, although the continuity counter matches.
     assert_output(
         &rt,
         &[
@@ -61,7 +62,7 @@ fn cuts_parts_at_an_announced_jump(rt: HostRuntime) {
         ],
         &[&FIRST, &GAP_MARKER_HEAD, &GAP_MARKER_REST, &SECOND],
     );
-    // The first transport packet of the later PES packet announces the jump.
+    // The first TS packet of the second PES packet announces the jump.
     assert_output(
         &rt,
         &[
@@ -76,7 +77,7 @@ fn cuts_parts_at_an_announced_jump(rt: HostRuntime) {
         ],
         &[&FIRST, &SECOND],
     );
-    // The second transport packet announces the jump, so the PES packet is incomplete.
+    // The second TS packet announces the jump, so the PES packet is incomplete.
     assert_output(
         &rt,
         &[
@@ -111,7 +112,7 @@ fn joins_the_payloads_of_a_pes_packet(rt: HostRuntime) {
         ],
         &both,
     );
-    // The first transport packet announces a jump, and is sent twice.
+    // The first TS packet announces a jump, and is sent twice.
     assert_output(
         &rt,
         &[
@@ -134,7 +135,7 @@ fn joins_the_payloads_of_a_pes_packet(rt: HostRuntime) {
 #[test]
 fn reports_a_gap_after_a_pes_packet(rt: HostRuntime) {
     let long_head: [u8; 6] = [0x47, 0x01, 0x01, 0x31, 83, 0x00];
-    // Bytes after the end of the PES packet are a gap.
+    // Bytes after the end of the PES packet cause a gap marker.
     assert_output(
         &rt,
         &[
@@ -150,7 +151,7 @@ fn reports_a_gap_after_a_pes_packet(rt: HostRuntime) {
         ],
         &[&FIRST, &GAP_MARKER_HEAD, &GAP_MARKER_REST, &SECOND],
     );
-    // A PES packet that the end of the recording cuts off is no gap.
+    // A PES packet that is cut off at the end of the recording causes no gap marker.
     assert_output(
         &rt,
         &[
@@ -166,13 +167,13 @@ fn reports_a_gap_after_a_pes_packet(rt: HostRuntime) {
 
 #[test]
 fn skips_a_part_that_is_not_complete(rt: HostRuntime) {
-    // The first PES packet is incomplete before another one begins.
+    // The first PES packet is incomplete when the next one starts.
     assert_output(
         &rt,
         &[&PREFIX_0, &FILL[..82], &FIRST[..100], &BEGINS_1, &SECOND],
         &[&SECOND],
     );
-    // After a complete PES packet comes a transport packet that begins none.
+    // The TS packet after a complete PES packet does not start a PES packet.
     assert_output(
         &rt,
         &[&BEGINS_0, &FIRST, &[0x47, 0x01, 0x01, 0x11], &SECOND],
@@ -194,10 +195,10 @@ fn ends_at_another_start_or_length(rt: HostRuntime) {
         &[&BEGINS_0, &length, &FIRST[5..], &BEGINS_1, &SECOND],
         &[&length, &FIRST[5..]],
     );
-    // Ten payloads are one more than a PES packet may have.
+    // The PES packet needs ten payloads, one more than the maximum.
     let long: [u8; 6] = [0x00, 0x00, 0x01, 0xBD, 0x07, 0x2A];
     assert_output(&rt, &[&BEGINS_0, &long, &FIRST[6..]], &[&long, &FIRST[6..]]);
-    // A gap marker comes before unreadable bytes only if a PES packet was read before.
+    // Unreadable bytes follow a gap marker only if a PES packet was read before them.
     assert_output(
         &rt,
         &[&BEGINS_0, &FIRST, &BEGINS_2, &start, &FIRST[4..]],
@@ -245,8 +246,8 @@ fn finds_packets_after_other_bytes(rt: HostRuntime) {
         ],
         &both,
     );
-    // As many unreadable bytes as 15 transport packets may hide lost packets; fewer bytes may not,
-    // and neither may bytes at the end.
+    // Unreadable bytes are long enough to hide lost packets if they have the size of 15 TS packets.
+    // Fewer bytes are too short, and bytes at the end hide nothing.
     assert_output(
         &rt,
         &[&BEGINS_0, &FIRST, &ZEROS, &NULL, &FILL, &BEGINS_1, &SECOND],
@@ -270,8 +271,8 @@ fn finds_packets_after_other_bytes(rt: HostRuntime) {
 
 #[test]
 fn finds_packets_where_they_begin_again(rt: HostRuntime) {
-    // Two runs of unreadable bytes, with a transport packet between them, are each too short to
-    // hide lost packets.
+    // Two sequences of unreadable bytes, with a TS packet between them, are each too short to hide
+    // lost packets.
     assert_output(
         &rt,
         &[
@@ -290,13 +291,14 @@ fn finds_packets_where_they_begin_again(rt: HostRuntime) {
         ],
         &[&FIRST, &SECOND],
     );
-    // A recording may begin and end within a transport packet.
+    // A recording may start and end within a TS packet.
     assert_output(
         &rt,
         &[&FIRST[..88], &NULL, &FILL, &BEGINS_1, &SECOND],
         &[&SECOND],
     );
-    // If the recording is out of step, a transport packet counts only if another one follows it.
+    // If the recording has lost its packet boundaries, a TS packet is accepted only if another one
+    // follows it.
     assert_output(&rt, &[&FIRST[..88], &BEGINS_1, &SECOND], &[]);
     assert_output(&rt, &[&BEGINS_0, &FIRST[..183]], &[]);
 }

@@ -1,5 +1,4 @@
-//! Code that several tests of transport streams use: transport packets, and the PES packets that
-//! the transport packets of a PID carry.
+//! TS packets for tests, and assertions about the PES packets in the TS packets of a PID.
 
 ghost use Rattle.std.specs.Prelude.{◌≡◌, ⊤, true};
 ghost use Rattle.sub_io.specs.Device.{CanFail};
@@ -9,8 +8,8 @@ use std::process::Abort;
 use sub_io::{MemSink, MemSource, Sink, put_all};
 use ttx_pes::{PesPackets, REST_BUFFER_SIZE, Received, TakePesPacket};
 
-/// Bytes 0 to 3 of transport packets of PID 101 (hexadecimal) that begin a PES packet, by their
-/// continuity counters.
+/// Bytes 0 to 3 of TS packets of PID 101 (hexadecimal) that start a PES packet, by continuity
+/// counter.
 pub(crate) const BEGINS_0: [u8; 4] = [0x47, 0x41, 0x01, 0x10];
 
 pub(crate) const BEGINS_1: [u8; 4] = [0x47, 0x41, 0x01, 0x11];
@@ -19,48 +18,48 @@ pub(crate) const BEGINS_2: [u8; 4] = [0x47, 0x41, 0x01, 0x12];
 
 pub(crate) const BEGINS_9: [u8; 4] = [0x47, 0x41, 0x01, 0x19];
 
-/// The packet `BEGINS_1` with transport_error_indicator.
+/// The TS packet `BEGINS_1` with transport_error_indicator set.
 pub(crate) const WRONG_1: [u8; 4] = [0x47, 0xC1, 0x01, 0x11];
 
-/// A null packet's first bytes, and bytes that fill the packet.
+/// The first bytes of a null packet, and the bytes that fill the packet.
 pub(crate) const NULL: [u8; 4] = [0x47, 0x1F, 0xFF, 0x10];
 
 pub(crate) const FILL: [u8; 184] = [0xFF; 184];
 
-/// The first bytes of a transport packet without a payload that announces a jump of the counter,
-/// and the bytes that fill it.
+/// The first bytes of a TS packet without payload that announces a jump of the continuity counter,
+/// and the bytes that fill the packet.
 pub(crate) const JUMP: [u8; 6] = [0x47, 0x01, 0x01, 0x20, 0xB7, 0x80];
 
 pub(crate) const JUMP_FILL: [u8; 182] = [0xFF; 182];
 
-/// Bytes 0 to 5 of transport packets with an adaptation field: one begins a PES packet and has 100
-/// bytes of it, the other continues the PES packet with 84 bytes.
+/// Bytes 0 to 5 of TS packets with an adaptation field. One starts a PES packet and has 100 bytes
+/// of payload, the other continues the PES packet with 84 bytes.
 pub(crate) const PREFIX_0: [u8; 6] = [0x47, 0x41, 0x01, 0x30, 83, 0x00];
 
 pub(crate) const BACK_1: [u8; 6] = [0x47, 0x01, 0x01, 0x31, 99, 0x00];
 
-/// The first bytes of a gap marker; the other bytes of the marker are in `GAP_MARKER_REST`.
+/// The first bytes of a gap marker. `GAP_MARKER_REST` has the other bytes.
 pub(crate) const GAP_MARKER_HEAD: [u8; 6] = [0x00, 0x00, 0x01, 0xBD, 0x00, 0xB2];
 
 pub(crate) const GAP_MARKER_REST: [u8; 178] = [0xFF; 178];
 
 pub(crate) const ZEROS: [u8; 2820] = [0; 2820];
 
-/// Puts byte strings into a sink one after another, as far as the sink has room.
+/// Writes byte strings to a sink one after another, as long as the sink has room.
 pub(crate) fn put_pes_packets(sink: &mut MemSink<'_>, pes_packets: &[&[u8]]) {
     for pes_packet in pes_packets {
         put_pes_packet(sink, pes_packet);
     }
 }
 
-// Puts one byte string into a sink, as far as the sink has room.
+// Writes a byte string to a sink, as long as the sink has room.
 fn put_pes_packet(sink: &mut MemSink<'_>, pes_packet: &[u8]) {
     if sink.failures() == 0 {
         let _ = put_all(sink, pes_packet);
     }
 }
 
-// Puts the bytes that begin no PES packet into a sink, as far as the sink has room.
+// Writes the bytes after the last PES packet to a sink, as long as the sink has room.
 fn put_rest<P: PesPackets>(sink: &mut MemSink<'_>, pes_packets: &mut P)
     requires rest { P.is_rest pes_packets.old ≡ true }
     requires failures { CanFail (P.failure_count pes_packets.old) }
@@ -72,7 +71,7 @@ fn put_rest<P: PesPackets>(sink: &mut MemSink<'_>, pes_packets: &mut P)
     }
 }
 
-/// Appends each PES packet to a sink, as far as the sink has room.
+/// Appends each PES packet to a sink, as long as the sink has room.
 #[derive(Drop)]
 pub(crate) struct Gathered<'a> {
     pub(crate) sink: MemSink<'a>,
@@ -88,7 +87,7 @@ impl TakePesPacket for Gathered<'_> {
     }
 }
 
-/// Asserts the bytes that the transport packets of a PID carry in a recording of these byte
+/// Asserts the PES packets in the TS packets of a PID. The recording consists of these byte
 /// strings.
 pub(crate) fn assert_output_of(
     rt: &impl Abort,
@@ -128,8 +127,7 @@ pub(crate) fn assert_output_of(
     assert!(rt; gathered.sink.written() == expected_bytes.written());
 }
 
-/// Asserts the bytes that the transport packets of PID 101 (hexadecimal) carry, in packets of 188
-/// bytes.
+/// Asserts the PES packets in the TS packets of PID 101 (hexadecimal), which have 188 bytes each.
 pub(crate) fn assert_output(rt: &impl Abort, recording: &[&[u8]], expected: &[&[u8]]) {
     assert_output_of(rt, 0x101, PacketSize::Plain, recording, expected);
 }

@@ -1,5 +1,4 @@
-//! The PES packets of a PID in transport streams with repeated, lost or wrong packets. Each stream
-//! is written in the test, packet by packet.
+//! The PES packets of a PID in transport streams with repeated, lost or damaged TS packets.
 
 use crate::transport_recordings::{
     BACK_1, BEGINS_0, BEGINS_1, BEGINS_2, BEGINS_9, FILL, GAP_MARKER_HEAD, GAP_MARKER_REST,
@@ -16,7 +15,7 @@ fn gives_the_pes_packets_of_the_pid(rt: HostRuntime) {
     let stream: [&[u8]; 6] = [&BEGINS_0, &FIRST, &NULL, &FILL, &BEGINS_1, &SECOND];
     assert_output(&rt, &stream, &[&FIRST, &SECOND]);
     assert_output_of(&rt, 0x102, PacketSize::Plain, &stream, &[]);
-    // A PID has 13 bits: PID 1101 is not PID 101 (hexadecimal).
+    // A PID has 13 bits, so PID 1101 is not PID 101 (hexadecimal).
     let far: [&[u8]; 4] = [
         &[0x47, 0x51, 0x01, 0x10],
         &FIRST,
@@ -35,10 +34,10 @@ fn gives_a_gap_marker_where_a_packet_is_lost(rt: HostRuntime) {
         &[&BEGINS_0, &FIRST, &BEGINS_2, &SECOND],
         &[&FIRST, &GAP_MARKER_HEAD, &GAP_MARKER_REST, &SECOND],
     );
-    // No gap marker comes before the first PES packet.
+    // There is no gap marker before the first PES packet.
     assert_output(&rt, &[&WRONG_1, &FIRST, &BEGINS_0, &SECOND], &[&SECOND]);
-    // One gap marker replaces all missing packets; a PES packet that the end of the recording
-    // cuts off gives none.
+    // One gap marker replaces all missing packets. A PES packet that is cut off at the end of the
+    // recording causes no gap marker.
     assert_output(
         &rt,
         &[
@@ -67,8 +66,8 @@ fn skips_one_repeat(rt: HostRuntime) {
         &[&BEGINS_0, &FIRST, &BEGINS_0, &FIRST, &BEGINS_0, &FIRST],
         &[&FIRST, &GAP_MARKER_HEAD, &GAP_MARKER_REST, &FIRST],
     );
-    // A transport packet with the same payload and the next counter is no repeat, and neither is
-    // one with the same counter and another payload.
+    // A TS packet with the same payload and the next continuity counter is not a repeat, and
+    // neither is a TS packet with the same counter and another payload.
     assert_output(
         &rt,
         &[&BEGINS_0, &FIRST, &BEGINS_1, &FIRST],
@@ -79,7 +78,7 @@ fn skips_one_repeat(rt: HostRuntime) {
         &[&BEGINS_0, &FIRST, &BEGINS_0, &SECOND],
         &[&FIRST, &GAP_MARKER_HEAD, &GAP_MARKER_REST, &SECOND],
     );
-    // No transport packet is a repeat across an announced jump.
+    // A TS packet after an announced jump is not a repeat.
     assert_output(
         &rt,
         &[&BEGINS_0, &FIRST, &JUMP, &JUMP_FILL, &BEGINS_0, &FIRST],
@@ -89,7 +88,7 @@ fn skips_one_repeat(rt: HostRuntime) {
 
 #[test]
 fn recognizes_a_repeat_by_its_first_four_bytes_and_its_payload(rt: HostRuntime) {
-    // For a repeat, the other bytes of the adaptation field do not matter.
+    // Repeats may differ in the other bytes of the adaptation field.
     assert_output(
         &rt,
         &[
@@ -107,7 +106,7 @@ fn recognizes_a_repeat_by_its_first_four_bytes_and_its_payload(rt: HostRuntime) 
         ],
         &[&FIRST, &SECOND],
     );
-    // A transport packet that begins no PES packet does not repeat one that begins a PES packet.
+    // A TS packet that does not start a PES packet is not a repeat of a packet that does.
     assert_output(
         &rt,
         &[
@@ -132,8 +131,8 @@ fn takes_no_wrong_packet(rt: HostRuntime) {
         &[&BEGINS_0, &FIRST, &[0x47, 0x41, 0x01, 0x91], &SECOND],
         &gap,
     );
-    // Packets whose adaptation field leaves no room for a payload, first with a payload announced
-    // and then without.
+    // The adaptation field leaves no room for a payload. In the first case a payload is announced,
+    // in the second case none.
     let full: [u8; 5] = [0x47, 0x01, 0x01, 0x31, 0xB7];
     assert_output(
         &rt,
@@ -152,7 +151,7 @@ fn takes_no_wrong_packet(rt: HostRuntime) {
         ],
         &[&FIRST, &GAP_MARKER_HEAD, &GAP_MARKER_REST, &SECOND],
     );
-    // Without a payload the same adaptation field is correct, and the packet's counter is ignored.
+    // Without a payload, the same adaptation field is valid, and the packet's counter is ignored.
     assert_output(
         &rt,
         &[
@@ -184,8 +183,8 @@ fn reads_packets_of_other_sizes(rt: HostRuntime) {
 #[test]
 fn finds_a_loss_of_15_packets_of_their_size(rt: HostRuntime) {
     let zeros: [u8; 4] = [0; 4];
-    // After a time stamp of 4 bytes, 2876 bytes are skipped in the first stream, and 2880 bytes in
-    // the second stream.
+    // After a time stamp of 4 bytes, 2876 bytes are skipped in the first stream and 2880 bytes in
+    // the second.
     assert_output_of(
         &rt,
         0x101,
@@ -266,8 +265,8 @@ fn gives_a_gap_marker_and_then_the_pes_packet_that_is_ready(rt: HostRuntime) {
     }
     let pes_packet = Received::PesPacket(());
     let rest = Received::Rest(PesFault::Start);
-    // Whether a gap marker precedes a PES packet is known with that packet; bytes that are no PES
-    // packet are kept.
+    // A gap marker is known as soon as the PES packet after it is known. Bytes that are not a PES
+    // packet remain.
     assert!(rt; ends == [pes_packet, pes_packet, pes_packet, pes_packet, rest, rest]);
     assert!(rt; ready == [false, false, true, false, true, true]);
     let mut rest_buffer = [0; REST_BUFFER_SIZE];
@@ -289,7 +288,7 @@ fn gives_a_pes_packet_before_it_reads_more(rt: HostRuntime) {
     let Some(pid) = Pid::new(0x101) else {
         return assert!(rt; false);
     };
-    // The second call of the device fails and consumes nothing, and the next call continues.
+    // The second call of the device fails without consuming bytes, and the next call continues.
     let device = FailAt::new(MemSource::new(recorded.written()), 1);
     let mut pes_packets = RecordingPesPackets::new(device, pid, PacketSize::Plain);
     let mut buffer = [0; 1024];

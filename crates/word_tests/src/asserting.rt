@@ -1,17 +1,17 @@
-//! Asserts that a value is the expected one.
+//! Assertions about values.
 //!
-//! A call of these functions is proved in a quarter of the time that the macro takes. Each crate of
-//! tests has its own copy, since a library may contain nothing that can end the process.
+//! A call of these functions is proved in a quarter of the time of the macro `assert_eq!`. Each
+//! crate of tests has its own copy, since a library must not end the process.
 
 use std::fmt::Debug;
 use std::process::Abort;
 
-/// Asserts that two values are the same.
+/// Asserts that two values are equal.
 pub fn assert_same<T: PartialEq + Debug>(rt: &impl Abort, got: &T, expected: &T) {
     assert_eq!(rt; got, expected);
 }
 
-/// Asserts that two values are the same in test case `case`.
+/// Asserts that two values are equal in test case `case`.
 pub fn assert_same_in<T: PartialEq + Debug>(
     rt: &impl Abort,
     got: &T,

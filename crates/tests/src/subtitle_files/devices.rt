@@ -1,5 +1,4 @@
-//! Sources that give one byte at a time, or fail. Sources that never end are tested by the lines
-//! that the program prints.
+//! Sources that return one byte at a time, or fail. Other tests cover sources that never end.
 
 use super::files::{a_file, read_all};
 use crate::asserting::{assert_same, assert_same_in};
@@ -26,7 +25,7 @@ fn reports_the_block_of_the_byte_that_could_not_be_read(rt: HostRuntime) {
         let failed = read_all(&mut FailAt::new(Drip { rest: &file }, k));
         assert_same_in(&rt, &failed, &(done, Some(StlFault::Read), block), &k);
     }
-    // The reader's last pull was the one that found the end.
+    // The reader's last pull reached the end.
     let whole = read_all(&mut FailAt::new(Drip { rest: &file }, 1665));
     assert_same(&rt, &whole, &(2, None, 5));
 }

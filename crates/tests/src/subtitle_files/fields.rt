@@ -1,4 +1,4 @@
-//! Each field of a GSI or TTI block at its place.
+//! The positions of all fields in a GSI block and a TTI block.
 
 use super::files::a_file;
 use crate::asserting::{assert_same, assert_same_in};
@@ -7,8 +7,8 @@ use std::process::Abort;
 use stl_file::{Gsi, StlReader, Subtitle, TimeCode, Tti, five_digits_of};
 use sub_io::MemSource;
 
-// Returns field `number` of a GSI block, of the fields that have more than one byte and the bytes
-// between fields, in order.
+// Returns field `number` of a GSI block. The fields with more than one byte and the bytes between
+// fields are numbered in order.
 fn field(gsi: &Gsi, number: usize) -> &[u8] {
     match number {
         0 => gsi.cpn(),
@@ -41,7 +41,7 @@ fn field(gsi: &Gsi, number: usize) -> &[u8] {
     }
 }
 
-// The place in the GSI block, and the length, of each field that `field` returns.
+// The position and the length in the GSI block of each field that `field` returns.
 #[rattlefmt::skip]
 const FIELDS: [[usize; 2]; 27] = [
     [0, 3], // CPN
@@ -76,7 +76,8 @@ const FIELDS: [[usize; 2]; 27] = [
 #[test]
 fn reads_each_gsi_field_at_its_place(rt: HostRuntime) {
     let mut bytes = [0; 1024];
-    // No two bytes less than 251 apart are equal, so a field read at another place has other bytes.
+    // Bytes that are less than 251 bytes apart differ, so a field read at a wrong position has
+    // other bytes.
     for i in 0..1024 {
         bytes[i] = (i % 251) as u8;
     }
@@ -109,7 +110,7 @@ fn reads_each_tti_field_at_its_place(rt: HostRuntime) {
         bytes[i] = i as u8;
     }
     let tti = Tti::read(&bytes);
-    // The fields SGN, SN (low byte first), EBN, CS, VP, JC and CF.
+    // The values of SGN, SN (low byte first), EBN, CS, VP, JC and CF.
     assert_same(
         &rt,
         &(tti.sgn(), tti.sn(), tti.ebn(), tti.cs()),
@@ -130,7 +131,8 @@ fn counts_frames_of_the_day(rt: HostRuntime) {
     assert!(rt; TimeCode::new(0, 60, 0, 0).is_none() && TimeCode::new(0, 0, 60, 0).is_none());
 }
 
-// Asserts whether a subtitle with these times, row, justification and text is accepted.
+// Asserts whether a subtitle with these times, this row and justification, and this text is
+// accepted.
 fn assert_takes(rt: &impl Abort, times: [u32; 2], [vp, jc]: [u8; 2], text: &[u8], want: bool) {
     assert!(rt; times[0] < 2_160_000 && times[1] < 2_160_000);
     let (tci, tco) = (TimeCode::of_frame(times[0]), TimeCode::of_frame(times[1]));

@@ -1,5 +1,5 @@
-//! Normal forms. The output for a refused file or a failing device is tested by the program's
-//! `normal`.
+//! Normal forms of subtitle files. Tests of the command `normal` cover rejected files and failing
+//! devices.
 
 use super::files::{ALONE, FIRST, LAST, a_file};
 use crate::asserting::assert_same;
@@ -7,7 +7,7 @@ use fixtures::{block, gsi, put};
 use stl_file::{StlReader, normal, write_subtitle};
 use sub_io::{MemSink, MemSource};
 
-/// Returns the normal form of `a_file`: the comment and the user data are left out.
+/// Returns the normal form of `a_file`, without the comment and the user data.
 fn expected() -> [u8; 1408] {
     let mut file = [0; 1408];
     put(&mut file, 0, &gsi());

@@ -2,7 +2,7 @@ use Rattle.std.proofs.Common.{List, ℕ, [], ◌∷◌, ◌++◌, refl, replicat
 use Rattle.ttx_page.proofs.PageLemmas.{codes_from_test}
 use Rattle.tests.proofs.dropped_rows.shown_page.Goals as goal
 
--- The codes of row 22 of the transmission of `Hi`.
+-- The codes of row 22 with the text `Hi`.
 abbrev codes : List ℕ
 codes =
     replicate 16 0x20

@@ -1,4 +1,4 @@
--- The invariant of the loop: the source did not fail.
+-- Loop invariant of `read_all`: the source has not failed.
 use Rattle.std.proofs.Common.{◌≡◌}
 use Rattle.tests.proofs.subtitle_files.files.read_all.Given as goal
 
