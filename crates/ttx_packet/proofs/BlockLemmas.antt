@@ -1,6 +1,5 @@
--- Lists that are processed in blocks of 16: each block is a chunk of the list (block_of), storing a
--- block extends the processed part (block_more), and the masks of the blocks find the first item
--- that passes a test (first_so_far).
+-- Lists that are processed in blocks of 16 items. The masks of the blocks find the first item that
+-- passes a test.
 use Rattle.std.proofs.Common.{◌≡◌, ℕ, zero, suc, ◌+◌, ◌*◌, ◌/◌, ◌^◌, ◌<◌, ◌≤◌, Bool, true, false}
 use Rattle.std.proofs.Common.{not, List, [], ◌++◌, map, length, get_or, take, drop, sym, ap, ap₂}
 use Rattle.std.proofs.Common.{◌∙◌, take_all, arith, w16}
@@ -46,7 +45,8 @@ pub below_in_chunk : (b a n : ℕ) (xs : List ℕ)
 below_in_chunk b a n xs room below k =
     let here = below (a + k) in grind (arith, nat_tests, get_or-chunk, get_or_past, length-chunk)
 
--- The list `out` has n elements, and its first `to` elements are f applied to those of `xs`.
+-- The list `out` has n elements, and its first `to` elements are the results of f for those of
+-- `xs`.
 pub record IsMappedPrefix (f : ℕ → ℕ) (xs : List ℕ) (n to : ℕ) (out : List ℕ) : Type 0 where
   pub size : length out ≡ n
   pub done : take to out ≡ map f (take to xs)

@@ -1,4 +1,4 @@
--- The eleven control bits of a page header as a number: control_eq reassembles them from a header.
+-- The eleven control bits of a page header, as a number.
 use Rattle.std.proofs.Common.{◌≡◌, ℕ, ◌+◌, ◌*◌, ◌<◌, Bool, true, ◌==◌, arith, refl, eqb-true}
 use Rattle.std.proofs.lemmas.Bool.Decides.{nat_tests}
 use Rattle.std.specs.Prelude.{bit_and}
@@ -14,8 +14,7 @@ nibble_small a b c d = grind (arith, nat_tests, bit_small)
 abbrev set_in : ℕ → ℕ → Bool
 set_in n flag = bit_and n flag == flag
 
--- Takes the control bits out of a number and adds them up again, in the way in which they are
--- stored in a header.
+-- Separates a number into its eleven control bits, and adds these up again.
 abbrev pub put_together : ℕ → ℕ
 put_together n =
     bit (set_in n 1)
@@ -23,7 +22,7 @@ put_together n =
     + 8 * nibble (set_in n 8) (set_in n 0x10) (set_in n 0x20) (set_in n 0x40)
     + 0x80 * nibble (set_in n 0x80) (set_in n 0x100) (set_in n 0x200) (set_in n 0x400)
 
--- Each number below 2048 equals the sum of its eleven bits, by computation.
+-- Each number below 2048 equals the sum of its eleven bits, checked by computation.
 pub control_eq : (n : ℕ) → n < 0x800 → put_together n ≡ n
 control_eq n small =
     eqb-true _ _ (agree_below_at (λ n. put_together n == n) (λ n. true) 0x800 n refl small)

@@ -1,5 +1,5 @@
--- Hamming 8/4: decoding by table agrees with the definition by nearness, and one wrong bit does not
--- change the decoded number (decoded-near).
+-- Hamming 8/4: decoding by table agrees with the definition, and one wrong bit does not change the
+-- decoded number.
 use Rattle.std.proofs.Common.{rules, ◌≡◌, ℕ, ◌^◌, ◌<◌, inl, inr, Bool, true, false, not, cond, ◌==◌}
 use Rattle.std.proofs.Common.{◌||◌, Option, Some, None, bit_xor, ◌∙◌, ◌%◌, refl, sym, get_or, arith}
 use Rattle.std.proofs.Common.{nat_eq, nat_lt}
@@ -17,13 +17,12 @@ is_number (Some m) n = m == n
 is_number_true : (o : Option ℕ) (n : ℕ) → is_number o n ≡ true → o ≡ Some n
 is_number_true o n e = grind (arith, nat_tests)
 
--- The code word of each number decodes to that number, by computation for all 16 numbers.
+-- The code word of each number decodes to that number, checked for all 16 numbers.
 pub decoded-code_word : (n : ℕ) → n < 16 → decoded (code_word n) ≡ Some n
 unfolding decoded is_near
 decoded-code_word n l = search (rules, is_number_true, agree_below_at)
 
--- Each code word with one changed bit decodes to the word's number, by computation for all 16 * 8
--- cases.
+-- Each code word with one changed bit decodes to its number, checked for all 16 * 8 cases.
 changed_code_words_decode : agree_below
     (λ n. agree_below (λ bit. is_number (decoded (bit_xor (code_word n) (2 ^ bit))) n)
     (λ bit. true) 8) (λ n. true) 16 ≡ true
@@ -68,15 +67,15 @@ is_same_result (Some x) (Some y) = nat_eq x y
 is_same_result-true : (a b : Option ℕ) → is_same_result a b ≡ true → a ≡ b
 is_same_result-true a b e = grind (arith, nat_tests)
 
--- The table `DECODED` agrees with the definition of decoding, by computation for all 256 bytes.
+-- The decoding table agrees with the definition of decoding, checked for all 256 bytes.
 pub decoded-by_table : (b : ℕ) → b < 0x100 → decoded b ≡ entry b
 unfolding decoded is_near
 decoded-by_table b l =
     is_same_result-true _ _
     (agree_below_at (λ b. is_same_result (decoded b) (entry b)) (λ b. true) 0x100 b refl l)
 
--- If the entry of a byte in the table `DECODED` is below 16, the byte is a code word, by
--- computation for all 256 bytes.
+-- If the entry of a byte in the decoding table is below 16, the byte is a code word; checked for
+-- all 256 bytes.
 pub word_from_entry : (b : ℕ) → b < 0x100 → get_or DECODED b 0 < 16 → IsCodeWord b
 word_from_entry b l small =
     let test : ℕ → Bool = λ b. not (nat_lt (get_or DECODED b 0) 16)
@@ -84,8 +83,7 @@ word_from_entry b l small =
     let passes = agree_below_at test (λ b. true) 0x100 b refl l in
     (get_or DECODED b 0, small, grind (arith, nat_tests))
 
--- The entry of each code word in the table `DECODED` is below 16, by computation for all 16 code
--- words.
+-- The entry of each code word in the decoding table is below 16; checked for all 16 code words.
 pub entry_from_word : (b : ℕ) → IsCodeWord b → get_or DECODED b 0 < 16
 entry_from_word b (n, l, is) =
     rw is

@@ -1,5 +1,4 @@
--- The vector code computes for each byte what its definition says: mirror_lanes, even_lanes,
--- odd_lanes.
+-- The vector code computes for each byte what the definitions for one byte state.
 use Rattle.std.proofs.Common.{◌≡◌, ℕ, suc, ◌*◌, ◌/◌, ◌%◌, ◌^◌, ◌-◌, ◌<◌, true, cond, List, [], ◌∷◌}
 use Rattle.std.proofs.Common.{map, length, get_or, replicate, refl, sym, ap, ap₂, ◌∙◌, arith, w8}
 use Rattle.std.proofs.Common.{Fits, nat_eq, eqb-true}
@@ -54,7 +53,7 @@ swapped_lanes v n k m long =
 abbrev mirrors : ℕ → ℕ
 mirrors x = swapped 1 0x55 (swapped 2 0x33 (swapped 4 0x0F x))
 
--- The three swapping steps reverse the bits of a byte, by computation for all 256 bytes.
+-- The three swapping steps reverse the bits of a byte, checked for all 256 bytes.
 mirrors_eq : (x : ℕ) → x < 0x100 → mirrors x ≡ mirror x
 unfolding mirror
 mirrors_eq x l =
@@ -87,8 +86,8 @@ folds_lanes v a b c ea eb ec = rw (ec, eb, ea, map-map, map-map)
 abbrev last_bit : ℕ → ℕ
 last_bit x = bit_and (folds x) 1
 
--- The lowest bit after the three folding steps is 0 exactly for bytes with an even number of ones,
--- by computation for all 256 bytes.
+-- After the three folding steps the lowest bit is 0 exactly for bytes with an even number of ones,
+-- checked for all 256 bytes.
 last_bit_eq : (x : ℕ) → x < 0x100 → nat_eq (last_bit x) 0 ≡ is_even x
 unfolding is_odd count_ones ones_in
 last_bit_eq x l = agree_below_at (λ x. nat_eq (last_bit x) 0) is_even 0x100 x refl l
@@ -119,8 +118,7 @@ even_lanes v a b c long fits ea eb ec =
 abbrev odd_code : ℕ → ℕ
 odd_code x = bit_or x (bit_xor (folds x) 1 * 2 ^ 7 % 2 ^ 8)
 
--- Setting bit 8 of a code if its number of ones is even gives the odd byte of the code, by
--- computation for all 128 codes.
+-- Setting bit 8 of a code with an even number of ones gives odd parity, checked for all 128 codes.
 odd_code_eq : (x : ℕ) → x < 0x80 → odd_code x ≡ odd_byte x
 unfolding is_odd count_ones ones_in
 odd_code_eq x l =

@@ -1,5 +1,4 @@
--- Reading a created packet gives back the contents that it was created from: law_of_header_packet,
--- law_of_row_packet.
+-- Decoding a created packet returns its original contents.
 use Rattle.std.proofs.Common.{rules, ◌≡◌, ℕ, [], zero, suc, ◌+◌, ◌*◌, ◌/◌, ◌%◌, ◌<◌, ◌≤◌, Bool}
 use Rattle.std.proofs.Common.{true, ◌==◌, List, ◌∷◌, ◌++◌, map, replicate, Some, slice_index, refl}
 use Rattle.std.proofs.Common.{sym, ap, ◌∙◌, subst, arith, ◌-◌, ◌^◌, bit_and, div-add-mod', All}
@@ -112,8 +111,8 @@ placed_bit n k l =
     ∙ ap (λ m. bit_at m k) (div-add-mod' n 0x800) in
     grind (arith, nat_tests, and_pow)
 
--- Bits that have no place in a page header are in no byte of the header packet, so dropping them
--- first does not change the packet.
+-- Bits that a page header cannot carry are in no byte of the packet, so dropping them first does
+-- not change the packet.
 header_packet-placed :
     (magazine : ℕ) (h : Header) → header_packet magazine (placed h) ≡ header_packet magazine h
 unfolding header_packet

@@ -1,4 +1,4 @@
--- A text whose length is not three bytes is no page number: page_of_text-other_length.
+-- A text whose length is not three bytes is no page number.
 use Rattle.std.proofs.Common.{◌≡◌, ◌≢◌, ℕ, List, length, None, arith}
 use Rattle.std.proofs.lemmas.Bool.Decides.{nat_tests}
 use Rattle.ttx_packet.specs.PageId.{page_of_text}

@@ -1,5 +1,4 @@
--- Odd parity: a byte of odd parity with one changed bit has even parity (even_from_changed), and
--- the properties of odd_byte.
+-- A byte of odd parity with one changed bit has even parity.
 use Rattle.std.proofs.Common.{◌≡◌, ◌≢◌, ℕ, zero, suc, ◌+◌, ◌*◌, ◌/◌, ◌%◌, ◌^◌, ◌<◌, inl, inr, true}
 use Rattle.std.proofs.Common.{bit_xor, refl, arith, IsTrue, IsFalse, div-add-mod', pow-suc}
 use Rattle.std.specs.Int.RustNames.{count_ones}
@@ -43,8 +42,8 @@ flip_higher q r m l h =
     let ones_new = ones_cat 1 (bit_xor q m) r l in
     rw split (rw same (omega arith))
 
--- Changing one bit of a number changes its number of ones by one, so the sum of both numbers of
--- ones is odd.
+-- Changing one bit of a number changes its number of ones by one, so the two numbers of ones have
+-- an odd sum.
 pub flip : (k b : ℕ) → (count_ones (bit_xor b (2 ^ k)) + count_ones b) % 2 ≡ 1
 flip zero b = grind (arith, nat_tests, div-add-mod' b 2, flip_lowest)
 flip (suc k) b =

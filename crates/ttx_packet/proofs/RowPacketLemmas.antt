@@ -1,5 +1,4 @@
--- The first data byte with even parity of a packet, as Packet::first_even finds it: first_even-at,
--- first_even-none.
+-- The first data byte of a packet with even parity.
 use Rattle.std.proofs.Common.{◌≡◌, ℕ, ◌<◌, List, Option, Some, None, IsNone, ◌↔◌, true, false}
 use Rattle.std.proofs.Common.{get_or, sym, refl, arith, drop}
 use Rattle.std.proofs.lemmas.Bool.Decides.{nat_tests}

@@ -1,5 +1,4 @@
--- The table of code words whose bits are in the order of transmission: word_from_sent,
--- no_word_from_sent.
+-- The table of code words in the bit order of DVB data units.
 use Rattle.std.proofs.Common.{◌≡◌, ℕ, ◌<◌, Bool, ◌||◌, ◌&&◌, true, nat_eq, nat_le, nat_lt}
 use Rattle.std.proofs.Common.{◌≤◌, get_or}
 use Rattle.std.proofs.Common.{Some}
@@ -23,8 +22,8 @@ entry_small b l =
     in
     grind (arith, nat_tests)
 
--- If the entry of a byte in the table `SENT_WORDS` is not 256, the byte in reverse bit order is the
--- code word of the entry, by computation for all 256 bytes.
+-- If the table entry of a byte is not 256, the byte with its bits reversed is the code word of the
+-- entry; checked for all 256 bytes.
 word_of_entry : (b : ℕ) → b < 0x100 → (get_or SENT_WORDS b 0 ≡ 256 → ⊥)
     → (get_or SENT_WORDS b 0 < 16) × (mirror b ≡ code_word (get_or SENT_WORDS b 0))
 unfolding mirror
@@ -46,8 +45,7 @@ word_from_sent b l some =
       rw word.1 (decoded-code_word (get_or SENT_WORDS b 0) word.0),
     )
 
--- If the entry of a byte in the table `SENT_WORDS` is 256, the byte in reverse bit order is no code
--- word.
+-- If the table entry of a byte is 256, the byte with its bits reversed is no code word.
 pub no_word_from_sent : (b : ℕ) → b < 0x100 → get_or SENT_WORDS b 0 ≡ 256
     → IsCodeWord (mirror b) → ⊥
 unfolding mirror

@@ -1,9 +1,8 @@
--- The order of bits in a byte: Teletext sends bit 1 of a byte first, and a DVB data unit carries
--- that bit as bit 8 (EN 300 472, data field syntax).
+-- The order of bits in a byte. Teletext sends bit 1 of a byte first; a DVB data unit carries it as
+-- bit 8 (EN 300 472, data field syntax).
 use Rattle.std.specs.Prelude.{ℕ, ◌+◌, ◌*◌, ◌/◌, ◌%◌}
 
--- The byte with its eight bits in reverse order: bit 1 becomes bit 8, bit 2 becomes bit 7, and so
--- on.
+-- The byte with its eight bits in reverse order: bit 1 becomes bit 8, and so on.
 unfoldable pub mirror : ℕ → ℕ
 mirror b =
     0x80 * (b % 2)

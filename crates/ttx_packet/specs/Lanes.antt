@@ -1,13 +1,13 @@
--- The steps of the vector code, defined for one byte. No public clause uses these definitions.
+-- The steps of the vector code, defined for one byte. Only private contracts use these definitions.
 use Rattle.std.specs.Prelude.{ℕ, ◌*◌, ◌/◌, ◌%◌, ◌^◌, Bool, not, List, map, bit_and, bit_or, bit_xor}
 use lib.Lanes.{mask_l}
 use Rattle.ttx_packet.specs.Parity.{is_odd}
 
--- Swaps each bit of the byte that the mask selects with the bit n places above it.
+-- Swaps each bit that the mask selects with the bit n places above it.
 abbrev pub swapped : ℕ → ℕ → ℕ → ℕ
 swapped n mask b = bit_or (bit_and (b / 2 ^ n) mask) (bit_and b mask * 2 ^ n % 0x100)
 
--- Folds the byte onto itself: each bit is combined by exclusive or with the bit n places above it.
+-- Combines each bit of a byte by exclusive or with the bit n places above it.
 abbrev pub folded : ℕ → ℕ → ℕ
 folded n b = bit_xor b (b / 2 ^ n)
 
@@ -15,7 +15,7 @@ folded n b = bit_xor b (b / 2 ^ n)
 abbrev pub is_even : ℕ → Bool
 is_even b = not (is_odd b)
 
--- A mask with one bit for each byte of the list, set if the byte has even parity. The lowest bit is
--- that of the first byte.
+-- A mask with one bit per byte of the list, the lowest bit for the first byte. A bit is set if its
+-- byte has even parity.
 abbrev pub evens_mask : List ℕ → ℕ
 evens_mask bytes = mask_l (map is_even bytes)

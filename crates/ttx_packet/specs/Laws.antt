@@ -1,5 +1,5 @@
--- Laws of Teletext packets: the effect of one wrong bit in each byte, and the result of reading a
--- created packet.
+-- Laws about Teletext packets: what one wrong bit in each byte changes, and what decoding a created
+-- packet returns.
 use Rattle.std.specs.Prelude.{◌≡◌, ◌≢◌, ◌↔◌, ℕ, ◌<◌, ◌≤◌, List, length, Some, None, All, IsTrue}
 use Rattle.std.specs.Prelude.{IsFalse, slice_index}
 use Rattle.ttx_packet.specs.declared.header.Header.{Header}
@@ -12,13 +12,14 @@ use Rattle.ttx_packet.specs.PageHeader.{header, HasExactCodeWords, HasOddHeaderT
 use Rattle.ttx_packet.specs.PageHeader.{IsHeader}
 use Rattle.ttx_packet.specs.RowPacket.{text_byte, HasOddText, row_packet}
 
--- A byte decodes to a number exactly if it is within one bit of that number's code word. So it
--- decodes to at most one number.
+-- A byte decodes to a number exactly if it differs in at most one bit from the code word of that
+-- number. So it decodes to at most one number.
 abbrev pub LawOfDecoding : Type 0
 LawOfDecoding = (b n : ℕ) → decoded b ≡ Some n ↔ Decodes b n
 
--- One wrong bit in each byte does not change the address of a packet if both address bytes were
--- code words. So a receiver that corrects Hamming 8/4 never takes such noise for another packet.
+-- One wrong bit in each byte does not change the decoded address of a packet whose address bytes
+-- were sent as code words. So a receiver never takes such a packet for a packet with another
+-- address.
 abbrev pub LawOfAddress : Type 0
 LawOfAddress =
     (sent got : List ℕ)
@@ -26,8 +27,8 @@ LawOfAddress =
     → AreNear sent got
     → address got ≡ address sent
 
--- One wrong bit in each byte does not change the header of a packet if its coded bytes were code
--- words. So a receiver that corrects Hamming 8/4 never takes such noise for another page.
+-- One wrong bit in each byte does not change the decoded page header of a packet whose coded bytes
+-- were sent as code words. So a receiver never takes such a header for the header of another page.
 abbrev pub LawOfHeader : Type 0
 LawOfHeader =
     (sent got : List ℕ)
@@ -35,8 +36,8 @@ LawOfHeader =
     → AreNear sent got
     → header got ≡ header sent
 
--- A byte of odd parity with one changed bit has even parity. So a receiver detects each single
--- wrong bit in a row.
+-- A byte of odd parity with one changed bit has even parity. So a receiver detects a single wrong
+-- bit in a text byte.
 abbrev pub LawOfParity : Type 0
 LawOfParity =
     (sent got : ℕ)
@@ -49,8 +50,8 @@ LawOfParity =
 abbrev pub LawOfMirror : Type 0
 LawOfMirror = (b : ℕ) → b < 0x100 → mirror (mirror b) ≡ b
 
--- A header packet that was created from the header h can be read back: its header is h, its coded
--- bytes are code words, and its text bytes have odd parity.
+-- The packet encodes the page header h: its decoded header is h, its coded bytes are code words,
+-- and its text bytes have odd parity.
 pub record IsMadeHeader (magazine : ℕ) (h : Header) (packet : List ℕ) : Type 0 where
   pub whole : length packet ≡ 42
   pub address : address packet ≡ Some (record { magazine = magazine; packet_number = 0 })
@@ -58,7 +59,7 @@ pub record IsMadeHeader (magazine : ℕ) (h : Header) (packet : List ℕ) : Type
   pub exact : HasExactCodeWords packet
   pub odd : HasOddHeaderText packet
 
--- A created header packet decodes to the header that it was created from.
+-- Decoding a created header packet returns the original header.
 abbrev pub LawOfHeaderPacket : Type 0
 LawOfHeaderPacket =
     (magazine : ℕ) (h : Header)
@@ -66,8 +67,8 @@ LawOfHeaderPacket =
     → IsHeader h
     → IsMadeHeader magazine h (header_packet magazine h)
 
--- A row packet that was created from `codes` can be read back: its address is that of the row, its
--- text has these codes, and its text bytes have odd parity.
+-- The packet encodes a row with these codes: its address is that of the row, its text bytes carry
+-- the codes, and they have odd parity.
 pub record IsMadeRow (magazine row : ℕ) (codes packet : List ℕ) : Type 0 where
   pub whole : length packet ≡ 42
   pub address : address packet ≡ Some (record { magazine = magazine; packet_number = row })
@@ -78,7 +79,7 @@ pub record IsMadeRow (magazine row : ℕ) (codes packet : List ℕ) : Type 0 whe
       → code_of (text_byte packet column) ≡ slice_index codes column
   pub odd : HasOddText packet
 
--- A created row packet decodes to the row and the codes that it was created from.
+-- Decoding a created row packet returns the original row number and character codes.
 abbrev pub LawOfRowPacket : Type 0
 LawOfRowPacket =
     (magazine row : ℕ) (codes : List ℕ)

@@ -1,15 +1,14 @@
--- At most one wrong bit in each byte: the model of noise in the whole product (own).
+-- The noise model of all laws in this product: at most one wrong bit in each byte (own).
 use Rattle.std.specs.Prelude.{◌≡◌, ℕ, zero, suc, ◌^◌, ◌<◌, ◌⊎◌, Bool, ◌||◌, List, Option, Some}
 use Rattle.std.specs.Prelude.{None, is_some, ◌==◌, if◌then◌else◌, bit_xor}
 use Rattle.std.specs.List.{AllZip}
 use Rattle.std.specs.Option.{option_or}
 
--- The received byte `got` equals the byte sent, or differs from it in exactly one of its eight
--- bits.
+-- The received byte differs from the sent byte in at most one bit.
 abbrev pub IsNear : ℕ → ℕ → Type 0
 IsNear sent got = (got ≡ sent) ⊎ ((bit : ℕ) × (bit < 8) × (got ≡ bit_xor sent (2 ^ bit)))
 
--- Two lists of bytes have the same length, and bytes at the same place differ in at most one bit.
+-- The two lists have the same length, and bytes at the same index differ in at most one bit.
 abbrev pub AreNear : List ℕ → List ℕ → Type 0
 AreNear sent got = AllZip IsNear sent got
 
@@ -18,6 +17,6 @@ abbrev pub first_below : ℕ → (ℕ → Bool) → Option ℕ
 first_below zero test = None
 first_below (suc n) test = option_or (first_below n test) (if test n then Some n else None)
 
--- The relation `IsNear` as a test that can be computed.
+-- A computable test of whether two bytes differ in at most one bit.
 unfoldable pub is_near : ℕ → ℕ → Bool
 is_near sent got = got == sent || is_some (first_below 8 (λ bit. got == bit_xor sent (2 ^ bit)))

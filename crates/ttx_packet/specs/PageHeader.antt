@@ -24,12 +24,13 @@ use Rattle.ttx_packet.specs.PacketAddress.{HasExactAddress, address_code_words}
 use Rattle.ttx_packet.specs.declared.control.Control.{Control}
 use Rattle.ttx_packet.specs.declared.header.Header.{Header}
 
--- Whether a control bit of a page header is set. C4 is bit 1 of the number (value 1), and C14 is
--- bit 11 (value 1024).
+-- Whether a control bit of a page header is set. In the number, C4 has the value 1 and C14 the
+-- value 1024.
 abbrev pub is_set : Control → ℕ → Bool
 is_set control bit = bit_and control.0 bit == bit
 
--- Control bit C4, erase page: the page is blanked before the packets after the header are stored.
+-- Control bit C4, erase page: the page becomes blank before the packets after the header are
+-- stored.
 abbrev pub c4 : Header → Bool
 c4 h = is_set h.control 1
 
@@ -73,16 +74,16 @@ c13 h = is_set h.control 0x200
 abbrev pub c14 : Header → Bool
 c14 h = is_set h.control 0x400
 
--- The page number in bytes 2 and 3 of a packet, with page tens in the upper four bits. The address
--- is not checked. `None` if one of the two bytes cannot be decoded.
+-- The page number in bytes 2 and 3 of a page header, with the page tens in the upper four bits.
+-- `None` if one of the two bytes cannot be decoded. Ignores the packet address.
 unfoldable pub coded_page : List ℕ → Option ℕ
 coded_page packet = do
   units ← decoded_at packet 2
   tens ← decoded_at packet 3
   Some (units + 0x10 * tens)
 
--- The contents of bytes 2 to 9 of a packet, read as a page header. The address is not checked.
--- `None` if one of the eight bytes cannot be decoded.
+-- The page header decoded from bytes 2 to 9 of a packet. `None` if one of these bytes cannot be
+-- decoded. Ignores the packet address.
 unfoldable pub coded_header : List ℕ → Option Header
 coded_header packet = do
   units ← decoded_at packet 2
@@ -100,19 +101,21 @@ coded_header packet = do
         control = record { 0 = s2_c4 / 8 + 2 * (s4_c6 / 4) + 8 * c7_c10 + 0x80 * c11_c14 };
       })
 
--- The page header of a packet X/0. `None` for a packet with another packet number, and for a packet
--- with an address byte or one of the bytes 2 to 9 that cannot be decoded.
+-- The page header of a packet X/0 (EN 300 706, page header). `None` for any other packet, and if an
+-- address byte or one of the bytes 2 to 9 cannot be decoded.
 unfoldable pub header : List ℕ → Option Header
 header packet = do
   a ← address packet
   if a.packet_number == 0 then coded_header packet else None
 
--- The eight coded bytes of the page header, bytes 2 to 9, are code words without a wrong bit.
+-- The eight coded bytes of the page header, bytes 2 to 9, are Hamming 8/4 code words, so without a
+-- wrong bit.
 abbrev pub HasExactHeader : List ℕ → Type 0
 HasExactHeader packet =
     (place : ℕ) → 2 ≤ place → place < 10 → IsCodeWord (slice_index packet place)
 
--- The two bytes of the page number, bytes 2 and 3, are code words without a wrong bit.
+-- The two bytes of the page number, bytes 2 and 3 of a page header, are Hamming 8/4 code words, so
+-- without a wrong bit.
 abbrev pub HasExactPage : List ℕ → Type 0
 HasExactPage packet = IsCodeWord (slice_index packet 2) × IsCodeWord (slice_index packet 3)
 
@@ -138,11 +141,11 @@ abbrev pub bit : Bool → ℕ
 bit true = 1
 bit false = 0
 
--- The number whose data bits D1 to D4 are these, D1 with value 1.
+-- The number with these four data bits: D1 has the value 1, and D4 the value 8.
 abbrev pub nibble : Bool → Bool → Bool → Bool → ℕ
 nibble d1 d2 d3 d4 = bit d1 + 2 * bit d2 + 4 * bit d3 + 8 * bit d4
 
--- The eight numbers of a page header, for bytes 2 to 9, as in the table of the packet's layout.
+-- The eight numbers that bytes 2 to 9 of a page header encode (EN 300 706, page header).
 abbrev pub header_numbers : Header → List ℕ
 header_numbers h =
     (h.page % 0x10)
@@ -155,13 +158,13 @@ header_numbers h =
     ∷ nibble (c11 h) (c12 h) (c13 h) (c14 h)
     ∷ []
 
--- The header packet of a magazine, with 32 spaces as its text.
+-- The header packet of a page in a magazine, with 32 spaces as its text.
 unfoldable pub header_packet : ℕ → Header → List ℕ
 header_packet magazine h =
     address_code_words magazine 0 ++ map code_word (header_numbers h) ++ replicate 32 0x20
 
--- Drops the bits of a header that have no place in a packet X/0: the bits of the sub-code outside
--- 3F7F, and control bits other than C4 to C14.
+-- The page header without the bits that a packet X/0 cannot carry: sub-code bits outside 3F7F, and
+-- all control bits except C4 to C14.
 abbrev pub placed : Header → Header
 placed h = record {
   page = h.page;
@@ -169,8 +172,8 @@ placed h = record {
   control = record { 0 = h.control.0 % 0x800 };
 }
 
--- The header fits in a packet: the page number has two hexadecimal digits, the sub-code has no bit
--- outside 3F7F, and no control bit but C4 to C14 is set.
+-- A packet X/0 can carry the page header: the page number has two hexadecimal digits, the sub-code
+-- has no bit outside 3F7F, and only the control bits C4 to C14 are set.
 pub record IsHeader (h : Header) : Type 0 where
   pub page : h.page < 0x100
   pub subcode : h.subcode < 0x4000

@@ -20,8 +20,8 @@ hexadecimal_digit b =
     else (if is_from 0x61 0x66 b then Some (b - 0x57)
     else (if is_from 0x41 0x46 b then Some (b - 0x37) else None))
 
--- The page with a magazine digit 1 to 8 (in ASCII) and a page number. `None` for any other digit,
--- and for page number FF, which is not displayed.
+-- The page with this magazine digit, 1 to 8 in ASCII, and this page number. `None` for any other
+-- digit, and for page number FF, which is not displayed.
 abbrev pub page_of_numbers : ℕ → ℕ → Option PageIdValue
 page_of_numbers digit page =
     if is_from 0x31 0x38 digit && not (page == 0xFF)

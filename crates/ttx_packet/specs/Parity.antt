@@ -1,14 +1,14 @@
--- Odd parity (EN 300 706, 8.1): seven code bits, and bit 8, which makes the number of ones odd.
+-- Odd parity (EN 300 706, 8.1): a byte has seven code bits, and bit 8 makes the number of ones odd.
 use Rattle.std.specs.Prelude.{ℕ, ◌+◌, ◌%◌, Bool, ◌==◌, if◌then◌else◌, count_ones}
 
 -- The byte has an odd number of ones.
 unfoldable pub is_odd : ℕ → Bool
 is_odd b = count_ones b % 2 == 1
 
--- The seven code bits of a text byte.
+-- The character code of a text byte: its lower seven bits.
 abbrev pub code_of : ℕ → ℕ
 code_of b = b % 0x80
 
--- The byte with these seven code bits and odd parity.
+-- The byte of odd parity with this 7-bit code.
 abbrev pub odd_byte : ℕ → ℕ
 odd_byte code = if is_odd code then code else code + 0x80

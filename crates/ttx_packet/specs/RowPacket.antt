@@ -1,11 +1,11 @@
--- The text of a packet, and packets X/1 to X/24 as they are created (EN 300 706, packets for direct
--- display): 40 bytes of odd parity, one for each column.
+-- The text of row packets X/1 to X/24 (EN 300 706, packets for direct display): 40 bytes of odd
+-- parity, one for each column.
 use Rattle.std.specs.Prelude.{ℕ, ◌+◌, ◌<◌, List, ◌++◌, Option, map, slice_index, not, IsTrue}
 use Rattle.ttx_packet.specs.OneBit.{first_below}
 use Rattle.ttx_packet.specs.Parity.{is_odd, odd_byte}
 use Rattle.ttx_packet.specs.PacketAddress.{address_code_words}
 
--- The byte of a packet for a column, counted from 0 to 39.
+-- The data byte of a packet for a column, 0 to 39.
 abbrev pub text_byte : List ℕ → ℕ → ℕ
 text_byte packet column = slice_index packet (column + 2)
 
@@ -17,6 +17,6 @@ HasOddText packet = (column : ℕ) → column < 40 → IsTrue (is_odd (text_byte
 unfoldable pub first_even_byte : List ℕ → Option ℕ
 first_even_byte packet = first_below 40 (λ column. not (is_odd (text_byte packet column)))
 
--- The packet of a row in a magazine, with these 40 codes as its text in odd parity.
+-- The packet X/Y of row Y with these 40 character codes in odd parity.
 unfoldable pub row_packet : ℕ → ℕ → List ℕ → List ℕ
 row_packet magazine row codes = address_code_words magazine row ++ map odd_byte codes

@@ -1,5 +1,5 @@
-//! The order of bits in a byte: Teletext sends the lowest bit first, and DVB data units carry that
-//! bit as the highest.
+//! The order of bits in a byte. Teletext sends the lowest bit first; a DVB data unit carries that
+//! bit as the highest bit of the byte.
 ghost use Rattle.std.specs.Prelude.{◌≡◌, map};
 ghost use Rattle.ttx_packet.specs.BitOrder.{mirror};
 
@@ -7,18 +7,17 @@ mod lanes;
 
 use self::lanes::mirrored_block;
 
-/// Reverses the bits of a byte. A DVB data unit carries each Teletext byte that way (EN 300 472,
-/// data field syntax).
+/// Reverses the bits of a byte, as a DVB data unit carries each Teletext byte (EN 300 472, data
+/// field syntax).
 pub fn mirror(byte: u8) -> u8
     ensures { result ≡ mirror byte }
 {
     byte.reverse_bits()
 }
 
-/// Reverses the bits of each of the 42 bytes of a packet, in either direction.
+/// Reverses the bits of each of the 42 bytes of a packet. Twice gives the original packet.
 ///
-/// The last 10 bytes are handled by a block that starts 6 bytes before them, so no byte is handled
-/// alone.
+/// The last block of 16 bytes starts 6 bytes early, so that no byte is left over.
 #[inline(always)]
 pub fn mirrored(bytes: &[u8; 42]) -> [u8; 42]
     ensures { result ≡ map mirror bytes.now }

@@ -1,23 +1,24 @@
-//! Laws of Teletext packets: the effect of one wrong bit in each byte, and the result of reading a
-//! created packet.
+//! Laws about Teletext packets: what one wrong bit in each byte changes, and what decoding a
+//! created packet returns.
 ghost use Rattle.ttx_packet.specs.Laws.{LawOfAddress, LawOfDecoding, LawOfHeader};
 ghost use Rattle.ttx_packet.specs.Laws.{LawOfHeaderPacket, LawOfMirror, LawOfParity};
 ghost use Rattle.ttx_packet.specs.Laws.{LawOfRowPacket};
 
-/// A byte decodes to a number exactly if it is within one bit of that number's code word.
+/// A byte decodes to a number exactly if it differs in at most one bit from the code word of that
+/// number.
 pub fn law_of_decoding()
     ensures { LawOfDecoding }
 {}
 
-/// One wrong bit in each byte does not change the address of a packet if both address bytes were
-/// code words.
+/// One wrong bit in each byte does not change the decoded address of a packet whose address bytes
+/// were sent as code words.
 #[tactic(auto, using(crate::proofs::NearPackets::near_laws))]
 pub fn law_of_address()
     ensures { LawOfAddress }
 {}
 
-/// One wrong bit in each byte does not change the header of a packet if its coded bytes were code
-/// words.
+/// One wrong bit in each byte does not change the decoded page header of a packet whose coded bytes
+/// were sent as code words.
 #[tactic(auto, using(crate::proofs::NearPackets::near_laws))]
 pub fn law_of_header()
     ensures { LawOfHeader }
@@ -34,13 +35,13 @@ pub fn law_of_mirror()
     ensures { LawOfMirror }
 {}
 
-/// A created header packet decodes to the header that it was created from, and all its coded bytes
-/// are code words.
+/// Decoding a created header packet returns the original header, and all its coded bytes are code
+/// words.
 pub fn law_of_header_packet()
     ensures { LawOfHeaderPacket }
 {}
 
-/// A created row packet decodes to the row and the codes that it was created from, and its text
+/// Decoding a created row packet returns the original row number and character codes, and its text
 /// bytes have odd parity.
 pub fn law_of_row_packet()
     ensures { LawOfRowPacket }

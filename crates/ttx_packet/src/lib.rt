@@ -1,8 +1,7 @@
-//! Teletext packets (EN 300 706, level 1): the coding of single bytes, addresses, page headers and
+//! Teletext packets (EN 300 706, level 1): coding of bytes, packet addresses, page headers and
 //! rows, and the effect of one wrong bit in each byte.
 //!
-//! The lowest crate of the Teletext side. Pages and receivers, PES packets, schedules and the
-//! checker build on it.
+//! The crates for pages and receivers, PES packets, schedules and the checker build on this crate.
 //!
 //! ```text
 //! let header = Header { page: 0x88, subcode: 0, control: Control::C4.union(Control::C6) };

@@ -18,9 +18,8 @@ use crate::parity::{is_odd, odd_bytes};
 use bitflags::Flags;
 use std::marker::Model;
 
-/// A Teletext packet (EN 300 706): two address bytes and 40 data bytes in the order of
-/// transmission. Bit 1 is the least significant bit of a byte. Run-in and framing code are left
-/// out.
+/// A Teletext packet (EN 300 706): two address bytes and 40 data bytes, without clock run-in and
+/// framing code. Bit 1 is the least significant bit of a byte.
 #[derive(Clone, Copy, Debug, PartialEq, Eq)]
 pub struct Packet {
     bytes: [u8; 42],
@@ -43,7 +42,7 @@ impl Packet {
     ghost use Rattle.ttx_packet.specs.PageHeader.{HasExactHeader, coded_header, header};
     ghost use Rattle.ttx_packet.specs.PageHeader.{header_packet, placed};
 
-    /// Creates a packet of any 42 bytes.
+    /// Creates a packet from its 42 bytes, which may have any value.
     pub fn new(bytes: [u8; 42]) -> Packet
         ensures { result ≡ bytes }
     {
@@ -58,7 +57,8 @@ impl Packet {
         &self.bytes
     }
 
-    /// Returns the 40 data bytes after the address. In a row packet, each data byte is a column.
+    /// Returns the 40 data bytes, which follow the address. In a row packet, each data byte is the
+    /// character of one column.
     pub fn data(&self) -> &[u8; 40]
         ensures { result.now ≡ drop 2 self.now }
     {
@@ -103,8 +103,8 @@ impl Packet {
         self.coded_header()
     }
 
-    /// Decodes the eight coded bytes of a page header without checking the address, for callers
-    /// that have read the address already.
+    /// Decodes the eight coded bytes of a page header. Ignores the address, which the caller has
+    /// decoded already.
     ///
     /// Returns `None` if one of the eight bytes cannot be decoded.
     #[inline(always)]
@@ -123,15 +123,16 @@ impl Packet {
         Some(header_of(&[units, tens, s1, s2_c4, s3, s4_c6, c7_c10, c11_c14]))
     }
 
-    /// Returns whether both address bytes are code words, without a wrong bit (EN 300 706, 8.2).
+    /// Returns whether both address bytes are Hamming 8/4 code words, so without a wrong bit (EN
+    /// 300 706, 8.2).
     pub fn is_clean_address(&self) -> bool
         ensures { IsTrue result ↔ HasExactAddress self.now }
     {
         is_word(self.bytes[0]) && is_word(self.bytes[1])
     }
 
-    /// Returns whether the eight coded bytes of a header are code words, without a wrong bit (EN
-    /// 300 706, 8.2). Ignores the address.
+    /// Returns whether the eight coded bytes of a page header are Hamming 8/4 code words, so
+    /// without a wrong bit (EN 300 706, 8.2). Ignores the address.
     pub fn is_clean_header(&self) -> bool
         ensures { IsTrue result ↔ HasExactHeader self.now }
     {
@@ -167,12 +168,12 @@ impl Packet {
     /// Creates the header packet of a page in a magazine, with 32 spaces as its text (EN 300 706,
     /// page header).
     ///
-    /// `magazine` is 0 to 7. Bits without a place in a page header are dropped: those of the
-    /// sub-code outside `0x3F7F`, and those of the control bits other than C4 to C14.
+    /// `magazine` is 0 to 7. Bits that a page header cannot carry are dropped: sub-code bits
+    /// outside `0x3F7F`, and all control bits except C4 to C14.
     pub fn of_header(magazine: u8, header: &Header) -> Packet
         requires { magazine < 8 }
         ensures value { result ≡ header_packet magazine header.now }
-        // Reading the packet gives the header without the dropped bits; the coded bytes are code
+        // Decoding the packet returns the header without the dropped bits. The coded bytes are code
         // words, and the text bytes have odd parity.
         ensures made { IsMadeHeader magazine (placed header.now) result }
     {
@@ -182,22 +183,22 @@ impl Packet {
     /// Creates a row of a page as packet X/1 to X/24, with 40 bytes of odd parity (EN 300 706,
     /// packets for direct display).
     ///
-    /// `magazine` is 0 to 7, `row` 1 to 24, and the codes are below 128.
+    /// `magazine` is 0 to 7, `row` is 1 to 24, and each code is below 128.
     pub fn of_row(magazine: u8, row: u8, codes: &[u8; 40]) -> Packet
         requires magazine { magazine < 8 }
         requires first { 1 ≤ row }
         requires last { row ≤ 24 }
         requires codes { (k : ℕ) → slice_index codes.now k < 0x80 }
         ensures value { result ≡ row_packet magazine row codes.now }
-        // Reading the packet gives the row and its codes; the address bytes are code words, and the
-        // text bytes have odd parity.
+        // Decoding the packet returns the row number and the codes. The address bytes are code
+        // words, and the text bytes have odd parity.
         ensures made { IsMadeRow magazine row codes.now result }
     {
         Packet::new(row_bytes(magazine, row, codes))
     }
 }
 
-// Builds a header from the numbers of its eight coded bytes.
+// Builds a page header from the decoded numbers of its eight coded bytes.
 #[inline(always)]
 pub(crate) fn header_of(numbers: &[u8; 8]) -> Header
     requires { (k : ℕ) → slice_index numbers.now k < 16 }
@@ -239,7 +240,7 @@ fn bit_of(control: Control, flag: Control) -> u8
     if control.contains(flag) { 1 } else { 0 }
 }
 
-// Returns the code word whose data bits D1 to D4 are these control bits.
+// Returns the Hamming 8/4 code word with four control bits as its data bits D1 to D4.
 fn nibble_word(control: Control, d1: Control, d2: Control, d3: Control, d4: Control) -> u8
     ensures { result ≡ code_word (nibble (is_set control d1.0) (is_set control d2.0)
         (is_set control d3.0) (is_set control d4.0)) }

@@ -1,4 +1,4 @@
-//! Page numbers as users type them.
+//! Parses page numbers as users type them, such as 888.
 ghost use Rattle.std.specs.Prelude.{◌≡◌, ◌<◌, [], ◌∷◌, IfSome, ok_or};
 ghost use Rattle.ttx_packet.specs.PageId.{hexadecimal_digit, page_of_numbers, page_of_text};
 
@@ -33,7 +33,7 @@ pub enum PageFault {
 }
 
 impl PageId {
-    /// Parses a magazine digit 1 to 8 followed by two hexadecimal digits of either case.
+    /// Parses a page number: a magazine digit 1 to 8 and two hexadecimal digits of either case.
     ///
     /// # Errors
     ///
@@ -78,7 +78,8 @@ fn hexadecimal_digit(byte: u8) -> Option<u8>
     }
 }
 
-// Returns the page with a magazine digit and two hexadecimal digits.
+// Returns the page with this magazine digit and these two hexadecimal digits, or `None` if a digit
+// is invalid.
 #[tactic(auto, unfolding(crate::specs::PageId::page_of_text))]
 fn page_of_digits(magazine: u8, tens: u8, units: u8) -> Option<PageId>
     ensures { result ≡ page_of_text (magazine ∷ tens ∷ units ∷ []) }
@@ -88,7 +89,7 @@ fn page_of_digits(magazine: u8, tens: u8, units: u8) -> Option<PageId>
     page_of_numbers(magazine, 16 * high + low)
 }
 
-// Returns the page with a magazine digit and a page number.
+// Returns the page with this magazine digit and this page number, or `None` if they name no page.
 fn page_of_numbers(digit: u8, page: u8) -> Option<PageId>
     ensures { result ≡ page_of_numbers digit page }
 {

@@ -1,4 +1,5 @@
-//! Odd parity: seven code bits, and a parity bit that reveals a single wrong bit.
+//! Odd parity: a byte of seven code bits and a parity bit, with which a single wrong bit is
+//! detected.
 ghost use Rattle.std.specs.Prelude.{◌≡◌, ◌<◌, ℕ, map, slice_index};
 ghost use Rattle.ttx_packet.specs.Parity.{is_odd, odd_byte};
 

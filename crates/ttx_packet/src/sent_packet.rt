@@ -1,4 +1,4 @@
-//! Teletext packets as data units carry them, read without reversing their bits.
+//! Teletext packets in the bit order of DVB data units, decoded without reversing all their bits.
 ghost use Rattle.std.specs.Prelude.{◌≡◌, ◌≢◌, ◌<◌, ◌≤◌, MatchOption, Some, map};
 ghost use Rattle.ttx_packet.specs.BitOrder.{mirror};
 ghost use Rattle.ttx_packet.specs.Hamming84.{IsCodeWord, decoded};
@@ -9,13 +9,13 @@ use crate::header::Header;
 use crate::packet::{Packet, header_of};
 use std::marker::Model;
 
-/// The entry of `SENT_WORDS` for a byte that is no code word. 256 is greater than any number that
-/// two code words form.
+/// The table entry of a byte that is no code word. 256 is greater than any number that two code
+/// words can form.
 const NOTHING: u32 = 256;
 
-/// The number whose Hamming 8/4 code word each byte is, with the bit that is sent first as the
-/// highest. Generated from the code words; the proof computes the definitions for all 256 bytes and
-/// compares.
+/// The number that each byte encodes as a Hamming 8/4 code word, if the bit that is sent first is
+/// the highest bit of the byte. The table was generated from the code words; the proof compares it
+/// with the definition for all 256 bytes.
 #[rattlefmt::skip]
 const SENT_WORDS: [u16; 256] = [
     256, 256, 256, 256, 256, 256, 256, 256, 256, 256, 256,   8, 256, 256, 256, 256,
@@ -36,8 +36,8 @@ const SENT_WORDS: [u16; 256] = [
     256, 256, 256, 256,   7, 256, 256, 256, 256, 256, 256, 256, 256, 256, 256, 256,
 ];
 
-// Returns the number whose code word `byte` is, with the bit that is sent first as the highest, or
-// `NOTHING` for any other byte.
+// Returns the number that a byte encodes, or `NOTHING` if it is no code word. The bit that is sent
+// first is the highest bit of the byte.
 #[inline(always)]
 fn sent_entry(byte: u8) -> u32
     ensures small { result ≤ 256 }
@@ -48,8 +48,8 @@ fn sent_entry(byte: u8) -> u32
     SENT_WORDS[byte as usize] as u32
 }
 
-// Returns the number whose code word `byte` is, with the bit that is sent first as the highest, or
-// `None` for any other byte.
+// Returns the number that a byte encodes, or `None` if it is no code word. The bit that is sent
+// first is the highest bit of the byte.
 #[inline(always)]
 fn sent_number(byte: u8) -> Option<u8>
     ensures { MatchOption result (IsCodeWord (mirror byte) → ⊥)
@@ -63,12 +63,12 @@ fn sent_number(byte: u8) -> Option<u8>
     }
 }
 
-/// A Teletext packet as a DVB data unit carries it: 42 borrowed bytes, with the bit that is sent
-/// first as the highest (EN 300 472, data field syntax).
+/// A Teletext packet as a DVB data unit carries it: 42 borrowed bytes. The bit that is sent first
+/// is the highest bit of a byte (EN 300 472, data field syntax).
 ///
-/// Its model is the packet with its bytes in Teletext's own bit order. Most packets of a service
-/// belong to other pages, and their first bytes show that. So only the first bytes are read, by
-/// table, and the bits of the others are never reversed.
+/// Its model is the packet in Teletext bit order. Most packets of a service belong to other pages,
+/// which their first bytes show. So only the first bytes are decoded, by a table, and the bits of
+/// the other bytes are not reversed.
 #[derive(Drop)]
 pub struct SentPacket<'a> {
     bytes: &'a [u8; 42],
@@ -98,7 +98,7 @@ impl<'a> SentPacket<'a> {
         SentPacket { bytes }
     }
 
-    /// Returns the packet in Teletext's own bit order, by reversing the bits of each byte.
+    /// Returns the packet in Teletext bit order, by reversing the bits of each byte.
     #[inline(always)]
     pub fn packet(&self) -> Packet
         ensures { result ≡ self.now }
@@ -107,8 +107,8 @@ impl<'a> SentPacket<'a> {
     }
 
     /// Returns the magazine, 0 to 7, and the packet number Y, 0 to 31, if both address bytes are
-    /// code words without a wrong bit (EN 300 706, magazine and packet address). Magazine 0 means
-    /// magazine 8.
+    /// code words, so without a wrong bit (EN 300 706, magazine and packet address). Magazine 0
+    /// means magazine 8.
     ///
     /// Returns `None` if an address byte is no code word.
     #[inline(always)]
@@ -118,7 +118,7 @@ impl<'a> SentPacket<'a> {
             (λ a. HasExactAddress self.now × (address self.now
             ≡ Some (record { magazine = a.0; packet_number = a.1 }))) }
     {
-        // This function runs for every packet of a service, so one comparison tests both bytes.
+        // For speed, one comparison tests both bytes: this code runs for every packet of a service.
         let low = sent_entry(self.bytes[0]);
         let high = sent_entry(self.bytes[1]);
         let number = low + 16 * high;
@@ -129,10 +129,10 @@ impl<'a> SentPacket<'a> {
         }
     }
 
-    /// Returns the page number of a header, with page tens in the upper four bits, if both of its
-    /// bytes are code words without a wrong bit (EN 300 706, page header). Ignores the address and
-    /// the other six coded bytes: the page number usually suffices to see that a header is of
-    /// another page.
+    /// Returns the page number of a page header, with the page tens in the upper four bits, if both
+    /// of its bytes are code words, so without a wrong bit (EN 300 706, page header). Ignores the
+    /// address and the other six coded bytes, which are not needed to recognise a header of another
+    /// page.
     ///
     /// Returns `None` if one of the two bytes is no code word.
     #[inline(always)]
@@ -145,7 +145,7 @@ impl<'a> SentPacket<'a> {
         Some(units + 0x10 * tens)
     }
 
-    /// Decodes the eight coded bytes of a header if all eight are code words without a wrong bit
+    /// Decodes the eight coded bytes of a page header if all are code words, so without a wrong bit
     /// (EN 300 706, page header). Ignores the address.
     ///
     /// Returns `None` if one of the eight bytes is no code word.

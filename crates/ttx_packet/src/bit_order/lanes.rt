@@ -1,6 +1,6 @@
 //! Reverses the bits of 16 bytes at once, one byte per lane of a vector.
 //!
-//! Three steps, for n = 4, 2, 1, each with a mask of the lower n bits of every 2 n:
+//! Three steps, for n = 4, 2, 1. The mask selects the lower n bits of each group of 2n bits:
 //!
 //! ```text
 //! lane = (lane >> n & mask) | (lane & mask) << n
@@ -11,7 +11,7 @@ ghost use Rattle.ttx_packet.specs.Lanes.{swapped};
 
 use std::simd::prelude::*;
 
-// Swaps the two halves of each byte.
+// Swaps the two 4-bit halves of each byte.
 #[inline(always)]
 fn swap_halves(bytes: u8x16) -> u8x16
     ensures lanes { result ≡ map (swapped 4 0x0F) bytes }
@@ -22,7 +22,7 @@ fn swap_halves(bytes: u8x16) -> u8x16
     ((bytes >> n) & mask) | ((bytes & mask) << n)
 }
 
-// Swaps the two pairs of bits in each half of each byte.
+// Swaps the two bit pairs in each 4-bit half of each byte.
 #[inline(always)]
 fn swap_pairs(bytes: u8x16) -> u8x16
     ensures { result ≡ map (swapped 2 0x33) bytes }
@@ -32,7 +32,7 @@ fn swap_pairs(bytes: u8x16) -> u8x16
     ((bytes >> n) & mask) | ((bytes & mask) << n)
 }
 
-// Swaps the two bits of each pair.
+// Swaps the two bits of each bit pair of each byte.
 #[inline(always)]
 fn swap_bits(bytes: u8x16) -> u8x16
     ensures { result ≡ map (swapped 1 0x55) bytes }

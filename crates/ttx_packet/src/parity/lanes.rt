@@ -1,6 +1,7 @@
-//! Parity of 16 bytes at once, one byte per lane of a vector.
+//! Computes the parity of 16 bytes at once, one byte per lane of a vector.
 //!
-//! Three steps, for n = 4, 2, 1. After them, bit 1 of a lane is set if its number of ones is odd:
+//! Three steps, for n = 4, 2, 1. Afterwards bit 1 of a lane is set if the byte has an odd number of
+//! ones:
 //!
 //! ```text
 //! lane = lane ^ lane >> n
@@ -11,7 +12,7 @@ ghost use Rattle.ttx_packet.specs.Parity.{odd_byte};
 
 use std::simd::prelude::*;
 
-// Folds the high half of each byte onto its low half.
+// Combines each byte by exclusive or with the byte shifted right by 4 bits.
 #[inline(always)]
 fn fold_halves(bytes: u8x16) -> u8x16
     ensures lanes { result ≡ map (folded 4) bytes }
@@ -20,7 +21,7 @@ fn fold_halves(bytes: u8x16) -> u8x16
     bytes ^ (bytes >> u8x16::splat(4))
 }
 
-// Folds each byte onto itself by two bits.
+// Combines each byte by exclusive or with the byte shifted right by 2 bits.
 #[inline(always)]
 fn fold_pairs(bytes: u8x16) -> u8x16
     ensures { result ≡ map (folded 2) bytes }
@@ -28,7 +29,7 @@ fn fold_pairs(bytes: u8x16) -> u8x16
     bytes ^ (bytes >> u8x16::splat(2))
 }
 
-// Folds each byte onto itself by one bit.
+// Combines each byte by exclusive or with the byte shifted right by 1 bit.
 #[inline(always)]
 fn fold_bits(bytes: u8x16) -> u8x16
     ensures { result ≡ map (folded 1) bytes }
@@ -36,8 +37,8 @@ fn fold_bits(bytes: u8x16) -> u8x16
     bytes ^ (bytes >> u8x16::splat(1))
 }
 
-// Returns a mask with one bit for each byte, set if the byte has even parity. The lowest bit is
-// that of the first byte.
+// Returns a mask with one bit per byte, the lowest bit for the first byte. A bit is set if its byte
+// has even parity.
 #[inline(always)]
 pub(crate) fn evens(block: &[u8; 16]) -> u64
     ensures { result ≡ evens_mask block.now }

@@ -1,4 +1,4 @@
--- `mirrored` reverses the bits of each block of 16 bytes, and of the last 10 bytes: block_more.
+-- `mirrored` reverses the bits of each block of 16 bytes, and of the last 10 bytes.
 use Rattle.std.proofs.Common.{◌≡◌, ◌+◌, ◌*◌, ◌/◌, ◌<◌, map, length, take, drop, arith, rules, ◌∙◌}
 use Rattle.std.proofs.Common.{ap}
 use Rattle.std.proofs.lemmas.List.{drop-drop, drop-map, take-map}

@@ -1,4 +1,4 @@
--- The table entry shows whether a byte is a code word: word_from_entry, entry_from_word.
+-- The table entry shows whether a byte is a code word.
 use Rattle.std.proofs.Common.{rules, ltb-true}
 use Rattle.std.proofs.lemmas.Bool.{lt-ltb}
 use Rattle.ttx_packet.proofs.Hamming84Lemmas.{entry_from_word, word_from_entry}

@@ -1,5 +1,4 @@
--- `odd_bytes` gives odd parity to each block of 16 codes, by block_more, and to each of the last 8
--- codes.
+-- `odd_bytes` gives odd parity to each block of 16 codes, and to each of the last 8 codes.
 use Rattle.std.proofs.Common.{◌+◌, ◌*◌, ◌/◌, ◌<◌, map, length, arith, rules, ◌∙◌, ap}
 use Rattle.ttx_packet.specs.Parity.{odd_byte}
 use Rattle.ttx_packet.proofs.BlockLemmas.{below_in_chunk, block_of, block_more}

@@ -1,5 +1,4 @@
--- The table entry of a byte is the number of its code word, or 256 if the byte is no code word:
--- SentWordLemmas.
+-- The table entry of a byte is the number of its code word, or 256 if the byte is no code word.
 use Rattle.std.proofs.Common.{arith}
 use Rattle.ttx_packet.proofs.SentWordLemmas.{entry_small, no_word_from_sent, word_from_sent}
 use Rattle.ttx_packet.proofs.sent_packet.sent_entry.Goals as goal

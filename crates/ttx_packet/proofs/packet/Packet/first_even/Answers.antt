@@ -1,5 +1,4 @@
--- The masks of the blocks of 16 bytes give the first byte of even parity: none_so_far,
--- first_so_far.
+-- The masks of the blocks of 16 bytes give the first byte of even parity.
 use Rattle.std.proofs.Common.{◌*◌, ◌/◌, ◌<◌, length, drop, not, arith, rules, ◌∙◌, ap}
 use Rattle.std.proofs.lemmas.Bool.Decides.{nat_tests}
 use Rattle.std.proofs.lemmas.Bool.{not-false}

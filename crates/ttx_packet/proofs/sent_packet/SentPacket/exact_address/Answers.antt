@@ -1,4 +1,4 @@
--- `exact_address` returns an address exactly if both address bytes are code words: SentWordLemmas.
+-- `exact_address` returns an address exactly if both address bytes are code words.
 use Rattle.std.proofs.Common.{arith}
 use Rattle.ttx_packet.proofs.SentWordLemmas.{address_of, has_exact_code_words, sent_at, word_at}
 use Rattle.ttx_packet.proofs.sent_packet.SentPacket.exact_address.Goals as goal

@@ -1,4 +1,4 @@
--- `exact_header` returns a header exactly if all eight coded bytes are code words: SentWordLemmas.
+-- `exact_header` returns a header exactly if all eight coded bytes are code words.
 use Rattle.std.proofs.Common.{arith}
 use Rattle.ttx_packet.proofs.SentWordLemmas.{coded_header_of, coded_has_exact_code_words}
 use Rattle.ttx_packet.proofs.SentWordLemmas.{no_word_at}

@@ -1,5 +1,4 @@
--- `exact_page` returns a page number exactly if both bytes of the page number are code words:
--- SentWordLemmas.
+-- `exact_page` returns a page number exactly if both bytes of the page number are code words.
 use Rattle.std.proofs.Common.{arith}
 use Rattle.ttx_packet.proofs.SentWordLemmas.{coded_page_of, no_word_at, word_at}
 use Rattle.ttx_packet.proofs.sent_packet.SentPacket.exact_page.Goals as goal
