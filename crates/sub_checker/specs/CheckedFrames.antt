@@ -1,5 +1,4 @@
--- The steps of checking one frame, and the state of the checker after the first n frames. Only
--- contracts of private functions use these definitions.
+-- The state of the checker after some frames, and its steps for one frame.
 use Rattle.std.specs.Prelude.{◌≡◌, ℕ, suc, ◌+◌, ◌-◌, ◌<◌, ◌==◌, List, [], ◌++◌, length, map}
 use Rattle.std.specs.Prelude.{nat_le, false, true, Option, if◌then◌else◌}
 use Rattle.ttx_page.specs.PacketKind.{kind}
@@ -23,7 +22,8 @@ use Rattle.sub_checker.specs.declared.reporter.Reporter.{Reporter}
 
 -- ---- the state of the checker
 
--- The criteria that the state of the checker contains. `unread` is the unread rest of the file.
+-- The criteria in the state of the checker. `unread` says why the rest of the file could not be
+-- read.
 abbrev pub criteria_kept : CheckerValue → Option Unread → Criteria
 criteria_kept c unread =
     record (criteria_with c.programme c.listener.watched c.every c.within c.pace unread) {
@@ -31,8 +31,8 @@ criteria_kept c unread =
       undecided = is_undecided_by c;
     }
 
--- The state of the checker agrees with the packets of the first n frames, and with the packets
--- `last` of the last PES packet.
+-- The state of the checker agrees with the packets of the first n frames. `last` are the packets of
+-- the last PES packet.
 pub record Remembers
     (g : Criteria) (frames : Transmission) (n : ℕ) (last : List (List ℕ)) (c : CheckerValue)
     : Type 0 where
@@ -40,14 +40,14 @@ pub record Remembers
   pub knows : KnowsLast (packets_before frames n) last c.listener
   pub count : c.counts.headers ≡ header_count g.watched.page (packets_before frames n)
 
--- The state of the checker from the first PES packet on knows the first frame, and when the repeat
--- bound is exceeded.
+-- Once a PES packet was received, the state of the checker has the first frame, and the frame at
+-- which the repeat bound is exceeded.
 pub record HasStarted (g : Criteria) (frames : Transmission) (n : ℕ) (c : CheckerValue) : Type 0
   where
     pub first_is : c.first ≡ frame_at frames 0
     pub late_eq : (f : ℕ) → is_gap g frames n f ≡ nat_le c.late_at (f + 1)
 
--- The state of the checker after the first n frames, at the end of the last one.
+-- The state of the checker after the end of the first n frames of the transmission.
 pub record AfterEnd
     (g : Criteria) (frames : Transmission) (n : ℕ) (last : List (List ℕ)) (c : CheckerValue)
     : Type 0 where
@@ -62,8 +62,7 @@ pub record AfterEnd
       n
   pub number : c.counts.frames ≡ n
 
--- The state of the checker after the first n frames, if the end of frame f is the next to be
--- checked.
+-- The state of the checker before the end of frame f, after n frames of the transmission.
 pub record BeforeEnd
     (g : Criteria) (frames : Transmission) (n f : ℕ) (last : List (List ℕ)) (c : CheckerValue)
     : Type 0 where
@@ -74,7 +73,7 @@ pub record BeforeEnd
   pub first_unfinished_eq : 0 < g.within → c.first_unfinished ≡ first_unfinished_before g frames n f
   pub number : c.counts.frames ≡ n
 
--- The state of the checker at frame n of the list, before its packets are received.
+-- The state of the checker at frame n of the transmission, before its packets are received.
 pub record BeforePackets
     (g : Criteria) (frames : Transmission) (n : ℕ) (last : List (List ℕ)) (c : CheckerValue)
     : Type 0 where
@@ -82,7 +81,8 @@ pub record BeforePackets
   pub frame_eq : c.frame ≡ frame_at frames n
   pub latest_is : c.latest ≡ latest frames (suc n)
 
--- The state of the checker after the packets of frame n of the list, before the end of the frame.
+-- The state of the checker at frame n of the transmission, after its packets were received and
+-- before the frame ends.
 pub record AfterPackets
     (g : Criteria) (frames : Transmission) (n : ℕ) (last : List (List ℕ)) (c : CheckerValue)
     : Type 0 where
@@ -99,8 +99,8 @@ pub record AfterPackets
       c.listener.begun
       ≡ holds_beginning g.watched.keeps (kind g.watched.page) (packets_of_frame frames n)
 
--- The state of the checker after the packets of frame n of the list, if more packets of that frame
--- may follow.
+-- The state of the checker at frame n of the transmission, if more packets of that frame may
+-- follow.
 pub record StaysOpen
     (g : Criteria) (frames : Transmission) (n : ℕ) (last : List (List ℕ)) (c : CheckerValue)
     : Type 0 where
@@ -108,8 +108,8 @@ pub record StaysOpen
   pub before : c.counts.headers_before ≡ header_count g.watched.page (packets_before frames n)
   pub packets : c.counts.packets ≡ length (packets_of_frame frames n)
 
--- The state of the checker between two PES packets: after the end of the last frame, or, if
--- `within` is not 0, before that end.
+-- The state of the checker between two PES packets. If `within` is not 0, the last frame may not
+-- have ended yet.
 pub record BetweenPesPackets (g : Criteria) (sent : Transmission) (last : List (List ℕ))
     (c : CheckerValue) : Type 0
   where
@@ -121,24 +121,23 @@ pub record BetweenPesPackets (g : Criteria) (sent : Transmission) (last : List (
 
 -- ---- the steps of the checker
 
--- The checker's steps before frame i of the list begins: the order of frames, and the ends of the
--- frames of the day between.
+-- The steps before frame i of the transmission: its frame number is checked, and the frames without
+-- a PES packet before it end.
 abbrev pub reaching_steps : Criteria → Transmission → ℕ → List CheckStep
 reaching_steps g frames i =
     map Emits (order_events g frames i) ++ steps_of_gap g frames i (gap_length frames i)
 
--- The checker's steps at frame i of the list. They include the end of the frame only if `within` is
--- 0.
+-- The steps for frame i of the transmission. They include its end only if `within` is 0.
 abbrev pub next_steps : Criteria → Transmission → ℕ → List CheckStep
 next_steps g frames i =
     steps_of_arrival g frames i
     ++ steps_of_packets g frames i
     ++ (if g.within == 0 then steps_of_ending g frames i else [])
 
--- The checker's steps after the last of `pes` PES packets.
+-- The steps at the end of the file, after `pes` PES packets.
 abbrev pub last_steps : Criteria → Transmission → ℕ → List CheckStep
 last_steps g list pes = steps_of_pending_end g list ++ steps_of_closing g list pes (length list)
 
--- The reporter after the `GoesBack` step, if the step is needed.
+-- The reporter after a `GoesBack` step, if the checker needs that step.
 unfoldable pub back_reporter : {D : Type 0} {g : _} → CheckerValue → Reporter D g → Reporter D g
 back_reporter c s = if goes_back_now c then at_step (GoesBack c.first_unfinished) s else s

@@ -1,4 +1,4 @@
--- The state of the checker. Only contracts of private functions use these definitions.
+-- The state of the checker.
 use Rattle.std.specs.Prelude.{◌≡◌, ℕ, ◌+◌, ◌-◌, ◌*◌, ◌<◌, ◌≤◌, ◌&&◌, ◌||◌, ◌==◌, List, [], ◌∷◌}
 use Rattle.std.specs.Prelude.{◌++◌}
 use Rattle.std.specs.Prelude.{Option, Some, None, max, map, nat_le, nat_lt, is_some, not}
@@ -34,19 +34,19 @@ no_counts =
 abbrev pub with_headers : ℕ → Counts → Counts
 with_headers headers n = record n { headers = n.headers + headers }
 
--- The counts with the last frame left open, which has `headers` headers of the page and `packets`
--- packets so far.
+-- The counts if the last frame has not ended yet. It has `headers` headers of the page and
+-- `packets` packets so far.
 abbrev pub left_open : ℕ → ℕ → Counts → Counts
 left_open headers packets n =
     record n { headers_before = n.headers - headers; packets = packets; is_open = true }
 
--- The counts are within the bounds that `pes` PES packets allow, so none can overflow.
+-- The counts are at most those that `pes` PES packets can have, so none can overflow.
 pub record FewMissing (pes : ℕ) (n : Counts) : Type 0 where
   pub frames : n.frames ≤ pes
   pub headers : n.headers ≤ 255 * pes
   pub packets : n.packets ≤ 255 * pes
 
--- The frame that a valid PES packet with these data units carries.
+-- The frame of a valid PES packet with these data units.
 abbrev pub sent_as : Sending → List UnitValue → SentFrame
 sent_as sending units = record { frame = sending.frame; packets = packets_of_units units }
 
@@ -54,19 +54,19 @@ sent_as sending units = record { frame = sending.frame; packets = packets_of_uni
 
 -- The state of the checker:
 --
---   programme         the subtitles, with `judging` also those around refused ones
---   any_refused       subtitles of the file were refused
---   every             repeat bound: at most so many frames from one header of the page to the next
---   within            the page has to be right within so many frames
---   pace              maximum distance of PES packets in frames, if `--pace` is given
---   listener          what the packets received so far leave on the page
---   first, latest     the frame of the first PES packet, and the greatest frame so far
---   frame             the current frame; `listener` compares with the page that is due there
---   last              the frame whose end was checked last
---   active_faults     the faults that were active at that end
---   first_unfinished  the first frame from which on the page has been wrong without a break
---   late_at           one more than the first frame at whose end the repeat bound is exceeded
---   counts            counts of the PES packets received so far
+--   programme         the reliable subtitles; `judging` also has the rejected ones
+--   any_refused       whether subtitles of the file were rejected
+--   every             the repeat bound: the most frames from one header of the page to the next
+--   within            the number of frames within which the page must become correct
+--   pace              the longest interval between PES packets in frames, if it is limited
+--   listener          the page that the packets show, and the expected page of `frame`
+--   first, latest     the frame of the first PES packet, and the greatest frame number so far
+--   frame             the current frame
+--   last              the frame that was ended last
+--   active_faults     the faults that were active at its end
+--   first_unfinished  the first frame of the current run of frames with an unfinished page
+--   late_at           the frame after the one at whose end the repeat bound is exceeded
+--   counts            the counts of frames, page headers and packets so far
 pub record CheckerValue : Type 0 where
   pub programme : ProgrammeValue
   pub judging : JudgedValue
@@ -84,7 +84,7 @@ pub record CheckerValue : Type 0 where
   pub late_at : ℕ
   pub counts : Counts
 
--- The state of the checker moved to frame f, with the page expected at f.
+-- The state of the checker after a move to frame f, with the expected page of f.
 abbrev pub at_frame : ℕ → CheckerValue → CheckerValue
 at_frame f c = record c {
   frame = f;
@@ -93,33 +93,34 @@ at_frame f c = record c {
   };
 }
 
--- The state of the checker moved to the frame of the first PES packet, f.
+-- The state of the checker after a move to f, the frame of the first PES packet.
 abbrev pub checker_at_first : ℕ → CheckerValue → CheckerValue
 checker_at_first f c = record (at_frame f c) { first = f; latest = f; late_at = f + c.every }
 
--- The state of the checker moved to the frame of a later PES packet, f.
+-- The state of the checker after a move to f, the frame of a later PES packet.
 abbrev pub checker_at_next : ℕ → CheckerValue → CheckerValue
 checker_at_next f c = record (at_frame f c) { latest = max c.latest f }
 
--- The frame comes before the next change of the expected page, if the page changes again.
+-- The frame comes before the next change of the expected page.
 abbrev pub is_before : ℕ → Option ℕ → Bool
 is_before frame None = true
 is_before frame (Some edge) = nat_lt frame edge
 
--- One more than the first frame at whose end the repeat bound is exceeded. `found`: the current
--- frame has a header of the page; `before`: the value before this frame.
+-- The frame after the one at whose end the repeat bound is exceeded. `found` says whether the
+-- current frame has a header of the page; `before` is the value before this frame.
 abbrev pub next_repeat_deadline : Bool → ℕ → ℕ → ℕ → ℕ
 next_repeat_deadline found frame every before = if found then max before (frame + every + 1)
     else before
 
--- The state of the checker after `headers` headers of the page in the current frame.
+-- The state of the checker after `headers` more headers of the page in the current frame.
 abbrev pub after_headers : ℕ → CheckerValue → CheckerValue
 after_headers headers c = record c {
   counts = with_headers headers c.counts;
   late_at = next_repeat_deadline (nat_lt 0 headers) c.frame c.every c.late_at;
 }
 
--- The listener received `packets` after `heard`. The first of them is number `from` of its frame.
+-- The listener has received `packets`, which follow the packets `heard`. The first of them is
+-- number `from` of its frame.
 pub record HasHeard
     (from : ℕ) (heard packets : List (List ℕ)) (old new : CheckerValue)
     : Type 0 where
@@ -135,43 +136,44 @@ pub record HasHeard
 
 -- ---- the end of the current frame
 
--- The page should have been correct by the end of frame f. `first_unfinished` is the frame from
--- which on it has been wrong.
+-- The page is overdue at the end of frame f. `first_unfinished` is the first frame of the current
+-- run of frames with an unfinished page.
 abbrev pub is_overdue_at : ProgrammeValue → ℕ → ℕ → Option ℕ → ℕ → Bool
 is_overdue_at programme within first None f = false
 is_overdue_at programme within first (Some first_unfinished) f =
     nat_le (first_unfinished + within) f || is_missed (tci_of_ending programme.records (f + 1))
     first first_unfinished
 
--- The expected page is unknown at `frame`, because a subtitle was refused.
+-- The expected page of `frame` is unknown, because a subtitle was rejected.
 abbrev pub is_undecided_by : CheckerValue → ℕ → Bool
 is_undecided_by c frame = is_due_undecided c.judging frame
 
--- The first cell that differs from the expected page. `None` if the expected page is unknown.
+-- The first wrong cell; `None` if the expected page is unknown.
 abbrev pub differs_now : CheckerValue → Option (ℕ × ℕ)
 differs_now c = if is_undecided_by c c.frame then None else wrong_kept c.listener
 
--- The expected page is unknown at the current frame or at one of the last `within` frames.
+-- The expected page is unknown at the current frame or at one of the `within` frames before it.
 abbrev pub undecided_now : CheckerValue → Bool
 undecided_now c = was_undecided (is_undecided_by c) c.first c.frame c.within
 
--- The first cell whose code was expected at none of the last `within` frames. `None` if the
--- expected page is unknown at one of these frames.
+-- The first cell with a code that was not expected within the last `within` frames. `None` if one
+-- of these expected pages is unknown.
 abbrev pub unexpected_now : CheckerValue → Option (ℕ × ℕ)
 unexpected_now c =
     if undecided_now c
     then None
     else unexpected_kept c.listener (due_in c.programme) c.first c.frame c.within
 
--- The page is wrong or incomplete at the current frame.
+-- The page is unfinished at the end of the current frame: a cell is wrong, or complete pages are
+-- required and the page is open.
 abbrev pub is_unfinished_now : CheckerValue → Bool
 is_unfinished_now c = is_some (differs_now c) || is_incomplete_kept c.listener
 
--- The first frame from which on the page has been wrong or incomplete up to the current frame.
+-- The first frame of the current run of frames with an unfinished page.
 abbrev pub first_unfinished_now : CheckerValue → Option ℕ
 first_unfinished_now c = unfinished_from c.first_unfinished (is_unfinished_now c) c.frame
 
--- The page has to be correct by now: `within` is 0, or the page is overdue.
+-- The page must be correct by now: `within` is 0, or the page is overdue.
 abbrev pub late_now : CheckerValue → Bool
 late_now c = c.within == 0 || is_overdue_at c.programme c.within c.first (first_unfinished_now c)
     c.frame
@@ -186,16 +188,15 @@ active_faults_of c = record {
   silent = silent_for c.pace c.latest c.frame;
 }
 
--- A `GoesBack` step is needed: subtitles were refused, and the page may take more than one frame to
--- become correct.
+-- The checker needs a `GoesBack` step: subtitles were rejected, and `within` is not 0.
 abbrev pub goes_back_now : CheckerValue → Bool
 goes_back_now c = c.any_refused && not (c.within == 0)
 
--- The `GoesBack` step, if subtitles were refused and `within` is not 0.
+-- The `GoesBack` step, if the checker needs one.
 abbrev pub back_steps : CheckerValue → List CheckStep
 back_steps c = if goes_back_now c then GoesBack c.first_unfinished ∷ [] else []
 
--- The checker's steps at the end of the current frame.
+-- The steps at the end of the current frame.
 abbrev pub end_steps : CheckerValue → List CheckStep
 end_steps c =
     back_steps c
@@ -210,13 +211,13 @@ after_end c = record c {
   first_unfinished = if c.within == 0 then c.first_unfinished else first_unfinished_now c;
 }
 
--- No fault is active at the end of the current frame, and no fault was at the end before.
+-- No fault is active at the end of the current frame, and none was active at the end before.
 pub record IsFaultFreeEnd (c : CheckerValue) : Type 0 where
   pub no_faults_before : c.active_faults ≡ no_active_faults
   pub no_faults_now : active_faults_of c ≡ no_active_faults
   pub first_unfinished : first_unfinished_now c ≡ None
 
--- The page was wrong at the last end, but still has time to become correct.
+-- The page was wrong at the last end, but is not overdue yet.
 abbrev pub is_pending_now : CheckerValue → Bool
 is_pending_now c =
     not (c.within == 0)
@@ -225,9 +226,8 @@ is_pending_now c =
 
 -- ---- the invariant of the checker
 
--- Until the expected page changes next, the frames with an unknown expected page within the last
--- `within` frames are exactly those below `first_known_from`. So one number is enough for all these
--- frames.
+-- `first_known_from` decides, up to the next change of the expected page, whether the expected page
+-- was unknown in the last `within` frames: exactly for the frames before `first_known_from`.
 abbrev pub IsKnownFrom : (ℕ → Bool) → ℕ → ℕ → ℕ → Option ℕ → ℕ → Type 0
 IsKnownFrom undecided first within frame edge first_known_from =
     (f : ℕ)
@@ -236,8 +236,8 @@ IsKnownFrom undecided first within frame edge first_known_from =
     → is_before f edge ≡ true
     → nat_lt f first_known_from ≡ was_undecided undecided first f within
 
--- The subtitles and the number `first_known_from` agree with `judging` until the expected page
--- changes next.
+-- The subtitles and `first_known_from` agree with `judging`, up to the next change of the expected
+-- page.
 pub record IsJudged
     (judging : JudgedValue) (programme : ProgrammeValue) (any_refused : Bool)
     (first within frame : ℕ) (edge : Option ℕ) (first_known_from : ℕ)

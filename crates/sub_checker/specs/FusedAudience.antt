@@ -1,11 +1,10 @@
--- A device that a `FusedAudience` protects from events after a stop. Only contracts of private
--- functions use these definitions.
+-- A device that receives no events after it has stopped the check.
 use Rattle.std.specs.Prelude.{◌≡◌, true, false, [], ◌∷◌}
 use Rattle.sub_io.specs.Reporting.{Reports}
 use Rattle.sub_rules.specs.declared.event.Event.{Event}
 use Rattle.sub_checker.specs.declared.fused.FusedAudience.{FusedAudience}
 
--- A `FusedAudience` reports an event to its device, unless the device has stopped the check.
+-- A `FusedAudience` passes an event to its device, unless the device has stopped the check.
 pub record IsFused
     {D : Type 0} {g : _} (IsReported : D → Event → D → Type 0)
     (old : FusedAudience D g) (e : Event) (new : FusedAudience D g)

@@ -1,5 +1,4 @@
--- The events after the last frame, and the counts. Only contracts of private functions use these
--- definitions.
+-- The events at the end of a file, and the counts.
 use Rattle.std.specs.Prelude.{◌≡◌, ℕ, zero, suc, ◌+◌, ◌<◌, ◌||◌, Bool, List, [], ◌∷◌, ◌++◌}
 use Rattle.std.specs.Prelude.{Option, Some, None, if◌then◌else◌}
 use Rattle.stl_rows.specs.Programme.{last_tco}
@@ -13,32 +12,32 @@ use Rattle.sub_rules.specs.FrameRules.{Unread}
 use Rattle.sub_rules.specs.declared.fault.CheckFault.{CheckFault}
 use Rattle.sub_rules.specs.declared.fault.CheckFault.TheVariants as fault
 
--- The fault that is reported last: the fault that ended reading; otherwise that the file has no PES
--- packet, or that the file ends too early (`late`: a subtitle ends after the last frame, or the
--- page is not correct yet at the last frame).
+-- The last fault to report: the fault that ended reading; otherwise `Empty` if there is no PES
+-- packet, or `Late` if a subtitle ends after the last frame or the page is wrong there but not yet
+-- overdue.
 abbrev pub last_fault_after : Option CheckFault → ℕ → ℕ → Bool → ℕ → Option CheckFault
 last_fault_after (Some f) frames pes late frame = Some f
 last_fault_after None zero zero late frame = Some fault.Empty
 last_fault_after None zero (suc pes) late frame = None
 last_fault_after None (suc n) pes late frame = if late then Some (fault.Late frame) else None
 
--- The fault that is reported last, from the state of the checker.
+-- The last fault to report, given the state of the checker.
 abbrev pub last_fault : ℕ → Option CheckFault → CheckerValue → Option CheckFault
 last_fault pes given c =
     last_fault_after given c.counts.frames pes
     (is_short (last_tco c.programme.records) c.last || is_pending_now c) c.last
 
--- The events that report an optional fault.
+-- The event for an optional fault.
 abbrev pub fault_events : Option CheckFault → List Event
 fault_events None = []
 fault_events (Some f) = Reported f ∷ []
 
--- The events after the last end, from the state of the checker: the ends of the active faults, and
--- then the last fault.
+-- The events at the end of the file, given the state of the checker: the active faults end, and the
+-- last fault follows.
 abbrev pub closing_now : ℕ → Option CheckFault → CheckerValue → List Event
 closing_now pes given c = endings c.active_faults c.last ++ fault_events (last_fault pes given c)
 
--- The fault that ended reading, from the unread rest of the file.
+-- The fault that ended reading, given the reason.
 abbrev pub ending_fault : ℕ → Option Unread → Option CheckFault
 ending_fault pes None = None
 ending_fault pes (Some u) = Some (unread_fault pes (Some u))
@@ -49,8 +48,8 @@ pub record AreCounted (c : CheckerValue) (a : Accepted) : Type 0 where
   pub frames_are : 0 < c.counts.frames → a.frames + c.first ≡ c.latest + 1
   pub transmissions_eq : a.transmissions ≡ c.counts.headers
 
--- All events were reported to the device and the counts are returned, or the device stopped the
--- check and a prefix of the events was reported.
+-- The device received all events, and the counts are returned; or the device stopped the check
+-- after a prefix of the events.
 abbrev pub FinishesReporting : {A D : Type 0}
     → (D → A → D → Type 0) → D → D → List A → Option Accepted → Type 0
 FinishesReporting IsReported old new items (Some a) = Reports IsReported old new items

@@ -1,5 +1,4 @@
--- The steps and the state of the checker after a PES packet was read. Only contracts of private
--- functions use these definitions.
+-- The steps and the state of the checker after a PES packet was read.
 use Rattle.std.specs.Prelude.{◌≡◌, ℕ, Bool, true, false, List, [], ◌∷◌}
 use Rattle.sub_rules.specs.FrameRules.{Criteria}
 use Rattle.sub_rules.specs.PesPacketEvents.{steps_of_sent}
@@ -17,27 +16,27 @@ abbrev pub is_skipped : NextPesPacket → Bool
 is_skipped (next.Skipped f) = true
 is_skipped (next.Sent s) = false
 
--- The PES packet that was read is valid, and its Teletext packets are those of the packet before.
+-- The PES packet that was read is valid, and has the same Teletext packets as the one before.
 abbrev pub IsRepeatSending : NextPesPacket → Type 0
 IsRepeatSending (next.Skipped f) = ⊥
 IsRepeatSending (next.Sent s) = s.again ≡ true
 
--- The frame that a valid PES packet with these Teletext packets carries.
+-- The frame of a valid PES packet with these Teletext packets.
 abbrev pub frame_with : Sending → List (List ℕ) → SentFrame
 frame_with s packets = record { frame = s.frame; packets = packets }
 
--- The checker's steps for PES packet `pes`, after the frames `sent`.
+-- The steps for PES packet number `pes`, after the frames `sent`.
 abbrev pub steps_of_read : Criteria → Transmission → ℕ → NextPesPacket → List (List ℕ) → List
     CheckStep
 steps_of_read g sent pes (next.Skipped f) packets = AtPes pes ∷ Emits (Reported f) ∷ []
 steps_of_read g sent pes (next.Sent s) packets = steps_of_sent g sent pes (frame_with s packets)
 
--- The frames sent after one more PES packet was read.
+-- The frames after one more PES packet was read.
 abbrev pub sent_with : Criteria → Transmission → NextPesPacket → List (List ℕ) → Transmission
 sent_with g sent (next.Skipped f) packets = sent
 sent_with g sent (next.Sent s) packets = sent_after g.within sent (frame_with s packets)
 
--- The Teletext packets of the last valid PES packet, after one more PES packet was read.
+-- The Teletext packets of the last valid PES packet.
 abbrev pub last_with : List (List ℕ) → NextPesPacket → List (List ℕ) → List (List ℕ)
 last_with last (next.Skipped f) packets = last
 last_with last (next.Sent s) packets = packets

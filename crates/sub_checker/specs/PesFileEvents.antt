@@ -1,4 +1,4 @@
--- The events of a PES file that is read on after skipped PES packets.
+-- The events of a PES file if reading continues after skipped PES packets.
 use Rattle.std.specs.Prelude.{◌≡◌, ℕ, ◌≤◌, List, [], ◌++◌, length, take, Option, Some, None}
 use Rattle.std.specs.Prelude.{Result, Ok, Err}
 use Rattle.sub_io.specs.Reading.{IfKnown}
@@ -21,8 +21,8 @@ use Rattle.sub_checker.specs.ReadCounts.{CarryFrames, AreComplete, CountsRead}
 use Rattle.sub_checker.specs.declared.reporter.Relay.{Relay}
 use Rattle.sub_checker.specs.declared.accepted.Accepted.{Accepted}
 
--- The counts agree with the frames that the PES packets send. If each packet is sent and no bytes
--- are left, the bytes are PES packets that carry these frames.
+-- The counts agree with the frames of the PES packets. If no packet is skipped and no bytes are
+-- left, the bytes are PES packets that carry these frames.
 pub record IsReadOn
     (g : Criteria) (clock : Clock) (bytes : List ℕ) (pes_packets : List PesPacket) (a : Accepted)
     : Type 0 where
@@ -34,8 +34,8 @@ pub record IsReadOn
   pub whole : AreComplete (frames_of pes_packets)
   pub counts : CountsRead g.watched.page (sent_by_pes_packets g pes_packets) a
 
--- The events for the PES packets of a file were reported. If the source failed, the events of the
--- packets before the failure were.
+-- The events of the PES packets were reported. If the source failed, only the events of the packets
+-- before the failure were reported.
 abbrev pub ReportsPesPackets : {D : Type 0} → Criteria → Clock → List ℕ → List PesPacket
     → (D → Event → D → Type 0) → D → D → Result (Option Accepted) CheckFault → Type 0
 ReportsPesPackets g clock bytes pes_packets IsReported old new (Ok (Some a)) =
@@ -49,8 +49,7 @@ ReportsPesPackets g clock bytes pes_packets IsReported old new (Err f) =
     × (f ≡ fault.Pes n Read)
     × Reports IsReported old new (events_of_pes_packets g (take n pes_packets))
 
--- The events for the PES packets of a file were reported, however its bytes are read. The criteria
--- depend on the unread rest.
+-- The events of a PES file were reported, for whatever PES packets its bytes are.
 abbrev pub ReportsFile : {D : Type 0} → (Option Unread → Criteria) → Clock → List ℕ
     → (D → Event → D → Type 0) → D → D → Result (Option Accepted) CheckFault → Type 0
 ReportsFile criteria clock bytes IsReported old new result =
@@ -58,8 +57,8 @@ ReportsFile criteria clock bytes IsReported old new result =
     → ReadsPesPackets clock 0 bytes pes_packets unread
     → ReportsPesPackets (criteria unread) clock bytes pes_packets IsReported old new result
 
--- The source failed within PES packet `pes`, and the packets before it were consumed. If none of
--- these was skipped, they match the grammar.
+-- The source failed while PES packet number `pes` was read; the packets before it were consumed. If
+-- none of these was skipped, they are valid PES packets.
 abbrev pub FailsReadingOn : Clock → ℕ → Option (List ℕ) → Option (List ℕ) → Type 0
 FailsReadingOn clock pes known left =
     FailsAtPesPacket pes known left
@@ -69,7 +68,6 @@ FailsReadingOn clock pes known left =
     → length (frames_of (take pes pes_packets)) ≡ pes
     → FailsAtPacket pes known left))
 
--- The events of a list of steps, followed by the end of a run of skipped PES packets. Only
--- contracts of private functions use this definition.
+-- The events for a list of steps, followed by the end of the current run of skipped PES packets.
 abbrev pub finished : Relay → List CheckStep → List Event
 finished p steps = relayed p steps ++ ended_run (as_run (relay_after p steps).run)

@@ -11,8 +11,8 @@ use Rattle.sub_rules.specs.PesFrames.{IsReadAs}
 use Rattle.sub_rules.specs.Transmission.{SentFrame, Transmission}
 use Rattle.sub_checker.specs.declared.accepted.Accepted.{Accepted}
 
--- The counts of the frames that were sent: the number of frames of the day from the first frame to
--- the greatest one, and the number of headers of the page.
+-- The counts agree with the frames that were sent: the number of frames from the first to the
+-- greatest frame number, and the number of headers of the page.
 pub record CountsRead (page : PageIdValue) (frames : Transmission) (a : Accepted) : Type 0 where
   pub none : length frames ≡ 0 → a.frames ≡ 0
   pub frames_are :
@@ -25,8 +25,7 @@ abbrev pub AreComplete : Transmission → Type 0
 AreComplete frames =
     AllByRecursion (λ (s : SentFrame). All (λ packet. length packet ≡ 42) s.packets) frames
 
--- The bytes are joined PES packets that carry the frames according to the clock, followed by the
--- rest.
+-- The bytes are PES packets that carry these frames according to the clock, followed by `rest`.
 pub record CarryFrames
     (clock : Clock) (bytes : List ℕ) (frames : Transmission) (rest : List ℕ)
     : Type 0 where

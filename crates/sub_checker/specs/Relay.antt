@@ -1,5 +1,4 @@
--- The events that are relayed to a device for a list of steps, with trusted frames and the ends of
--- runs of skipped PES packets. Only contracts of private functions use these definitions.
+-- The events that the reporter passes to a device.
 use Rattle.std.specs.Prelude.{◌≡◌, List, [], ◌∷◌}
 use Rattle.sub_io.specs.Reporting.{Reports}
 use Rattle.sub_rules.specs.PesPacketEvents.{all_announced, no_run, skipped_after_all}
@@ -16,7 +15,7 @@ use Rattle.sub_checker.specs.TrustTracker.{after_step, new_tracker, reported_by,
 abbrev pub initial_relay : Relay
 initial_relay = record { tracker = new_tracker; run = kept_run no_run }
 
--- The events that the reporter relays for a list of steps.
+-- The events that the reporter passes to the device for a list of steps.
 unfoldable pub relayed : Relay → List CheckStep → List Event
 relayed p ms = all_announced (as_run p.run) (reported_by p.tracker ms)
 
@@ -27,12 +26,12 @@ relay_after p ms = record {
   run = kept_run (skipped_after_all (as_run p.run) (reported_by p.tracker ms));
 }
 
--- The reporter after a step without events.
+-- The reporter after a step that reports nothing.
 abbrev pub at_step : {D : Type 0} {g : _} → CheckStep → Reporter D g → Reporter D g
 at_step m s = record s { relay = record s.relay { tracker = after_step m s.relay.tracker } }
 
--- The reporter relayed the events of a list of steps to its guarded device, and has the state after
--- these steps.
+-- The reporter passed the events of a list of steps to its device, and has the state after these
+-- steps.
 pub record ReporterRelays
     {D : Type 0} {g : _} (IsReported : D → Event → D → Type 0)
     (old : Reporter D g) (steps : List CheckStep) (new : Reporter D g)
@@ -40,7 +39,7 @@ pub record ReporterRelays
   pub reported : Reports (IsFused IsReported) old.fused new.fused (relayed old.relay steps)
   pub kept : new.relay ≡ relay_after old.relay steps
 
--- The reporter relayed one event to its device.
+-- The reporter passed one event to its device.
 abbrev pub IsRelayed : {D : Type 0} {g : _}
     → (D → Event → D → Type 0) → Reporter D g → Event → Reporter D g → Type 0
 IsRelayed IsReported old e new = ReporterRelays IsReported old (Emits e ∷ []) new

@@ -1,5 +1,4 @@
--- The checker's state for trusted frames. Only contracts of private functions use these
--- definitions.
+-- The stored state from which the trusted frames are computed.
 use Rattle.std.specs.Prelude.{ℕ, suc, ◌&&◌, ◌||◌, true, false, not, Bool, List, [], ◌∷◌, ◌++◌}
 use Rattle.std.specs.Prelude.{Option, Some, None, is_none, is_some, unwrap_or, if◌then◌else◌}
 use Rattle.sub_rules.specs.Fault.{invalidated_frame, fault_row}
@@ -10,50 +9,49 @@ use Rattle.sub_rules.specs.declared.event.Event.TheVariants.{Reported}
 use Rattle.sub_rules.specs.declared.fault.CheckFault.TheVariants as fault
 use Rattle.sub_checker.specs.declared.trust_tracker.TrustTracker.{TrustTracker}
 
--- The first frame that is no longer trusted once the event is reported. `last` is the frame of the
--- last PES packet; `late` is the frame from which on an overdue page has been wrong.
+-- The first frame that is no longer trusted because of the event. `last` is the frame of the last
+-- PES packet; `late` is the first frame with a wrong page, if the page is overdue.
 unfoldable pub invalidated : ℕ → Option ℕ → Event → Option ℕ
 invalidated last late (Reported f) = invalidated_frame last late (fault_row f).invalidates
     (fault_row f).place
 invalidated last late event = None
 
--- The event reports that the frames are not in increasing order.
+-- The event reports that frame numbers do not increase.
 unfoldable pub is_order : Event → Bool
 is_order (Reported (fault.Order pes)) = true
 is_order event = false
 
--- The trusted frames that are reported when trust ends at a frame: the frames of the run before
--- that frame. The last of these, from `back` on, are not trusted if the page was wrong at their
--- ends.
+-- The event for the trusted frames of a run that ends before this frame. The frames from `back` on
+-- have a wrong page and are not trusted.
 abbrev pub trusted_before : Option ℕ → Option ℕ → Option ℕ → Option ℕ → List Event
 trusted_before run whole back None = []
 trusted_before run whole back (Some f) = trusted run whole (unwrap_or back f)
 
--- The run of trusted frames after frame f: the run continues; or it begins with f, if f has a
--- header of the page.
+-- The run of trusted frames after frame f. `has_beginning` says whether f has a header with which a
+-- run can begin.
 abbrev pub continued_run : Option ℕ → Bool → ℕ → Option ℕ
 continued_run (Some from) has_beginning f = Some from
 continued_run None has_beginning f = if has_beginning then Some f else None
 
--- The run of trusted frames after an event: the run ends if the event invalidates a frame.
+-- The run of trusted frames after an event, which ends it if it invalidates a frame.
 abbrev pub run_after : Option ℕ → Option ℕ → Option ℕ
 run_after run None = run
 run_after run (Some f) = None
 
--- The first frame of the run at whose end the page was correct. The current frame f is part of the
--- run, and the page is correct at f if `first_unfinished` is `None`.
+-- The first frame of the run at whose end the page was correct, after frame f of the run. The page
+-- is correct at f if `first_unfinished` is `None`.
 abbrev pub first_correct : Option ℕ → Option ℕ → ℕ → Option ℕ
 first_correct (Some whole) first_unfinished f = Some whole
 first_correct None None f = Some f
 first_correct None (Some first_unfinished) f = None
 
--- The first frame of the run at whose end the page was correct, at the end of a frame f with which
--- a run continues or begins.
+-- The first frame of the run at whose end the page was correct, after frame f, with which a run
+-- continues or begins.
 abbrev pub first_correct_in : Option ℕ → Option ℕ → Option ℕ → ℕ → Option ℕ
 first_correct_in None whole first_unfinished f = first_correct None first_unfinished f
 first_correct_in (Some from) whole first_unfinished f = first_correct whole first_unfinished f
 
--- The frame from which on the page has been wrong, if it is overdue.
+-- The first frame with a wrong page, if the page is overdue.
 abbrev pub late_first_unfinished : TrustTracker → Option ℕ
 late_first_unfinished t = if t.is_late then t.first_unfinished else None
 
@@ -62,8 +60,8 @@ abbrev pub closing_frame : TrustTracker → Bool → ℕ
 closing_frame t are_left =
     unwrap_or t.first_unfinished (if are_left then unwrap_or t.back t.last else suc t.last)
 
--- The events of one step, with the trusted frames that it ends. At the end of the file the trusted
--- frames of the last run are reported only if anything else is.
+-- The events to report for one step: the trusted frames that end with it, and its own event. At the
+-- end of the file, trusted frames are reported only if anything else is.
 unfoldable pub reported_with : CheckStep → TrustTracker → List Event
 reported_with (Emits e) t =
     trusted_before t.run t.whole t.back (invalidated t.last (late_first_unfinished t) e) ++ at_pes
@@ -109,7 +107,7 @@ new_tracker = record {
   reported = false;
 }
 
--- The events that the tracker gives for a list of steps.
+-- The events to report for a list of steps.
 unfoldable pub reported_by : TrustTracker → List CheckStep → List Event
 reported_by t [] = []
 reported_by t (m ∷ ms) = reported_with m t ++ reported_by (after_step m t) ms

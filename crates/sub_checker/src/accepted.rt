@@ -5,17 +5,17 @@ ghost use Rattle.sub_rules.specs.Fault.{is_pes_read};
 use sub_rules::CheckFault;
 use ttx_pes::PesFault;
 
-/// The counts that the checker returns for a PES file.
+/// The number of frames and of page headers in a PES file.
 #[derive(Clone, Copy, Debug, PartialEq, Eq)]
 pub struct Accepted {
-    /// The number of frames of the day from the frame of the first PES packet to the greatest
-    /// frame; 0 without a PES packet.
+    /// The number of frames from the frame of the first PES packet to the greatest frame number; 0
+    /// without a PES packet.
     pub frames: u64,
     /// The number of headers of the page in the file.
     pub transmissions: u64,
 }
 
-/// Returns whether the fault is a failure to read the source.
+/// Returns whether the fault is a failure to read the PES file.
 pub(crate) fn is_source_failure(fault: &CheckFault) -> bool
     ensures { result ≡ is_pes_read fault.now }
 {

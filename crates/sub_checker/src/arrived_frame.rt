@@ -1,4 +1,4 @@
-//! Checks a valid PES packet: moves to its frame, receives its packets, and ends the frame.
+//! Checks a valid PES packet.
 ghost use Rattle.std.specs.Prelude.{◌≡◌, ℕ, suc, ◌+◌, ◌<◌, ◌≤◌, ◌==◌, ◌&&◌, List, map};
 ghost use Rattle.std.specs.Prelude.{false, length, true};
 ghost use Rattle.stl_file.specs.TimeCode.{day};
@@ -24,8 +24,8 @@ use sub_rules::{Event, Sending};
 use ttx_pes::SentUnits;
 
 impl<'a> Checker<'a> {
-    /// Checks PES packet number `pes`. If `within` is 0, the frame of the packet ends at once;
-    /// otherwise it ends when a PES packet of another frame, or the end of the file, follows.
+    /// Checks PES packet number `pes`. If `within` is 0, its frame ends at once; otherwise the
+    /// frame ends when a PES packet of another frame comes, or the file ends.
     pub fn go_on<A: Audience<Event>>(
         &mut self,
         pes: u32,
@@ -56,7 +56,7 @@ impl<'a> Checker<'a> {
         self.take_next(pes, sending, units, reporter);
     }
 
-    // Returns whether a PES packet of `frame` belongs to the last frame, whose end is still open.
+    // Returns whether a PES packet of `frame` continues the last frame, which has not ended yet.
     #[inline(always)]
     fn continues(&self, frame: u32) -> bool
         ensures { result ≡ (self.now.counts.is_open && frame == self.now.frame) }
@@ -64,7 +64,7 @@ impl<'a> Checker<'a> {
         self.counts.is_open && frame == self.frame
     }
 
-    // Checks a PES packet whose frame differs from that of the packet before it.
+    // Checks a PES packet of a new frame.
     fn take_next<A: Audience<Event>>(
         &mut self,
         pes: u32,
@@ -97,7 +97,7 @@ impl<'a> Checker<'a> {
         self.counts.leave_open(headers, units.len() as u32);
     }
 
-    // Receives the packets of another PES packet of the current frame.
+    // Checks another PES packet of the current frame.
     #[inline(never)]
     fn take_more<A: Audience<Event>>(
         &mut self,
@@ -125,8 +125,8 @@ impl<'a> Checker<'a> {
         self.counts.packets += units.len() as u32;
     }
 
-    // Receives packets of the current frame, and returns how many of the packets are headers of the
-    // page. The first of the packets is number `from` of its frame.
+    // Passes Teletext packets of the current frame to the listener, and returns the number of
+    // headers of the page. `from` is the number of the first packet in its frame.
     #[inline(always)]
     fn hear<A: Audience<Event>>(
         &mut self,

@@ -1,4 +1,4 @@
-//! The state of the checker: the packets received so far, and the expected page.
+//! The state of the checker.
 ghost use Rattle.std.specs.Prelude.{◌≡◌, ℕ, ◌+◌, ◌<◌, ◌≤◌, List, [], Option, max};
 ghost use Rattle.stl_file.specs.TimeCode.{day};
 ghost use Rattle.sub_checker.specs.Checker.{is_before};
@@ -17,44 +17,41 @@ use sub_packets::Listener;
 use sub_plan::Options;
 use sub_rules::{ActiveFaults, Event, Watched};
 
-/// The state of the checker.
+/// The state of the checker after the packets received so far.
 #[derive(Drop)]
 pub(crate) struct Checker<'a> {
     pub judging: &'a Judging<'a>,
     pub programme: &'a Programme,
-    // Whether subtitles of the file were refused.
+    // Whether subtitles of the file were rejected.
     pub has_refused: bool,
     // The repeat bound in frames.
     pub every: u32,
-    // The number of frames within which the page has to become correct; 0 if it has to be correct
-    // at each frame.
+    // The number of frames within which the page must become correct.
     pub within: u32,
-    // The maximum distance between PES packets in frames, if `--pace` is given.
+    // The longest interval between PES packets in frames, if `--pace` is given.
     pub pace: Option<u32>,
     pub listener: Listener,
     // The frame of the first PES packet.
     pub first: u32,
-    // The greatest frame of a PES packet so far.
+    // The greatest frame number of a PES packet so far.
     pub latest: u32,
-    // The current frame of the day; `listener` compares the received page with the page expected at
-    // this frame.
+    // The current frame; `listener` has its expected page.
     pub frame: u32,
-    // The next frame at which the expected page may change.
+    // The next frame with another expected page, if there is one.
     pub edge: Option<u32>,
-    // The number of a subtitle near `frame`, with which the search for the next expected page
-    // starts. Contracts don't see this hint.
+    // The number of a subtitle near `frame`, where the search for the next expected page starts.
+    // Contracts do not use this hint.
     pub near: usize,
-    // The first frame, up to the next change of the expected page, at which the expected page is
-    // known and was known for the last `within` frames.
+    // The first frame, before the next change of the expected page, whose expected page and those
+    // of the `within` frames before it are known.
     pub first_known_from: u64,
-    // The frame whose end was checked last; `active_faults` holds the faults that were active at
-    // that end.
+    // The frame that was ended last; `active_faults` are the faults at its end.
     pub last: u32,
     pub active_faults: ActiveFaults,
-    // The first frame from which on the page has been wrong without a break; used if `within` is
-    // not 0.
+    // The first frame of the current run of frames with an unfinished page; used only if `within`
+    // is not 0.
     pub first_unfinished: Option<u32>,
-    // One more than the first frame at whose end the repeat bound is exceeded.
+    // The frame after the one at whose end the repeat bound is exceeded.
     pub late_at: u32,
     pub counts: Counts,
 }
@@ -137,7 +134,7 @@ impl<'a> Checker<'a> {
     }
 
     /// Moves the checker to frame `f`. Draws the expected page again if `f` is an earlier frame, or
-    /// if a subtitle begins or ends on the way.
+    /// if a subtitle begins or ends in between.
     pub fn move_to(&mut self, f: u32)
         requires day { f < day }
         ensures { self.new ≡ at_frame f self.old }
@@ -149,8 +146,8 @@ impl<'a> Checker<'a> {
         }
     }
 
-    // Draws the page expected at frame `f`. Not inlined into `move_to`, which would otherwise
-    // reserve stack for a page at each frame.
+    // Draws the expected page of frame `f`. Not inlined into `move_to`, which would then reserve
+    // stack for a page at each frame.
     #[inline(never)]
     fn draw(&mut self, f: u32)
         requires day { f < day }
@@ -197,7 +194,7 @@ impl<'a> Checker<'a> {
         self.latest = greater(self.latest, frame);
     }
 
-    /// Notifies the reporter that the packets of the current frame follow.
+    /// Tells the reporter that the next Teletext packets belong to the current frame.
     #[inline(always)]
     pub fn begin_frame<A: Audience<Event>>(&self, reporter: &mut Reporter<'_, A>)
         ensures begun { reporter.new
@@ -207,9 +204,8 @@ impl<'a> Checker<'a> {
         self.go_back(reporter);
     }
 
-    /// Passes to the reporter the first of the frames, up to the frame before, in which the page
-    /// has been wrong without a break. This is only needed if subtitles were refused and `within`
-    /// is not 0.
+    /// Tells the reporter the first frame of the run of frames with an unfinished page, up to the
+    /// frame before. This is needed only if subtitles were rejected and `within` is not 0.
     #[inline(always)]
     #[tactic(auto, unfolding(crate::specs::CheckedFrames::back_reporter))]
     pub fn go_back<A: Audience<Event>>(&self, reporter: &mut Reporter<'_, A>)
@@ -220,7 +216,7 @@ impl<'a> Checker<'a> {
         }
     }
 
-    /// Adds the headers of the page in a PES packet of the current frame to the counts.
+    /// Adds the page headers of a PES packet of the current frame to the counts.
     pub fn count(&mut self, headers: u8)
         requires room { self.old.counts.headers < 0xFFFF_FFFF_FF00 }
         ensures { self.new ≡ after_headers headers self.old }
@@ -242,8 +238,8 @@ impl<'a> Checker<'a> {
     }
 }
 
-// Returns the number of frames from the frame of the first PES packet, `first`, to the greatest
-// one, `latest`; 0 without a PES packet.
+// Returns the number of frames from `first`, the frame of the first PES packet, to `latest`, the
+// greatest frame number; 0 without a PES packet.
 fn frame_count(frames: u32, first: u32, latest: u32) -> u64
     requires { first ≤ latest }
     ensures none { frames ≡ 0 → result ≡ 0 }
@@ -256,8 +252,7 @@ fn frame_count(frames: u32, first: u32, latest: u32) -> u64
     }
 }
 
-// Returns whether a frame comes before the next change of the expected page, if the page changes
-// again.
+// Returns whether a frame comes before `edge`, the next change of the expected page.
 fn is_before(frame: u32, edge: Option<u32>) -> bool
     ensures { result ≡ is_before frame edge }
 {

@@ -2,8 +2,7 @@
 ghost use Rattle.std.specs.Prelude.{◌≡◌, ◌≤◌};
 ghost use Rattle.sub_checker.specs.Checker.{left_open, no_counts};
 
-/// Counts of the PES packets received so far, and of the packets in the frame of the last PES
-/// packet.
+/// Counts of frames, page headers and Teletext packets received so far.
 #[derive(Clone, Copy)]
 pub(crate) struct Counts {
     /// The number of frames; consecutive PES packets of one frame count once.
@@ -12,9 +11,9 @@ pub(crate) struct Counts {
     pub headers: u64,
     /// The number of headers of the page before the last frame.
     pub headers_before: u64,
-    /// The number of Teletext packets in the last frame, while `is_open`.
+    /// The number of Teletext packets in the last frame, while it is open.
     pub packets: u32,
-    /// Whether the end of the last frame is still to be checked.
+    /// Whether the last frame has not ended yet.
     pub is_open: bool,
 }
 
@@ -32,9 +31,9 @@ impl Counts {
         }
     }
 
-    /// Leaves the end of the last frame open, which has `headers` headers of the page and `packets`
-    /// packets so far. Not inlined into the code that runs for each frame, which would otherwise
-    /// keep both counts of headers.
+    /// Notes that the last frame has not ended yet. It has `headers` headers of the page and
+    /// `packets` packets so far. Not inlined into the code that runs for each frame, which would
+    /// then keep both counts of headers.
     #[inline(never)]
     pub fn leave_open(&mut self, headers: u8, packets: u32)
         requires { headers ≤ self.old.headers }

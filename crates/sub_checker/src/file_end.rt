@@ -1,4 +1,4 @@
-//! Reports the events at the end of a PES file, after its last PES packet.
+//! Reports the events at the end of a PES file.
 ghost use Rattle.std.specs.Prelude.{◌≡◌, ℕ, IfSome, List, is_none, length, not};
 ghost use Rattle.std.specs.Prelude.{◌||◌};
 ghost use Rattle.sub_io.specs.Reporting.{ReportsSome};
@@ -19,9 +19,8 @@ use crate::reporter::{Reporter, report_some};
 use sub_io::Audience;
 use sub_rules::{CheckFault, Event};
 
-/// Checks the end of the last frame if it is still open, reports the events at the end of the file,
-/// and returns the counts; `None` if the audience stops the check. `fault` is the fault that ended
-/// reading, if any.
+/// Ends the last frame if it is still open, reports the events at the end of the file, and returns
+/// the counts, or `None` if the device stops the check. `fault` is the fault that ended reading.
 pub(crate) fn finish<A: Audience<Event>>(
     checker: &mut Checker<'_>,
     pes: u32,
@@ -54,8 +53,8 @@ pub(crate) fn finish<A: Audience<Event>>(
     Some(read)
 }
 
-// Reports the end of the last frame and of the file after `pes` PES packets. `fault` is the fault
-// that ended reading, if any.
+// Ends the last frame, and reports the events at the end of the file after `pes` PES packets.
+// `fault` is the fault that ended reading.
 fn end_and_close<A: Audience<Event>>(
     checker: &mut Checker<'_>,
     pes: u32,
@@ -74,8 +73,7 @@ fn end_and_close<A: Audience<Event>>(
     close(checker, pes, fault, reporter);
 }
 
-// Reports the events after the end of the last frame: the last run of trusted frames, and the last
-// faults.
+// Reports the trusted frames of the last run, and the events after the end of the last frame.
 fn close<A: Audience<Event>>(
     checker: &Checker<'_>,
     pes: u32,
@@ -95,8 +93,8 @@ fn close<A: Audience<Event>>(
     checker.close(pes, fault, reporter);
 }
 
-// Returns whether the trusted frames of the last run have to be reported even if nothing was
-// reported before: if subtitles were refused, or something is reported at the end of the file.
+// Returns whether the trusted frames of the last run must be reported even if nothing was reported
+// before: subtitles were rejected, or an event follows at the end of the file.
 fn reports_trusted(checker: &Checker<'_>, pes: u32, fault: Option<CheckFault>) -> bool
     ensures { result
         ≡ (checker.now.any_refused || not (reports_none (closing_now pes fault checker.now))) }

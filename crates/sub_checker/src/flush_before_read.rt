@@ -1,4 +1,4 @@
-//! Flushes pending reports before a PES packet is read, since the read may block.
+//! Flushes pending reports before a read that may block.
 ghost use Rattle.std.specs.Prelude.{◌≡◌, OnOk, false, is_err};
 ghost use Rattle.sub_io.specs.Flushing.{BuffersOnlyWhilePending, KeepsReported};
 ghost use Rattle.ttx_pes.specs.BorrowedPacket.{NothingIsPending};
@@ -8,11 +8,11 @@ use sub_io::{LiveAudience, Stopped};
 use sub_rules::Event;
 use ttx_pes::{PesPackets, flush_first};
 
-/// Flushes the audience if reading the next PES packet may block on a device.
+/// Flushes pending reports if reading the next PES packet may block.
 ///
 /// # Errors
 ///
-/// Returns `Stopped` if the audience can't be flushed.
+/// Returns `Stopped` if the reports cannot be flushed.
 pub(crate) fn flush_reports<P: PesPackets, A: LiveAudience<Event>>(
     source: &P,
     fused: &mut FusedAudience<'_, A>,

@@ -1,11 +1,11 @@
-//! The end of a frame: which faults are active at the end, and which changes are reported.
+//! Ends a frame: determines which faults are active, and reports the changes.
 //!
 //! ```text
-//! end_pending_frame    the last frame, if its end is still open
+//! end_pending_frame    the last frame, if it has not ended yet
 //!   end_open
-//!     end_sent   a frame of PES packets: does the first one have a header?
-//! end_of_frame   any frame of the day; `end_sent` calls it too
-//!   end_without_faults  no fault was active, and none is
+//!     end_sent   a frame with PES packets; checks that the first frame has a header
+//! end_of_frame   any frame, also called by `end_sent`
+//!   end_without_faults  no fault is active, and none was active before
 //!   end_otherwise
 //!     end_at_once, end_within   depending on whether `within` is 0
 //! ```
@@ -40,15 +40,15 @@ use sub_rules::{ActiveFaults, CheckFault, Event};
 pub(crate) struct EndWithin {
     /// The faults that are active at the end of the frame.
     pub active_faults: ActiveFaults,
-    /// The first frame from which on the page has been wrong up to the end of this frame.
+    /// The first frame of the current run of frames with an unfinished page.
     pub first_unfinished: Option<u32>,
-    /// Whether the page is overdue: it has to be correct by now.
+    /// Whether the page is overdue: it must be correct by now.
     pub is_late: bool,
 }
 
 impl<'a> Checker<'a> {
-    // Returns `true` if a few comparisons show that no fault was active at the last end and that no
-    // fault is active at the current frame, which is the usual case.
+    // Returns `true` if a few comparisons show that no fault was active at the last end and none is
+    // active now, which is the usual case.
     #[inline(always)]
     #[tactic(auto, using(crate::proofs::CompletePacketLemmas::fault_free_has_none_active))]
     fn is_fault_free(&self) -> bool
@@ -66,7 +66,7 @@ impl<'a> Checker<'a> {
             && !self.is_silent()
     }
 
-    // Returns the faults that are active at the current frame, if `within` is 0.
+    // Returns the faults that are active at the end of the current frame, if `within` is 0.
     fn active_faults_now(&self) -> ActiveFaults
         requires each { self.now.within ≡ 0 }
         ensures { result ≡ active_faults_of self.now }
@@ -85,8 +85,8 @@ impl<'a> Checker<'a> {
         }
     }
 
-    // Returns whether the expected page is unknown at the current frame or at one of the last
-    // `within` frames.
+    // Returns whether the expected page is unknown at the current frame or at one of the `within`
+    // frames before.
     #[inline(always)]
     fn is_undecided(&self) -> bool
         ensures { result ≡ undecided_now self.now }
@@ -101,7 +101,7 @@ impl<'a> Checker<'a> {
         self.has_refused && self.judging.is_undecided(self.frame)
     }
 
-    // Returns the row (1 to 24) and column (0 to 39) of the first wrong cell, or `None` if the
+    // Returns the row (1 to 24) and column (0 to 39) of the first wrong cell; `None` if the
     // expected page is unknown.
     fn first_wrong(&self, is_undecided: bool) -> Option<(u8, u8)>
         requires { is_undecided ≡ is_undecided_by self.now self.now.frame }
@@ -121,8 +121,7 @@ impl<'a> Checker<'a> {
         self.late_at <= self.frame + 1
     }
 
-    // Returns whether the last PES packet, whatever it contains, is longer ago than `--pace`
-    // allows.
+    // Returns whether no PES packet, valid or not, has come within `--pace` frames.
     #[inline(always)]
     fn is_silent(&self) -> bool
         ensures { result ≡ silent_for self.now.pace self.now.latest self.now.frame }
@@ -133,8 +132,8 @@ impl<'a> Checker<'a> {
         }
     }
 
-    // Returns the state at the end of the current frame if `within` is not 0. Until the page is
-    // overdue, a cell may still have a code that was expected within the last `within` frames.
+    // Returns the state at the end of the current frame, if `within` is not 0. Until the page is
+    // overdue, a cell may have any code that was expected within the last `within` frames.
     fn end_now(&self) -> EndWithin
         requires within { 0 < self.now.within }
         ensures active_faults { result.active_faults ≡ active_faults_of self.now }
@@ -171,7 +170,7 @@ impl<'a> Checker<'a> {
         }
     }
 
-    // Returns the first cell with a code that was expected at none of the last `within` frames;
+    // Returns the first cell with a code that was not expected within the last `within` frames;
     // `None` if one of these expected pages is unknown, or if no cell differs from the expected
     // page.
     fn first_unexpected(&self, differing: Option<(u8, u8)>) -> Option<(u8, u8)>
@@ -188,8 +187,8 @@ impl<'a> Checker<'a> {
             .first_unexpected(self.programme, self.first, frame, self.within)
     }
 
-    /// Returns whether the page should have been correct by the end of `frame`. `first_unfinished`
-    /// is the first frame from which on it has been wrong.
+    /// Returns whether the page is overdue at the end of `frame`. `first_unfinished` is the first
+    /// frame of the current run of frames with an unfinished page.
     pub fn is_overdue(&self, first_unfinished: Option<u32>, frame: u32) -> bool
         requires day { frame < day }
         ensures { result
@@ -205,7 +204,7 @@ impl<'a> Checker<'a> {
         )
     }
 
-    // Ends the current frame if no fault was active at the last end and no fault is active now.
+    // Ends the current frame, at which no fault is active and none was active before.
     #[inline(always)]
     fn end_without_faults<A: Audience<Event>>(&mut self, reporter: &mut Reporter<'_, A>)
         requires fault_free { IsFaultFreeEnd self.old }
@@ -221,7 +220,7 @@ impl<'a> Checker<'a> {
         }
     }
 
-    // Ends the current frame if `within` is 0, and reports which faults became active or inactive.
+    // Ends the current frame, if `within` is 0, and reports which faults became active or ended.
     #[inline(always)]
     fn end_at_once<A: Audience<Event>>(&mut self, reporter: &mut Reporter<'_, A>)
         requires each { self.old.within ≡ 0 }
@@ -242,8 +241,8 @@ impl<'a> Checker<'a> {
         self.last = frame;
     }
 
-    // Ends the current frame if `within` is not 0, and reports which faults became active or
-    // inactive.
+    // Ends the current frame, if `within` is not 0, and reports which faults became active or
+    // ended.
     #[inline(never)]
     fn end_within<A: Audience<Event>>(&mut self, reporter: &mut Reporter<'_, A>)
         requires within { 0 < self.old.within }
@@ -267,7 +266,7 @@ impl<'a> Checker<'a> {
         self.last = frame;
     }
 
-    /// Ends the current frame, and reports which faults became active or inactive.
+    /// Ends the current frame, and reports which faults became active or ended.
     #[inline(always)]
     pub fn end_of_frame<A: Audience<Event>>(&mut self, reporter: &mut Reporter<'_, A>)
         ensures due { self.old.listener.comparison.due ≡ due_in self.old.programme self.old.frame }
@@ -275,8 +274,7 @@ impl<'a> Checker<'a> {
             reporter.new }
         ensures ended { self.new ≡ after_end self.old }
     {
-        // Most ends are without faults, and the work for `within` would make each of these ends
-        // slower.
+        // Most frames have no fault, and the work for `within` would make their ends slower.
         if self.within == 0 && self.is_fault_free() {
             self.end_without_faults(reporter);
             return;
@@ -284,8 +282,8 @@ impl<'a> Checker<'a> {
         self.end_otherwise(reporter);
     }
 
-    // Ends a frame at which a fault is active or changes, or any frame if `within` is not 0. Not
-    // inlined into `end_of_frame`, which is inlined into each loop over frames.
+    // Ends a frame with an active fault, or any frame if `within` is not 0. Not inlined into
+    // `end_of_frame`, which is inlined into each loop over frames.
     #[inline(never)]
     fn end_otherwise<A: Audience<Event>>(&mut self, reporter: &mut Reporter<'_, A>)
         ensures reported { ReporterRelays A.is_reported reporter.old (end_steps self.old)
@@ -303,8 +301,8 @@ impl<'a> Checker<'a> {
         }
     }
 
-    /// Ends the frame of the last PES packets, and reports a missing header if it is the first
-    /// frame. `has_header`: the frame has a header of the page.
+    /// Ends a frame with PES packets, and reports a missing header if it is the first frame.
+    /// `has_header` says whether the frame has a header of the page.
     #[inline(always)]
     pub fn end_sent<A: Audience<Event>>(&mut self, has_header: bool, reporter: &mut Reporter<'_, A>)
         ensures counts { self.new.counts ≡ self.old.counts }
@@ -325,7 +323,7 @@ impl<'a> Checker<'a> {
         );
     }
 
-    /// Ends the last frame, if its end is still to be checked.
+    /// Ends the last frame, if it has not ended yet.
     #[inline(always)]
     pub fn end_pending_frame<A: Audience<Event>>(&mut self, reporter: &mut Reporter<'_, A>)
         ensures closed { self.new.counts.is_open ≡ false }
@@ -341,7 +339,7 @@ impl<'a> Checker<'a> {
         self.end_open(reporter);
     }
 
-    // Ends the last frame, whose end is still to be checked.
+    // Ends the last frame, which has not ended yet.
     #[inline(never)]
     fn end_open<A: Audience<Event>>(&mut self, reporter: &mut Reporter<'_, A>)
         requires opened { self.old.counts.is_open ≡ true }
@@ -358,7 +356,7 @@ impl<'a> Checker<'a> {
     }
 }
 
-// Returns whether the frame is the first one and has no header of the page.
+// Returns whether the frame is the first frame and has no header of the page.
 fn lacks_first_header(frames: u32, has_header: bool) -> bool
     ensures { result ≡ (frames == 1 && not has_header) }
 {

@@ -1,5 +1,5 @@
-//! Moves the checker to the frame of a PES packet: checks that frame numbers increase, and ends the
-//! frames of the day before the new frame.
+//! Moves the checker to the frame of a PES packet, and ends the frames without a PES packet before
+//! it.
 ghost use Rattle.std.specs.Prelude.{◌≡◌, ℕ, ◌<◌, List};
 ghost use Rattle.stl_file.specs.TimeCode.{day};
 ghost use Rattle.sub_rules.specs.Events.{gap_length, is_early};
@@ -17,8 +17,7 @@ use sub_packets::report_if;
 use sub_rules::{CheckFault, Event};
 
 impl<'a> Checker<'a> {
-    /// Moves the checker to the frame of a PES packet, which differs from the frame of the packet
-    /// before it.
+    /// Moves the checker to the frame of a PES packet that begins a new frame.
     pub fn reach<A: Audience<Event>>(&mut self, frame: u32, reporter: &mut Reporter<'_, A>)
         requires day { frame < day }
         ensures counts { self.new.counts ≡ self.old.counts }
@@ -75,7 +74,7 @@ impl<'a> Checker<'a> {
         self.arrive(frame);
     }
 
-    // Ends the frames of the day after the latest frame and before the frame `to` of a PES packet.
+    // Ends the frames between the last PES packet and frame `to`, which have no PES packet.
     fn cross_gap<A: Audience<Event>>(&mut self, to: u32, reporter: &mut Reporter<'_, A>)
         requires day { to < day }
         ensures counts { self.new.counts ≡ self.old.counts }
@@ -94,7 +93,7 @@ impl<'a> Checker<'a> {
     }
 }
 
-// Returns whether a subtitle is expected before `frame`, the frame of the first PES packet.
+// Returns whether the first subtitle begins before `frame`, the frame of the first PES packet.
 fn is_early(first_tci: Option<u32>, frame: u32) -> bool
     ensures { result ≡ is_early first_tci frame }
 {

@@ -1,4 +1,4 @@
-//! Passes events on to the device of a `FusedAudience`.
+//! Passes events to the device of a `FusedAudience`.
 ghost use Rattle.sub_checker.specs.FusedAudience.{IsFused};
 
 use crate::fused::FusedAudience;

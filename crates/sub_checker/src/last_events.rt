@@ -1,4 +1,4 @@
-//! The events after the end of the last frame.
+//! Reports the events after the end of the last frame.
 ghost use Rattle.std.specs.Prelude.{◌≡◌, not};
 ghost use Rattle.sub_io.specs.Reporting.{Reports};
 ghost use Rattle.sub_rules.specs.Events.{is_short};
@@ -12,8 +12,8 @@ use sub_packets::Taker;
 use sub_rules::{ActiveFaults, CheckFault, Event};
 
 impl<'a> Checker<'a> {
-    /// Reports the events after the end of the last frame and `pes` PES packets: the ends of the
-    /// active faults, and then the last fault. `fault` is the fault that ended reading, if any.
+    /// Reports the events after the end of the last frame and `pes` PES packets: the active faults
+    /// end, and the last fault follows. `fault` is the fault that ended reading.
     pub fn close<A: Taker>(&self, pes: u32, fault: Option<CheckFault>, taker: &mut A)
         ensures { Reports A.is_reported taker.old taker.new
             (closing_now pes fault self.now) }
@@ -31,7 +31,7 @@ impl<'a> Checker<'a> {
         is_reported || !self.active_faults.has_none()
     }
 
-    // Returns the fault that is reported last, after `pes` PES packets.
+    // Returns the last fault to report, after `pes` PES packets.
     fn last_fault(&self, pes: u32, fault: Option<CheckFault>) -> Option<CheckFault>
         ensures { result ≡ last_fault pes fault self.now }
     {
@@ -51,8 +51,8 @@ impl<'a> Checker<'a> {
         }
     }
 
-    // Returns whether the page was wrong at the end of the last frame, but still had time to become
-    // correct in a frame that the file does not contain.
+    // Returns whether the page is wrong at the end of the last frame but not yet overdue: it could
+    // have become correct in a later frame.
     fn is_pending(&self) -> bool
         ensures { result ≡ is_pending_now self.now }
     {

@@ -1,4 +1,4 @@
-//! Since which frame the page has been wrong, and whether the page is overdue.
+//! Determines from which frame on the page has been wrong, and whether it is overdue.
 ghost use Rattle.std.specs.Prelude.{◌≡◌, ◌<◌};
 ghost use Rattle.stl_file.specs.TimeCode.{day};
 ghost use Rattle.sub_rules.specs.Events.{is_missed, unfinished_from};
@@ -6,8 +6,8 @@ ghost use Rattle.sub_checker.specs.Checker.{is_overdue_at};
 
 use stl_rows::Programme;
 
-/// Returns the first frame of the run of frames with a wrong page that ends at `frame`.
-/// `first_unfinished` is the result for the end of the frame before.
+/// Returns the first frame of the run of frames with an unfinished page, up to `frame`.
+/// `first_unfinished` is the result for the frame before.
 pub(crate) fn unfinished_from(
     first_unfinished: Option<u32>,
     unfinished: bool,
@@ -22,9 +22,8 @@ pub(crate) fn unfinished_from(
     }
 }
 
-/// Returns whether the page should have been correct by the end of `frame`: `within` frames have
-/// passed since `first_unfinished`, from which on it has been wrong, or a subtitle has ended that
-/// was never shown correctly.
+/// Returns whether the page is overdue at the end of `frame`: it has been unfinished for more than
+/// `within` frames, or a subtitle ends that was never shown correctly.
 pub(crate) fn is_overdue(
     programme: &Programme,
     within: u32,
@@ -42,8 +41,8 @@ pub(crate) fn is_overdue(
         || is_missed(programme.tci_of_ending(frame + 1), first, first_unfinished)
 }
 
-// Returns whether the page was wrong at the end of each frame of the subtitle that ends, whose TCI
-// is `tci`.
+// Returns whether the page was unfinished in all frames of the subtitle that ends. `tci` is its
+// first frame.
 fn is_missed(tci: Option<u32>, first: u32, first_unfinished: u32) -> bool
     ensures { result ≡ is_missed tci first first_unfinished }
 {

@@ -1,8 +1,7 @@
-//! The exact checker: reports everything that is broken in a PES file, one PES packet at a time.
+//! Checks a PES file, one PES packet at a time, and reports each broken rule.
 //!
-//! `sub_rules` defines the rules. `sub_packets` reports the rules that packets break, and stores
-//! the page that the packets transmit. `sub_check` defines what the events mean for acceptance and
-//! for receivers.
+//! `sub_rules` defines the rules. `sub_packets` checks the Teletext packets, and stores the page
+//! that they show. `sub_check` states what the reports mean for acceptance and for receivers.
 //!
 //! ```text
 //! report_pes_packets(&Judging::known(&programme), &mut source, &options, &mut audience)?;

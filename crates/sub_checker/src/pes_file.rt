@@ -1,4 +1,4 @@
-//! Reports everything that is broken in a PES file, and reads on after skipped PES packets.
+//! Checks a PES file, and reads on after skipped PES packets.
 ghost use Rattle.std.specs.Prelude.{◌≡◌, ℕ, ◌+◌, ◌<◌, ◌≤◌, [], ◌∷◌, Err, IfErr, IfOk, List};
 ghost use Rattle.std.specs.Prelude.{false, is_none, true};
 ghost use Rattle.sub_io.specs.Device.{CanFail, CountsIf, failed};
@@ -35,18 +35,18 @@ use sub_plan::Options;
 use sub_rules::{CheckFault, Event, NextPesPacket, Sending, next_pes_packet, units_of};
 use ttx_pes::{ComparingReader, PesFault, PesPackets};
 
-/// Reports everything that is broken in a PES file to `audience`, one PES packet at a time, and
-/// returns the counts. Returns `None` if the audience stops the check.
+/// Checks a PES file, one PES packet at a time, reports each broken rule to `audience`, and returns
+/// the counts. Returns `None` if `audience` stops the check.
 ///
-/// Reading continues after a skipped packet. If subtitles were refused, the transmission is checked
-/// against the other subtitles.
+/// Reading continues after a skipped packet. If subtitles were rejected, the transmission is
+/// checked against the other subtitles.
 ///
 /// `check_all` of `sub_check` calls this function and documents its events and counts.
 ///
 /// # Errors
 ///
-/// Returns `Pes` with `Read` if the source fails. The events of all packets before the failure have
-/// been reported.
+/// Returns `Pes` with `Read` if the source fails. The events of all packets before the failure were
+/// reported.
 pub fn report_pes_packets<P: PesPackets, A: LiveAudience<Event>>(
     judging: &Judging<'_>,
     source: &mut P,
@@ -67,7 +67,7 @@ pub fn report_pes_packets<P: PesPackets, A: LiveAudience<Event>>(
     ensures only { IfErr result (λ f. is_pes_read f ≡ true) }
     ensures options { IsOptions options.now }
     ensures programme { IsProgramme judging.now.programme.drawing judging.now.programme.records }
-    // If the source fails, every report has been flushed.
+    // If the source fails, all reports have been flushed.
     ensures requested { A.buffered audience.old ≡ 0 → IfErr result (λ _. A.buffered audience.new ≡
         0) }
     ensures device { P.device source.new ≡ P.device source.old }
@@ -115,8 +115,8 @@ pub fn report_pes_packets<P: PesPackets, A: LiveAudience<Event>>(
     }
 }
 
-// Reports one PES packet, and returns whether the packet was skipped. `skipped`: the packet before
-// was skipped.
+// Checks one PES packet, and returns whether it is skipped. `skipped` says whether the packet
+// before was skipped.
 fn report_pes_packet<A: Audience<Event>>(
     pes_packet: NextPesPacket,
     pes: u32,
@@ -156,8 +156,7 @@ fn report_pes_packet<A: Audience<Event>>(
     }
 }
 
-// Clears `again` after a skipped packet, since the last valid packet is not the packet before this
-// one.
+// Clears `again` after a skipped packet, because it compares with the skipped packet.
 fn after_pes_packet(skipped: bool, sending: Sending) -> Sending
     ensures frame { result.frame ≡ sending.frame }
     ensures again { result.again ≡ true → (sending.again ≡ true) × (skipped ≡ false) }

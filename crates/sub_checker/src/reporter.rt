@@ -1,6 +1,5 @@
-//! Relays the checker's events to a device, and adds events for the trusted frames. For a run of
-//! skipped PES packets, relays only the fault of the first packet and up to which packet the run
-//! goes.
+//! Passes the checker's events to a device, and adds the events for trusted frames. Of a run of
+//! skipped PES packets, only the first and the last are reported.
 ghost use Rattle.std.specs.Prelude.{◌≡◌, [], ◌∷◌, ◌++◌};
 ghost use Rattle.sub_io.specs.Reporting.{Reports, first_alone};
 ghost use Rattle.sub_rules.specs.PesPacketEvents.{all_announced, announced, skipped_run_after};
@@ -17,19 +16,19 @@ use sub_io::Audience;
 use sub_packets::Taker;
 use sub_rules::Event;
 
-/// The state of the reporter between two steps of the checker.
+/// The state of the reporter.
 #[derive(Clone, Copy)]
 pub(crate) struct Relay {
-    /// Tracks the frames that may be trusted.
+    /// Tracks which frames are trusted: they have no fault that affects receivers.
     pub tracker: TrustTracker,
     /// The current run of skipped PES packets.
     pub run: SkippedPesPackets,
 }
 
-/// Relays the checker's events to a device.
+/// Passes the checker's events to a device.
 #[derive(Drop)]
 pub(crate) struct Reporter<'a, A: Audience<Event>> {
-    /// The device, guarded against events after it has stopped the check.
+    /// The device, protected from events after it has stopped the check.
     pub fused: FusedAudience<'a, A>,
     /// The trusted frames and the run of skipped PES packets so far.
     pub relay: Relay,
@@ -48,38 +47,38 @@ impl Relay {
 }
 
 impl<A: Audience<Event>> Reporter<'_, A> {
-    /// Sets the number of the PES packet to which the next events belong.
+    /// Sets the number of the current PES packet.
     pub fn go_to(&mut self, pes: u32)
         ensures { self.new ≡ at_step (AtPes pes) self.old }
     {
         self.relay.tracker.go_to(pes);
     }
 
-    /// Notes that the next packets are those of frame `frame`.
+    /// Notes that the next Teletext packets belong to `frame`.
     pub fn begin_frame(&mut self, frame: u32)
         ensures { self.new ≡ at_step (Begins frame) self.old }
     {
         self.relay.tracker.begin_frame(frame);
     }
 
-    /// Sets the first of the frames, up to the frame before, in which the page has been wrong
-    /// without a break.
+    /// Sets the first frame of the run of frames with an unfinished page, up to the frame before.
     pub fn go_back(&mut self, first_unfinished: Option<u32>)
         ensures { self.new ≡ at_step (GoesBack first_unfinished) self.old }
     {
         self.relay.tracker.go_back(first_unfinished);
     }
 
-    /// Notes that the next events belong to the end of a frame. `first_unfinished` is the frame
-    /// from which on the page has been wrong; `is_late`: the page is overdue.
+    /// Notes that the next events belong to the end of `frame`. `first_unfinished` is the first
+    /// frame of the run of frames with an unfinished page; `is_late` says whether the page is
+    /// overdue.
     pub fn at_end(&mut self, frame: u32, first_unfinished: Option<u32>, is_late: bool)
         ensures { self.new ≡ at_step (AtEnd frame first_unfinished is_late) self.old }
     {
         self.relay.tracker.at_end(frame, first_unfinished, is_late);
     }
 
-    /// Ends a frame of PES packets. `has_beginning`: the frame has a header of the page with which
-    /// a run of trusted frames can begin. `none_active`: no fault is active.
+    /// Ends a frame with PES packets. `has_beginning` says whether it has a header with which
+    /// trusted frames can begin; `none_active` says whether no fault is active.
     pub fn end_frame(&mut self, frame: u32, has_beginning: bool, none_active: bool)
         ensures { self.new ≡ at_step (Ends frame has_beginning none_active) self.old }
     {
@@ -88,8 +87,8 @@ impl<A: Audience<Event>> Reporter<'_, A> {
             .end_frame(frame, has_beginning, none_active);
     }
 
-    /// Reports the trusted frames of the last run, if anything was or will be reported. The last
-    /// frame is not trusted if unread bytes follow it.
+    /// Reports the trusted frames of the last run, if anything else is reported. The last frame is
+    /// not trusted if unread bytes follow it.
     pub fn close(&mut self, are_left: bool, reports_more: bool)
         ensures { ReporterRelays A.is_reported self.old (Closes are_left reports_more ∷ [])
             self.new }
@@ -98,8 +97,8 @@ impl<A: Audience<Event>> Reporter<'_, A> {
         announce_some(last, &mut self.relay.run, &mut self.fused);
     }
 
-    /// Relays an event to the device. If the event ends a run of trusted frames, reports these
-    /// frames first.
+    /// Passes an event to the device. If it ends a run of trusted frames, reports these frames
+    /// first.
     pub fn relay(&mut self, event: Event)
         ensures { ReporterRelays A.is_reported self.old (Emits event ∷ []) self.new }
     {
@@ -113,14 +112,13 @@ impl<A: Audience<Event>> Reporter<'_, A> {
 impl<A: Audience<Event>> Taker for Reporter<'_, A> {
     ghost is_reported = { IsRelayed A.is_reported };
 
-    /// Relays the event. Only the first and the last packet of a run of skipped packets are
-    /// reported.
+    /// Reports the event. Of a run of skipped packets, only the first and the last are reported.
     fn report(&mut self, event: Event) {
         self.relay(event);
     }
 }
 
-// Relays an event, if it is not `None`, to `taker`.
+// Reports an event, if it is not `None`.
 #[rattlefmt::skip]
 #[tactic(auto, unfolding(
     sub_rules::specs::PesPacketEvents::all_announced,
@@ -136,8 +134,8 @@ fn announce_some<T: Taker>(event: Option<Event>, run: &mut SkippedPesPackets, ta
     }
 }
 
-// Relays an event to `taker`. If the event ends a run of skipped PES packets, reports first up to
-// which packet the run goes.
+// Reports an event. If it ends a run of skipped PES packets, reports the last packet of the run
+// first.
 #[tactic(auto, unfolding(sub_rules::specs::PesPacketEvents::announced))]
 fn announce<T: Taker>(event: Event, run: &mut SkippedPesPackets, taker: &mut T)
     ensures reported { Reports T.is_reported taker.old taker.new (announced (as_run run.old)
@@ -152,7 +150,7 @@ fn announce<T: Taker>(event: Event, run: &mut SkippedPesPackets, taker: &mut T)
     report_after(before.ended(), event, taker);
 }
 
-// Relays two events, the first of which is optional.
+// Reports an optional event, and then another event.
 #[tactic(auto, using(sub_io::proofs::ReportingLemmas::tellings))]
 fn report_after<T: Taker>(first: Option<Event>, event: Event, taker: &mut T)
     ensures { Reports T.is_reported taker.old taker.new (first_alone first ++ event ∷ []) }

@@ -1,4 +1,4 @@
-//! Reports which rules for the end of a frame became broken or are no longer broken.
+//! Reports the changes of the active faults at the end of a frame.
 ghost use Rattle.std.specs.Prelude.{◌≡◌, ◌==◌, ◌&&◌, ℕ};
 ghost use Rattle.sub_io.specs.Reporting.{Reports};
 ghost use Rattle.sub_rules.specs.Events.{broken_at, end_events, end_fault, end_rules, rule_events};
@@ -6,7 +6,7 @@ ghost use Rattle.sub_rules.specs.Events.{broken_at, end_events, end_fault, end_r
 use sub_packets::{Taker, report_if};
 use sub_rules::{ActiveFaults, CheckFault, EndRule, Event};
 
-// The rules for the end of a frame, in the order of their reports.
+// The rules that are checked at the end of a frame, in the order of their reports.
 const RULES: [EndRule; 5] = [
     EndRule::Content,
     EndRule::Gap,
@@ -15,8 +15,8 @@ const RULES: [EndRule; 5] = [
     EndRule::Silent,
 ];
 
-/// Reports the changes from the active faults `old` at the end of frame `before` to the active
-/// faults `new` at the end of `frame`, rule by rule.
+/// Reports the changes from `old`, the active faults at the end of frame `before`, to `new`, those
+/// at the end of `frame`.
 #[inline(never)]
 pub(crate) fn report_change<A: Taker>(
     old: &ActiveFaults,
@@ -33,7 +33,7 @@ pub(crate) fn report_change<A: Taker>(
     }
 }
 
-// Reports whether one rule became broken or is no longer broken.
+// Reports whether a fault of this rule became active or ended.
 fn report_of<A: Taker>(
     rule: EndRule,
     old: &ActiveFaults,
@@ -48,7 +48,7 @@ fn report_of<A: Taker>(
     report_rule(rule, old.at(rule), before, new.at(rule), frame, taker)
 }
 
-// Reports that a rule is no longer broken, or that the rule is broken now or at another cell.
+// Reports that a fault ended, became active, or is now at another cell.
 #[tactic(auto, using(sub_io::proofs::ReportingLemmas::tellings))]
 fn report_rule<A: Taker>(
     rule: EndRule,
@@ -81,7 +81,7 @@ fn report_rule<A: Taker>(
     taker.report(reported);
 }
 
-// Returns the fault that reports that `rule` is broken at `cell`.
+// Returns the fault for a broken rule, with the wrong cell.
 fn fault_of(rule: EndRule, frame: u32, cell: (u8, u8)) -> CheckFault
     ensures { result ≡ end_fault rule frame cell }
 {

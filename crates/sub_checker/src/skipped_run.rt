@@ -1,4 +1,4 @@
-//! Runs of consecutive skipped PES packets whose faults have the same number.
+//! Runs of consecutive PES packets that are skipped because of the same fault.
 ghost use Rattle.std.specs.Prelude.{◌≡◌};
 ghost use Rattle.sub_io.specs.Reporting.{first_alone};
 ghost use Rattle.sub_rules.specs.PesPacketEvents.{ended_run, continues, continues_after, is_after};
@@ -8,11 +8,10 @@ ghost use Rattle.sub_checker.specs.SkippedPesPackets.{as_run, kept_run};
 
 use sub_rules::{CheckFault, Event, FaultPlace};
 
-/// The current run of consecutive skipped PES packets whose faults have the same number.
+/// The current run of consecutive PES packets that are skipped because of the same fault.
 #[derive(Clone, Copy)]
 pub(crate) struct SkippedPesPackets {
-    /// The fault of the last packet of the run; `None` if there is no run, or if another event came
-    /// after its last packet.
+    /// The fault of the last packet of the run; `None` if there is no current run.
     pub last: Option<CheckFault>,
     /// Whether the run has more than one packet.
     pub many: bool,
@@ -58,8 +57,8 @@ impl SkippedPesPackets {
         }
     }
 
-    /// Returns the event that reports up to which PES packet the run goes, if the run has more than
-    /// one packet.
+    /// Returns the event that reports the last packet of the run; `None` if the run has only one
+    /// packet.
     pub fn ended(&self) -> Option<Event>
         ensures { first_alone result ≡ ended_run (as_run self.now) }
     {
@@ -70,8 +69,8 @@ impl SkippedPesPackets {
     }
 }
 
-// Returns whether `fault` reports a skipped PES packet directly after the packet of `last`, with
-// the same fault number; `false` if there was no such packet.
+// Returns whether `fault` belongs to the PES packet right after the packet of `last` and has the
+// same number; `false` if `last` is `None`.
 fn follows(last: &Option<CheckFault>, fault: &CheckFault) -> bool
     ensures { result ≡ continues_after last.now fault.now }
 {
@@ -81,7 +80,7 @@ fn follows(last: &Option<CheckFault>, fault: &CheckFault) -> bool
     }
 }
 
-// Returns whether `fault` continues the run of skipped PES packets that ends with `last`.
+// Returns whether `fault` continues the run of skipped PES packets whose last fault is `last`.
 #[tactic(auto, unfolding(sub_rules::specs::PesPacketEvents::continues))]
 fn continues(last: &CheckFault, fault: &CheckFault) -> bool
     ensures { result ≡ continues last.now fault.now }
@@ -90,7 +89,7 @@ fn continues(last: &CheckFault, fault: &CheckFault) -> bool
     row.is_skipped && is_after(before.place, row.place) && row.code.number() == before.code.number()
 }
 
-// Returns whether `place` is the PES packet directly after `last`.
+// Returns whether `place` is the PES packet right after the packet at `last`.
 fn is_after(last: FaultPlace, place: FaultPlace) -> bool
     ensures { result ≡ is_after last place }
 {

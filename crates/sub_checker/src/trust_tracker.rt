@@ -1,4 +1,4 @@
-//! Tracks, step by step, the frames that may be trusted to be correct on air.
+//! Tracks which frames are trusted: frames that can be broadcast again unchanged.
 ghost use Rattle.std.specs.Prelude.{◌≡◌, ◌≤◌, ◌&&◌, is_some};
 ghost use Rattle.sub_io.specs.Reporting.{first_alone};
 ghost use Rattle.sub_rules.specs.Trusted.{at_pes, trusted};
@@ -10,30 +10,29 @@ ghost use Rattle.sub_checker.specs.TrustTracker.{trusted_before};
 
 use sub_rules::{CheckFault, Event};
 
-/// The frames that may be trusted to be correct on air.
+/// Tracks which frames are trusted: frames that can be broadcast again unchanged.
 #[derive(Clone, Copy)]
 pub(crate) struct TrustTracker {
-    /// The number of the current PES packet of the file; the checker itself counts only valid
-    /// packets.
+    /// The number of the current PES packet. It counts skipped packets too; the checker counts only
+    /// valid ones.
     pub pes: u32,
-    /// The frame of the header of the page with which the current run of clean frames began.
+    /// The frame of the header with which the current run of trusted frames began, if there is one.
     pub run: Option<u32>,
     /// The first frame of the current run at whose end the page was correct.
     pub whole: Option<u32>,
     /// The frame of the last PES packet; 0 before the first packet.
     pub last: u32,
-    /// Whether the frames of the PES packets have been in increasing order so far.
+    /// Whether frame numbers have increased so far.
     pub rises: bool,
-    /// Whether the frames have been in increasing order, and no packet of the current frame broke a
-    /// rule that receivers depend on.
+    /// Whether frame numbers have increased, and no packet of the current frame has a fault that
+    /// affects receivers.
     pub is_clean: bool,
-    /// The first frame from which on the page has been wrong up to the last end, if `within` is not
-    /// 0.
+    /// The first frame of the current run of frames with an unfinished page, if `within` is not 0.
     pub first_unfinished: Option<u32>,
-    /// Whether the page is overdue at the last end.
+    /// Whether the page is overdue.
     pub is_late: bool,
-    /// The first of the frames, up to the frame before, in which the page has been wrong, if these
-    /// frames are never trusted, however the run ends.
+    /// The first frame of the run of frames with an unfinished page, up to the frame before, if
+    /// these frames are not trusted however the run ends.
     pub back: Option<u32>,
     /// Whether anything was reported.
     pub reported: bool,
@@ -58,7 +57,7 @@ impl TrustTracker {
         }
     }
 
-    /// Sets the number of the PES packet to which the next events belong.
+    /// Sets the number of the current PES packet.
     #[inline(always)]
     #[tactic(auto, unfolding(crate::specs::TrustTracker::after_step))]
     pub fn go_to(&mut self, pes: u32)
@@ -67,7 +66,7 @@ impl TrustTracker {
         self.pes = pes;
     }
 
-    /// Notes that the next packets are those of frame `frame`.
+    /// Notes that the next Teletext packets belong to `frame`.
     #[inline(always)]
     #[tactic(auto, unfolding(crate::specs::TrustTracker::after_step))]
     pub fn begin_frame(&mut self, frame: u32)
@@ -77,8 +76,7 @@ impl TrustTracker {
         self.is_clean = self.rises;
     }
 
-    /// Sets the first of the frames, up to the frame before, in which the page has been wrong
-    /// without a break.
+    /// Sets the first frame of the run of frames with an unfinished page, up to the frame before.
     #[tactic(auto, unfolding(crate::specs::TrustTracker::after_step))]
     pub fn go_back(&mut self, first_unfinished: Option<u32>)
         ensures { self.new ≡ after_step (GoesBack first_unfinished) self.old }
@@ -86,8 +84,9 @@ impl TrustTracker {
         self.back = first_unfinished;
     }
 
-    /// Notes that the next events belong to the end of a frame. `first_unfinished` is the frame
-    /// from which on the page has been wrong; `is_late`: the page is overdue.
+    /// Notes that the next events belong to the end of `frame`. `first_unfinished` is the first
+    /// frame of the run of frames with an unfinished page; `is_late` says whether the page is
+    /// overdue.
     #[tactic(auto, unfolding(crate::specs::TrustTracker::after_step))]
     pub fn at_end(&mut self, frame: u32, first_unfinished: Option<u32>, is_late: bool)
         ensures { self.new ≡ after_step (AtEnd frame first_unfinished is_late) self.old }
@@ -99,8 +98,8 @@ impl TrustTracker {
         }
     }
 
-    /// Ends a frame of PES packets. `has_beginning`: the frame has a header of the page with which
-    /// a run of trusted frames can begin. `none_active`: no fault is active.
+    /// Ends a frame with PES packets. `has_beginning` says whether it has a header with which
+    /// trusted frames can begin; `none_active` says whether no fault is active.
     #[inline(always)]
     #[tactic(auto, unfolding(crate::specs::TrustTracker::after_step))]
     pub fn end_frame(&mut self, frame: u32, has_beginning: bool, none_active: bool)
@@ -112,8 +111,8 @@ impl TrustTracker {
         self.end_another(frame, has_beginning, none_active);
     }
 
-    // Returns whether the run of trusted frames continues with a correct page, and no packet of the
-    // current frame broke a rule that receivers depend on.
+    // Returns whether the run of trusted frames continues with a correct page and a frame without
+    // faults.
     #[inline(always)]
     fn stays_correct(&self) -> bool
         ensures { result
@@ -122,7 +121,7 @@ impl TrustTracker {
         self.run.is_some() && self.whole.is_some() && self.is_clean
     }
 
-    // Ends a frame after which the state of the tracker may change.
+    // Ends a frame that may change the run of trusted frames.
     #[inline(never)]
     #[tactic(auto, unfolding(crate::specs::TrustTracker::after_step))]
     fn end_another(&mut self, frame: u32, has_beginning: bool, none_active: bool)
@@ -137,8 +136,8 @@ impl TrustTracker {
         }
     }
 
-    /// Takes an event, and returns the trusted frames of the run that the event ends, which have to
-    /// be reported before the event.
+    /// Notes an event, and returns the trusted frames that it ends, which must be reported before
+    /// it.
     #[tactic(auto, unfolding(crate::specs::TrustTracker::after_step))]
     pub fn say(&mut self, event: &Event) -> Option<Event>
         ensures before { first_alone result
@@ -167,9 +166,9 @@ impl TrustTracker {
         }
     }
 
-    /// Ends the file, and returns the trusted frames of the last run, if anything was or will be
-    /// reported. The last frame is not trusted if unread bytes follow it, nor are the last frames
-    /// if the page is wrong at their ends.
+    /// Ends the file, and returns the trusted frames of the last run, if anything else is reported.
+    /// The last frame is not trusted if unread bytes follow it; nor are the last frames with a
+    /// wrong page.
     #[tactic(auto, unfolding(crate::specs::TrustTracker::after_step))]
     pub fn close(&mut self, are_left: bool, reports_more: bool) -> Option<Event>
         ensures reported { first_alone result ≡ reported_with (Closes are_left reports_more)
@@ -202,8 +201,8 @@ impl TrustTracker {
         }
     }
 
-    /// Returns the event with the number of the current PES packet of the file in place of the
-    /// checker's count.
+    /// Returns the event with the number of the current PES packet, which counts skipped packets
+    /// too.
     #[tactic(auto, unfolding(sub_rules::specs::Trusted::at_pes))]
     pub fn at_pes(&self, event: Event) -> Event
         ensures { result ≡ at_pes self.now.pes event }
@@ -215,7 +214,8 @@ impl TrustTracker {
     }
 }
 
-// Returns the first frame of the run at whose end the page was correct; `frame` is part of the run.
+// Returns the first frame of the run at whose end the page was correct, after one more frame of the
+// run.
 fn first_correct(whole: Option<u32>, first_unfinished: Option<u32>, frame: u32) -> Option<u32>
     ensures { result ≡ first_correct whole first_unfinished frame }
 {
@@ -229,8 +229,7 @@ fn first_correct(whole: Option<u32>, first_unfinished: Option<u32>, frame: u32) 
     }
 }
 
-// Returns the event for the trusted frames of the run before `frame`; `None` if no frame is
-// trusted.
+// Returns the event for the trusted frames of the run before `frame`; `None` if there are none.
 fn trusted(run: Option<u32>, whole: Option<u32>, frame: u64) -> Option<Event>
     requires { frame ≤ 0x1_0000_0000 }
     ensures { first_alone result ≡ trusted run whole frame }
@@ -245,8 +244,8 @@ fn trusted(run: Option<u32>, whole: Option<u32>, frame: u64) -> Option<Event>
     }
 }
 
-// Returns the first frame that is no longer trusted once the event is reported. `last` is the frame
-// of the last PES packet; `late` is the frame from which on an overdue page has been wrong.
+// Returns the first frame that is no longer trusted because of the event. `last` is the frame of
+// the last PES packet; `late` is the first frame with a wrong page, if the page is overdue.
 #[tactic(auto, unfolding(crate::specs::TrustTracker::invalidated))]
 fn invalidated(last: u32, late: Option<u32>, event: &Event) -> Option<u32>
     ensures { result ≡ invalidated last late event.now }
@@ -257,7 +256,7 @@ fn invalidated(last: u32, late: Option<u32>, event: &Event) -> Option<u32>
     }
 }
 
-// Returns whether the event reports that the frames are not in increasing order.
+// Returns whether the event reports that frame numbers do not increase.
 #[tactic(auto, unfolding(crate::specs::TrustTracker::is_order))]
 fn is_order(event: &Event) -> bool
     ensures { result ≡ is_order event.now }

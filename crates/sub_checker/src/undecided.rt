@@ -1,4 +1,4 @@
-//! From which frame on the expected page is known, and has been known for the last `within` frames.
+//! Determines from which frame on the expected page is known.
 ghost use Rattle.std.specs.Prelude.{◌≡◌, ℕ, ◌+◌, ◌<◌, ◌≤◌, MatchOption, Option};
 ghost use Rattle.std.specs.Prelude.{false, true};
 ghost use Rattle.stl_rows.specs.DuePage.{ReportsNextEdge};
@@ -8,10 +8,10 @@ ghost use Rattle.sub_checker.specs.Checker.{IsKnownFrom};
 
 use stl_rows::Judging;
 
-/// Returns the first frame, up to the next change of the expected page, at which the expected page
-/// is known and was known at the `within` frames before (from `first` on). Returns a number above
-/// all frames if the expected page is unknown at `frame`, and 0 if the expected page was known all
-/// the time.
+/// Returns the first frame, before the next change of the expected page, whose expected page and
+/// those of the `within` frames before it are known. Frames before `first` do not count. Returns 0
+/// if no expected page was unknown, and a number above all frames if the expected page of `frame`
+/// is unknown.
 pub(crate) fn first_known_from(
     judging: &Judging<'_>,
     any_refused: bool,
@@ -46,8 +46,8 @@ fn earliest(first: u32, frame: u32, within: u32) -> u32
     if from < first { first } else { from }
 }
 
-// Returns the last frame from `least` on and before `frame` at which the expected page is unknown.
-// The expected page is known at `frame`.
+// Returns the last frame before `frame`, from `least` on, whose expected page is unknown. The
+// expected page of `frame` is known.
 fn last_undecided(judging: &Judging<'_>, frame: u32, least: u32) -> Option<u32>
     requires known { is_undecided_in judging.now frame ≡ false }
     ensures { MatchOption result
@@ -65,8 +65,8 @@ fn last_undecided(judging: &Judging<'_>, frame: u32, least: u32) -> Option<u32>
     None
 }
 
-// Returns the last frame before `at` at which it may differ from `at` whether the expected page is
-// known; `None` if that frame is earlier than `least`.
+// Returns the last frame before `at` with another expected page; `None` if that frame is before
+// `least`.
 fn frame_before(judging: &Judging<'_>, at: u32, least: u32) -> Option<u32>
     ensures { MatchOption result
         ((f : ℕ) → least ≤ f → f ≤ at
