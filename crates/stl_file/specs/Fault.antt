@@ -7,7 +7,7 @@ use Rattle.stl_file.specs.declared.fault.StlFault.TheVariants as fault
 use Rattle.stl_file.specs.declared.fault.NormalFault.{NormalFault}
 use Rattle.stl_file.specs.declared.fault.NormalFault.TheVariants.{Refused, Write}
 
--- The number and the name of a fault of reading a subtitle file (own).
+-- The number and the name of a fault of reading a subtitle file.
 abbrev pub stl_code : StlFault → FaultCodeValue
 stl_code fault.Truncated = fault_code 10 (codes "Truncated")
 stl_code fault.Format = fault_code 11 (codes "Format")
@@ -28,7 +28,7 @@ stl_code fault.TooManyBlocks = fault_code 25 (codes "TooManyBlocks")
 stl_code fault.Read = fault_code 26 (codes "Read")
 stl_code fault.Ended = fault_code 27 (codes "Ended")
 
--- The number and the name of an error of writing a normal form (own).
+-- The number and the name of an error of writing a normal form.
 abbrev pub normal_code : NormalFault → FaultCodeValue
 normal_code (Refused fault block) = stl_code fault
 normal_code Write = fault_code 29 (codes "Write")

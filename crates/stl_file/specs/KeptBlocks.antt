@@ -11,9 +11,9 @@ use Rattle.stl_file.specs.SubtitleBlocks.{IsBlock}
 use Rattle.stl_file.specs.TimeCode.{day}
 use Rattle.stl_file.specs.Tti.{ebn, is_skipped_block, last_block}
 
--- The block b, which is neither comment nor user data, is kept. A first block of a subtitle is kept
--- if it is not outside the scope, a later block if the first block was kept. `within` is `None`
--- before a first block, and otherwise whether the first block was kept.
+-- The block b is neither a comment nor user data, and is not removed. The first block of a subtitle
+-- is not removed if it is not outside the scope, a later block if the first block was not removed.
+-- `within` is `None` before a first block, and otherwise whether the first block was not removed.
 abbrev pub stays : Scope → Option Bool → List ℕ → Bool
 stays scope None b = not (begins_outside scope b)
 stays scope (Some stayed) b = stayed
@@ -23,8 +23,8 @@ abbrev pub within_after : Scope → Option Bool → List ℕ → Option Bool
 within_after scope within b =
     if ebn b == last_block then None else Some (stays scope within b)
 
--- The blocks of a file without those of subtitles outside the scope. Comments and user data are
--- kept.
+-- The blocks of a file without those of subtitles outside the scope. Comments and user data are not
+-- removed.
 abbrev pub kept_blocks : Scope → Option Bool → List (List ℕ) → List (List ℕ)
 kept_blocks scope within [] = []
 kept_blocks scope within (b ∷ bs) =
@@ -51,9 +51,9 @@ unnumbered (breaks f block) = breaks f 0
 unnumbered (finds s block more) = finds s 0 (unnumbered more)
 unnumbered (refuses f block more) = refuses f 0 (unnumbered more)
 
--- Reading a file within a scope gives the same as reading, for the whole day, the file without the
--- blocks of the subtitles outside the scope. So a part of a file can be checked without cutting it
--- out.
+-- Reading a file within a scope gives the same results as reading, for the whole day, the file
+-- without the blocks of the subtitles outside the scope. So a part of a file can be checked without
+-- cutting it out.
 abbrev pub LawOfScope : Type 0
 LawOfScope =
     (scope : Scope) (gsi : List ℕ) (blocks : List (List ℕ))

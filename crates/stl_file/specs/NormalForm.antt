@@ -1,5 +1,5 @@
--- The normal form of a subtitle file (own): its GSI block with the counts of blocks and subtitles,
--- and each subtitle in the fewest blocks, without comments and user data.
+-- The normal form of a subtitle file: its GSI block with the counts of blocks and subtitles, and
+-- each subtitle in the fewest blocks, without comments and user data.
 use Rattle.std.specs.Prelude.{◌≡◌, ℕ, zero, suc, ◌-◌, ◌+◌, ◌/◌, ◌%◌, List, [], ◌∷◌, ◌++◌, length}
 use Rattle.std.specs.Prelude.{take, drop, replicate, Option, Result, Ok, Err}
 use Rattle.std.specs.List.{flat_map, concat}

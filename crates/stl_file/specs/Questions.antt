@@ -1,4 +1,5 @@
--- Checks of the bytes of a subtitle file, one after another (the order is (own)).
+-- Checks of the bytes of a subtitle file, one after another. EBU Tech 3264 defines no order of
+-- checks.
 use Rattle.std.specs.Prelude.{Bool, if◌then◌else◌, List, [], ◌∷◌, Result, Err}
 use Rattle.stl_file.specs.declared.fault.StlFault.{StlFault}
 

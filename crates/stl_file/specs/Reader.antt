@@ -86,7 +86,7 @@ abbrev pub block_by : ℕ → Result (Option SubtitleValue) StlFault → ℕ
 block_by block (Err f) = block_after block f
 block_by block (Ok found) = block
 
--- If the bytes end with a complete block, then the last block is neither user data nor a comment.
+-- If the bytes end with a complete block, that block is neither user data nor a comment.
 abbrev pub LastIsKept : List ℕ → Type 0
 LastIsKept bytes =
     (prefix last : List ℕ) → bytes ≡ prefix ++ last → IsBlock last → is_kept last ≡ true

@@ -1,8 +1,5 @@
 -- Reading TTI blocks in order: a reader skips subtitles outside the scope, and either continues
 -- after a rejected subtitle or stops at the first fault.
---
--- The suffix `_at` means: the value read at the front of these bytes, or the first fault in the
--- order of the lines below.
 use Rattle.std.specs.Prelude.{ℕ, zero, suc, ◌+◌, ◌-◌, ◌*◌, ◌≤◌, Bool, true, false, not, ◌==◌, ◌&&◌}
 use Rattle.std.specs.Prelude.{nat_lt, nat_le, List, [], ◌∷◌, ◌++◌, length, take, drop}
 use Rattle.std.specs.Prelude.{if◌then◌else◌, Option, Some, None, Result, Ok, Err}
@@ -135,7 +132,7 @@ step_at scope begun b =
 -- Five faults concern fields of a subtitle's first block: CS, JC, VP, TCI and TCO. After such a
 -- fault it is still known which blocks belong to the subtitle: the first block and the next blocks
 -- up to the first with EBN FF, without comments and user data. So the subtitle is rejected, and
--- reading can continue after its blocks, in which all other faults are still reported (own).
+-- reading can continue after its blocks, in which all other faults are still reported.
 
 -- The results for the rest of a file, in order: each subtitle with the number of its last block,
 -- each rejected subtitle with its fault and the number of its first block; then the end of the

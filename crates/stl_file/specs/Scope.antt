@@ -1,4 +1,5 @@
--- The accepted subtitle files, by their display, and the subtitles to read, by their TCI (own).
+-- The accepted subtitle files, by their display standard code, and the subtitles to read, by their
+-- TCI.
 use Rattle.std.specs.Prelude.{ℕ, Bool, false, not, ◌&&◌, nat_le, nat_lt, List, [], ◌∷◌}
 use Rattle.stl_file.specs.declared.scope.Scope.{Scope}
 use Rattle.stl_file.specs.TimeCode.{day, frame_in, is_time}

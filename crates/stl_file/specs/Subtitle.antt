@@ -6,12 +6,12 @@ use Rattle.stl_file.specs.Tti.{unused_space}
 
 -- A subtitle (EBU Tech 3264, TTI block):
 --
---   sgn       subtitle group number, one byte
---   sn        subtitle number, two bytes
---   tci, tco  time code in and out, as frames of the day
---   vp        vertical position: the row of the first line
---   jc        justification code
---   text      the text of all blocks of the subtitle, in the code of the file's CCT
+--   sgn subtitle group number, one byte
+--   sn subtitle number, two bytes
+--   tci, tco time code in and out, as frames of the day
+--   vp vertical position: the row of the first line
+--   jc justification code
+--   text the text of all blocks of the subtitle, in the code of the file's CCT
 pub record SubtitleValue : Type 0 where
   pub sgn : ℕ
   pub sn : ℕ
@@ -21,7 +21,7 @@ pub record SubtitleValue : Type 0 where
   pub jc : ℕ
   pub text : List ℕ
 
--- A subtitle without text: row 1, frame 0 of the day (own).
+-- A subtitle without text, in row 1 at frame 0 of the day.
 abbrev pub empty_subtitle : SubtitleValue
 empty_subtitle = record { sgn = 0; sn = 0; tci = 0; tco = 1; vp = 1; jc = 0; text = [] }
 

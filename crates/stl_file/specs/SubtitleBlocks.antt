@@ -1,5 +1,5 @@
--- The blocks of a subtitle, and the blocks of a file, as relations that define a file, independent
--- of how it is read (EBU Tech 3264, TTI blocks; the rules on one subtitle's blocks are (own)).
+-- The definition of the blocks of a subtitle and of a file, independent of any reader (EBU Tech
+-- 3264, TTI blocks). The rules for the blocks of one subtitle are this project's choice.
 use Rattle.std.specs.Prelude.{◌≡◌, ℕ, ◌<◌, ◌≤◌, true, List, [], ◌∷◌, length, filter}
 use Rattle.std.specs.List.{flat_map, AllByRecursion, AllZip}
 use Rattle.stl_file.specs.TimeCode.{frame_in, is_time}
@@ -28,15 +28,15 @@ pub record BelongsTo (sgn_is sn_is : ℕ) (b : List ℕ) : Type 0 where
   pub same_sn : sn b ≡ sn_is
 
 -- The blocks are those of one subtitle: all have the same SGN and SN; EBN is FF in the last block,
--- and 00 to EF in the others. The order of extension block numbers is not checked (own).
+-- and 00 to EF in the others. The order of extension block numbers is not checked.
 abbrev pub AreLinked : ℕ → ℕ → List (List ℕ) → Type 0
 AreLinked sgn_is sn_is [] = ⊥
 AreLinked sgn_is sn_is (b ∷ []) = BelongsTo sgn_is sn_is b × (ebn b ≡ last_block)
 AreLinked sgn_is sn_is (b ∷ c ∷ bs) =
     BelongsTo sgn_is sn_is b × (ebn b < first_reserved) × AreLinked sgn_is sn_is (c ∷ bs)
 
--- The block b is a first block of the subtitle s: it has the fields of s. The text is compared
--- elsewhere, since s also has the text of later blocks.
+-- The block b is a first block of the subtitle s: it has the fields of s. The text is not compared,
+-- since s also has the text of later blocks.
 pub record Begins (s : SubtitleValue) (b : List ℕ) : Type 0 where
   pub cumulative : cs b ≡ not_cumulative
   pub sgn_is : sgn b ≡ s.sgn

@@ -13,7 +13,7 @@ pub enum StlFault {
     Truncated,
     /// Fault code 11: DFC is neither `STL25.01` nor `STL30.01`.
     Format,
-    /// Fault code 12: DFC is `STL30.01`; 30 frames per second are not supported (own).
+    /// Fault code 12: DFC is `STL30.01`; 30 frames per second are not supported.
     Rate,
     /// Fault code 13: DSC is not `1` or `2`, Teletext of level 1 or 2. If open subtitles are
     /// accepted, `0` and a space are allowed too.
@@ -22,8 +22,7 @@ pub enum StlFault {
     Alphabet,
     /// Fault code 15: EBN of a TTI block is F0 to FD, which is reserved.
     Extension,
-    /// Fault code 16: CS of a subtitle's first block is not 0; cumulative sets are not supported
-    /// (own).
+    /// Fault code 16: CS of a subtitle's first block is not 0; cumulative sets are not supported.
     Cumulative,
     /// Fault code 17: CF of a TTI block is neither 0, subtitle, nor 1, comment.
     CommentFlag,
@@ -38,7 +37,7 @@ pub enum StlFault {
     EmptyTime,
     /// Fault code 22: SGN or SN of a later block differs from that of the subtitle's first block.
     Sequence,
-    /// Fault code 23: a subtitle has more than nine blocks (own).
+    /// Fault code 23: a subtitle has more than nine blocks.
     TooLong,
     /// Fault code 24: the file ends within a subtitle, before a block with EBN FF.
     Unfinished,
@@ -53,7 +52,7 @@ pub enum StlFault {
 impl StlFault {
     ghost use Rattle.stl_file.specs.Fault.{is_of_first, stl_code};
 
-    /// Returns the number and the name of the fault for reports (own).
+    /// Returns the number and the name of the fault for reports.
     pub fn code(self) -> FaultCode
         ensures { result ≡ stl_code self }
     {
@@ -120,7 +119,7 @@ pub enum NormalFault {
 impl NormalFault {
     ghost use Rattle.stl_file.specs.Fault.{normal_code};
 
-    /// Returns the number and the name of the error for reports (own).
+    /// Returns the number and the name of the error for reports.
     pub fn code(self) -> FaultCode
         ensures { result ≡ normal_code self }
     {

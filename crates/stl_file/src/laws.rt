@@ -12,7 +12,7 @@ ghost use Rattle.stl_file.specs.declared.scope.Scope.{Scope};
 /// Bytes are a file with certain subtitles if and only if reading these bytes returns exactly these
 /// subtitles and no fault.
 ///
-/// So the definition of a file determines what a reader returns, independent of the way of reading.
+/// So the definition of a file determines the results of every reader.
 pub fn law_of_files()
     ensures { (scope : Scope)
         → (s g : List ℕ)
@@ -21,9 +21,9 @@ pub fn law_of_files()
         ↔ ((g ≡ take 1024 s) × (subtitles_of (stopped (findings_for scope s)) ≡ Ok ts)) }
 {}
 
-/// Reading a file with a scope gives the same as reading, for the whole day, the file without the
-/// blocks of subtitles outside the scope, apart from block numbers. In the scope of the whole day,
-/// no subtitle is outside.
+/// Reading a file with a scope gives the same results as reading, for the whole day, the file
+/// without the blocks of subtitles outside the scope, apart from block numbers. In the scope of the
+/// whole day, no subtitle is outside.
 pub fn law_of_scope()
     ensures part { LawOfScope }
     ensures day { LawOfWholeDay }

@@ -76,8 +76,8 @@ fn judge(gsi: Gsi, body: &[u8]) -> Result<Counts, NormalFault>
     }
 }
 
-// Reads the next subtitle. A subtitle read has at least as many blocks as its normal form, so the
-// counts cannot overflow.
+// Reads the next subtitle. A subtitle in the file has at least as many blocks as its normal form,
+// so the counts cannot overflow.
 fn read_on(
     reader: &mut StlReader,
     source: &mut MemSource,

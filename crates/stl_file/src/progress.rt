@@ -1,6 +1,6 @@
 //! The progress of a reader of subtitle files.
 
-/// The progress of a reader of subtitle files: whether it can read on.
+/// The progress of a reader of subtitle files: whether it can continue.
 #[derive(Clone, Copy, Debug, PartialEq, Eq)]
 pub enum Progress {
     /// The reader is between two subtitles: the next block begins a subtitle or is skipped, or the

@@ -90,7 +90,7 @@ impl StlReader {
         }
     }
 
-    // Creates a reader that continues after the GSI block.
+    // Creates a reader whose next block is the first after the GSI block.
     pub(crate) fn following(gsi: Gsi) -> StlReader
         ensures { result ≡ record { gsi = gsi; block = 0; progress = Reading } }
     {

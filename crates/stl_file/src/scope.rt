@@ -6,7 +6,7 @@ ghost use Rattle.stl_file.specs.Scope.{begins_outside, whole};
 use crate::time_code::TimeCode;
 use crate::tti::Tti;
 
-/// The accepted files, by their display standard code, and the range of subtitles to read (own).
+/// The accepted files, by their display standard code, and the range of subtitles to read.
 ///
 /// If the TCI of a subtitle is a time code outside the range, the subtitle is skipped like a
 /// comment, and the other fields of its first block are not checked. The blocks of a skipped

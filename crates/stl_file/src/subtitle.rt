@@ -158,7 +158,7 @@ impl Subtitle {
     }
 
     /// Creates a subtitle without text, in row 1 at frame 0 of the day, into which a reader can
-    /// read subtitles (own).
+    /// read subtitles.
     pub fn empty() -> Subtitle
         ensures { result ≡ empty_subtitle }
     {

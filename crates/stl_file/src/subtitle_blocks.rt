@@ -1,4 +1,4 @@
-//! The effect of each TTI block on the current subtitle.
+//! Applies TTI blocks to the current subtitle, one after another.
 
 ghost use Rattle.std.specs.Prelude.{◌≡◌, IfErr, OnOk, None, Some, true};
 ghost use Rattle.stl_file.specs.Fault.{is_of_block};
@@ -23,7 +23,7 @@ pub(crate) struct BlocksRead {
 /// Takes the next TTI block of a file. Returns `true` if the block is the last one of a subtitle
 /// that is not skipped.
 ///
-/// The subtitle is modified in place, to avoid moving a kilobyte.
+/// The subtitle is modified in place, since moving it would copy a kilobyte.
 ///
 /// # Errors
 ///

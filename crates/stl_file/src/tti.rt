@@ -47,7 +47,7 @@ impl Tti {
         self.bytes[0]
     }
 
-    /// Returns the TTI field SN, the subtitle number, low byte first (own).
+    /// Returns the TTI field SN, the subtitle number, low byte first.
     pub fn sn(&self) -> u16
         ensures { result ≡ sn self.now }
     {

@@ -1,5 +1,5 @@
--- Lines without a fault: each line fits on the page, and a line that is still being read has at
--- most 40 cells.
+-- Each line without a fault fits on the page, and a line that is still being read has at most 40
+-- cells.
 use Rattle.std.proofs.Common.{◌≡◌, ℕ, zero, suc, ◌+◌, ◌<◌, ◌≤◌, Bool, List, [], ◌∷◌, ◌++◌, length}
 use Rattle.std.proofs.Common.{map, get_or, refl, arith}
 use Rattle.std.proofs.lemmas.Bool.Decides.{nat_tests}

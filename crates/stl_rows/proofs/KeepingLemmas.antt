@@ -187,8 +187,8 @@ abbrev is_followed : Option Times → Findings → Bool
 is_followed None left = true
 is_followed (Some times) left = is_followed_in_order times left
 
--- The reliable subtitles of a file: the kept ones, without the last if the next subtitle starts
--- before its TCI or overlaps, followed by those of the rest.
+-- The reliable subtitles of a file: the kept subtitles, without the last one if the next subtitle
+-- starts before its TCI or overlaps it, followed by the reliable subtitles of the rest.
 abbrev pub judged_on : Drawing → Option Times → KeptRecords → Findings → AllJudged
 judged_on drawing before k left =
     if k.is_latest && not (is_followed before left)

@@ -1,4 +1,4 @@
--- Parsing layouts item by item, and codes pair by pair.
+-- Layouts are parsed item by item, and their codes pair by pair.
 use Rattle.std.proofs.Common.{◌≡◌, ℕ, zero, suc, ◌+◌, ◌<◌, ◌≤◌, Bool, true, false, List, [], ◌∷◌}
 use Rattle.std.proofs.Common.{length, get_or}
 use Rattle.std.proofs.Common.{drop, refl, ap, ◌∙◌, arith, nat_lt, add-one, drop-cons}

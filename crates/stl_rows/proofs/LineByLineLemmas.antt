@@ -1,4 +1,4 @@
--- Reading the lines of a text, one text code at a time, as prepared_lines-cell.
+-- The lines of a text are read one text code at a time.
 use Rattle.std.proofs.Common.{◌≡◌, ℕ, zero, suc, ◌≤◌, List, ◌∷◌, ◌++◌, map, length, drop, refl, []}
 use Rattle.std.proofs.Common.{ap, arith, length-append, ◌∙◌}
 use Rattle.std.proofs.lemmas.Bool.Decides.{nat_tests}

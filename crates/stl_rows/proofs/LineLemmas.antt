@@ -1,5 +1,4 @@
--- The row that shows a line: row_from-put gives its cells, row_small shows that all cells are below
--- 128.
+-- The row that shows a line has the cells of the line and spaces, all below 128.
 use Rattle.std.proofs.Common.{◌≡◌, ℕ, ◌+◌, ◌-◌, ◌<◌, ◌≤◌, List, [], ◌∷◌, ◌++◌, length, map, get_or}
 use Rattle.std.proofs.Common.{take, drop, replicate, arith, lit<}
 use Rattle.std.proofs.lemmas.Bool.Decides.{nat_tests}

@@ -127,7 +127,7 @@ pub none_of_loaded : (drawing : Drawing) (file : List ℕ) (programme : Programm
 unfolding loaded
 none_of_loaded drawing file programme h = (none_reported (faults drawing file) _ programme h).0
 
--- The law of loading follows from the definition of a file by its reading.
+-- The law of loading follows from the equivalence of the definition of a file and its reading.
 pub loading_is : ((scope : Scope) (s g : List ℕ) (ts : List SubtitleValue)
     → IsFileFor scope s g ts
     ↔ ((g ≡ take 1024 s) × (subtitles_of (stopped (findings_for scope s)) ≡ Ok ts)))

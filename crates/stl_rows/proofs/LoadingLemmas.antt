@@ -134,8 +134,8 @@ pub stops-last : (drawing : Drawing) (before : Option Times) (t : SubtitleValue)
 stops-last drawing before t block old mid new order row is_order is_row some p q =
     grind (arith, nat_tests, order_alone, map-append, stops-whole, length-append, Reports-trans)
 
--- The faults reported so far, followed by the faults of the rest, are all faults of the file.
--- Likewise the kept subtitles, followed by the reliable ones of the rest, are all reliable
+-- The faults reported so far, followed by the faults of the rest of the file, are all its faults.
+-- The kept subtitles, followed by the reliable subtitles of the rest, are all its reliable
 -- subtitles.
 pub record LoadingInvariant (drawing : Drawing) (file : List ℕ) (left : Findings)
     (before : Option Times)

@@ -1,5 +1,4 @@
--- Loading a part of a file gives the same as loading the file from which the other subtitles were
--- removed.
+-- Loading a part of a file gives the same result as loading the file without the other subtitles.
 use Rattle.std.proofs.Common.{◌≡◌, ℕ, List, [], ◌∷◌, Option, Some, None, map, refl, sym}
 use Rattle.std.proofs.Common.{ap, ◌∙◌}
 use Rattle.std.proofs.lemmas.List.{map-append}

@@ -1,4 +1,4 @@
--- Cues: subtitles of a programme whose texts are stored in one common buffer (own).
+-- Cues: subtitles of a programme whose texts are stored in one common buffer.
 use Rattle.std.specs.Prelude.{ℕ, ◌+◌, ◌≤◌, List, length, take, drop}
 use Rattle.stl_file.specs.Subtitle.{IsSubtitle, SubtitleValue}
 use Rattle.stl_rows.specs.declared.cues.Cue.{Cue}

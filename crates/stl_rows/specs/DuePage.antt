@@ -88,8 +88,8 @@ LawOfEdges =
     → (IsEdge records frame → ⊥)
     → due drawing records frame ≡ due drawing records (frame - 1)
 
--- Row 24 of each expected page is blank, since no subtitle may use row 24 (own). So a transmission
--- of an expected page needs only 23 rows.
+-- Row 24 of each expected page is blank, since no subtitle may use row 24. So a transmission of an
+-- expected page needs only 23 rows.
 abbrev pub LawOfLastRow : Type 0
 LawOfLastRow =
     (drawing : Drawing) (records : List SubtitleValue) (frame : ℕ)

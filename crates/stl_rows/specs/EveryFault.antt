@@ -1,4 +1,5 @@
--- Every fault of a subtitle file, in order, and how the faults are reported to an audience.
+-- Every fault of a subtitle file, in order, and the reports of the faults to a receiver, which may
+-- stop the reports.
 use Rattle.std.specs.Prelude.{◌≡◌, ℕ, ◌<◌, ◌≤◌, ◌&&◌, nat_lt, not, Bool, true, false, List, []}
 use Rattle.std.specs.Prelude.{◌∷◌, ◌++◌, length, map, take, Option, Some, None, Result, Ok, Err}
 use Rattle.std.specs.Prelude.{◌⊎◌}
@@ -73,14 +74,15 @@ ReportsByAnswer IsReported old new (Ok (Some found)) = ReportsAnyOfFile IsReport
 ReportsByAnswer IsReported old new (Ok None) = ReportsOfFile IsReported old new
 ReportsByAnswer IsReported old new (Err f) = ReportsSome IsReported old new
 
--- The audience stopped at one of the faults `items`: it received the faults up to and including
--- that one.
+-- The receiver of the reports stopped them at one of the faults `items`: it got the faults up to
+-- and including that one.
 abbrev pub StopsWithin : {D : Type 0}
     → (D → LoadFault → D → Type 0) → D → D → List LoadFault → Type 0
 StopsWithin IsReported old new items =
     (n : ℕ) × (0 < n) × (n ≤ length items) × Reports IsReported old new (take n items)
 
--- The audience received all of the faults `items`; or, if it stopped, a prefix of them.
+-- The receiver of the reports got all of the faults `items`; or, if it stopped the reports, a
+-- prefix of them.
 pub record ReportsFaults
     {D : Type 0} (IsReported : D → LoadFault → D → Type 0) (old new : D) (has_stopped : Bool)
     (items : List LoadFault)
@@ -93,9 +95,8 @@ abbrev pub ends_in_subtitle : LoadFaultKind → Bool
 ends_in_subtitle (File Unfinished) = true
 ends_in_subtitle _ = false
 
--- The fault is found before this block is read. A file that ends within a subtitle is the
--- exception: the fault names the last complete block, but is found only when the next block is
--- read.
+-- The fault is found before this block is read. If a file ends within a subtitle, the fault has the
+-- number of the last complete block, but is found only when the next block is read.
 abbrev pub is_reported_before : ℕ → LoadFault → Bool
 is_reported_before block fault = nat_lt fault.block block && not (ends_in_subtitle fault.kind)
 

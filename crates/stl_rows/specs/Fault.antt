@@ -1,5 +1,5 @@
--- The number and the name of each fault of drawing and loading (own), and which faults mean that
--- the source failed.
+-- The number and the name of each fault of drawing and loading, and the faults that mean that the
+-- source failed.
 use Rattle.std.specs.Prelude.{Bool, false, codes}
 use Rattle.sub_io.specs.FaultCode.{FaultCodeValue, fault_code}
 use Rattle.stl_file.specs.Fault as stl

@@ -1,5 +1,5 @@
 -- The reliable subtitles of a file that also has other subtitles, and the frames at which the
--- expected page is unknown (own).
+-- expected page is unknown.
 --
 -- A subtitle is reliable if it has no fault and the next subtitle is in order with it. The times of
 -- all other subtitles are not used: between the last reliable subtitle before them and the next

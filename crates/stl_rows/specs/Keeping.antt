@@ -98,10 +98,10 @@ is_enough k = are_all_kept k || (are_some (all_kept k) && are_in_order (all_kept
 -- ---- results of loading a whole file
 
 -- The kept subtitles and the reports for each result of `load_all`. With subtitles: a transmission
--- can be checked against them, and all faults of the file were reported. With `None`: the audience
--- stopped, or a transmission cannot be checked; all faults were reported, or those up to the stop.
--- With `Memory`: the faults before the subtitle for which memory could not be allocated were
--- reported.
+-- can be checked against them, and all faults of the file were reported. With `None`: the receiver
+-- of the reports stopped them, or a transmission cannot be checked; all faults were reported, or
+-- those up to the stop. With `Memory`: the faults before the subtitle for which memory could not be
+-- allocated were reported.
 abbrev pub LoadsAll : {D : Type 0}
     → Drawing → List ℕ → (D → LoadFault → D → Type 0) → D → D → Bool
     → Result (Option KeptRecords) LoadFault → Type 0

@@ -1,5 +1,5 @@
--- Layouts: how a broadcaster's inserter draws the texts of subtitles (own). EBU Tech 3264 leaves
--- the drawing open.
+-- Layouts: how a broadcaster's inserter draws the texts of subtitles. EBU Tech 3264 does not define
+-- the drawing.
 use Rattle.std.specs.Prelude.{ℕ, Bool, false, List, [], ◌∷◌, Option, Some, None, ◌==◌, unwrap_or}
 use Rattle.std.specs.Prelude.{replicate, slice_index_or, nat_lt, ◌&&◌}
 use Rattle.std.specs.List.{find}

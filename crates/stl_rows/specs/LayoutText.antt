@@ -1,5 +1,4 @@
--- The syntax of layouts that users type (own): items joined by commas, without duplicates, in any
--- order.
+-- The syntax of the option `--layout`: items joined by commas, without duplicates, in any order.
 use Rattle.std.specs.Prelude.{ℕ, ◌+◌, ◌-◌, ◌*◌, Bool, true, false, ◌&&◌, List, [], ◌∷◌, Option}
 use Rattle.std.specs.Prelude.{Some, None, codes, drop, length, nat_lt, nat_le, option_map}
 use Rattle.std.specs.Prelude.{replicate}

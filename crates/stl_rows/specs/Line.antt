@@ -35,7 +35,8 @@ unfoldable pub is_double : List ℕ → Bool
 is_double line = list_any (λ c. c == double_height) line
 
 -- The prepared form of a line: if the line has cells but no start box, two start boxes are added
--- before it and two end boxes after it (own; EN 300 706 has each box code sent twice).
+-- before it and two end boxes after it. EN 300 706 requires each box code twice; adding the box is
+-- this project's choice.
 unfoldable pub prepared : List ℕ → List ℕ
 prepared cells =
     if has_cells cells && not (is_boxed cells)
@@ -43,7 +44,7 @@ prepared cells =
     else cells
 
 -- The column at which a line of n cells starts (EBU Tech 3264, TTI block, field JC): 0 for JC 0
--- (unchanged) and 1 (left); centred for JC 2 (rounded down, own); at the right end for JC 3.
+-- (unchanged) and 1 (left); centred for JC 2 (rounded down); at the right end for JC 3.
 abbrev pub start_column : ℕ → ℕ → ℕ
 start_column jc n =
     if jc == 2 then (columns - n) / 2 else (if jc == 3 then columns - n else 0)

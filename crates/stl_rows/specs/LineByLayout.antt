@@ -1,4 +1,4 @@
--- Drawing the lines of a text on a page one at a time by a layout, as the code does. No public
+-- The steps in which the code draws the lines of a text by a layout, one line at a time. No public
 -- clause uses this file.
 use Rattle.std.specs.Prelude.{ℕ, ◌+◌, ◌-◌, ◌<◌, List, [], ◌∷◌, Option, Some, None, Result}
 use Rattle.std.specs.Prelude.{Ok, Err, ◌==◌, if◌then◌else◌, map, slice_set}

@@ -1,5 +1,5 @@
--- Drawing the lines of a text on a page one at a time, as the code does, and the properties of a
--- line that decide its faults. No public clause uses this file.
+-- The steps in which the code draws the lines of a text, one line at a time, and the properties of
+-- a line that decide its faults. No public clause uses this file.
 use Rattle.std.specs.Prelude.{ℕ, ◌+◌, ◌-◌, ◌<◌, ◌≤◌, Bool, false, ◌&&◌, ◌||◌, List, [], ◌∷◌}
 use Rattle.std.specs.Prelude.{◌++◌, Option, Some, ◌==◌, nat_lt, if◌then◌else◌, length, map}
 use Rattle.std.specs.Prelude.{slice_set}
@@ -25,7 +25,8 @@ abbrev pub onto : List ℕ → List (List ℕ) → List (List ℕ)
 onto [] lines = lines
 onto (c ∷ cells) lines = onto_first c (onto cells lines)
 
--- The prepared lines of text codes, if `cells` are already read of the first line.
+-- The prepared lines of text codes, if the first cells of the first line, `cells`, were already
+-- read.
 abbrev pub prepared_lines : List ℕ → List (ℕ × TextCode) → List (List ℕ)
 prepared_lines cells codes = map prepared (onto cells (lines_of_codes codes))
 

@@ -13,7 +13,7 @@ use Rattle.stl_rows.specs.declared.fault.RowFaultKind.TheVariants.{DoubleRow, Hi
 use Rattle.stl_rows.specs.TextCode.{text_codes, refused_codes, lines_of_codes, fault_of}
 use Rattle.stl_rows.specs.Line.{columns, has_cells, is_double, prepared, row_of}
 
--- The last row that a subtitle may use, 23: row 24 is kept free (own).
+-- The last row that a subtitle may use, 23: row 24 stays blank.
 abbrev pub last_row : ℕ
 last_row = 23
 

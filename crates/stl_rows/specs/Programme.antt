@@ -1,4 +1,4 @@
--- Programmes: lists of subtitles that do not overlap and can all be drawn.
+-- A programme is a list of subtitles that do not overlap and can all be drawn.
 use Rattle.std.specs.Prelude.{ℕ, ◌-◌, ◌<◌, ◌≤◌, List, [], ◌∷◌, ◌++◌, Option, Some, None, option_map}
 use Rattle.std.specs.Prelude.{Result, Ok, Err, nat_lt, if◌then◌else◌, length, slice_get}
 use Rattle.std.specs.Prelude.{slice_index_or, All, IsOk}

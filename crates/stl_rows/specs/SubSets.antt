@@ -17,7 +17,7 @@ use Rattle.stl_rows.specs.declared.sub_sets.NationalCharacter.{NationalCharacter
 
 -- A row of the table of national options.
 pub record SubSetValue : Type 0 where
-  -- The name of the national option (own).
+  -- The name of the national option.
   pub word : List ℕ
   -- The control bits C12, C13 and C14 of the option's page headers.
   pub bits : NationalBits
@@ -39,9 +39,8 @@ with_mark cell mark letter = record { cell = cell; mark = Some mark; byte = lett
 
 -- The table of national options.
 --
--- (own) lenient: both 24 and A4 are read as the dollar sign, whatever an edition of the code table
--- says, since files in the field use both. In a sub-set without a dollar sign, neither byte is
--- accepted.
+-- Both 24 and A4 are read as the dollar sign, since editions of the code table differ and files in
+-- use have both. In a sub-set without a dollar sign, neither byte is accepted.
 unfoldable pub sub_set : National → SubSetValue
 sub_set English = record {
   word = codes "english";

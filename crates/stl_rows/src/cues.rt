@@ -3,7 +3,7 @@
 //!
 //! A `Subtitle` has a buffer of 1,008 bytes for its text: 100,000 of them took 103 MB, and page
 //! faults took half the time of a check. So a programme stores cues of 24 bytes with all texts in
-//! one list, and lends a `Record` with the same value.
+//! one list, and returns a borrowed `Record` with the same value.
 
 ghost use Rattle.std.specs.Prelude.{◌≡◌, ℕ, ◌-◌, ◌<◌, ◌≤◌, ◌==◌, ◌++◌, [], ◌∷◌};
 ghost use Rattle.std.specs.Prelude.{Some, length, take};

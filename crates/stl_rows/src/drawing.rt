@@ -72,8 +72,8 @@ fn draw_text(national: National, jc: u8, vp: u8, text: &[u8], page: &mut Page)
     put_line(jc, row, cells.as_slice(), page);
 }
 
-/// Draws the page of a subtitle without faults over the contents of `page`, since copying a page
-/// takes long.
+/// Draws the page of a subtitle without faults over the contents of `page`, which avoids copying a
+/// page.
 pub(crate) fn draw_on(subtitle: &Record<'_>, drawing: &Drawing, page: &mut Page)
     requires { IsOk (drawn drawing.now subtitle.now) }
     ensures { drawn drawing.now subtitle.now ≡ Ok page.new }

@@ -33,9 +33,10 @@ use std::alloc::{Allocator, Global};
 use stl_file::{Found, ResumingReader, Scope, StlFault, Subtitle};
 use sub_io::{Audience, Source, Stopped};
 
-/// Loads the reliable subtitles of an STL file, and reports every fault of the file to `audience`.
+/// Loads the reliable subtitles of an STL file, and reports every fault of the file to `audience`,
+/// which may stop the reports.
 ///
-/// The faults are reported by block, until the audience stops:
+/// The faults are reported by block, until `audience` stops:
 ///
 /// - `File` at the first block of a rejected subtitle. The subtitle is not drawn, and times are
 ///   compared as if it did not exist.
@@ -43,11 +44,11 @@ use sub_io::{Audience, Source, Stopped};
 ///   the previous subtitle even if that has faults; then the first fault of `draw`, as `Row`.
 /// - `File` for the fault that ends reading.
 ///
-/// If the file has no fault, returns what `load` returns, and no frame is undecided. Otherwise
-/// returns the subtitles that have no fault and whose successor neither starts earlier nor
-/// overlaps. Returns `None` if a transmission cannot be checked against the returned subtitles: the
-/// file was not read to its end, no subtitle is left, or a subtitle starts before an earlier one
-/// has ended. Also returns `None` if the audience stops.
+/// If the file has no fault, returns all its subtitles, as `load` does. Otherwise returns the
+/// subtitles that have no fault and whose successor neither starts earlier nor overlaps. Returns
+/// `None` if a transmission cannot be checked against the returned subtitles: the file was not read
+/// to its end, no subtitle is left, or a subtitle starts before an earlier one has ended. Also
+/// returns `None` if `audience` stops.
 ///
 /// # Errors
 ///
@@ -193,7 +194,7 @@ fn report_end<D: Audience<LoadFault>>(
     if let LoadFaultKind::File(StlFault::Read) = kind {
         return Err(fault);
     }
-    // No report follows the fault that ends reading, so it doesn't matter whether the audience
+    // No report follows the fault that ends reading, so it does not matter whether `audience`
     // stops.
     let _ = audience.report(fault);
     Ok(())

@@ -25,7 +25,7 @@ pub enum RowFaultKind {
 impl RowFaultKind {
     ghost use Rattle.stl_rows.specs.Fault.{row_code};
 
-    /// Returns the number and the name of the fault for reports (own).
+    /// Returns the number and the name of the fault for reports.
     pub fn code(self) -> FaultCode
         ensures { result ≡ row_code self }
     {
@@ -68,7 +68,7 @@ pub enum LoadFaultKind {
 impl LoadFaultKind {
     ghost use Rattle.stl_rows.specs.Fault.{load_code};
 
-    /// Returns the number and the name of the fault for reports (own).
+    /// Returns the number and the name of the fault for reports.
     pub fn code(self) -> FaultCode
         ensures { result ≡ load_code self }
     {

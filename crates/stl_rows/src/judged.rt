@@ -62,7 +62,7 @@ impl<'a> Model for Judging<'a> {
 }
 
 impl JudgedProgramme {
-    // Creates a `JudgedProgramme` from the subtitles kept of a file, with their bits.
+    // Creates a `JudgedProgramme` from the reliable subtitles of a file and their bits.
     pub(crate) fn of(drawing: Drawing, kept: Kept<Global>) -> JudgedProgramme
         requires { IsProgramme drawing kept.records }
         ensures { result ≡ judged_with drawing kept }
@@ -87,7 +87,7 @@ impl JudgedProgramme {
         &self.programme
     }
 
-    /// Borrows the programme to check a transmission against it.
+    /// Borrows the programme for checking a transmission.
     pub fn judging(&self) -> Judging<'_>
         ensures { result ≡ self.now }
     {

@@ -86,7 +86,7 @@ impl<A: Allocator + Copy> Kept<A> {
         }
     }
 
-    // Notes that the file has a rejected subtitle at this point.
+    // Records that the next subtitle of the file is rejected.
     pub(crate) fn refuse(&mut self)
         ensures { self.new ≡ with_rejected self.old }
     {

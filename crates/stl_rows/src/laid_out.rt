@@ -1,4 +1,4 @@
-//! Draws the page of a subtitle by a layout with explicit items.
+//! Draws the page of a subtitle by a layout other than the default layout.
 
 ghost use Rattle.std.specs.Prelude.{◌≡◌, ◌+◌, ◌*◌, ◌-◌, ◌<◌, ◌≤◌, ◌++◌, ◌∷◌, [], length, map, Some};
 ghost use Rattle.std.specs.Prelude.{IfErr, IfSome, OnOk, None};

@@ -71,8 +71,8 @@ impl Attribute {
     }
 }
 
-/// The values of a layout's items (own). A list of codes is filled from the front; `None` is an
-/// empty place.
+/// The values of a layout's items. A list of codes is filled from the front; `None` is an empty
+/// place.
 #[derive(Clone, Copy, Debug)]
 pub(crate) struct LayoutItems {
     /// Layout item `strip`: whether each byte 00 to 1F of a text is dropped, so has no cell.
@@ -153,7 +153,7 @@ impl LayoutItems {
 /// the line's row and column.
 ///
 /// Created from a text by `parse`. By default a line has a box of its own, is one row below the
-/// line before, and all its cells count for its column (own). A layout allocates no memory.
+/// line before, and all its cells count for its column. A layout allocates no memory.
 #[derive(Clone, Copy, Debug)]
 pub struct Layout {
     // The items of the layout; `None` for the default layout.

@@ -1,4 +1,4 @@
-//! Parses layouts as users type them.
+//! Parses the option `--layout`.
 
 ghost use Rattle.std.specs.Prelude.{◌≡◌, ◌+◌, ◌<◌, ◌≤◌, ◌∷◌, [], ◌==◌, IfSome, length, option_map};
 ghost use Rattle.std.specs.Prelude.{replicate};

@@ -9,9 +9,8 @@
 //! let edge = programme.next_edge(900_000);
 //! ```
 //!
-//! The crate builds on `stl_file`, which reads the subtitles, and on `ttx_page`, whose pages it
-//! draws. `sub_plan` makes schedules of programmes, `sub_check` checks transmissions against
-//! programmes.
+//! The crate uses `stl_file` to read the subtitles, and draws pages of `ttx_page`. `sub_plan`
+//! writes schedules of programmes, and `sub_check` checks transmissions against programmes.
 #![tactic(auto)]
 
 mod cues;

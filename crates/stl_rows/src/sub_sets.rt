@@ -22,7 +22,7 @@ pub(crate) struct NationalCharacter {
 pub(crate) struct SubSet {
     /// The national option of the row.
     pub(crate) national: National,
-    /// The name of the national option (own).
+    /// The name of the national option.
     pub(crate) word: &'static str,
     /// The control bits C12, C13 and C14 of the option's page headers.
     pub(crate) bits: NationalBits,
@@ -31,12 +31,11 @@ pub(crate) struct SubSet {
     pub(crate) characters: &'static [NationalCharacter],
 }
 
-/// The table of national options, in the order of `National`. The check computes the table and
+/// The table of national options, in the order of `National`. The prover computes the table and
 /// compares it with the definition.
 ///
-/// (own) lenient: both 24 and A4 are read as the dollar sign, whatever an edition of the code table
-/// says, since files in the field use both. In a sub-set without a dollar sign, neither byte is
-/// accepted.
+/// Both 24 and A4 are read as the dollar sign, since editions of the code table differ and files in
+/// use have both. In a sub-set without a dollar sign, neither byte is accepted.
 #[rattlefmt::skip]
 pub(crate) const SUB_SETS: [SubSet; 7] = [
     SubSet {

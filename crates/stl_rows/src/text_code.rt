@@ -21,8 +21,8 @@ pub(crate) enum TextCode {
     Refused(RowFaultKind),
 }
 
-// For each byte, 1 if its cell has the byte's own number in every national option. The check
-// computes the definition for all 256 bytes and compares.
+// For each byte, 1 if its cell has the byte's own number in every national option. The prover
+// computes the definition for all 256 bytes and compares the results with the table.
 #[rattlefmt::skip]
 const COMMON: [u8; 256] = [
     0, 1, 1, 1, 1, 1, 1, 1, 1, 1, 1, 1, 1, 1, 0, 0,

@@ -1,8 +1,8 @@
 //! Finds the first fault of a subtitle's text in one pass.
 //!
-//! One function reads a text to check it, another to draw it, and both implement the same
-//! definition. A single function would draw a page for each subtitle that is loaded: 570
-//! instructions in addition to the 390 for finding faults.
+//! Loading a subtitle needs its faults, but not its page. So two functions read a text by the same
+//! definition: a single function would need 570 instructions in addition to the 390 for finding
+//! faults.
 
 ghost use Rattle.std.specs.Prelude.{◌≡◌, ◌<◌, ◌≤◌, length, IsOk, MatchOption, Err, None, false};
 ghost use Rattle.stl_rows.specs.DrawnPage.{drawn};

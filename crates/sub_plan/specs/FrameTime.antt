@@ -1,5 +1,5 @@
 -- The PTS of a frame (EN 300 472, PTS: 33 bits at 90 kHz), and the conversion of a PTS to a frame.
--- A frame is a 25th of a second of the day (own), 3600 ticks.
+-- A frame is a 25th of a second of the day, 3600 ticks.
 use Rattle.std.specs.Prelude.{ℕ, zero, suc, ◌+◌, ◌-◌, ◌*◌, ◌/◌, ◌%◌, ◌^◌, ◌==◌, nat_lt}
 use Rattle.std.specs.Prelude.{if◌then◌else◌, Option, Some, None}
 use Rattle.stl_file.specs.TimeCode.{day}
@@ -31,8 +31,8 @@ abbrev pub ticks_after : ℕ → ℕ → ℕ
 ticks_after origin pts = (pts + (2 ^ 33 - origin) + 900) % 2 ^ 33
 
 -- The frame of the day whose ticks include this PTS of 33 bits. The ticks of a frame begin 900
--- before the frame's own PTS. So a PTS may be a quarter of a frame early, as multiplexers may make
--- it, and the PTSs of two fields, half a frame apart, belong to one frame (own).
+-- before the frame's own PTS. So a PTS may be a quarter of a frame early, which multiplexers cause,
+-- and the PTSs of two fields, half a frame apart, belong to one frame.
 unfoldable pub frame_with_tolerance : ℕ → ℕ → Option ℕ
 frame_with_tolerance origin pts =
     if nat_lt pts (2 ^ 33) then frame_in_day (ticks_after origin pts / 3600) else None

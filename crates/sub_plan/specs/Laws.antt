@@ -114,8 +114,8 @@ abbrev pub IsSending : (ℕ → Rows) → ℕ → ℕ → ℕ → ℕ → Type 0
 IsSending due every first last f =
     (f ≡ last) ⊎ ((b : ℕ) × IsLastBase due first f b × ((f - b) % every ≡ 0))
 
--- The frames with a page transmission are those from the first to the last that satisfy
--- `IsSending`, however they are computed.
+-- The frames with a page transmission are exactly the frames from the first to the last that
+-- satisfy `IsSending`.
 abbrev pub LawOfSendings : Type 0
 LawOfSendings =
     (due : ℕ → Rows) (every first last f : ℕ)

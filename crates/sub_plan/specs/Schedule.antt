@@ -1,4 +1,4 @@
--- The frames of a schedule that have a page transmission (own), and the bytes of the schedule.
+-- The frames of a schedule that have a page transmission, and the bytes of the schedule.
 --
 -- The definitions depend only on the expected page at each frame, `due`, and on the first and the
 -- last frame, not on subtitles.

@@ -4,7 +4,7 @@ ghost use Rattle.std.specs.Prelude.{◌≡◌};
 use sub_io::FaultCode;
 use thiserror::Error;
 
-/// A fault of options. The order of the variants is the order of reports (own).
+/// A fault of options. The order of the variants is the order of reports.
 #[derive(Clone, Copy, Debug, PartialEq, Eq, Error)]
 pub enum OptionFault {
     /// The repeat bound is not 1 to 2,160,000 frames, a day.
@@ -21,7 +21,7 @@ pub enum OptionFault {
     Pace,
 }
 
-/// An error of writing a schedule (own).
+/// An error of writing a schedule.
 #[derive(Clone, Copy, Debug, PartialEq, Eq, Error)]
 pub enum PlanFault {
     /// The programme has no subtitle.
@@ -35,7 +35,7 @@ pub enum PlanFault {
 impl PlanFault {
     ghost use Rattle.sub_plan.specs.Fault.{plan_code};
 
-    /// Returns the number and the name of the error for reports (own).
+    /// Returns the number and the name of the error for reports.
     pub fn code(self) -> FaultCode
         ensures { result ≡ plan_code self }
     {

@@ -1,5 +1,5 @@
-//! Laws of page transmissions and schedules, for callers and readers. The functions themselves do
-//! nothing.
+//! Laws of page transmissions and schedules. The functions do nothing: the contract of each
+//! function is a law.
 #![tactic(auto, using(crate::proofs::LawLemmas::laws))]
 
 ghost use Rattle.sub_plan.specs.Examples.{ExampleOfClosingHeaders, ExampleOfWatchedHeaders};
@@ -37,7 +37,8 @@ pub fn law_of_cut_sendings()
     ensures { LawOfCutSendings }
 {}
 
-/// The frames of a schedule with a page transmission, however they are computed.
+/// A frame of a schedule has a page transmission if and only if its distance from the last base is
+/// a multiple of the repeat bound, or it is the last frame.
 pub fn law_of_sendings()
     ensures { LawOfSendings }
 {}

@@ -1,8 +1,8 @@
 //! Schedules: the frames with a transmission of a subtitle page, and the packets of each
 //! transmission.
 //!
-//! Builds on `stl_rows` for the expected page at each frame and on `ttx_pes` for PES packets. The
-//! checker converts each PTS by the same options.
+//! The crate uses `stl_rows` for the expected page at each frame and `ttx_pes` for PES packets. The
+//! checker converts each PTS with the same options.
 //!
 //! ```text
 //! let options = Options::new(PageId::parse("888")?, 250, 0)?;

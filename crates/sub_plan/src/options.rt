@@ -22,13 +22,13 @@ const PTS_END: u64 = 8_589_934_592;
 /// frame.
 const FRAMES_OF_DAY: u64 = MOST_PACKETS as u64;
 
-/// The greatest repeat bound and the greatest pace in frames: a day (own).
+/// The greatest repeat bound and the greatest pace in frames: a day.
 const MOST_FRAMES: u64 = FRAMES_OF_DAY;
 
-/// The greatest number of frames within which the page must be right: two seconds (own).
+/// The greatest number of frames within which the page must be right: two seconds.
 const MOST_WITHIN: u64 = 50;
 
-/// The number of ticks by which a PTS may precede its frame: a quarter of a frame (own).
+/// The number of ticks by which a PTS may precede its frame: a quarter of a frame.
 const TICKS_EARLY: u64 = 900;
 
 /// The options of a schedule and of a check: the page with the subtitles, its repeat bound, the PTS
@@ -92,7 +92,7 @@ impl Options {
     /// packets is not limited, and each header of the page must have C4, erase page, set.
     ///
     /// `every` is in frames, 1 to 2,160,000, a day: the page's header is sent at least once in that
-    /// many frames (own). `origin` is in ticks of 90 kHz, below 2^33 (EN 300 472, PTS).
+    /// many frames. `origin` is in ticks of 90 kHz, below 2^33 (EN 300 472, PTS).
     ///
     /// # Errors
     ///
@@ -135,7 +135,7 @@ impl Options {
     }
 
     /// Also requires complete pages: at the end of each frame, a later header has ended the page,
-    /// since decoders show a page only after that header (own).
+    /// since decoders show a page only after that header.
     pub fn asking_complete(self) -> Options
         ensures { result ≡ record self { asks_complete = true } }
     {
@@ -153,7 +153,7 @@ impl Options {
     }
 
     /// Allows the expected page to become right within this many frames, 0 to 50, instead of at the
-    /// end of each frame (own).
+    /// end of each frame.
     ///
     /// # Errors
     ///
@@ -181,8 +181,8 @@ impl Options {
         self.within
     }
 
-    /// Also requires that PES packets are at most this many frames apart, 1 to 2,160,000, a day
-    /// (own). So no loss of PES packets remains undetected, however long.
+    /// Also requires that PES packets are at most this many frames apart, 1 to 2,160,000, a day. So
+    /// every loss of PES packets is detected, even a long one.
     ///
     /// # Errors
     ///
@@ -212,7 +212,7 @@ impl Options {
     }
 
     /// Allows repeats to keep the page: a header that repeats the page may have C4, erase page,
-    /// clear (own).
+    /// clear.
     pub fn keeping(self) -> Options
         ensures { result ≡ record self { keeps = true } }
     {

@@ -65,7 +65,7 @@ fn step_of(options: &Options) -> u32
     options.every() as u32
 }
 
-// Writes the same packets at the frame `from` and at each `every` frames after it, before `end`.
+// Writes the same packets at the frame `from` and then every `every` frames, before `end`.
 fn send_steps<K: Sink>(
     sink: &mut K,
     options: &Options,
@@ -165,8 +165,8 @@ fn send_all<K: Sink>(
 /// Each page transmission is one PES packet (EN 300 472): the header of the page, its rows and the
 /// closing header. The frames with a page transmission are the first frame, each frame at which the
 /// expected page changes, every `every` frames after such a frame up to the next, and the last
-/// frame (own). `serial` sets C11, magazine serial, in all headers. The expected page is drawn only
-/// at cues, and nothing is kept in memory.
+/// frame. `serial` sets C11, magazine serial, in all headers. The expected page is drawn only at
+/// cues, and nothing is kept in memory.
 ///
 /// # Errors
 ///

@@ -1,4 +1,4 @@
--- The number and the name, in reports, of each fault of the program's arguments (own).
+-- The number and the name of each fault of the program's arguments.
 use Rattle.std.specs.Prelude.{codes}
 use Rattle.sub_io.specs.FaultCode.{FaultCodeValue, fault_code}
 use Rattle.sub_request.specs.declared.request.UsageFault.{UsageFault}

@@ -1,4 +1,4 @@
--- Teletext packets with bits that are received wrong (own). Packets are numbered from 0.
+-- Teletext packets with bits that are received wrong. Packets are numbered from 0.
 use Rattle.std.specs.Prelude.{ℕ, ◌-◌, ◌^◌, ◌==◌, Bool, ◌&&◌, List, [], ◌∷◌, bit_xor, nat_le}
 use Rattle.std.specs.Prelude.{slice_index, slice_set, if◌then◌else◌}
 use Rattle.sub_request.specs.declared.listening.Flip.{Flip}

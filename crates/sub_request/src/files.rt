@@ -1,7 +1,7 @@
 //! The files that a request reads and writes.
 //!
-//! A subtitle file, a file of PES packets and an output file have types of their own, which are
-//! created only here. So none of them can be taken for another.
+//! The names of a subtitle file, a file of PES packets and an output file have different types,
+//! which are created only here. So none can be used in place of another.
 ghost use Rattle.std.specs.Prelude.{◌≡◌, ℕ, List};
 
 use crate::request::Request;

@@ -1,4 +1,4 @@
-//! Requests to the program as plain data, and the reasons why arguments are no request.
+//! Requests to the program as plain data, and the faults of its arguments.
 //!
 //! `Request` has a variant for each command, with the values of its arguments. It names the files
 //! that are read and written, each by a type that only this crate creates. The options of a

@@ -1,4 +1,4 @@
-//! Requests to the program, and the reasons why arguments are no request.
+//! Requests to the program, and the faults of its arguments.
 ghost use Rattle.std.specs.Prelude.{◌≡◌};
 
 use crate::listening::Listening;
@@ -10,10 +10,10 @@ use sub_io::FaultCode;
 use sub_plan::Options;
 use thiserror::Error;
 
-/// The reason why the program can't do what its arguments request. The order of the variants is the
-/// order of reports.
+/// A fault for which the program cannot carry out the request in its arguments. The order of the
+/// variants is the order of reports.
 ///
-/// The descriptions below are for readers; the program prints the lines of `say`.
+/// The program does not print the texts below, but the lines of `say`.
 #[derive(Debug, Drop, Error)]
 pub enum UsageFault {
     /// Fault code 0: the arguments are not those of a command.
@@ -81,7 +81,7 @@ pub enum UsageFault {
 impl UsageFault {
     ghost use Rattle.sub_request.specs.Fault.{usage_code};
 
-    /// Returns the number and the name of the fault for reports (own).
+    /// Returns the number and the name of the fault for reports.
     pub fn code(&self) -> FaultCode
         ensures { result ≡ usage_code self.now }
     {

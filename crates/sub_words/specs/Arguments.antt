@@ -1,4 +1,4 @@
--- The values of a command's arguments, read from the matches of `clap` (own).
+-- The values of a command's arguments, read from the matches of `clap`.
 use Rattle.std.specs.Prelude.{ℕ, ◌^◌, ◌-◌, Bool, true, false, ◌&&◌, List, [], Option, Some, None}
 use Rattle.std.specs.Prelude.{Result, Ok, codes, nat_le, ok_or, option_map, unwrap_or}
 use Rattle.std.specs.Prelude.{if◌then◌else◌}

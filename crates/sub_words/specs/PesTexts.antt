@@ -1,5 +1,5 @@
 -- The options that select PES packets: the PID and the size of transport packets, and the numbers
--- of the PES packets (own).
+-- of the PES packets.
 use Rattle.std.specs.Prelude.{ℕ, ◌&&◌, ◌==◌, List, length, drop, Option, Some, None, Bool}
 use Rattle.std.specs.Prelude.{codes, nat_le, nat_lt, if◌then◌else◌}
 use Rattle.std.specs.Char.{is_ascii_hexdigit}

@@ -71,7 +71,7 @@ requested_by (ask.Listen pes l) =
 requested_by (ask.Extract recording pes stream) = Extract recording.now pes.now stream
 requested_by (ask.Survey recording options) = Survey recording.now options
 
--- ---- the arguments of each command: its request, or the first fault, in this order (own)
+-- ---- the request of each command, or the first fault of its arguments, in this order
 
 -- The request of `packet HEX`: 84 hexadecimal digits, upper or lower case.
 abbrev pub packet_requested : List Row → Result Requested UsageFault
@@ -170,7 +170,8 @@ requested_in name rows =
 
 -- ---- the result of parsing the arguments
 
--- The fault comes from the program's own rules, not from `clap` or the machine.
+-- The fault was found by the program's own checks of the arguments, not by `clap`, and is no lack
+-- of memory.
 abbrev pub is_own : UsageFault → Bool
 is_own fault.Words = false
 is_own fault.Memory = false
@@ -212,8 +213,8 @@ pub record Breaks (arguments : List Text) (fault : UsageFault) : Type 0 where
   pub broken : request_by_command arguments ≡ Some (Err fault)
 
 -- The meaning of a fault of the command line. `Words`: `clap` refuses the arguments. `Memory`:
--- memory ran out, so only that there are arguments is known. `Open` is impossible, since parsing
--- opens no file. Any other fault: the arguments break a rule of the program.
+-- memory ran out, and there is at least one argument. `Open` is impossible, since parsing opens no
+-- file. Any other fault: the arguments break a rule of the program.
 abbrev pub IsFaultOfCommand : List Text → UsageFault → Type 0
 IsFaultOfCommand arguments fault.Words = (clap_refusals arguments ≢ []) ×
     (are_sound arguments ≢ true)

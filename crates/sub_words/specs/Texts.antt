@@ -1,5 +1,4 @@
--- The texts of the options of `listen`: numbers, lists of numbers, flips, times and the receiver
--- (own).
+-- The texts of the options of `listen`: numbers, lists of numbers, flips, times and the receiver.
 use Rattle.std.specs.Prelude.{ℕ, ◌+◌, ◌-◌, ◌*◌, Bool, ◌&&◌, List, [], ◌∷◌, ◌++◌, length}
 use Rattle.std.specs.Prelude.{Option, Some, None, codes, slice_index, if◌then◌else◌, ◌==◌, nat_le}
 use Rattle.std.specs.Char.{is_ascii_digit}

@@ -1,4 +1,4 @@
--- The command-line arguments that request the version (own).
+-- The command-line arguments that request the version.
 use Rattle.std.specs.Prelude.{Bool, false, ◌||◌, List, [], ◌∷◌, codes}
 use Rattle.std.specs.Str.{bytes_eq}
 use Rattle.clap.specs.Words.{Text}

@@ -1,4 +1,4 @@
-//! Explains why the arguments of the command line are no command.
+//! Explains why `clap` refuses the arguments of the command line.
 use crate::command::subttx_command;
 use crate::help::requests_help;
 use crate::version::requests_version;

@@ -1,5 +1,5 @@
-//! Flips of bits as users write them: `P:B:K`, the numbers of the packet, of the byte, 0 to 41, and
-//! of the bit, 1 to 8, each of one to ten decimal digits.
+//! Parses the bits to flip: `P:B:K`, the numbers of the packet, of the byte, 0 to 41, and of the
+//! bit, 1 to 8, each of one to ten decimal digits.
 ghost use Rattle.std.specs.Prelude.{◌≡◌, ◌==◌, option_map, slice_get};
 ghost use Rattle.std.specs.List.{slice_split};
 ghost use Rattle.sub_words.specs.Texts.{colon, flip_of_text, is_same_byte};

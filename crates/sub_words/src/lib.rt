@@ -1,7 +1,7 @@
 //! Parses the arguments of the command line as a request.
 //!
-//! `Request::parse` is the only function of the program that uses `clap`: `command` defines the
-//! command line, and each argument in the result is read by a function of its own.
+//! Only `Request::parse` uses `clap`: the module `command` defines the command line, and a separate
+//! function reads each argument of the result.
 //!
 //! ```text
 //! let request = Request::parse(alloc, &["subttx", "show", "film.stl"])?;

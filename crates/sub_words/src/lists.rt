@@ -1,4 +1,4 @@
-//! Parses lists as users write them.
+//! Parses the lists in options.
 ghost use Rattle.std.specs.Prelude.{◌≡◌, ◌==◌, ℕ, Bool, IfOk, List, [], ◌∷◌, None, Option};
 ghost use Rattle.std.specs.Prelude.{Some, map};
 ghost use Rattle.std.specs.Prelude.{if◌then◌else◌, option_map};

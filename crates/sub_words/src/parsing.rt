@@ -16,7 +16,7 @@ use sub_request::{Request, UsageFault};
 
 /// Parses the arguments of the command line as a request.
 ///
-/// The type `Request` is in a lower crate, so the function that parses it is in a trait.
+/// The type `Request` is in another crate, so its parser is a trait function.
 pub trait ParseArguments<'a>: Sized {
     /// Parses the arguments of the command line, of which the first is the program's name.
     ///

@@ -22,7 +22,7 @@ use sub_request::{Listening, Request, TransportStream, UsageFault};
 /// # Errors
 ///
 /// Returns the first fault of the arguments by the program's own rules, or `Memory` if memory runs
-/// out before the fault is known: only `listen` needs memory.
+/// out before the fault is known: only the lists of `listen` need memory.
 #[tactic(auto, using(crate::proofs::CommandLemmas::read_exactly))]
 pub fn read_command<'a>(
     alloc: Global,
@@ -140,7 +140,7 @@ fn read_check<'a>(matches: &ArgMatches<'a>) -> Result<Request<'a>, UsageFault>
 fn read_listen<'a>(alloc: Global, matches: &ArgMatches<'a>) -> Result<Request<'a>, UsageFault>
     ensures { IsReadGivenMemory (listen_requested (rows_of (found_of matches.now))) result }
 {
-    // `listen` does not use the repeat bound, so any valid one will do.
+    // `listen` does not use the repeat bound, so any valid repeat bound is enough.
     let plain = options_at(matches, Some(1))?;
     let options = with_within_option(matches, plain)?;
     let pes = match pes_at(matches) {

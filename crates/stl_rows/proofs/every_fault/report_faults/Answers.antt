@@ -1,4 +1,5 @@
--- If the audience stops at a subtitle's last fault, all faults of the subtitle were reported.
+-- If the receiver of the reports stops at a subtitle's last fault, all faults of the subtitle were
+-- reported.
 use Rattle.std.proofs.Common.{arith}
 use Rattle.std.proofs.lemmas.Bool.Decides.{nat_tests}
 use Rattle.stl_rows.proofs.LoadingLemmas.{stops-last}
