@@ -1,6 +1,5 @@
--- The packets of joined lists that reach the receiver are those of each list, and the first packet
--- that is listed as lost but must not be is found packet by packet. Used for `hear_units`,
--- `first_lost_header` and the exits of `listen`.
+-- The packets that arrive of two joined lists are those of each list. The first packet that must
+-- not be lost is found packet by packet.
 use Rattle.std.proofs.Common.{◌≡◌, ℕ, ◌+◌, ◌<◌, ◌&&◌, true, false, not, List, [], ◌∷◌, ◌++◌, length}
 use Rattle.std.proofs.Common.{get_or, drop, Option, Some, None, option_map, refl, sym, ap, ◌∙◌}
 use Rattle.std.proofs.Common.{arith}
@@ -41,7 +40,7 @@ pub next_packet : (ps : List (List ℕ)) (k : ℕ) (p : List ℕ)
     → drop k ps ≡ p ∷ drop (k + 1) ps
 next_packet ps k p l is = drop_more ps k [] l ∙ ap (λ (x : List ℕ). x ∷ drop (k + 1) ps) (sym is)
 
--- ---- the first packet that is listed as lost but must not be
+-- ---- the first packet that is listed as lost but must not be lost
 
 pub first_lost_header-none : (r : Reception) (number : ℕ) (packets : List (List ℕ))
     → r.lost ≡ []

@@ -1,5 +1,4 @@
--- The receiver that `listen` runs is one that may forget the page, and a model receiver unless it
--- starts again, with a screen or without (`law_of_listening`).
+-- The receiver that `listen` simulates follows the models of receivers in `ttx_page`.
 use Rattle.std.proofs.lemmas.Bool.Decides.{nat_tests}
 use Rattle.std.proofs.Common.{◌≡◌, ◌∙◌, ℕ, Bool, true, false, List, [], ◌∷◌, ap, arith}
 use Rattle.ttx_packet.specs.PageId.{PageIdValue}

@@ -1,4 +1,4 @@
--- Each exit of the loop of `listen` shows how reception of the whole file ends.
+-- Each exit of the loop of `listen` determines how reception ends.
 use Rattle.std.proofs.lemmas.Bool.Decides.{nat_tests}
 use Rattle.std.proofs.Common.{◌≡◌, ◌∙◌, ap, refl, sym, subst, arith, add-one, ℕ, zero, suc, ◌+◌}
 use Rattle.std.proofs.Common.{◌<◌, ◌≤◌, ◌==◌, ◌&&◌, not, cond, inl, inr, true, List, ◌++◌, length}
@@ -40,7 +40,7 @@ use Rattle.sub_rules.specs.declared.fault.CheckFault.TheVariants as check
 use Rattle.sub_listen.specs.declared.listening.ListenFault.{ListenFault}
 use Rattle.sub_listen.specs.declared.listening.ListenFault.TheVariants as fault
 
--- The run of the receiver for the first n frames, and the rest of the file.
+-- The receiver has received the first n PES packets, and the rest of the file remains.
 pub record Reaches
     (leaves : ℕ → ℕ) (l : Listening) (frames : Transmission) (unread : Option Unread)
     (w : PageIdValue) (old : Display) (remaining : Option (List ℕ)) (n number sent least : ℕ)
@@ -119,7 +119,7 @@ module _
             reception_ends (Ok tt) (inl (omega (arith, at.0), at.1))
             (λ more. absurd (omega (arith, more, at.0)))
 
-        -- If the file can't be read on, reception ends with the fault of the next PES packet.
+        -- If the next PES packet can't be read, reception ends with its fault.
         pub ends_unread :
             (v : PesValue) (answer : Result (Option NextPesPacket) CheckFault) (f : CheckFault)
             → ReportsNext (clock_of l.options) n reached.rest v answer
@@ -154,8 +154,7 @@ module _
                 reads_next (clock_of l.options) n reached.rest frames unread v sending
                 reached.left is
 
-            -- If the next frame is not after the frame before, reception ends with the fault
-            -- `Order`.
+            -- If the next frame is too early, reception ends with the fault `Order`.
             pub ends_order :
                 frame < least
                 → HearsFile leaves l frames unread reported left w old now

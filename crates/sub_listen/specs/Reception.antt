@@ -1,5 +1,6 @@
--- The packets of a file that arrive: some packets are skipped, some are lost, and bits are flipped
--- (own); and the packets that the receiver uses. Packets are numbered from 0 over the whole file.
+-- The Teletext packets of a file that arrive at the receiver, and those that it uses. Some packets
+-- are skipped or lost, and some bits are flipped (own). Packets are numbered from 0 over the whole
+-- file.
 use Rattle.std.specs.Prelude.{◌≡◌, ℕ, ◌+◌, Bool, true, false, not, ◌&&◌, List, [], ◌∷◌}
 use Rattle.std.specs.Prelude.{MatchBool, Option, Some, None, option_map}
 use Rattle.std.specs.Prelude.{if◌then◌else◌, ◌==◌, nat_le}
@@ -19,26 +20,27 @@ use Rattle.sub_request.specs.declared.listening.ReceiverKind.{ReceiverKind}
 use Rattle.sub_request.specs.declared.listening.ReceiverKind.TheVariants.{Anew, Blank}
 use Rattle.sub_request.specs.declared.listening.ReceiverKind.TheVariants.{DropRow, Keep}
 
--- The requested bit errors and losses: the number of packets to skip, the numbers of lost packets,
--- and the bits to flip.
+-- The requested bit errors and losses: how many packets are skipped at the start, which packets are
+-- lost, and which bits are flipped.
 pub record Reception : Type 0 where
   pub skip : ℕ
   pub lost : List ℕ
   pub flips : List Flip
 
--- The bit errors and losses of a request for `listen`.
+-- The bit errors and losses that the user requests for the command `listen`.
 abbrev pub reception_of : Listening → Reception
 reception_of l = record { skip = l.skip; lost = l.lost.items; flips = l.flips.items }
 
--- Packet `number` is not skipped, and is listed as lost.
+-- Packet `number` is lost: it is listed as lost, and not skipped.
 abbrev pub is_lost : Reception → ℕ → Bool
 is_lost r number = nat_le r.skip number && list_any (λ n. n == number) r.lost
 
--- Packet `number` is neither skipped nor lost.
+-- Packet `number` arrives: it is neither skipped nor lost.
 abbrev pub is_heard : Reception → ℕ → Bool
 is_heard r number = nat_le r.skip number && not (list_any (λ n. n == number) r.lost)
 
--- The packets that arrive of a list of packets, the first of which is packet `number` of the file.
+-- The packets of a list that arrive at the receiver, with their bit errors. The first packet of the
+-- list is packet `number` of the file.
 abbrev pub arriving_packets : Reception → ℕ → List (List ℕ) → List (List ℕ)
 arriving_packets r number [] = []
 arriving_packets r number (packet ∷ packets) =
@@ -46,61 +48,61 @@ arriving_packets r number (packet ∷ packets) =
     then with_flips r.flips number packet ∷ arriving_packets r (number + 1) packets
     else arriving_packets r (number + 1) packets
 
--- A receiver of page w uses the packet when it arrives; a receiver that drops rows ignores a row of
+-- A receiver of page w uses an arriving packet. A receiver that drops rows does not use a row of
 -- its page with a byte of even parity.
 abbrev pub is_taken : ReceiverKind → PageIdValue → List ℕ → Bool
 is_taken DropRow w packet = not (is_dropped w packet)
 is_taken _ w packet = true
 
--- The packets that the receiver uses of a list of packets, the first of which is packet `number` of
--- the file: those that arrive, without the rows that the receiver drops.
+-- The packets of a list that the receiver uses: those that arrive, without the rows that it drops.
+-- The first packet of the list is packet `number` of the file.
 abbrev pub packets_used_by : Listening → ℕ → List (List ℕ) → List (List ℕ)
 packets_used_by l number packets =
     filter (is_taken l.receiver l.options.page) (arriving_packets (reception_of l) number packets)
 
--- The code that a receiver leaves in a cell whose byte has even parity, given the code of the cell
--- before. A receiver that drops rows uses no row with such a byte.
+-- The code that a receiver stores in a cell for a byte of even parity, given the old code. A
+-- receiver that drops rows stores no row with such a byte.
 abbrev pub left_by : ReceiverKind → ℕ → ℕ
 left_by Keep = λ was. was
 left_by Blank = λ was. space
 left_by DropRow = λ was. was
 left_by Anew = λ was. space
 
--- The receiver starts again at each header of its page.
+-- The receiver starts again from a blank page at each header of its page.
 abbrev pub restarts_at_header : ReceiverKind → Bool
 restarts_at_header Anew = true
 restarts_at_header _ = false
 
--- A receiver of page w goes from one state to another at a packet that it uses.
+-- How a packet changes a receiver of page w that uses it.
 pub record TakesPacket
     (asks_complete anew : Bool) (leaves : ℕ → ℕ) (w : PageIdValue)
     (old : Display) (packet : List ℕ) (new : Display)
     : Type 0 where
-  -- The page changes by a step of the model receiver (`Step`), with a fixed choice for each byte of
-  -- even parity. But a receiver that starts again has an open blank page after each header of its
-  -- page.
+  -- The receiver follows the model (`Step`), and stores `leaves` of the old code for a byte of even
+  -- parity. But a receiver that starts again has an open blank page after each header of its page.
   pub step :
       MatchBool (anew && is_this_page (kind w packet))
       (new.held ≡ record { heard = true; is_open = true; page = blank })
       (Step w old.held packet new.held)
   pub cells : LeavesCells leaves w old.held packet new.held
-  -- If complete pages are required the receiver has a screen that shows a page when it ends;
+  -- If complete pages are required, the receiver's screen displays a page when the page ends;
   -- otherwise the screen does not change.
   pub screen : new.screen ≡ (if asks_complete then screen_after old new.held else old.screen)
 
--- The receiver uses the packets of a list, one after another.
+-- How a list of packets changes a receiver of page w that uses them, in order.
 abbrev pub RunsThrough :
     Listening → (ℕ → ℕ) → PageIdValue → Display → List (List ℕ) → Display → Type 0
 RunsThrough l leaves w old packets new =
     RunsBy (TakesPacket l.options.asks_complete (restarts_at_header l.receiver) leaves w) old
     packets new
 
--- A packet may be lost: it has an address, and is no packet X/0 (EN 300 706).
+-- A packet may be lost if its address can be decoded and it is not a packet X/0, a page header (EN
+-- 300 706).
 abbrev pub may_be_lost_at : Option PacketAddress → Bool
 may_be_lost_at None = false
 may_be_lost_at (Some a) = not (a.packet_number == 0)
 
--- The place, in a list of packets, of the first packet that is listed as lost but must not be.
+-- The index, in a list of packets, of the first packet that is listed as lost but must not be lost.
 abbrev pub first_lost_header : Reception → ℕ → List (List ℕ) → Option ℕ
 first_lost_header r number [] = None
 first_lost_header r number (packet ∷ packets) =
@@ -108,10 +110,10 @@ first_lost_header r number (packet ∷ packets) =
     then Some 0
     else option_map (λ place. place + 1) (first_lost_header r (number + 1) packets)
 
--- `listen` runs a receiver that may forget the page at repeats, and that starts again at each
--- header if that was requested; otherwise the receiver follows the model `Hears`. If complete pages
--- are required the receiver has a screen; otherwise the screen does not change. So everything that
--- is proved of all receivers is proved of the output of `listen`.
+-- The receiver that `listen` simulates is a receiver to which the law of repeats applies. If the
+-- user requests it, the receiver starts again at each header of its page; otherwise it follows the
+-- model `Hears`. Its screen changes only if complete pages are required. So the laws about
+-- receivers apply to the output of `listen`.
 abbrev pub LawOfListening : Type 0
 LawOfListening =
     (l : Listening) (leaves : ℕ → ℕ) (w : PageIdValue) (packets : List (List ℕ))

@@ -1,7 +1,8 @@
--- How a PES file is received: the frames up to TIME, why reception ends, and the run of a receiver.
+-- How `listen` receives a PES file: the frames up to the time TIME, the reason why reception ends,
+-- and the state of the receiver.
 --
--- The list has one frame for each PES packet. If `within` is not 0, several PES packets may belong
--- to one frame, and all are received.
+-- The list of frames has one entry for each PES packet. If `within` is not 0, consecutive PES
+-- packets may belong to one frame, and all are received.
 use Rattle.std.specs.Prelude.{◌≡◌, ℕ, zero, suc, ◌+◌, ◌<◌, ◌≤◌, ◌⊎◌, ◌&&◌, ◌==◌, Bool, false, not}
 use Rattle.std.specs.Prelude.{if◌then◌else◌, length, Option, Some, None, Result, option_map}
 use Rattle.std.specs.Prelude.{List, MatchResult}
@@ -25,60 +26,61 @@ use Rattle.sub_request.specs.declared.listening.Listening.{Listening}
 
 -- ---- faults of a failed read
 
--- The source failed to read.
+-- The fault is a failed read of the source.
 abbrev pub is_failed_read : ListenFault → Bool
 is_failed_read (fault.File f) = is_pes_read f
 is_failed_read (fault.LostHeader frame packet) = false
 
--- The fault is a fault of a subtitle file, which `listen` does not read.
+-- The fault is in a subtitle file, which `listen` does not read.
 abbrev pub is_stl_fault : ListenFault → Bool
 is_stl_fault (fault.File f) = is_subtitle_fault f
 is_stl_fault (fault.LostHeader frame packet) = false
 
 -- ---- the frames that are received
 
--- The least frame that a PES packet may have after a PES packet of frame `frame`: the next frame if
--- `within` is 0, otherwise the same frame.
+-- The earliest frame to which the PES packet after one of frame `frame` may belong: the next frame
+-- if `within` is 0, otherwise the same frame.
 abbrev pub least_after : ℕ → ℕ → ℕ
 least_after within frame = if within == 0 then frame + 1 else frame
 
--- The least frame that frame i of the list may have.
+-- The earliest frame to which PES packet i of the list may belong.
 abbrev pub least_frame : ℕ → Transmission → ℕ → ℕ
 least_frame within frames zero = 0
 least_frame within frames (suc i) = least_after within (frame_at frames i)
 
--- PES packet i of the list belongs to the frame of the PES packet before, and `within` is not 0.
+-- PES packet i of the list belongs to the same frame as the PES packet before it, and `within` is
+-- not 0.
 abbrev pub is_of_same_frame : ℕ → Transmission → ℕ → Bool
 is_of_same_frame within frames zero = false
 is_of_same_frame within frames (suc i) =
     not (within == 0) && (frame_at frames (suc i) == frame_at frames i)
 
--- The number of Teletext packets, in the first n PES packets of the list, that belong to the frame
--- of the last of these PES packets.
+-- The number of Teletext packets, in the first n PES packets, that belong to the same frame as PES
+-- packet n - 1.
 abbrev pub sent_in_frame : ℕ → Transmission → ℕ → ℕ
 sent_in_frame within frames zero = 0
 sent_in_frame within frames (suc i) =
     (if is_of_same_frame within frames i then sent_in_frame within frames i else 0)
     + length (packets_of_frame frames i)
 
--- The number, within its frame, of the first packet of PES packet i of the list.
+-- The index, within its frame, of the first Teletext packet of PES packet i.
 abbrev pub first_in_frame : ℕ → Transmission → ℕ → ℕ
 first_in_frame within frames i =
     if is_of_same_frame within frames i then sent_in_frame within frames i else 0
 
--- The number of the first packet of frame i of the list, counted over the whole file.
+-- The index, within the whole file, of the first Teletext packet of PES packet i.
 abbrev pub first_packet_number : Transmission → ℕ → ℕ
 first_packet_number frames i = length (packets_before frames i)
 
--- The number, within its frame, of the first Teletext packet of PES packet i that is listed as lost
--- but must not be.
+-- The index, within its frame, of the first Teletext packet of PES packet i that is listed as lost
+-- but must not be lost.
 abbrev pub lost_header : Listening → Transmission → ℕ → Option ℕ
 lost_header l frames i =
     option_map (λ place. first_in_frame l.options.within frames i + place)
     (first_lost_header (reception_of l) (first_packet_number frames i) (packets_of_frame frames i))
 
--- Frame i of the list is received: it is after the frame before (or the same frame, if `within` is
--- not 0), not after TIME, and none of its page headers is listed as lost.
+-- PES packet i is received: its frame is after the frame of the PES packet before it (or the same
+-- frame, if `within` is not 0) and not after TIME, and none of its page headers is listed as lost.
 pub record IsHeard (l : Listening) (frames : Transmission) (i : ℕ) : Type 0 where
   pub there : i < length frames
   pub rises : least_frame l.options.within frames i ≤ frame_at frames i
@@ -87,20 +89,21 @@ pub record IsHeard (l : Listening) (frames : Transmission) (i : ℕ) : Type 0 wh
       first_lost_header (reception_of l) (first_packet_number frames i) (packets_of_frame frames i)
       ≡ None
 
--- The first n frames of the list are received.
+-- The first n PES packets of the list are received.
 abbrev pub AreReceived : Listening → Transmission → ℕ → Type 0
 AreReceived l frames n = (i : ℕ) → i < n → IsHeard l frames i
 
--- Reception ends after n frames: the file ends, or the next frame is after TIME.
+-- Reception ends after n PES packets: the file ends, or the frame of the next PES packet is after
+-- TIME.
 abbrev pub EndsAfter : Listening → Transmission → Option Unread → ℕ → Type 0
 EndsAfter l frames unread n =
     ((n ≡ length frames) × (unread ≡ None))
     ⊎ ((n < length frames) × (least_frame l.options.within frames n ≤ frame_at frames n)
     × (l.at < frame_at frames n))
 
--- After n frames the file is refused for a fault: the file can't be read on, its next frame is not
--- after the frame before (or is before it, if `within` is not 0), or a page header of the next
--- frame is listed as lost.
+-- Reception fails after n PES packets: the next PES packet can't be read, its frame is not after
+-- the frame before (or is before it, if `within` is not 0), or one of its page headers is listed as
+-- lost.
 abbrev pub RefusesAfter : Listening → Transmission → Option Unread → ℕ → ListenFault → Type 0
 RefusesAfter l frames unread n (fault.File (check.Order index)) =
     (index ≡ n) × (n < length frames)
@@ -115,7 +118,7 @@ RefusesAfter l frames unread n f =
     (u : Unread) × (n ≡ length frames) × (unread ≡ Some u)
     × (f ≡ fault.File (unread_fault n (Some u)))
 
--- The source failed at a PES packet: the PES packets before it were consumed, and their frames were
+-- The source failed while a PES packet was read. The PES packets before it were consumed and
 -- received.
 pub record FailsListening (l : Listening) (known left : Option (List ℕ)) (f : ListenFault) : Type 0
   where
@@ -129,8 +132,8 @@ pub record FailsListening (l : Listening) (known left : Option (List ℕ)) (f : 
 
 -- ---- the run of a receiver
 
--- The run of a receiver that leaves the code `leaves` in a cell whose byte has even parity: the
--- receiver uses the packets up to TIME that reach it, or the file is refused.
+-- The effect of reception on the receiver: the receiver uses the packets up to TIME that arrive, or
+-- the file is refused. For a byte of even parity it stores `leaves` of the old code.
 pub record Runs
     (leaves : ℕ → ℕ) (l : Listening) (frames : Transmission) (unread : Option Unread)
     (w : PageIdValue) (old new : Display) (result : Result (Unit {0}) ListenFault)
@@ -143,12 +146,13 @@ pub record Runs
   pub ends :
       MatchResult result (λ _. EndsAfter l frames unread n) (RefusesAfter l frames unread n)
 
--- The run of a receiver with the bytes of the source: `known` before the run, `left` afterwards.
+-- The effect of reception on the receiver and on the source, which has the bytes `known` before and
+-- `left` afterwards.
 pub record HearsFile
     (leaves : ℕ → ℕ) (l : Listening) (frames : Transmission) (unread : Option Unread)
     (known left : Option (List ℕ)) (w : PageIdValue) (old new : Display)
     (result : Result (Unit {0}) ListenFault)
     : Type 0 where
   pub runs : Runs leaves l frames unread w old new result
-  -- If a frame follows those that are received, nothing was read after its PES packet.
+  -- If a PES packet follows the received ones, nothing was read after it.
   pub stops : runs.n < length frames → TakesPackets (runs.n + 1) known left

@@ -1,7 +1,7 @@
-//! Simulates one receiver of a PES file, with the bit errors and lost packets of a request.
+//! Simulates one receiver of a PES file, with requested bit errors and lost packets.
 //!
-//! `sub_rules` defines how a PES file is read, `sub_request` what is requested, and `ttx_page` the
-//! receivers. This crate checks no rules.
+//! `sub_rules` defines how a PES file is read, `sub_request` defines the request, and `ttx_page`
+//! defines the receivers. This crate checks no rules.
 //!
 //! ```text
 //! listen(&mut receiver, &mut source, &listening)?; // the receiver has decoded the file

@@ -20,18 +20,19 @@ use sub_rules::{CheckFault, NextPesPacket, next_pes_packet};
 use ttx_page::{Page, Receiver};
 use ttx_pes::{ComparingReader, FilePesPackets, PesPackets};
 
-/// Why a PES file can't be passed to a receiver to its end.
+/// The reason why a PES file can't be passed to a receiver completely.
 #[derive(Clone, Copy, Debug, PartialEq, Eq)]
 pub enum ListenFault {
-    /// The file can't be read on, or a frame is not after the frame before. Holds the fault that
-    /// `check` reports.
+    /// The rest of the file can't be read, or a frame is not after the frame before. Contains the
+    /// fault that `check` reports.
     File(CheckFault),
-    /// A packet that is listed as lost is a page header, or has no address, so it must not be lost.
+    /// A packet is listed as lost but must not be lost: it is a page header, or its address can't
+    /// be decoded.
     LostHeader {
-        /// The frame of the day, counted from 0, to which the packet belongs.
+        /// The packet's frame, counted from 0 at the start of the day.
         frame: u32,
-        /// The number of the packet, counted from 0 among the Teletext units of its PES packet; if
-        /// `within` is not 0, among those of all PES packets of its frame.
+        /// The index of the packet, counted from 0 within its PES packet; if `within` is not 0,
+        /// within all PES packets of its frame.
         packet: u32,
     },
 }
@@ -39,7 +40,7 @@ pub enum ListenFault {
 impl ListenFault {
     ghost use Rattle.sub_listen.specs.Fault.{listen_code};
 
-    /// Returns the number and name of the fault in reports (own).
+    /// Returns the number and the name of the fault in reports.
     pub fn code(self) -> FaultCode
         ensures { result ≡ listen_code self }
     {
@@ -58,19 +59,19 @@ impl From<CheckFault> for ListenFault {
     }
 }
 
-/// Passes the PES packets of a file, up to the frame `at`, to a receiver with a screen. The screen
-/// does not change unless complete pages are required.
+/// Passes the PES packets of a file, up to frame `at`, to a receiver with a screen. The screen
+/// changes only if complete pages are required.
 ///
-/// The receiver gets the packets as they are read, with their bit errors, except for skipped and
-/// lost packets and the rows that the receiver drops. Nothing is read beyond the first PES packet
-/// after frame `at`; faults of that PES packet itself are still returned. If `within` is not 0,
-/// consecutive PES packets may belong to one frame, and each is received.
+/// The receiver receives the Teletext packets with the requested bit errors, without skipped and
+/// lost packets and without rows that it drops. Nothing is read after the first PES packet later
+/// than frame `at`; faults of that PES packet are still returned. If `within` is not 0, consecutive
+/// PES packets may belong to one frame, and all are received.
 ///
 /// # Errors
 ///
-/// For each PES packet in turn, returns `File` with the fault that `check` reports if the file
-/// can't be read on, or with `Order`; `LostHeader` if a page header in the PES packet, or a packet
-/// without an address, is listed as lost.
+/// Returns the first fault in file order. `File` has the fault that `check` reports if a PES packet
+/// can't be read, or `Order` if its frame is too early. `LostHeader` means that a page header, or a
+/// packet whose address can't be decoded, is listed as lost.
 pub fn listen<R: Receiver + Drop, S: Source>(
     receiver: &mut R,
     screen: &mut Option<Page>,
@@ -96,12 +97,12 @@ pub fn listen<R: Receiver + Drop, S: Source>(
     listen_pes_packets(receiver, screen, &mut pes_packets, listening)
 }
 
-/// Passes PES packets, up to the frame `at`, to a receiver with a screen, as `listen` does for the
-/// PES packets of a source.
+/// Passes PES packets, up to frame `at`, to a receiver with a screen, as `listen` does for the PES
+/// packets of a source.
 ///
 /// # Errors
 ///
-/// Returns the faults of `listen`.
+/// Returns the same faults as `listen`.
 pub fn listen_pes_packets<R: Receiver + Drop, P: PesPackets>(
     receiver: &mut R,
     screen: &mut Option<Page>,
@@ -161,9 +162,9 @@ pub fn listen_pes_packets<R: Receiver + Drop, P: PesPackets>(
     }
 }
 
-// Returns the number, within its frame, of the first packet of a PES packet. `sent` packets have
-// been sent in the frame of the PES packet before, and `least` is the least frame that may follow
-// that PES packet.
+// Returns the index, within its frame, of the first Teletext packet of a PES packet. The PES packet
+// before it ended with `sent` packets sent in its frame; `least` is the earliest frame that may
+// follow it.
 fn first_in_frame(within: u64, frame: u32, least: u32, sent: u32) -> u32
     ensures value { result ≡ (if not (within == 0) && (frame == least) then sent else 0) }
     ensures most { result ≤ sent }
@@ -175,7 +176,7 @@ fn first_in_frame(within: u64, frame: u32, least: u32, sent: u32) -> u32
     }
 }
 
-// Returns the least frame that a PES packet may have after a PES packet of frame `frame`.
+// Returns the earliest frame to which the PES packet after one of frame `frame` may belong.
 fn least_after(within: u64, frame: u32) -> u32
     requires { frame < u32.MAX }
     ensures value { result ≡ least_after within frame }

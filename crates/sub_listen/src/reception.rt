@@ -1,5 +1,5 @@
-//! The packets of a file that reach a receiver: skipped packets, lost packets, bit errors, dropped
-//! rows, and headers at which the receiver starts again.
+//! Passes Teletext packets to a receiver, with skipped and lost packets, bit errors, dropped rows,
+//! and headers at which the receiver starts again.
 ghost use Rattle.std.specs.Prelude.{◌≡◌, ℕ, ◌+◌, ◌-◌, ◌^◌, ◌<◌, ◌≤◌, ◌&&◌, ◌∷◌, List};
 ghost use Rattle.std.specs.Prelude.{IfSome, IsTrue, length, not, true};
 ghost use Rattle.std.specs.List.{filter};
@@ -19,8 +19,9 @@ use ttx_packet::{Packet, PageId, SentPacket};
 use ttx_page::{PacketKind, Page, Receiver, is_dropped, show};
 use ttx_pes::SentUnits;
 
-/// Returns the first packet of a PES packet that is listed as lost but must not be, since it is a
-/// page header or has no address. `number` is the number of the first packet in the file, from 0.
+/// Returns the index of the first packet of a PES packet that is listed as lost but must not be
+/// lost, since it is a page header or its address can't be decoded. `number` is the index of the
+/// PES packet's first packet within the file.
 pub fn first_lost_header(listening: &Listening, number: u64, units: &SentUnits<'_>) -> Option<u32>
     requires few { length units.now ≤ most_units }
     requires number { number + most_units < u64.MAX }
@@ -40,7 +41,7 @@ pub fn first_lost_header(listening: &Listening, number: u64, units: &SentUnits<'
 }
 
 /// Passes the packets of a PES packet to a receiver, with its screen if complete pages are
-/// required. `number` is the number of the first packet in the file, from 0.
+/// required. `number` is the index of the first packet within the file.
 pub fn hear_units<R: Receiver + Drop>(
     receiver: &mut R,
     screen: &mut Option<Page>,
@@ -62,7 +63,7 @@ pub fn hear_units<R: Receiver + Drop>(
     }
 }
 
-// Passes one packet to a receiver. The contract is such that the packets after it can be added.
+// Passes one packet of a PES packet to a receiver.
 fn hear_packet<R: Receiver + Drop>(
     receiver: &mut R,
     screen: &mut Option<Page>,
@@ -85,7 +86,7 @@ fn hear_packet<R: Receiver + Drop>(
     }
 }
 
-// Passes a packet that arrives to a receiver, unless the receiver drops the packet.
+// Passes an arriving packet to a receiver, unless the receiver drops it.
 #[inline(always)]
 fn take<R: Receiver + Drop>(
     receiver: &mut R,
@@ -107,18 +108,18 @@ fn take<R: Receiver + Drop>(
         return;
     }
     if is_beginning(listening.receiver, receiver.watched(), packet) {
-        // The screen does not change: the header ends no page.
+        // The header ends no page, so the screen does not change.
         restart_at_header(receiver, packet);
     } else if listening.options.asks_complete() {
         show(receiver, screen, packet);
     } else {
-        // The screen does not change: complete pages are not required, so no page is copied.
+        // Complete pages are not required, so the screen does not change and no page is copied.
         receiver.hear(packet);
     }
 }
 
-// Returns whether the receiver uses a packet that arrives: a receiver that drops rows ignores a row
-// with a byte of even parity.
+// Returns whether the receiver uses an arriving packet. A receiver that drops rows does not use a
+// row with a byte of even parity.
 fn is_taken(listening: &Listening, packet: &Packet) -> bool
     ensures { result ≡ is_taken listening.now.receiver listening.now.options.page packet.now }
 {
@@ -128,8 +129,8 @@ fn is_taken(listening: &Listening, packet: &Packet) -> bool
     }
 }
 
-// Returns whether a receiver starts again at the packet: the request asks for this kind of
-// receiver, and the packet is a header of its page.
+// Returns whether a receiver starts again at the packet: the user requests this kind of receiver,
+// and the packet is a header of its page.
 fn is_beginning(receiver: ReceiverKind, page_id: PageId, packet: &Packet) -> bool
     ensures { result ≡ (restarts_at_header receiver && is_this_page (kind page_id packet.now)) }
 {
@@ -149,8 +150,8 @@ fn is_header(page_id: PageId, packet: &Packet) -> bool
     }
 }
 
-// Passes a header of its page to a receiver that starts again, as if it had just been tuned in with
-// a blank page.
+// Passes a header of its page to a receiver that starts again. The receiver is in the same state as
+// one just tuned to the page, with a blank page.
 fn restart_at_header<R: Receiver + Drop>(receiver: &mut R, header: &Packet)
     requires header { IsTrue (is_this_page (kind (R.tuned_to receiver.old) header.now)) }
     ensures state { R.state receiver.new
@@ -161,7 +162,7 @@ fn restart_at_header<R: Receiver + Drop>(receiver: &mut R, header: &Packet)
     receiver.hear(header);
 }
 
-// Returns whether a packet is listed as lost but must not be.
+// Returns whether a packet is listed as lost but must not be lost.
 fn is_lost_header(listening: &Listening, number: u64, packet: &SentPacket<'_>) -> bool
     ensures { result
         ≡ (is_lost (reception_of listening.now) number
@@ -184,7 +185,7 @@ fn is_heard(listening: &Listening, number: u64) -> bool
     listening.skip <= number && !listening.lost.contains(&number)
 }
 
-// Returns whether a packet may be lost: it has an address, and is no page header.
+// Returns whether a packet may be lost: its address can be decoded, and it is not a page header.
 fn may_be_lost(packet: &Packet) -> bool
     ensures { result ≡ may_be_lost_at (address packet.now) }
 {
@@ -194,7 +195,7 @@ fn may_be_lost(packet: &Packet) -> bool
     }
 }
 
-// Returns packet `number` of the file with its bit errors.
+// Returns packet `number` of the file with the requested bit errors.
 fn flipped(flips: &[Flip], number: u64, packet: &Packet) -> Packet
     ensures { result ≡ with_flips flips.now number packet.now }
 {
@@ -205,7 +206,7 @@ fn flipped(flips: &[Flip], number: u64, packet: &Packet) -> Packet
     Packet::new(bytes)
 }
 
-// Flips a bit, if the flip belongs to packet `number` of the file.
+// Flips one bit of packet `number` of the file, if the request lists it for this packet.
 fn flip_bit(flip: &Flip, number: u64, bytes: &mut [u8; 42])
     ensures { bytes.new ≡ with_flip flip.now number bytes.old }
 {
@@ -214,7 +215,7 @@ fn flip_bit(flip: &Flip, number: u64, bytes: &mut [u8; 42])
     }
 }
 
-// Returns the value of bit 1 to 8 of a byte: bit 1 is the lowest.
+// Returns the value of bit 1 to 8 in a byte; bit 1 is the lowest.
 fn bit_value(bit: u8) -> u8
     requires { (1 ≤ bit) × (bit ≤ 8) }
     ensures { result ≡ 2 ^ (bit - 1) }

@@ -1,6 +1,5 @@
--- A receiver that can be computed, for examples that are decided by computation: the model receiver
--- that keeps the cells of bytes with even parity. It follows the receiver relation:
--- `hears_state_after`. A test decides whether packets are near: `packets_tested`.
+-- An executable receiver for examples. It keeps the code of a cell for a byte of even parity, and
+-- follows the model of a receiver.
 use Rattle.std.proofs.Common.{◌≡◌, ℕ, ◌-◌, Bool, true, false, ◌&&◌, List, [], ◌∷◌, map, get_or}
 use Rattle.std.proofs.Common.{refl, ap, ◌∙◌, arith, inl, inr}
 use Rattle.std.specs.Prelude.{◌==◌, if◌then◌else◌}
@@ -81,13 +80,13 @@ cell-page_of_cells code row column named =
     ∙ get_or-map-range_with_len (λ column. code row column) 0 40 column column 0 named.2
     (omega arith)
 
--- Storing a row as computed agrees with the relation `StoresRow`.
+-- The computed storing of a row follows the model of a receiver.
 row_is_stored :
     (packet : List ℕ) (y : ℕ) (page : Rows) → StoresRow packet y page (row_stored packet y page)
 row_is_stored packet y page row column named =
     grind (arith, nat_tests, cell-page_of_cells (code_stored packet y page) row column named)
 
--- Each step of the computed receiver is a step of the receiver relation.
+-- Each step of the computed receiver is a step that the model of a receiver allows.
 stepped : (k : PacketKind) (packet : List ℕ) (old : State)
     → StepAt k packet old (state_at k packet old)
 stepped (ThisPage h) packet old = refl

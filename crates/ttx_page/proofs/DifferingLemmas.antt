@@ -1,5 +1,5 @@
--- The number of differing cells of two pages: `rows-set` states how replacing a row changes it; if
--- it is 0, the pages are equal, `cells_same`.
+-- The number of differing cells of two pages: how it changes when a row is replaced, and that pages
+-- are equal if it is 0.
 use Rattle.std.proofs.Common.{◌≡◌, ℕ, zero, suc, ◌+◌, ◌*◌, ◌<◌, ◌≤◌, cond, ◌==◌, List, [], length}
 use Rattle.std.proofs.Common.{get_or, set, refl, arith, get_or-set_same, get_or-set_other, add-one}
 use Rattle.std.proofs.lemmas.Bool.Decides.{nat_tests}
@@ -47,8 +47,7 @@ rows-set_above zero xs ys i row h = refl
 rows-set_above (suc n) xs ys i row h =
     grind (arith, nat_tests, get_or-set_other, rows-set_above n xs ys i row)
 
--- Replacing a row of a page changes the number of differing cells by the change of that row's
--- number.
+-- Replacing a row changes a page's number of differing cells by as much as the number for that row.
 pub rows-set : (n : ℕ) (xs ys : List (List ℕ)) (i : ℕ) (row : List ℕ)
     → i < n
     → i < length xs

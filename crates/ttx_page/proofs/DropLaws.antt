@@ -1,5 +1,4 @@
--- A receiver that drops rows has the state of a receiver that receives only the other packets:
--- `law_of_dropping`.
+-- A receiver that drops rows has the same state as a receiver that does not receive these rows.
 use Rattle.std.proofs.Common.{◌≡◌, ◌↔◌, ℕ, Bool, true, false, not, List, [], ◌∷◌, filter, inl, inr}
 use Rattle.std.proofs.Common.{refl, arith}
 use Rattle.std.proofs.lemmas.Bool.{cases_Bool}
@@ -10,8 +9,8 @@ use Rattle.ttx_page.specs.Receiver.{RunsBy, Step, StepBy, is_dropped}
 use Rattle.ttx_page.specs.Receiver.ReceiverClass.{Dropping}
 use Rattle.ttx_page.specs.Screen.{Display, ShowsAt}
 
--- If the steps at dropped packets change nothing, a run over all packets is a run over the packets
--- that are not dropped.
+-- If dropped packets change nothing, all packets have the same effect as the packets that are not
+-- dropped.
 module _
     {S : Type 0} (StepsBy PassesBy : S → List ℕ → S → Type 0) (dropped : List ℕ → Bool)
     (over : (old : S) (packet : List ℕ) (new : S)

@@ -1,6 +1,4 @@
--- Without wrong bits, each cell of a receiver that keeps its page has the code of `kept`,
--- `law_of_kept`; if repeats must not keep earlier text, the code that is shown:
--- `law_of_fault_free`.
+-- Without wrong bits, each cell of a receiver has the sent code.
 use Rattle.std.proofs.Common.{◌≡◌, ℕ, ◌⊎◌, inl, inr, Bool, true, false, not, ◌&&◌, ◌||◌, cond, List}
 use Rattle.std.proofs.Common.{[], ◌∷◌, ◌++◌, Option, Contains, option_map}
 use Rattle.std.proofs.Common.{unwrap_or, IsFalse, refl, sym, ap, ◌∙◌, subst, arith}

@@ -1,6 +1,5 @@
--- Comparing rows in blocks gives the first differing column: mask_compared, mask_of_block,
--- column_of_test; counting the ones of the mask gives the number of differing cells: ones_compared,
--- columns_in_chunk.
+-- Comparing two rows in blocks gives the first differing column; counting the ones of the masks
+-- gives the number of differing cells.
 use Rattle.std.proofs.Common.{◌≡◌, ◌≢◌, ℕ, zero, suc, ◌+◌, ◌-◌, ◌^◌, ◌%◌, ◌<◌, ◌≤◌, cond, false}
 use Rattle.std.proofs.Common.{List, map, length, get_or, take, take_all, sym, ap, ap₂, ◌∙◌, arith}
 use Rattle.std.proofs.Common.{add-one, w8}

@@ -1,5 +1,4 @@
--- A receiver that starts late: packets before a header of the page have no effect, `sends-later`
--- and `shown-later`.
+-- Packets before a header of the page have no effect on a receiver, so a receiver may start late.
 use Rattle.std.proofs.Common.{◌≡◌, ℕ, Bool, true, List, [], ◌∷◌, ◌++◌}
 use Rattle.std.proofs.Common.{unwrap_or, All, subst, arith}
 use Rattle.std.proofs.lemmas.Bool.Decides.{nat_tests}
@@ -46,8 +45,8 @@ module _ (w : PageIdValue) (before heard : List (List ℕ)) where
       → span (kind w) (before ++ heard) ≡ span (kind w) heard
   span-later holds = grind (arith, nat_tests, after-append)
 
-  -- If the packets received since a late start contain a header of the page, they show the same
-  -- codes as all packets sent.
+  -- If a receiver starts late and then receives a header of the page, the received packets show the
+  -- same codes as all sent packets.
   pub shown-later : holds_header (kind w) heard ≡ true
       → (row column : ℕ)
       → shown w (before ++ heard) row column ≡ shown w heard row column
@@ -57,8 +56,8 @@ module _ (w : PageIdValue) (before heard : List (List ℕ)) where
       → is_unended (kind w) (before ++ heard) ≡ is_unended (kind w) heard
   unended-later holds = grind (arith, nat_tests, after-append)
 
-  -- If the page is open after the packets received since a late start, it is open after all packets
-  -- sent, and both lists have the same span.
+  -- If a receiver starts late and its page is open, the page is also open after all sent packets,
+  -- and both lists have the same span.
   pub open-later : is_open_after (kind w) heard ≡ true
       → (is_open_after (kind w) (before ++ heard) ≡ true)
       × (span (kind w) (before ++ heard) ≡ span (kind w) heard)

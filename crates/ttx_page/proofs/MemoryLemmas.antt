@@ -4,8 +4,8 @@ use Rattle.ttx_page.specs.declared.memory.EvenByte.{EvenByte}
 use Rattle.ttx_page.specs.Page.{AreCodes}
 use Rattle.ttx_page.specs.Memory.{code_after}
 
--- While a row is stored, the columns to the left of `column` have their new codes, and the others
--- still have their old codes.
+-- While a row is stored from left to right, the columns before `column` have their new codes, and
+-- the other columns their old codes.
 pub record IsStoredTo (even : EvenByte) (packet was : List ℕ) (column : ℕ) (codes : List ℕ)
     : Type 0 where
   pub size : length codes ≡ 40

@@ -1,5 +1,5 @@
--- The laws of noise and of lost rows follow from the law of repeats without keeping: `cell_shown`
--- gives `law_of_recovery` and `law_of_lost_rows`, and from these the others follow.
+-- The laws of noise and of lost rows follow from the law of repeats, for repeats that must not keep
+-- earlier text.
 use Rattle.std.proofs.Common.{rules, ◌≡◌, ℕ, ◌<◌, ◌⊎◌, inl, inr, Bool, true, false}
 use Rattle.std.proofs.Common.{List, [], ◌∷◌, map, zip, find, Option, Some, None, option_map}
 use Rattle.std.proofs.Common.{All, unwrap_or, Contains, IsTrue, refl, ◌∙◌, arith}
@@ -54,7 +54,7 @@ first_code w spanned row column packet same within is below = go (find test span
         grind (arith, nat_tests, find_none_fails, test, list_any_at)
     go (Some first) e = search (rules, find_eq, test, All-contains, row_from_test)
 
--- In sound packets, each packet of a row in the span has the codes that are shown.
+-- In well-formed packets, each packet of a row in the span has the codes that the packets show.
 pub shown_is : (w : PageIdValue) (sent : List (List ℕ)) (row column : ℕ) (packet : List ℕ)
     → IsSound w sent
     → Contains (span (kind w) sent) packet
@@ -64,7 +64,7 @@ pub shown_is : (w : PageIdValue) (sent : List (List ℕ)) (row column : ℕ) (pa
 shown_is w sent row column packet sound within is below =
     first_code w (span (kind w) sent) row column packet sound.same within is below
 
--- Sound packets (`IsSound`) send the text that they show, if repeats must not keep earlier text.
+-- Well-formed packets send the text that they show, if repeats must not keep earlier text.
 pub sends_shown : (w : PageIdValue) (sent : List (List ℕ))
     → IsSound w sent
     → SendsText false w sent (shown w sent)
@@ -92,7 +92,7 @@ module _ (class : ReceiverClass) (w : PageIdValue) (sent : List (List ℕ)) (arr
       law_of_repeats false false class w sent arrived got (shown w sent) old new
       (sends_shown w sent sound) may near (law_of_forgetting class w got old new hears)
 
-  -- After a header of the page, each cell has the code that is shown, or an excused space.
+  -- After a header of the page, each cell has the code that the packets show, or an allowed space.
   cell_shown : holds_header (kind w) sent ≡ true
       → (row column : ℕ)
       → IsCell row column
@@ -153,8 +153,8 @@ span-zip_map_Some : (w : PageIdValue) (sent got : List (List ℕ))
     (span (λ (pair : List ℕ × List ℕ). kind w pair.0) (zip sent got))
 span-zip_map_Some w sent got = grind (arith, nat_tests, kind_of_item, zip-map, span-map)
 
--- If no packet is lost, the packets received and the cells hit in the law of lost rows are those of
--- the law of noise.
+-- If no packet is lost, the law of lost rows has the same received packets and hit cells as the law
+-- of noise.
 pub law_of_nothing_lost : LawOfNothingLost
 law_of_nothing_lost w sent arrived all may = record {
   kept = items-all_true sent arrived (recursion_from_All IsTrue arrived all) may;
@@ -176,7 +176,7 @@ pub may_all : (sent : List (List ℕ)) → AllZip LosesNoHeader sent (all_kept s
 may_all [] = tt
 may_all (p ∷ sent) = (λ h a is. let e : true ≡ false = h in absurd (cc), may_all sent)
 
--- The law of noise is the law of lost rows if all packets arrive.
+-- The law of noise is the special case of the law of lost rows in which all packets arrive.
 pub law_of_noise : LawOfNoise
 law_of_noise w sent got old new sound near unheard shut hears =
     let nothing = law_of_nothing_lost w sent (all_kept sent) (all_true sent) (may_all sent) in

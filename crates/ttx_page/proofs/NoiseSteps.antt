@@ -1,6 +1,5 @@
--- The state of a receiver after packets with wrong bits or losses: after one packet, `at_lost_item`
--- and
--- `at_received_item`, and after a run over many packets, `over`.
+-- The state of a receiver after one packet, and after many packets, with wrong bits or lost
+-- packets.
 use Rattle.std.proofs.Common.{◌≡◌, ℕ, ◌<◌, ◌⊎◌, inl, inr, true, false, not, ◌&&◌, ◌||◌, List}
 use Rattle.std.proofs.Common.{[], ◌∷◌, ◌++◌, zip, Option, Some, None, Bool, is_some, Contains, refl}
 use Rattle.std.proofs.Common.{IsFalse, ap, arith, cond, subst, sym, ◌∙◌}
@@ -42,7 +41,7 @@ Item = List ℕ × Option (List ℕ)
 abbrev pub kind_of_item : PageIdValue → Item → PacketKind
 kind_of_item w item = kind w item.0
 
--- A packet that may be lost is no page header, so its loss neither opens nor ends the page.
+-- A packet other than a page header neither opens nor ends the page, so it may be lost.
 pub lost_is_no_header : (w : PageIdValue) (packet : List ℕ)
     → MayBeLost packet
     → (is_this_page (kind w packet) ≡ false) × (ends_page (kind w packet) ≡ false)
@@ -89,15 +88,15 @@ even_byte_of packet some = go (first_even_byte packet) refl some
         let found = first_below_eq 40 (λ column. not (is_odd (text_byte packet column))) column e in
         (column, found.0, grind (arith, nat_tests))
 
--- If a row was sent with odd parity and is dropped, one of its bytes was hit.
+-- If a row is sent with odd parity and a receiver drops it, one of its bytes had a wrong bit.
 dropped_loses : (w : PageIdValue) (sent got : List ℕ) (row column : ℕ)
     → HasOddText sent
     → is_dropped w got ≡ true
     → ExcusedBy Dropping (Loses sent (Some got)) row column
 dropped_loses w sent got row column odd drop = grind (arith, nat_tests, even_byte_of)
 
--- A cell takes the code that was sent; or, if the packet loses the cell's byte, the cell keeps its
--- code or becomes a space.
+-- A cell takes the sent code; or it keeps its code or becomes a space, if the packet is lost or its
+-- byte for the cell is wrong.
 abbrev TakesCode :
     ReceiverClass → ℕ → ℕ → List ℕ → Option (List ℕ) → State → State → Type 0
 TakesCode class row column sent arrival old new =
@@ -114,8 +113,8 @@ record AtItem
   heard : new.heard ≡ (is_this_page (kind w sent) || old.heard)
   is_open : new.is_open
       ≡ (is_this_page (kind w sent) || (old.is_open && not (ends_page (kind w sent))))
-  -- A header that starts a new text blanks the cell. In a receiver that starts from a blank page,
-  -- each header of the page blanks the cell.
+  -- A header that starts a new text blanks the cell. If the receiver starts from a blank page at
+  -- each header, each header of the page blanks the cell.
   erased : (begins_text keeps (kind w sent) || (anew && is_this_page (kind w sent))) ≡ true
       → cell new.page row column ≡ space
   -- At a header of the page that does not start a new text, the cell keeps its code or becomes a
@@ -127,7 +126,7 @@ record AtItem
   stays : is_this_page (kind w sent) ≡ false
       → (old.is_open && is_row row (kind w sent)) ≡ false
       → cell new.page row column ≡ cell old.page row column
-  -- A packet of the cell's row while the page is open stores the code that was sent.
+  -- A packet of the cell's row, received while the page is open, stores the sent code.
   stores : kind w sent ≡ Row row
       → old.is_open ≡ true
       → HasOddText sent
@@ -200,12 +199,12 @@ both_left x y e = grind (arith, nat_tests)
 pub both_right : (x y : Bool) → (x && y) ≡ true → y ≡ true
 both_right x y e = grind (arith, nat_tests)
 
--- The lemmas of this module are about one cell of the page: the code that the cell should show, and
--- what excuses a space instead.
+-- The lemmas of this module are about one cell of the page: its expected code, and the condition
+-- under which a space is allowed instead.
 module _ (keeps anew : Bool) (class : ReceiverClass) (w : PageIdValue) (row column code : ℕ)
     (Excuse : Type 0) where
-  -- Each packet of the cell's row in the long span has odd parity, and the cell's code at the
-  -- cell's column.
+  -- Each packet of the cell's row in the long span has odd parity, and the expected code for the
+  -- cell.
   abbrev pub AreTargets : List Item → Type 0
   AreTargets items =
       (item : Item)
@@ -213,7 +212,8 @@ module _ (keeps anew : Bool) (class : ReceiverClass) (w : PageIdValue) (row colu
       → kind w item.0 ≡ Row row
       → HasOddText item.0 × (code_of (text_byte item.0 column) ≡ code)
 
-  -- A packet of the cell's row in the span that loses the cell's byte excuses a space in the cell.
+  -- A space in the cell is allowed if a packet of its row in the span is lost or has a wrong byte
+  -- for the cell.
   abbrev pub GiveExcuses : List Item → Type 0
   GiveExcuses items =
       (item : Item)
@@ -225,28 +225,27 @@ module _ (keeps anew : Bool) (class : ReceiverClass) (w : PageIdValue) (row colu
   abbrev pub WasBlank : State → Type 0
   WasBlank start = (start.is_open ≡ false) × (cell start.page row column ≡ space)
 
-  -- The earlier code of the cell no longer matters: the receiver starts from a blank page at each
-  -- header, or a new text started, or the cell was a space and the page not open.
+  -- The cell does not depend on its earlier code: the receiver starts from a blank page at each
+  -- header, or a new text has started, or the cell was a space and the page was not open.
   abbrev pub IsFreshCell : State → List Item → Type 0
   IsFreshCell start items =
       (anew ≡ true)
       ⊎ ((holds_beginning keeps (kind_of_item w) items ≡ true) ⊎ WasBlank start)
 
-  -- The state of a receiver, and of one cell of its page, after packets that were received or lost.
+  -- The state of a receiver and of one cell of its page, after some packets were received or lost.
   pub record StateAfterItems (start : State) (items : List Item) (now : State) : Type 0 where
     pub heard : now.heard ≡ (holds_header (kind_of_item w) items || start.heard)
     pub is_open : (holds_header (kind_of_item w) items || not start.is_open) ≡ true
         → now.is_open ≡ is_open_after (kind_of_item w) items
-    -- As long as no header of the page arrives, a page that is blank and not open stays blank and
-    -- not open.
+    -- Until a header of the page arrives, a blank page that is not open stays blank and not open.
     pub waits : holds_header (kind_of_item w) items ≡ false → WasBlank start → WasBlank now
-    -- After a header of the page, the cell has the code that it should show, or is a space.
+    -- After a header of the page, the cell has the expected code or is a space.
     pub code_or_space : holds_header (kind_of_item w) items ≡ true
         → IsFreshCell start items
         → AreTargets items
         → (cell now.page row column ≡ code) ⊎ (cell now.page row column ≡ space)
-    -- After a header of the page, the cell has the code that it should show, or a space is excused,
-    -- or the span has no packet of the row.
+    -- After a header of the page, the cell has the expected code, or a space is allowed, or the
+    -- span has no packet of the row.
     pub cell_eq : holds_header (kind_of_item w) items ≡ true
         → IsFreshCell start items
         → AreTargets items
@@ -438,8 +437,7 @@ module _ (keeps anew : Bool) (class : ReceiverClass) (w : PageIdValue) (row colu
     cell_eq = λ holds. grind arith;
   }
 
-  -- The state of a receiver after a run, by induction over the packets still to be received or
-  -- lost.
+  -- Proved by induction over the remaining packets.
   pub over : (start : State) (items : List Item) (sent : List (List ℕ)) (arrived : List Bool)
       (got : List (List ℕ)) (old new : State)
       → IsCell row column

@@ -1,4 +1,4 @@
--- The blank page has 24 rows of 40 codes, `is_page_blank`, and pages with equal rows are equal.
+-- The blank page has 24 rows of 40 codes, and pages with equal rows are equal.
 use Rattle.std.proofs.Common.{rules, List, true, nat_lt, ltb-true, ◌≡◌, ℕ, ◌<◌, [], get_or}
 use Rattle.std.proofs.Common.{replicate, arith, sym, ◌∙◌}
 use Rattle.std.proofs.lemmas.Bool.Decides.{nat_tests}

@@ -1,5 +1,4 @@
--- The law of repeats, `law_of_repeats`, follows from a run over packets that are received or lost;
--- receivers that keep their page are among those that may forget, `law_of_forgetting`.
+-- The law of repeats follows from the state of a receiver after packets that are received or lost.
 use Rattle.std.proofs.Common.{◌≡◌, ℕ, suc, ◌⊎◌, inl, inr, Bool, true, false}
 use Rattle.std.proofs.Common.{List, [], ◌∷◌, find, length, map, option_map, unwrap_or, zip, Option}
 use Rattle.std.proofs.Common.{Contains, refl, ap, ◌∙◌, arith}
@@ -37,7 +36,7 @@ length-arrivals_of (false ∷ ms) got = ap suc (length-arrivals_of ms got)
 length-arrivals_of (true ∷ ms) [] = ap suc (length-arrivals_of ms [])
 length-arrivals_of (true ∷ ms) (g ∷ gs) = ap suc (length-arrivals_of ms gs)
 
--- Pairs each packet that was sent with the bytes received for it, or `None` if it was lost.
+-- Pairs each sent packet with its received bytes, or with `None` if it was lost.
 module _ (class : ReceiverClass) (w : PageIdValue) (sent : List (List ℕ)) (arrived : List Bool)
     (got : List (List ℕ)) (may : AllZip LosesNoHeader sent arrived)
     (near : AllZip AreNear (items_where_true arrived sent) got) where
@@ -96,8 +95,8 @@ module _ (class : ReceiverClass) (w : PageIdValue) (sent : List (List ℕ)) (arr
         (recursion_from_All _ sent (λ k d l none. sends.erases none k d l)) may near hears
         (starts keeps anew class w row column (text row column) (Excused row column) old)
 
-    -- After a header of the page, once the earlier contents of the page no longer matter, each cell
-    -- has the code of the text or an excused space.
+    -- After a header of the page, each cell has the code of the text or an allowed space, if the
+    -- page does not depend on its earlier contents.
     cell_kept :
         holds_header (kind w) sent ≡ true
         → IsFresh keeps anew w sent old

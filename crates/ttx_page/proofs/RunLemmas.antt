@@ -1,6 +1,5 @@
--- Runs of receivers: two runs can be joined, `RunsBy-append`; a run can be extended by one packet,
--- `run_more`; and a run is also a run of other steps if each of its steps is one of the other
--- steps: `RunsBy-as`.
+-- The effect of a list of packets on a receiver, for joined and extended lists, and for weaker
+-- steps.
 use Rattle.std.proofs.Common.{◌≡◌, ℕ, ◌+◌, ◌<◌, List, [], ◌∷◌, ◌++◌, length, take, get_or, refl, ap}
 use Rattle.std.proofs.lemmas.List.{take_more}
 use Rattle.ttx_page.specs.Receiver.{RunsBy}

@@ -1,4 +1,4 @@
--- After a header of the page, a page that is not open is on the screen, `law_of_screen`.
+-- After a header of the page, a page that is not open is on the screen.
 use Rattle.std.proofs.Common.{◌≡◌, ℕ, Bool, false, List, [], ◌∷◌, Some, IsFalse, refl, arith}
 use Rattle.std.proofs.lemmas.Bool.Decides.{nat_tests}
 use Rattle.ttx_packet.specs.PageId.{PageIdValue}

@@ -1,5 +1,4 @@
--- Lists and the span: searches for an element, the span of a mapped list, `span-map`, and of joined
--- lists.
+-- The span of a mapped list and of joined lists.
 use Rattle.std.proofs.Common.{◌≡◌, zero, suc, inl, inr, Bool, true, false, ◌||◌, cond, List, []}
 use Rattle.std.proofs.Common.{◌∷◌, ◌++◌, Some, None, map, zip, find, Any, Contains, refl, ap, ◌∙◌}
 use Rattle.std.proofs.Common.{arith}
@@ -72,8 +71,8 @@ module _ {A B : Type 0} (kind_of : B → PacketKind) (f : A → B) where
   before-map [] = refl
   before-map (x ∷ xs) = rw (before-map xs) (simp map-cond)
 
-  -- The span of a mapped list is the mapped span. So one definition of the span serves packets and
-  -- pairs of packets.
+  -- The span of a mapped list is the mapped span, so one definition applies to packets and to pairs
+  -- of packets.
   pub span-map : (xs : List A) → span kind_of (map f xs) ≡ map f (span (λ x. kind_of (f x)) xs)
   span-map xs = grind (arith, nat_tests, after-map, before-map)
 

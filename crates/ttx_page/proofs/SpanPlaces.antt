@@ -1,4 +1,4 @@
--- The span by its bounds: `law_of_span`.
+-- The span lies between its bounds.
 use Rattle.std.proofs.Common.{◌≡◌, ℕ, suc, ◌+◌, ◌-◌, ◌<◌, ◌≤◌, inl, inr, Bool, true, false, not}
 use Rattle.std.proofs.Common.{List, [], ◌∷◌, length, drop, take, get_or, slice_range, HoldsAt}
 use Rattle.std.proofs.Common.{IsTrue, All, refl, arith}

@@ -1,6 +1,4 @@
--- The long span: one more packet changes it as `text_span-push` states; it is the span if each
--- header starts a new text, `text_span-same`; packets before a list only add to its front,
--- `text_span-later`; and for a mapped list, `text_span-map`.
+-- The long span of a list: how one more packet changes it, and the long span of a mapped list.
 use Rattle.std.proofs.Common.{◌≡◌, Bool, true, false, not, ◌&&◌, ◌||◌, cond, List, [], ◌∷◌, ◌++◌}
 use Rattle.std.proofs.Common.{refl, sym, ap, ◌∙◌, map, arith, append_assoc}
 use Rattle.std.specs.List.{AllByRecursion, list_any}
@@ -22,8 +20,7 @@ pub begins_at_each_header : (k : PacketKind) → begins_text false k ≡ is_this
 begins_at_each_header k = grind (arith, nat_tests)
 
 module _ {A : Type 0} (kind_of : A → PacketKind) where
-  -- Whether the page is open after the items, given whether the page is open before them
-  -- (`is_open`).
+  -- The page is open after the items. `is_open` is true if it is open before them.
   abbrev open_from : Bool → List A → Bool
   open_from is_open [] = is_open
   open_from is_open (x ∷ xs) =
@@ -86,9 +83,9 @@ module _ {A : Type 0} (kind_of : A → PacketKind) where
         let opened = from-open xs in
         grind (arith, nat_tests)
 
-    -- How a packet that is appended to a list changes the long span: after a header that starts a
-    -- new text the long span is empty; any other packet is added if the page is open and the packet
-    -- is no header of the page and does not end it.
+    -- How an appended packet changes the long span. After a header that starts a new text the long
+    -- span is empty; any other packet except a header of the page is added if the page is open and
+    -- the packet does not end it.
     pub text_span-push : (xs : List A) (x : A)
         → text_span keeps kind_of (xs ++ x ∷ [])
         ≡ cond (begins_text keeps (kind_of x)) []
@@ -202,7 +199,7 @@ module _ {A : Type 0} (kind_of : A → PacketKind) where
         let both = list_any-append (λ y. begins_text keeps (kind_of y)) xs ys in
         grind (arith, nat_tests)
 
-    -- If packets are put before a list, its long span changes only by packets added at its front.
+    -- Packets put before a list can only add packets to the front of its long span.
     pub text_span-later : (xs ys : List A)
         → (more : List A)
         × (text_span keeps kind_of (xs ++ ys) ≡ more ++ text_span keeps kind_of ys)

@@ -1,6 +1,4 @@
--- Receivers that start late: if each packet may follow the packets before it, the packets received
--- send the text that is kept of all packets, `sends-joined`; if repeats must not keep earlier text,
--- that means they are sound: `sends_of_sound`, `sound_of_sends`.
+-- Receivers that start late: the received packets send the same text as all packets.
 use Rattle.std.proofs.Common.{◌≡◌, ℕ, suc, ◌<◌, inl, inr, Bool, true, false, not, ◌&&◌, cond, List}
 use Rattle.std.proofs.Common.{[], ◌∷◌, ◌++◌, length, take, slice_index_or, find, Option, Some, None}
 use Rattle.std.proofs.Common.{Contains, option_map, unwrap_or, All, refl, sym, ap}
@@ -50,8 +48,8 @@ module _ (keeps : Bool) (w : PageIdValue) (before heard : List (List ℕ)) (pack
       subst (λ (ps : List (List ℕ)). Contains ps q) (sym later.1)
       (Contains-append_right later.0 spanned q within)
 
-  -- If a row has a packet in the long span, a further packet does not change which packet of the
-  -- row is the first in the span.
+  -- If the long span has a packet of a row, a further packet does not change the first packet of
+  -- that row.
   first_stays : (row : ℕ) (q : List ℕ)
       → begins_text keeps (kind w packet) ≡ false
       → Contains span_of_all q
@@ -180,8 +178,8 @@ module _ (keeps : Bool) (w : PageIdValue) (before heard : List (List ℕ)) (pack
           (codes_stay no_begin) (codes_while_open up no_begin));
     }
 
--- If each packet of `more` may follow the packets before it, the packets received and `more`
--- together send the text that is kept of all packets.
+-- If each packet of `more` may follow the packets before it, the received packets and `more`
+-- together send the same text as all packets.
 pub sends-joined : (keeps : Bool) (w : PageIdValue) (before heard more : List (List ℕ))
     → SendsText keeps w heard (kept keeps w (before ++ heard))
     → ((k : ℕ)

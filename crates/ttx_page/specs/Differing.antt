@@ -1,8 +1,7 @@
--- The number of cells in which two pages differ (own). A checker can update this number as rows are
--- stored.
+-- The number of cells in which two pages differ (own). It can be updated as rows are stored.
 --
--- The recursion is over fixed numbers of rows and columns, so the lengths of lists do not matter:
--- at most 960 cells of a page differ.
+-- The definition counts over a fixed number of rows and columns, so the result is at most 960,
+-- whatever the lengths of the lists.
 use Rattle.std.specs.Prelude.{ℕ, zero, suc, ◌+◌, List, [], ◌==◌, slice_index, slice_index_or}
 use Rattle.std.specs.Prelude.{if◌then◌else◌}
 use Rattle.ttx_page.specs.Page.{Rows}

@@ -1,4 +1,4 @@
--- The results of the vector code. No public clause uses these definitions.
+-- The results of the vector code. Only private contracts use these definitions.
 use Rattle.std.specs.Prelude.{ℕ, ◌==◌, Bool, not, List}
 use lib.Lanes.{mask_l, zip2}
 
@@ -6,7 +6,7 @@ use lib.Lanes.{mask_l, zip2}
 abbrev pub differ : ℕ → ℕ → Bool
 differ x y = not (x == y)
 
--- A mask with one bit for each cell of two blocks, set if the cells differ. The lowest bit is that
--- of the first cell.
+-- A mask with one bit per cell, the lowest bit for the first cell. A bit is set if the cells of the
+-- two blocks differ.
 abbrev pub differing_mask : List ℕ → List ℕ → ℕ
 differing_mask a b = mask_l (zip2 differ a b)

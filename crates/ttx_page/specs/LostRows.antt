@@ -1,4 +1,4 @@
--- The law of noise if packets are lost, and for receivers that drop rows. Any packets but page
+-- The law of noise if packets are lost, and for receivers that drop rows. Any packets except page
 -- headers may be lost.
 use Rattle.std.specs.Prelude.{◌≡◌, ◌≢◌, ◌↔◌, ℕ, Bool, true, false, List, [], ◌∷◌, zip, All, Any}
 use Rattle.std.specs.Prelude.{Option, Some, None, IsTrue, IsFalse, ⊤}
@@ -15,39 +15,39 @@ use Rattle.ttx_page.specs.Receiver.{HearsBy, ReceiverClass, State}
 use Rattle.ttx_page.specs.Shown.{IsHit}
 use Rattle.ttx_page.specs.Span.{span}
 
--- The packet is no page header, so it may be lost: its packet number is not 0.
+-- The packet is not a page header, X/0, so the laws allow that it is lost.
 abbrev pub MayBeLost : List ℕ → Type 0
 MayBeLost packet = (a : PacketAddress) → address packet ≡ Some a → a.packet_number ≢ 0
 
--- A packet that did not arrive is no page header. `arrives` says whether the packet arrived.
+-- If the packet did not arrive, it is not a page header. `arrives` is true if the packet arrived.
 abbrev pub LosesNoHeader : List ℕ → Bool → Type 0
 LosesNoHeader sent arrives = IsFalse arrives → MayBeLost sent
 
--- The bytes received for each packet, `None` if the packet was lost. `got` has the bytes of the
--- packets that arrived.
+-- The received bytes of each sent packet, or `None` if the packet was lost. `got` has the bytes of
+-- the packets that arrived.
 abbrev pub arrivals_of : List Bool → List (List ℕ) → List (Option (List ℕ))
 arrivals_of [] got = []
 arrivals_of (false ∷ arrived) got = None ∷ arrivals_of arrived got
 arrivals_of (true ∷ arrived) [] = None ∷ arrivals_of arrived []
 arrivals_of (true ∷ arrived) (first ∷ got) = Some first ∷ arrivals_of arrived got
 
--- The packet was lost, or its byte at the column was received with another value.
+-- The packet was lost, or its byte for the column was received with a wrong value.
 abbrev pub LosesByte : List ℕ → Option (List ℕ) → ℕ → Type 0
 LosesByte sent None column = ⊤
 LosesByte sent (Some got) column = text_byte got column ≢ text_byte sent column
 
--- The byte of a cell was hit: a packet of the cell's row in the span was lost, or was received with
--- another byte at the column.
+-- The cell was hit by noise or loss: a packet of its row in the span was lost, or its byte for the
+-- column was received with a wrong value.
 abbrev pub IsHitOrLost :
     PageIdValue → List (List ℕ) → List (Option (List ℕ)) → ℕ → ℕ → Type 0
 IsHitOrLost w sent arrivals row column =
     Any (λ pair. (kind w pair.0 ≡ Row row) × LosesByte pair.0 pair.1 column)
     (span (λ (pair : List ℕ × Option (List ℕ)). kind w pair.0) (zip sent arrivals))
 
--- The law of noise if any packets but page headers are lost, and the others are received with at
--- most one wrong bit in each byte. A cell of a lost row counts as hit. For receivers that drop
--- rows, a cell counts as hit if any byte of a packet of its row was hit. So noise never puts a
--- wrong character on the screen, even if packets are lost.
+-- The law of noise if packets other than page headers are lost, and the other packets have at most
+-- one wrong bit in each byte. A cell of a lost row counts as hit. In receivers that drop rows, one
+-- hit byte counts as a hit of all cells of its row. So noise never puts a wrong character on the
+-- screen, even if packets are lost.
 abbrev pub LawOfLostRows : Type 0
 LawOfLostRows =
     (class : ReceiverClass) (w : PageIdValue) (sent : List (List ℕ)) (arrived : List Bool)
@@ -62,7 +62,8 @@ LawOfLostRows =
 
 -- ---- the law of noise as a special case
 
--- If every packet arrives, the packets received and the cells hit are those of the law of noise.
+-- If every packet arrives, the received packets and the hit cells are the same as in the law of
+-- noise.
 pub record LosesNothing (w : PageIdValue) (sent : List (List ℕ)) (arrived : List Bool)
     : Type 0 where
   pub kept : items_where_true arrived sent ≡ sent
@@ -73,7 +74,7 @@ pub record LosesNothing (w : PageIdValue) (sent : List (List ℕ)) (arrived : Li
       → IsHitOrLost w sent (arrivals_of arrived got) row column
       ↔ IsHit w sent got row column
 
--- The law of noise is the law of lost rows for the case that every packet arrives.
+-- The law of noise is the special case of the law of lost rows in which every packet arrives.
 abbrev pub LawOfNothingLost : Type 0
 LawOfNothingLost =
     (w : PageIdValue) (sent : List (List ℕ)) (arrived : List Bool)

@@ -1,4 +1,4 @@
--- The law of noise: the page of every receiver after well-formed packets with at most one wrong bit
+-- The law of noise: what every receiver decodes from well-formed packets with at most one wrong bit
 -- in each byte.
 use Rattle.std.specs.Prelude.{◌≡◌, ℕ, ◌<◌, ◌⊎◌, List, All, IsTrue, IsFalse}
 use Rattle.std.specs.List.{AllZip}
@@ -15,7 +15,7 @@ use Rattle.ttx_page.specs.Receiver.{State, Hears}
 use Rattle.ttx_page.specs.Shown.{shown, IsHit}
 use Rattle.ttx_page.specs.Span.{holds_header, is_open_after, span}
 
--- If the packet is a header of page w, the header erases the page: C4 is set.
+-- If the packet is a header of page w, its control bit C4, erase page, is set.
 abbrev pub ErasesPage : PageIdValue → List ℕ → Type 0
 ErasesPage w packet = (h : Header) → kind w packet ≡ ThisPage h → IsTrue (c4 h)
 
@@ -23,12 +23,12 @@ ErasesPage w packet = (h : Header) → kind w packet ≡ ThisPage h → IsTrue (
 abbrev pub IsOddRow : PageIdValue → List ℕ → Type 0
 IsOddRow w packet = (row : ℕ) → kind w packet ≡ Row row → HasOddText packet
 
--- If both packets are the same row of page w, the packets are equal.
+-- If both packets are packets of the same row of page w, they are equal.
 abbrev pub IsSameRow : PageIdValue → List ℕ → List ℕ → Type 0
 IsSameRow w first second =
     (row : ℕ) → kind w first ≡ Row row → kind w second ≡ Row row → first ≡ second
 
--- If both packets are the same row of page w, they have the same codes.
+-- If both packets are packets of the same row of page w, they have the same character codes.
 abbrev pub HasSameCodes : PageIdValue → List ℕ → List ℕ → Type 0
 HasSameCodes w first second =
     (row column : ℕ)
@@ -37,28 +37,29 @@ HasSameCodes w first second =
     → column < 40
     → code_of (text_byte first column) ≡ code_of (text_byte second column)
 
--- The packets that are sent are sound, which the law of noise requires of them.
+-- The sent packets are well-formed, as the law of noise requires.
 pub record IsSound (w : PageIdValue) (sent : List (List ℕ)) : Type 0 where
-  -- Addresses and page headers are code words, without a wrong bit.
+  -- Addresses and page headers consist of code words, so without a wrong bit.
   pub exact : All HasExactCodeWords sent
-  -- Each header of the page erases the page.
+  -- Each header of the page has C4, erase page, set.
   pub erases : All (ErasesPage w) sent
-  -- In the span, each row has 40 bytes of odd parity.
+  -- Each row packet in the span has 40 bytes of odd parity.
   pub odd : All (IsOddRow w) (span (kind w) sent)
-  -- In the span, two packets of the same row have the same codes.
+  -- Two packets of the same row in the span have the same character codes.
   pub same : All (λ first. All (HasSameCodes w first) (span (kind w) sent)) (span (kind w) sent)
 
--- The final state of a receiver that had not received the page before, and whose page was not open.
+-- The final state of a receiver that had received no header of the page before, and whose page was
+-- not open.
 pub record EndsAs
     (w : PageIdValue) (sent : List (List ℕ)) (IsExcused : ℕ → ℕ → Type 0) (new : State)
     : Type 0 where
-  -- The receiver has received the page exactly if the packets contain a header of the page.
+  -- The receiver has received a header of the page exactly if the packets contain one.
   pub heard : new.heard ≡ holds_header (kind w) sent
-  -- The page is open exactly if the packets contain a header of the page, and no later header ended
-  -- the span.
+  -- The page is open exactly if the packets contain a header of the page and no later header ends
+  -- it.
   pub is_open : new.is_open ≡ is_open_after (kind w) sent
-  -- If the receiver has received the page, each cell has the code that is shown, or an excused
-  -- space.
+  -- If a header of the page was received, each cell has the code that the packets show, or an
+  -- allowed space.
   pub cells :
       IsTrue new.heard
       → (row column : ℕ)
@@ -66,8 +67,8 @@ pub record EndsAs
       → (cell new.page row column ≡ shown w sent row column)
       ⊎ ((cell new.page row column ≡ space) × IsExcused row column)
 
--- With at most one wrong bit in each byte, every receiver receives the page if a header of the page
--- was sent. Each cell then has the code that was sent, or a space if its byte was hit. So noise
+-- If each byte has at most one wrong bit, every receiver receives the page if a header of the page
+-- was sent. Each cell then has the sent code, or a space if its byte had a wrong bit. So noise
 -- never puts a wrong character on the screen.
 abbrev pub LawOfNoise : Type 0
 LawOfNoise =
@@ -79,8 +80,8 @@ LawOfNoise =
     → Hears w old got new
     → EndsAs w sent (IsHit w sent got) new
 
--- Without wrong bits, each cell of a receiver has the code that is shown, whatever the page showed
--- before and whatever the receiver does at bytes of even parity.
+-- Without wrong bits, each cell of a receiver has the code that the packets show, whatever the page
+-- contained before and whatever the receiver does at bytes of even parity.
 abbrev pub LawOfFaultFree : Type 0
 LawOfFaultFree =
     (w : PageIdValue) (sent : List (List ℕ)) (old new : State)

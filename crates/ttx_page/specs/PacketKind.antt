@@ -1,8 +1,7 @@
 -- The meaning of a packet for a receiver of one page (EN 300 706, page header and packets X/1 to
 -- X/24).
 --
--- The other definitions (the receiver's steps, the span, the codes shown, the hits) depend on a
--- packet's header only through the packet's kind.
+-- A header affects the other definitions of this crate only through the kind of its packet.
 use Rattle.std.specs.Prelude.{ℕ, ◌&&◌, ◌||◌, not, Bool, true, false, List, Option, Some, None}
 use Rattle.std.specs.Prelude.{◌==◌, nat_le, if◌then◌else◌}
 use Rattle.ttx_packet.specs.declared.header.Header.{Header}
@@ -13,9 +12,9 @@ use Rattle.ttx_page.specs.declared.packet_kind.PacketKind.{PacketKind}
 use Rattle.ttx_page.specs.declared.packet_kind.PacketKind.TheVariants.{ThisPage, EndsPage, Row}
 use Rattle.ttx_page.specs.declared.packet_kind.PacketKind.TheVariants.{Other}
 
--- The kind of a packet X/0. If its header cannot be decoded, the packet has no effect. In the
--- page's magazine, the packet is a header of the page, or ends the page. In another magazine, the
--- packet ends the page in serial mode, C11 set, and has no effect in parallel mode, C11 clear.
+-- The kind of a packet X/0 (EN 300 706). A header that cannot be decoded has no effect. A header in
+-- the page's magazine is a header of the page, or ends the page. A header in another magazine ends
+-- the page in serial mode, C11 set, and has no effect in parallel mode, C11 clear.
 abbrev pub kind_of_header : PageIdValue → ℕ → Option Header → PacketKind
 kind_of_header w magazine None = Other
 kind_of_header w magazine (Some h) =
@@ -23,8 +22,8 @@ kind_of_header w magazine (Some h) =
     then (if h.page == w.page then ThisPage h else EndsPage)
     else (if c11 h then EndsPage else Other)
 
--- The kind of a packet, by its address and its header. Packets X/1 to X/24 of the page's magazine
--- are rows of the page.
+-- The kind of a packet with this address and header. Packets X/1 to X/24 in the page's magazine are
+-- rows of the page.
 abbrev pub kind_at : PageIdValue → Option PacketAddress → Option Header → PacketKind
 kind_at w None h = Other
 kind_at w (Some a) h =
@@ -44,8 +43,8 @@ is_this_page (ThisPage h) = true
 is_this_page _ = false
 
 -- The packet is a header that starts a new text of the page. If repeats may keep earlier text
--- (`keeps`), only headers that erase the page, C4 set, start a new text; otherwise every header of
--- the page does.
+-- (`keeps`), only a header of the page with C4, erase page, set does; otherwise every header of the
+-- page does.
 abbrev pub begins_text : Bool → PacketKind → Bool
 begins_text keeps (ThisPage h) = c4 h || not keeps
 begins_text keeps _ = false
@@ -55,12 +54,12 @@ abbrev pub ends_page : PacketKind → Bool
 ends_page EndsPage = true
 ends_page _ = false
 
--- The packet is this row of the page.
+-- The packet is a packet of this row of the page.
 abbrev pub is_row : ℕ → PacketKind → Bool
 is_row row (Row y) = y == row
 is_row row _ = false
 
--- The packet is some row of the page.
+-- The packet is a packet of a row of the page, 1 to 24.
 abbrev pub is_some_row : PacketKind → Bool
 is_some_row (Row y) = true
 is_some_row _ = false

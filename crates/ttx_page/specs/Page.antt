@@ -1,13 +1,13 @@
--- A Teletext page: rows 1 to 24 (EN 300 706, packets X/1 to X/24), columns 0 to 39, and a code in
--- each cell.
+-- A Teletext page: a character code for each cell in rows 1 to 24 (EN 300 706, packets X/1 to X/24)
+-- and columns 0 to 39.
 use Rattle.std.specs.Prelude.{◌≡◌, ◌≢◌, ℕ, ◌-◌, ◌<◌, ◌≤◌, List, [], length, slice_index}
 use Rattle.std.specs.Prelude.{slice_index_or, replicate}
 
--- The rows of a page as lists of codes, row 1 first.
+-- The rows of a page, from row 1 on, each as a list of character codes.
 abbrev pub Rows : Type 0
 Rows = List (List ℕ)
 
--- The code of a space.
+-- The character code of a space.
 abbrev pub space : ℕ
 space = 0x20
 
@@ -15,7 +15,7 @@ space = 0x20
 unfoldable pub blank_row : List ℕ
 blank_row = replicate 40 space
 
--- The page after erase page, C4: 24 rows of spaces.
+-- The page after C4, erase page: 24 rows of spaces.
 unfoldable pub blank : Rows
 blank = replicate 24 blank_row
 
@@ -27,19 +27,19 @@ row_at page row = slice_index_or page (row - 1) []
 abbrev pub cell : Rows → ℕ → ℕ → ℕ
 cell page row column = slice_index (row_at page row) column
 
--- The number is that of a row of a page, 1 to 24.
+-- The number is a row number of a page, 1 to 24.
 abbrev pub IsRow : ℕ → Type 0
 IsRow row = (1 ≤ row) × (row ≤ 24)
 
--- The numbers are those of a cell of a page: row 1 to 24, and column 0 to 39.
+-- The numbers are the row, 1 to 24, and the column, 0 to 39, of a cell of a page.
 abbrev pub IsCell : ℕ → ℕ → Type 0
 IsCell row column = (1 ≤ row) × (row ≤ 24) × (column < 40)
 
--- The code of a character or spacing attribute has 7 bits.
+-- The number is the 7-bit code of a character or spacing attribute.
 abbrev pub IsCode : ℕ → Type 0
 IsCode code = code < 128
 
--- Each number of the list is a code of 7 bits.
+-- Each number of the list is a 7-bit character code.
 abbrev pub AreCodes : List ℕ → Type 0
 AreCodes codes = (column : ℕ) → IsCode (slice_index codes column)
 
@@ -49,8 +49,7 @@ pub record IsPage (page : Rows) : Type 0 where
   pub columns : (i : ℕ) → i < 24 → length (slice_index_or page i []) ≡ 40
   pub codes : (i : ℕ) → AreCodes (slice_index_or page i [])
 
--- Two pages differ in the cell at `row` and `column`, but in no row above and in no cell to the
--- left in the same row.
+-- The cell at `row` and `column` is the first cell in which two pages differ, in reading order.
 pub record DiffersFirst (a b : Rows) (row column : ℕ) : Type 0 where
   pub is_cell : IsCell row column
   pub differ : cell a row column ≢ cell b row column

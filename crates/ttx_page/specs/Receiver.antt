@@ -1,6 +1,6 @@
--- The model receiver of one page: the steps that a receiver may make for each packet. The steps
--- restate level 1 of EN 300 706; what happens to a cell at a byte of even parity is (own).
--- Receivers that drop rows are defined here too.
+-- The model of a receiver of one page: how a packet may change its state. The model follows level 1
+-- of EN 300 706; what a receiver stores for a byte of even parity is defined here (own), as are
+-- receivers that drop rows.
 use Rattle.std.specs.Prelude.{◌≡◌, ◌≢◌, ℕ, ◌⊎◌, Bool, true, false, List, [], ◌∷◌, MatchBool}
 use Rattle.std.specs.Prelude.{if◌then◌else◌, ◌&&◌, is_some, IsTrue, IsFalse}
 use Rattle.ttx_packet.specs.Parity.{code_of, is_odd}
@@ -13,26 +13,26 @@ use Rattle.ttx_page.specs.declared.packet_kind.PacketKind.TheVariants.{Other}
 use Rattle.ttx_page.specs.Page.{Rows, space, blank, cell, IsCell}
 use Rattle.ttx_page.specs.PacketKind.{kind, is_some_row}
 
--- The state of a receiver: whether it has received a header of its page, whether the page is open
--- for rows, and the page's contents.
+-- The state of a receiver: whether it has received a header of its page, whether the page is open,
+-- so that rows are stored, and the contents of the page.
 pub record State : Type 0 where
   pub heard : Bool
   pub is_open : Bool
   pub page : Rows
 
--- The value of a receiver in contracts: the page that the receiver was tuned to, and its state.
+-- The model of a receiver: the page to which it is tuned, and its state.
 pub record TunedReceiver : Type 0 where
   pub watched : PageIdValue
   pub state : State
 
--- A cell takes the code of a byte with odd parity. At a byte of even parity the cell keeps its code
--- or becomes a space; the receiver may choose for each cell.
+-- A cell takes the code of a received byte of odd parity. For a byte of even parity the cell keeps
+-- its code or becomes a space, as the receiver chooses for each cell.
 abbrev pub StoresByte : ℕ → ℕ → ℕ → Type 0
 StoresByte byte old new =
     (IsTrue (is_odd byte) → new ≡ code_of byte)
     × (IsFalse (is_odd byte) → (new ≡ old) ⊎ (new ≡ space))
 
--- Row y of the page takes the text of the packet, cell by cell; the other rows do not change.
+-- The text of the packet is stored in row y of the page; the other rows do not change.
 abbrev pub StoresRow : List ℕ → ℕ → Rows → Rows → Type 0
 StoresRow packet y old new =
     (row column : ℕ)
@@ -40,14 +40,14 @@ StoresRow packet y old new =
     → (row ≡ y → StoresByte (text_byte packet column) (cell old row column) (cell new row column))
     × (row ≢ y → cell new row column ≡ cell old row column)
 
--- The steps that a receiver may make for a packet of each kind.
+-- How a packet of each kind may change the state of a receiver (EN 300 706, level 1).
 abbrev pub StepAt : PacketKind → List ℕ → State → State → Type 0
--- A header of the receiver's page opens the page, and blanks it if C4, erase page, is set.
+-- A header of the page opens the page, and blanks it if C4, erase page, is set.
 StepAt (ThisPage h) packet old new =
     new ≡ record { heard = true; is_open = true; page = if c4 h then blank else old.page }
 -- A header that ends the page closes it.
 StepAt EndsPage packet old new = new ≡ record old { is_open = false }
--- A row 1 to 24 of the page's magazine is stored while the page is open, and otherwise ignored.
+-- A row packet of the page's magazine is stored if the page is open, and ignored otherwise.
 StepAt (Row y) packet old new =
     MatchBool old.is_open
     ((new.heard ≡ old.heard) × (new.is_open ≡ old.is_open) × StoresRow packet y old.page new.page)
@@ -55,24 +55,25 @@ StepAt (Row y) packet old new =
 -- A packet of any other kind changes nothing.
 StepAt Other packet old new = new ≡ old
 
--- The step from `old` to `new` is one that a receiver of page w may make when it receives the
+-- A receiver of page w may change from the state `old` to the state `new` when it receives the
 -- packet.
 abbrev pub Step : PageIdValue → State → List ℕ → State → Type 0
 Step w old packet new = StepAt (kind w packet) packet old new
 
--- A run of a receiver: one step for each packet, from the state `old` to the state `new`.
+-- The states `old` and `new` of a receiver before and after a list of packets, one step for each
+-- packet.
 abbrev pub RunsBy : {S : Type 0} → (S → List ℕ → S → Type 0) → S → List (List ℕ) → S → Type 0
 RunsBy StepsBy old [] new = new ≡ old
 RunsBy {S} StepsBy old (packet ∷ packets) new =
     (mid : S) × StepsBy old packet mid × RunsBy StepsBy mid packets new
 
--- A receiver of page w may go from the state `old` to the state `new` when it receives these
+-- A receiver of page w may change from the state `old` to the state `new` when it receives these
 -- packets.
 abbrev pub Hears : PageIdValue → State → List (List ℕ) → State → Type 0
 Hears w old packets new = RunsBy (Step w) old packets new
 
--- `StateAfterItems` relates the old and the new code of each cell of a stored row whose byte has
--- even parity.
+-- The relation holds between the old and the new code of each cell of a stored row for which a byte
+-- of even parity was received.
 abbrev pub AtEvenBytes :
     (ℕ → ℕ → Type 0) → PageIdValue → State → List ℕ → State → Type 0
 AtEvenBytes StateAfterItems w old packet new =
@@ -83,43 +84,43 @@ AtEvenBytes StateAfterItems w old packet new =
     → IsFalse (is_odd (text_byte packet column))
     → StateAfterItems (cell old.page row column) (cell new.page row column)
 
--- A receiver with a fixed choice at bytes of even parity: it stores `leaves` of the cell's old
--- code. A receiver that keeps cells stores the old code, and a receiver that blanks cells stores a
--- space.
+-- For a byte of even parity, the receiver stores the code that `leaves` returns for the old code:
+-- the old code itself, if it keeps cells, or a space, if it blanks them.
 abbrev pub LeavesCells : (ℕ → ℕ) → PageIdValue → State → List ℕ → State → Type 0
 LeavesCells leaves w old packet new = AtEvenBytes (λ was is. is ≡ leaves was) w old packet new
 
--- A step of a receiver with a fixed choice at bytes of even parity.
+-- How a packet changes a receiver that stores `leaves` of the old code for a byte of even parity.
 abbrev pub StepLeaving : (ℕ → ℕ) → PageIdValue → State → List ℕ → State → Type 0
 StepLeaving leaves w old packet new = Step w old packet new × LeavesCells leaves w old packet new
 
--- A run of a receiver with a fixed choice at bytes of even parity.
+-- How a list of packets changes a receiver that stores `leaves` of the old code for a byte of even
+-- parity.
 abbrev pub HearsLeaving : (ℕ → ℕ) → PageIdValue → State → List (List ℕ) → State → Type 0
 HearsLeaving leaves w old packets new = RunsBy (StepLeaving leaves w) old packets new
 
 -- ---- two classes of receivers
 
--- The two classes of receivers that the laws cover: those that store the odd bytes of each row,
--- whatever its other bytes, and those that drop a row with a byte of even parity.
+-- The two classes of receivers in the laws: receivers that store the odd bytes of each row, and
+-- receivers that drop a row with a byte of even parity.
 pub data ReceiverClass : Type 0 where
   Storing : ReceiverClass
   Dropping : ReceiverClass
 
--- The packet is a row 1 to 24 of the page's magazine, whether the page is open or not, and one of
--- its 40 data bytes has even parity.
+-- The packet is a row packet, X/1 to X/24, of the page's magazine, and one of its 40 data bytes has
+-- even parity.
 abbrev pub is_dropped : PageIdValue → List ℕ → Bool
 is_dropped w packet = is_some_row (kind w packet) && is_some (first_even_byte packet)
 
--- A receiver of page w and of this class drops the packet.
+-- A receiver of this class, tuned to page w, drops the packet.
 abbrev pub drops : ReceiverClass → PageIdValue → List ℕ → Bool
 drops Storing w packet = false
 drops Dropping w packet = is_dropped w packet
 
--- A step of a receiver of a class: the receiver ignores a packet that it drops, and makes a step of
--- the model (`Step`) at every other packet.
+-- How a packet may change a receiver of this class: the receiver ignores a packet that it drops,
+-- and follows the model (`Step`) at every other packet.
 abbrev pub StepBy : ReceiverClass → PageIdValue → State → List ℕ → State → Type 0
 StepBy class w old packet new = MatchBool (drops class w packet) (new ≡ old) (Step w old packet new)
 
--- A run of a receiver of a class.
+-- How a list of packets may change a receiver of this class.
 abbrev pub HearsBy : ReceiverClass → PageIdValue → State → List (List ℕ) → State → Type 0
 HearsBy class w old packets new = RunsBy (StepBy class w) old packets new

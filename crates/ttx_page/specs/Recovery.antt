@@ -1,6 +1,6 @@
--- The law of noise from any state. A receiver on air has always received something before: another
--- transmission, a burst of noise, or rows without their page header. From the next header of its
--- page on, earlier packets have no effect.
+-- The law of noise for a receiver in any state. A receiver in the field has always received
+-- something before: another transmission, noise, or rows without their page header. Packets before
+-- the next header of its page have no effect on the page.
 use Rattle.std.specs.Prelude.{◌≡◌, ℕ, ◌⊎◌, Bool, List, IsTrue}
 use Rattle.std.specs.List.{AllZip, items_where_true}
 use Rattle.ttx_packet.specs.OneBit.{AreNear}
@@ -14,24 +14,23 @@ use Rattle.ttx_page.specs.Receiver.{HearsBy, ReceiverClass, State}
 use Rattle.ttx_page.specs.Shown.{shown}
 use Rattle.ttx_page.specs.Span.{holds_header, is_unended}
 
--- The final state of a receiver that started in any state, if the packets contain a header of its
--- page.
+-- The final state of a receiver that started in any state and has received a header of its page.
 pub record EndsAfresh
     (w : PageIdValue) (sent : List (List ℕ)) (IsExcused : ℕ → ℕ → Type 0) (new : State)
     : Type 0 where
-  -- The receiver has received the page.
+  -- The receiver has received a header of the page.
   pub heard : IsTrue new.heard
-  -- The page is open exactly if no header after the last header of the page ends the span.
+  -- The page is open exactly if no header after the last header of the page ends it.
   pub is_open : new.is_open ≡ is_unended (kind w) sent
-  -- Each cell of the page has the code that is shown, or an excused space.
+  -- Each cell of the page has the code that the packets show, or an allowed space.
   pub cells :
       (row column : ℕ)
       → IsCell row column
       → (cell new.page row column ≡ shown w sent row column)
       ⊎ ((cell new.page row column ≡ space) × IsExcused row column)
 
--- The law of lost rows from any state (the page received or not, open or not, with any contents):
--- if a header of its page was sent, the receiver decodes what the law of lost rows states.
+-- The law of lost rows for a receiver in any state: if a header of its page was sent, the receiver
+-- decodes the page as the law of lost rows states.
 abbrev pub LawOfRecovery : Type 0
 LawOfRecovery =
     (class : ReceiverClass) (w : PageIdValue) (sent : List (List ℕ)) (arrived : List Bool)

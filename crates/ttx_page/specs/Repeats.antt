@@ -1,5 +1,5 @@
--- Receivers of a page that is repeated without being erased: at a header with C4, erase page,
--- clear, receivers in the field may keep the page's contents or start from a blank page.
+-- Receivers of a page that is repeated without C4, erase page. At such a repeat, receivers in the
+-- field may keep the page or start from a blank page.
 use Rattle.std.specs.Prelude.{◌≡◌, ℕ, ◌<◌, ◌⊎◌, ◌||◌, Bool, true, false, not, List, All}
 use Rattle.std.specs.Prelude.{MatchBool, Some, find, IsTrue, IsFalse}
 use Rattle.std.specs.List.{AllZip, items_where_true, list_any}
@@ -20,17 +20,17 @@ use Rattle.ttx_page.specs.Shown.{kept}
 use Rattle.ttx_page.specs.Screen.{Display, ShowsAt}
 use Rattle.ttx_page.specs.Span.{holds_beginning, holds_header, is_open_after, span, text_span}
 
--- ---- receivers that may forget
+-- ---- receivers that may blank cells at a repeat
 
--- Each cell of a page keeps its code or becomes a space; the receiver may choose for each cell.
+-- Each cell of a page keeps its code or becomes a space, as the receiver chooses for each cell.
 abbrev pub KeepsOrBlanks : Rows → Rows → Type 0
 KeepsOrBlanks old new =
     (row column : ℕ)
     → IsCell row column
     → (cell new row column ≡ cell old row column) ⊎ (cell new row column ≡ space)
 
--- The steps of a receiver that may forget: those of `StepAt`, but at a header of its page with C4
--- clear, each cell keeps its code or becomes a space.
+-- How a packet may change a receiver that may blank cells at a repeat: as in `StepAt`, but at a
+-- header of its page with C4 clear, each cell keeps its code or becomes a space.
 abbrev pub ForgetsAt : PacketKind → List ℕ → State → State → Type 0
 ForgetsAt (ThisPage h) packet old new =
     (new.heard ≡ true)
@@ -42,25 +42,25 @@ ForgetsAt k packet old new = StepAt k packet old new
 abbrev pub IsBlank : Rows → Type 0
 IsBlank page = (row column : ℕ) → IsCell row column → cell page row column ≡ space
 
--- If `anew` is set, the receiver has a blank page after each header of its page.
+-- If `anew` is true, the receiver has a blank page after each header of its page.
 abbrev pub RestartsAtHeader : Bool → PageIdValue → List ℕ → State → Type 0
 RestartsAtHeader anew w packet new =
     IsTrue anew → IsTrue (is_this_page (kind w packet)) → IsBlank new.page
 
--- A step of a receiver that may forget, for a class of receivers; if `anew` is set, the receiver
--- starts from a blank page at each header of its page.
+-- How a packet may change a receiver of this class that may blank cells at a repeat. If `anew` is
+-- true, each header of its page blanks the page.
 abbrev pub StepForgetting :
     ReceiverClass → Bool → PageIdValue → State → List ℕ → State → Type 0
 StepForgetting class anew w old packet new =
     MatchBool (drops class w packet) (new ≡ old)
     (ForgetsAt (kind w packet) packet old new × RestartsAtHeader anew w packet new)
 
--- A run of a receiver that may forget.
+-- How a list of packets may change a receiver that may blank cells at a repeat.
 abbrev pub HearsForgetting :
     ReceiverClass → Bool → PageIdValue → State → List (List ℕ) → State → Type 0
 HearsForgetting class anew w old packets new = RunsBy (StepForgetting class anew w) old packets new
 
--- A run of a receiver that may forget, with a screen.
+-- How a list of packets may change a receiver that may blank cells at a repeat, and its screen.
 abbrev pub ShowsForgetting :
     ReceiverClass → Bool → PageIdValue → Display → List (List ℕ) → Display → Type 0
 ShowsForgetting class anew w old packets new =
@@ -69,15 +69,15 @@ ShowsForgetting class anew w old packets new =
     × ShowsAt w before packet after)
     old packets new
 
--- A receiver that keeps its page is one of the receivers that may forget.
+-- A receiver that keeps its page at a repeat is a receiver that may blank cells at a repeat.
 abbrev pub LawOfForgetting : Type 0
 LawOfForgetting =
     (class : ReceiverClass) (w : PageIdValue) (packets : List (List ℕ)) (old new : State)
     → HearsBy class w old packets new
     → HearsForgetting class false w old packets new
 
--- From any state of a receiver that may forget: if it has received a header of its page, and the
--- page is not open, the decoded page is on the screen.
+-- If a receiver to which the law of repeats applies has received a header of its page, and the page
+-- is not open, the decoded page is on its screen. The receiver may start in any state.
 abbrev pub LawOfForgettingScreen : Type 0
 LawOfForgettingScreen =
     (class : ReceiverClass) (anew : Bool) (w : PageIdValue) (packets : List (List ℕ))
@@ -89,7 +89,7 @@ LawOfForgettingScreen =
 
 -- ---- the law of repeats
 
--- The packet, if it is a row of page w, has the codes of the text.
+-- If the packet is a row of page w, it has the character codes of the text.
 abbrev pub HasCodes : PageIdValue → (ℕ → ℕ → ℕ) → List ℕ → Type 0
 HasCodes w text packet =
     (row column : ℕ)
@@ -97,20 +97,20 @@ HasCodes w text packet =
     → column < 40
     → code_of (text_byte packet column) ≡ text row column
 
--- The packets send a text, which the law of repeats requires of them.
+-- The packets send this text, in the form that the law of repeats requires.
 pub record SendsText
     (keeps : Bool) (w : PageIdValue) (sent : List (List ℕ)) (text : ℕ → ℕ → ℕ)
     : Type 0 where
-  -- Addresses and page headers are code words, without a wrong bit.
+  -- Addresses and page headers consist of code words, so without a wrong bit.
   pub exact : All HasExactCodeWords sent
-  -- If repeats must not keep earlier text, each header of the page erases the page.
+  -- If repeats must not keep earlier text, each header of the page has C4, erase page, set.
   pub erases : IsFalse keeps → All (ErasesPage w) sent
-  -- In the long span, each row has 40 bytes of odd parity, and the codes of the text.
+  -- Each row packet in the long span has 40 bytes of odd parity, and the codes of the text.
   pub odd : All (IsOddRow w) (text_span keeps (kind w) sent)
   pub codes : All (HasCodes w text) (text_span keeps (kind w) sent)
 
--- The packet may follow the packets before it: its address and header are code words; if repeats
--- must not keep earlier text, a header of the page erases the page; and a row that is sent while
+-- The packet may follow the earlier packets `before` (own). Its address and page header are code
+-- words. If repeats must not keep earlier text, a header of the page has C4 set. A row sent while
 -- the page is open has bytes of odd parity, and the codes of the first packet of its row in the
 -- long span.
 pub record MayFollow
@@ -126,9 +126,8 @@ pub record MayFollow
       → column < 40
       → code_of (text_byte first column) ≡ code_of (text_byte packet column)
 
--- The earlier contents of the page no longer matter: the receiver starts from a blank page at each
--- header, or the packets contain a header that starts a new text, or the page was blank and not
--- open.
+-- The page does not depend on its contents before these packets: the receiver blanks it at each
+-- header, or the packets contain a header that starts a new text, or it was blank and not open.
 abbrev pub IsFresh : Bool → Bool → PageIdValue → List (List ℕ) → State → Type 0
 IsFresh keeps anew w sent old =
     IsTrue anew
@@ -140,21 +139,21 @@ abbrev pub HasNoRow : PageIdValue → List (List ℕ) → ℕ → Type 0
 HasNoRow w sent row =
     IsFalse (list_any (λ packet. is_row row (kind w packet)) (span (kind w) sent))
 
--- The final state of a receiver that may forget.
+-- The final state of a receiver that may blank cells at a repeat.
 pub record EndsForgetting
     (keeps anew : Bool) (w : PageIdValue) (sent : List (List ℕ)) (text : ℕ → ℕ → ℕ)
     (IsExcused : ℕ → ℕ → Type 0) (old new : State)
     : Type 0 where
-  -- The receiver has received the page exactly if it had received the page before, or a header of
-  -- the page was sent.
+  -- The receiver has received a header of the page exactly if it had received one before, or a
+  -- header of the page was sent.
   pub heard : new.heard ≡ (old.heard || holds_header (kind w) sent)
   -- If a header of the page was sent, or the page was not open, the page is open exactly if a
-  -- header of the page was sent and no later header ended the span.
+  -- header of the page was sent and no later header ended it.
   pub is_open :
       IsTrue (holds_header (kind w) sent || not old.is_open)
       → new.is_open ≡ is_open_after (kind w) sent
-  -- If the earlier contents of the page no longer matter, each cell has the code of the text, or a
-  -- space that is excused or in a row without a packet in the span.
+  -- If the page does not depend on its earlier contents, each cell has the code of the text, or a
+  -- space that is allowed or in a row without a packet in the span.
   pub cells :
       IsTrue (holds_header (kind w) sent)
       → IsFresh keeps anew w sent old
@@ -163,9 +162,9 @@ pub record EndsForgetting
       → (cell new.page row column ≡ text row column)
       ⊎ ((cell new.page row column ≡ space) × (IsExcused row column ⊎ HasNoRow w sent row))
 
--- The law of repeats: every receiver that may forget, from any state, ends as `EndsForgetting`
--- states, if any packets but page headers are lost, and the others are received with at most one
--- wrong bit in each byte. So a repeat without erasing repairs cells that noise has hit, and puts no
+-- The law of repeats: the final state of every receiver that may blank cells at a repeat, if
+-- packets other than page headers are lost, and the other packets have at most one wrong bit in
+-- each byte. So a repeat without C4, erase page, repairs cells that noise has hit, and puts no
 -- wrong character on the screen.
 abbrev pub LawOfRepeats : Type 0
 LawOfRepeats =
@@ -178,8 +177,8 @@ LawOfRepeats =
     → EndsForgetting keeps anew w sent text
     (ExcusedBy class (IsHitOrLost w sent (arrivals_of arrived got))) old new
 
--- Without wrong bits, a receiver that keeps its page has the codes of `kept`, once the earlier
--- contents of the page no longer matter.
+-- Without wrong bits, a receiver that keeps its page at repeats has the codes of `kept`, if the
+-- page does not depend on its earlier contents.
 abbrev pub LawOfKept : Type 0
 LawOfKept =
     (keeps : Bool) (w : PageIdValue) (sent : List (List ℕ)) (old new : State)

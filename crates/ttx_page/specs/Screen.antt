@@ -1,5 +1,5 @@
--- A receiver with a screen (own). In `Receiver` only the contents of the page matter. Decoders in
--- the field show a page when the page is complete, because a later header has ended it.
+-- A receiver with a screen (own). The file `Receiver` defines only the decoded page. Decoders in
+-- the field display a page when it is complete, because a later header has ended it.
 use Rattle.std.specs.Prelude.{◌≡◌, ℕ, ◌⊎◌, Bool, ◌&&◌, not, List, Option, Some, IsTrue}
 use Rattle.std.specs.Prelude.{IsFalse, if◌then◌else◌}
 use Rattle.ttx_packet.specs.PageId.{PageIdValue}
@@ -9,31 +9,32 @@ use Rattle.ttx_page.specs.Receiver.{ReceiverClass, RunsBy, State, StepBy, StepLe
 use Rattle.ttx_page.specs.Receiver.ReceiverClass.{Storing}
 use Rattle.ttx_page.specs.Span.{holds_header}
 
--- The state of a receiver, and the page on its screen (`None` if the screen shows nothing yet).
+-- A receiver with its screen: the receiver's state, and the displayed page (`None` if none was
+-- displayed yet).
 pub record Display : Type 0 where
   pub held : State
   pub screen : Option Rows
 
--- The display with this state and this screen.
+-- The receiver with this state and this screen.
 abbrev pub display : State → Option Rows → Display
 display held screen = record { held = held; screen = screen }
 
--- The page was open before the packet, and is not open after it.
+-- The packet ends the page: the page was open before it, and is not open afterwards.
 abbrev pub is_ended : State → State → Bool
 is_ended old new = old.is_open && not new.is_open
 
--- The packet is a header of the page while the page is open.
+-- The packet is a header of the page, and the page is already open.
 abbrev pub begins_again : PageIdValue → State → List ℕ → Bool
 begins_again w old packet = old.is_open && is_this_page (kind w packet)
 
 -- How a packet changes the screen of a receiver.
 pub record ShowsAt (w : PageIdValue) (old : Display) (packet : List ℕ) (new : Display) : Type 0
   where
-    -- If the page ends, the screen shows the page with its contents before the packet.
+    -- If the packet ends the page, the screen displays the page as it was before the packet.
     pub ended : IsTrue (is_ended old.held new.held) → new.screen ≡ Some old.held.page
-    -- At a header of the page while the page is open, a receiver may show the page with its
-    -- contents before the packet, or leave the screen unchanged: EN 300 706 ends the page there,
-    -- but some decoders wait for a header of another page.
+    -- If the packet is a header of the page while the page is open, the screen displays the page as
+    -- it was before the packet, or does not change. EN 300 706 ends the page there, but some
+    -- decoders wait for a header of another page.
     pub again :
         IsTrue (begins_again w old.held packet)
         → (new.screen ≡ Some old.held.page) ⊎ (new.screen ≡ old.screen)
@@ -43,14 +44,13 @@ pub record ShowsAt (w : PageIdValue) (old : Display) (packet : List ℕ) (new : 
         → IsFalse (begins_again w old.held packet)
         → new.screen ≡ old.screen
 
--- The screen of a receiver that waits at a header of its own page: the screen shows a page, with
--- its contents before the packet, only when a header of another page has ended the page. libzvbi
--- does this.
+-- The screen of a receiver that displays a page only when a header of another page has ended it, as
+-- libzvbi does.
 abbrev pub screen_after : Display → State → Option Rows
 screen_after old new = if is_ended old.held new then Some old.held.page else old.screen
 
--- A run of a receiver of page w with a fixed choice at bytes of even parity, and a screen that
--- waits for a header of another page.
+-- How a list of packets changes a receiver of page w and its screen. For a byte of even parity the
+-- receiver stores `leaves` of the old code; the screen waits for a header of another page.
 abbrev pub ShowsWaiting :
     (ℕ → ℕ) → PageIdValue → Display → List (List ℕ) → Display → Type 0
 ShowsWaiting leaves w old packets new =
@@ -59,8 +59,7 @@ ShowsWaiting leaves w old packets new =
     × (after.screen ≡ screen_after before after.held))
     old packets new
 
--- A run of a receiver of page w with a screen: the receiver's state changes by steps of its class,
--- and the screen follows.
+-- How a list of packets may change a receiver of page w and of this class, and its screen.
 abbrev pub ShowsBy : ReceiverClass → PageIdValue → Display → List (List ℕ) → Display → Type 0
 ShowsBy class w old packets new =
     RunsBy
@@ -68,13 +67,12 @@ ShowsBy class w old packets new =
     × ShowsAt w before packet after)
     old packets new
 
--- A run of a receiver that stores rows, with a screen.
+-- How a list of packets may change a receiver of page w that stores rows, and its screen.
 abbrev pub Shows : PageIdValue → Display → List (List ℕ) → Display → Type 0
 Shows w old packets new = ShowsBy Storing w old packets new
 
--- From any state: if a receiver has received a header of its page, and the page is not open, the
--- decoded page is on the screen. So what is proved about the decoded page is also true of the
--- screen.
+-- If a receiver has received a header of its page, and the page is not open, the decoded page is on
+-- its screen. So everything proved about the decoded page is also true for the screen.
 abbrev pub LawOfScreen : Type 0
 LawOfScreen =
     (class : ReceiverClass) (w : PageIdValue) (packets : List (List ℕ)) (old new : Display)

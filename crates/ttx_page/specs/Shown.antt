@@ -1,4 +1,4 @@
--- The codes that a list of packets shows on a page, and the cells that noise has hit.
+-- The character codes that a list of packets shows on a page, and the cells hit by noise.
 use Rattle.std.specs.Prelude.{◌≡◌, ◌≢◌, ℕ, Bool, List, Any, find, zip, option_map, unwrap_or}
 use Rattle.ttx_packet.specs.Parity.{code_of}
 use Rattle.ttx_packet.specs.PageId.{PageIdValue}
@@ -8,8 +8,8 @@ use Rattle.ttx_page.specs.Page.{space}
 use Rattle.ttx_page.specs.PacketKind.{kind, is_row}
 use Rattle.ttx_page.specs.Span.{span, text_span}
 
--- The code that the packets show in a cell: the code in the first packet of the cell's row in the
--- span, or a space if the span has no packet of that row.
+-- The character code that the packets show in a cell: the code in the first packet of its row in
+-- the span, or a space if the span has no packet of that row.
 abbrev pub shown : PageIdValue → List (List ℕ) → ℕ → ℕ → ℕ
 shown w packets row column =
     unwrap_or
@@ -17,9 +17,9 @@ shown w packets row column =
     (find (λ p. is_row row (kind w p)) (span (kind w) packets)))
     space
 
--- The code of a cell if repeats may keep earlier text (`keeps`): the code in the first packet of
--- the cell's row in the long span, or a space if the long span has no packet of that row. If
--- repeats must not keep earlier text, it is the code that the packets show.
+-- The character code that the packets show in a cell, if repeats may keep earlier text (`keeps`):
+-- the code in the first packet of its row in the long span, or a space if the long span has no
+-- packet of that row.
 abbrev pub kept : Bool → PageIdValue → List (List ℕ) → ℕ → ℕ → ℕ
 kept keeps w packets row column =
     unwrap_or
@@ -27,8 +27,8 @@ kept keeps w packets row column =
     (find (λ p. is_row row (kind w p)) (text_span keeps (kind w) packets)))
     space
 
--- The byte of a cell was hit: for some packet of the cell's row in the span, the received packet
--- has a different byte at the column.
+-- The cell was hit by noise: a packet of its row in the span was received with a wrong byte for its
+-- column.
 abbrev pub IsHit : PageIdValue → List (List ℕ) → List (List ℕ) → ℕ → ℕ → Type 0
 IsHit w sent got row column =
     Any (λ pair. (kind w pair.0 ≡ Row row) × (text_byte pair.1 column ≢ text_byte pair.0 column))

@@ -1,10 +1,8 @@
--- The span of a list of packets: the packets that make up the page, found by searching back to the
--- last header of the page (EN 300 706: the rows of a page are those that follow its header, up to a
--- header that ends the page).
+-- The span of a list of packets: the packets of the latest transmission of the page. They follow
+-- the last header of the page, up to a header that ends the page (EN 300 706).
 --
--- The items of a list are packets, or packets with additional data; `kind_of` gives the kind of an
--- item's packet. So one definition serves the packets sent, the packets received, and pairs of
--- both.
+-- The items of a list are packets, or packets with additional data; `kind_of` returns the kind of
+-- an item's packet. So one definition applies to sent packets, received packets, and pairs of both.
 use Rattle.std.specs.Prelude.{◌≡◌, ℕ, ◌-◌, ◌<◌, ◌≤◌, ◌⊎◌, Bool, ◌&&◌, not, List, [], ◌∷◌, length}
 use Rattle.std.specs.Prelude.{true, false, if◌then◌else◌, slice_range, All, HoldsAt, IsTrue}
 use Rattle.std.specs.Prelude.{IsFalse}
@@ -12,7 +10,7 @@ use Rattle.std.specs.List.{list_any, AllWithin}
 use Rattle.ttx_page.specs.declared.packet_kind.PacketKind.{PacketKind}
 use Rattle.ttx_page.specs.PacketKind.{begins_text, is_this_page, ends_page}
 
--- Some item of the list is a header of the page.
+-- The list contains a header of the page.
 abbrev pub holds_header : {A : Type 0} → (A → PacketKind) → List A → Bool
 holds_header kind_of items = list_any (λ x. is_this_page (kind_of x)) items
 
@@ -34,19 +32,19 @@ before_end kind_of (x ∷ xs) = if ends_page (kind_of x) then [] else x ∷ befo
 abbrev pub span : {A : Type 0} → (A → PacketKind) → List A → List A
 span kind_of items = before_end kind_of (after_last_header kind_of items)
 
--- No header ended the page after the last header of the page.
+-- No header after the last header of the page ends the page.
 abbrev pub is_unended : {A : Type 0} → (A → PacketKind) → List A → Bool
 is_unended kind_of items =
     not (list_any (λ x. ends_page (kind_of x)) (after_last_header kind_of items))
 
--- The page is open after the list: the list has a header of the page, and no later header ended the
--- page.
+-- The page is open after these items: they contain a header of the page, and no later header ends
+-- the page.
 abbrev pub is_open_after : {A : Type 0} → (A → PacketKind) → List A → Bool
 is_open_after kind_of items = holds_header kind_of items && is_unended kind_of items
 
 -- ---- the long span of a page whose repeats may keep earlier text
 
--- Some item of the list is a header that starts a new text.
+-- The list contains a header that starts a new text.
 abbrev pub holds_beginning : {A : Type 0} → Bool → (A → PacketKind) → List A → Bool
 holds_beginning keeps kind_of items = list_any (λ x. begins_text keeps (kind_of x)) items
 
@@ -56,8 +54,8 @@ from_beginning keeps kind_of [] = []
 from_beginning keeps kind_of (x ∷ xs) =
     if holds_beginning keeps kind_of xs then from_beginning keeps kind_of xs else x ∷ xs
 
--- The items received while the page is open, without headers of the page. `is_open`: the page is
--- open before the list. These items are those of the spans of all headers of the page.
+-- The items received while the page is open, without headers of the page. `is_open` is true if the
+-- page is open before the list. These items are the spans of all headers of the page.
 abbrev pub while_open : {A : Type 0} → (A → PacketKind) → Bool → List A → List A
 while_open kind_of is_open [] = []
 while_open kind_of is_open (x ∷ xs) =
@@ -67,13 +65,13 @@ while_open kind_of is_open (x ∷ xs) =
     then x ∷ while_open kind_of true xs
     else while_open kind_of false xs)
 
--- The long span, for a page whose repeats may keep earlier text: the spans of all headers of the
--- page from the last header that starts a new text on. If repeats must not keep earlier text, the
--- long span is the span.
+-- The long span, for a page whose repeats may keep earlier text (`keeps`): the spans of all headers
+-- of the page, from the last header that starts a new text on. Otherwise the long span equals the
+-- span.
 abbrev pub text_span : {A : Type 0} → Bool → (A → PacketKind) → List A → List A
 text_span keeps kind_of items = while_open kind_of false (from_beginning keeps kind_of items)
 
--- ---- the span by its bounds
+-- ---- the bounds of the span
 
 -- The bounds of the span: from the item after the last header of the page to the first later header
 -- that ends the page, or to the end of the list.
@@ -84,14 +82,14 @@ pub record IsSpan {A : Type 0} (kind_of : A → PacketKind) (items : List A) (fr
   pub header : HoldsAt (λ x. IsTrue (is_this_page (kind_of x))) items (from - 1)
   pub no_later_header :
       AllWithin (λ x. IsFalse (is_this_page (kind_of x))) items from (length items)
-  -- No item of the span is a header that ends the page. The item after the span, if the list has
-  -- one, is such a header.
+  -- No item of the span is a header that ends the page. The item after the span, if there is one,
+  -- is such a header.
   pub no_earlier_end : AllWithin (λ x. IsFalse (ends_page (kind_of x))) items from to
   pub end : (to ≡ length items) ⊎ HoldsAt (λ x. IsTrue (ends_page (kind_of x))) items to
 
--- The span is the part of the list between the bounds of `IsSpan`, with all items in order. If the
--- list has no header of the page, the span is empty. So a reader may take the bounds as the
--- definition, instead of the recursion.
+-- The span has exactly the items between the bounds of `IsSpan`, in order. If the list has no
+-- header of the page, the span is empty. So the bounds may be read as the definition of the span,
+-- instead of the recursion.
 abbrev pub LawOfSpan : Type 0 → Type 0
 LawOfSpan A =
     (kind_of : A → PacketKind) (items : List A)

@@ -1,4 +1,4 @@
-//! The receiver that blanks a cell if its byte has even parity.
+//! A receiver that stores a space for a byte of even parity.
 ghost use Rattle.ttx_page.specs.Page.{space};
 
 use crate::memory::{EvenByte, Memory};
@@ -7,7 +7,7 @@ use crate::receiver::Receiver;
 use std::marker::Model;
 use ttx_packet::{Packet, PageId};
 
-/// A receiver that stores a space in a cell if the cell's byte has even parity.
+/// A receiver that stores a space in a cell of the page if the received byte has even parity.
 #[derive(Debug, Drop)]
 pub struct Blank {
     memory: Memory,
@@ -52,8 +52,7 @@ impl Receiver for Blank {
         &self.memory.page
     }
 
-    /// Receives a packet by one step of the receiver relation. Each cell whose byte has even parity
-    /// becomes a space.
+    /// Receives a packet. Each cell for which a byte of even parity is received becomes a space.
     fn hear(&mut self, packet: &Packet) {
         self.memory.hear(packet, EvenByte::BlanksCell);
     }

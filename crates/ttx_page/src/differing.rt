@@ -1,4 +1,4 @@
-//! The number of cells in which two rows differ, which a checker updates as rows are stored.
+//! Counts the cells in which two rows of a page differ.
 ghost use Rattle.std.specs.Prelude.{◌≡◌, ◌≤◌};
 ghost use Rattle.ttx_page.specs.Differing.{row_differing};
 
@@ -8,8 +8,8 @@ use self::lanes::{differing_of_8, differing_of_16};
 
 /// Returns how many of the 40 columns of two rows differ.
 ///
-/// When a row of a page is replaced, the number of differing cells of the page changes by the
-/// change of this result.
+/// When a row of a page is replaced, the page's number of differing cells changes by as much as
+/// this result.
 #[inline(always)]
 pub fn differing_columns(a: &[u8; 40], b: &[u8; 40]) -> u16
     ensures value { result ≡ row_differing a.now b.now }

@@ -1,4 +1,4 @@
-//! The receiver that drops a row if one of its bytes has even parity.
+//! A receiver that drops a row if one of its bytes has even parity.
 ghost use Rattle.std.specs.Prelude.{◌≡◌, false};
 ghost use Rattle.ttx_page.specs.Receiver.{HearsBy, StepBy, is_dropped};
 ghost use Rattle.ttx_page.specs.Receiver.ReceiverClass.{Dropping};
@@ -9,11 +9,11 @@ use crate::page::Page;
 use std::marker::Model;
 use ttx_packet::{Packet, PageId};
 
-/// A receiver that ignores a whole row if one of its 40 data bytes has even parity; the row on the
-/// page does not change. For all other packets `DropRow` behaves like `Keep`.
+/// A receiver that ignores a row packet if one of its 40 data bytes has even parity. At all other
+/// packets it behaves like `Keep`.
 ///
-/// Some decoders in the field drop rows. `DropRow` does not implement `Receiver`, because a
-/// `Receiver` stores the odd bytes of a damaged row. `specs/Receiver` defines the relation of both.
+/// Some decoders in the field do this. `DropRow` does not implement `Receiver`, because a
+/// `Receiver` stores the other bytes of such a row. `specs/Receiver` specifies both.
 #[derive(Debug, Drop)]
 pub struct DropRow {
     memory: Memory,
@@ -30,8 +30,8 @@ impl Model for DropRow {
 }
 
 impl DropRow {
-    /// Creates a receiver of `page_id` that has received nothing. Its page is not open and has the
-    /// contents of `page`, which may be anything that the page showed before.
+    /// Creates a receiver tuned to `page_id` that has received nothing. Its page is not open, and
+    /// has the contents of `page`, which may be any page displayed before.
     pub fn tune(page_id: PageId, page: Page) -> DropRow
         ensures tuned { result.watched ≡ page_id }
         ensures state { result.state
@@ -56,8 +56,8 @@ impl DropRow {
         self.memory.heard
     }
 
-    /// Returns whether rows of the page's magazine are being stored: a header of the page was
-    /// received, and no later header ended the page.
+    /// Returns whether the page is open, so that rows of its magazine are stored: a header of the
+    /// page was received, and no later header has ended it.
     pub fn open(&self) -> bool
         ensures { result ≡ self.now.state.is_open }
     {
@@ -71,7 +71,7 @@ impl DropRow {
         &self.memory.page
     }
 
-    /// Receives a packet by one step of the relation for receivers that drop rows.
+    /// Receives a packet, unless it is a row with a byte of even parity.
     pub fn hear(&mut self, packet: &Packet)
         ensures step { StepBy Dropping self.old.watched self.old.state packet.now self.new.state }
         ensures tuned { self.new.watched ≡ self.old.watched }
@@ -81,7 +81,7 @@ impl DropRow {
         }
     }
 
-    /// Receives a list of packets in order.
+    /// Receives all packets of the list, in order.
     #[tactic(auto, using(crate::proofs::RunLemmas::run_more))]
     pub fn hear_all(&mut self, packets: &[Packet])
         ensures run { HearsBy Dropping self.old.watched self.old.state packets.now self.new.state }
@@ -93,8 +93,8 @@ impl DropRow {
     }
 }
 
-/// Returns whether a packet is a row of the page's magazine with a byte of even parity, which
-/// `DropRow` ignores.
+/// Returns whether `DropRow` ignores the packet: it is a row of the page's magazine with a byte of
+/// even parity.
 pub fn is_dropped(page_id: PageId, packet: &Packet) -> bool
     ensures { result ≡ is_dropped page_id packet.now }
 {

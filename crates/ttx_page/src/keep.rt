@@ -1,11 +1,11 @@
-//! The receiver that keeps a cell if its byte has even parity.
+//! A receiver that keeps the old code at a byte of even parity.
 use crate::memory::{EvenByte, Memory};
 use crate::page::Page;
 use crate::receiver::Receiver;
 use std::marker::Model;
 use ttx_packet::{Packet, PageId};
 
-/// A receiver that keeps the old code of a cell if the cell's byte has even parity.
+/// A receiver that keeps the old code of a cell of the page if the received byte has even parity.
 #[derive(Debug, Drop)]
 pub struct Keep {
     memory: Memory,
@@ -50,8 +50,7 @@ impl Receiver for Keep {
         &self.memory.page
     }
 
-    /// Receives a packet by one step of the receiver relation. Each cell whose byte has even parity
-    /// keeps its code.
+    /// Receives a packet. Each cell for which a byte of even parity is received keeps its code.
     fn hear(&mut self, packet: &Packet) {
         self.memory.hear(packet, EvenByte::KeepsCell);
     }

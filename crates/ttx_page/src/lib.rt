@@ -1,6 +1,6 @@
-//! Teletext pages, model receivers, and how noise and lost rows affect a page.
+//! Teletext pages, models of receivers, and the effect of wrong bits and lost rows on a page.
 //!
-//! Builds on `ttx_packet`; the planner and the checker build on this crate. A page:
+//! This crate uses `ttx_packet`; the planner and the checker use this crate. An example of a page:
 //!
 //! ```rust
 //! let mut page = Page::blank();

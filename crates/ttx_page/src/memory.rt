@@ -1,5 +1,5 @@
-//! The state of all receivers and the steps that they share. What a receiver does at a byte of even
-//! parity is a parameter.
+//! The state that all receivers share, and how packets change it. A parameter chooses what a
+//! receiver does at a byte of even parity.
 ghost use Rattle.std.specs.Prelude.{◌≡◌, ◌+◌, ◌<◌, ℕ, false, slice_index};
 ghost use Rattle.ttx_packet.specs.PageHeader.{c4};
 ghost use Rattle.ttx_page.specs.Memory.{chosen, code_after, state_of};
@@ -11,7 +11,7 @@ use crate::page::Page;
 use bitflags::Flags;
 use ttx_packet::{Control, Header, Packet, PageId, is_odd};
 
-/// What a receiver does with a cell whose byte has even parity.
+/// What a receiver stores in a cell if the received byte has even parity.
 #[derive(Clone, Copy, Debug, PartialEq, Eq)]
 pub enum EvenByte {
     /// The cell keeps its code.
@@ -30,7 +30,7 @@ pub struct Memory {
 }
 
 impl Memory {
-    /// Creates the state of a receiver that has received nothing, with a page that is not open.
+    /// Creates the state of a receiver that has received nothing. Its page is not open.
     pub fn new(watched: PageId, page: Page) -> Memory
         ensures { result
             ≡ record { watched = watched; heard = false; is_open = false; page = page } }
@@ -43,8 +43,7 @@ impl Memory {
         }
     }
 
-    /// Receives a packet by one step of the receiver relation, with the choice `even` at each byte
-    /// of even parity.
+    /// Receives a packet. `even` chooses what is stored for each byte of even parity.
     pub fn hear(&mut self, packet: &Packet, even: EvenByte)
         ensures step { Step self.old.watched (state_of self.old) packet.now (state_of self.new) }
         ensures chosen { AtEvenBytes (λ was is. is ≡ chosen even was) self.old.watched
@@ -71,14 +70,14 @@ impl Memory {
     }
 }
 
-// Returns whether a page header has C4, erase page, set.
+// Returns whether control bit C4, erase page, of a page header is set.
 fn erases_page(header: &Header) -> bool
     ensures { result ≡ c4 header.now }
 {
     header.control.contains(Control::C4)
 }
 
-// Returns the 40 codes of a row after a packet of that row was received.
+// Returns the 40 codes of a row after `packet` of that row was received. `was` has the old codes.
 fn stored(was: &[u8; 40], packet: &[u8; 42], even: EvenByte) -> [u8; 40]
     requires { AreCodes was.now }
     ensures value { (column : ℕ) → column < 40 → slice_index result column
@@ -92,7 +91,7 @@ fn stored(was: &[u8; 40], packet: &[u8; 42], even: EvenByte) -> [u8; 40]
     codes
 }
 
-// Returns the code of a cell after the byte of its row was received.
+// Returns the code of a cell after a byte for it was received. `was` is the old code.
 fn code_after(even: EvenByte, byte: u8, was: u8) -> u8
     requires { was < 128 }
     ensures value { result ≡ code_after even byte was }

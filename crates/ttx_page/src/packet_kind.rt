@@ -1,4 +1,4 @@
-//! The meaning of a packet for a receiver of one page.
+//! Classifies packets by their meaning for a receiver of one page.
 ghost use Rattle.std.specs.Prelude.{◌≡◌, ◌≤◌, ℕ};
 ghost use Rattle.ttx_packet.specs.PageHeader.{c11};
 
@@ -28,7 +28,7 @@ impl PacketKind {
 
     /// Returns the meaning of a packet for a receiver of the page `watched`.
     ///
-    /// The function is inlined, since a receiver uses only C4 of a header.
+    /// Inlined for speed, since a receiver uses only C4 of a header.
     #[inline(always)]
     pub fn of(watched: PageId, packet: &Packet) -> PacketKind
         ensures value { result ≡ kind watched packet.now }
@@ -37,11 +37,10 @@ impl PacketKind {
         PacketKind::with_header(watched, packet).0
     }
 
-    /// Returns the meaning of a packet for a receiver of the page `watched`, and the page header of
-    /// the packet, of whatever page (`None` if the packet has no header). For callers that inspect
-    /// every header.
+    /// Returns the meaning of a packet for a receiver of the page `watched`, and the packet's page
+    /// header, which may be of any page (`None` if the packet has none).
     ///
-    /// Reads the address only once, and the coded bytes only in a packet X/0.
+    /// Decodes the address only once, and the coded bytes only in a packet X/0.
     #[inline(always)]
     pub fn with_header(watched: PageId, packet: &Packet) -> (PacketKind, Option<Header>)
         ensures kind { result.0 ≡ kind watched packet.now }
@@ -75,8 +74,8 @@ impl PacketKind {
     }
 }
 
-// Returns whether a page header has C11, magazine serial, set: the header then ends pages of all
-// magazines.
+// Returns whether control bit C11, magazine serial, of a page header is set. Such a header ends
+// pages of all magazines.
 fn is_serial(header: &Header) -> bool
     ensures { result ≡ c11 header.now }
 {

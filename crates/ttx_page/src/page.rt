@@ -1,4 +1,4 @@
-//! Teletext pages: the 24 rows under the page header, with 40 codes each.
+//! Teletext pages: 24 rows of 40 codes, without the page header.
 ghost use Rattle.std.specs.Prelude.{◌≡◌, ◌≢◌, ℕ, ◌-◌, ◌<◌, ◌≤◌, slice_index, slice_set};
 ghost use Rattle.std.specs.Prelude.{IsTrue, MatchOption};
 ghost use Rattle.ttx_page.specs.Differing.{differing};
@@ -14,11 +14,11 @@ use std::marker::Model;
 
 /// Rows 1 to 24 of a page (EN 300 706, packets X/1 to X/24), columns 0 to 39.
 ///
-/// A cell has the 7 bits of a character or spacing attribute, without its parity bit. Row 0, the
-/// page header, is not included. The model of a page is the list of its rows.
+/// A cell has the 7-bit code of a character or spacing attribute, without its parity bit. Row 0,
+/// the page header, is not included. The model of a page is the list of its rows.
 #[derive(Clone, Copy, PartialEq, Eq, Debug)]
 pub struct Page {
-    // The codes of the 24 rows, row 1 first.
+    // The codes of rows 1 to 24.
     rows: [[u8; 40]; 24],
 }
 
@@ -36,7 +36,8 @@ impl Model for Page {
 }
 
 impl Page {
-    /// Returns the page of spaces, code 20, that results from C4, erase page.
+    /// Returns the blank page, to which C4, erase page, sets a page: each cell has code 20, a
+    /// space.
     #[tactic(auto, unfolding(crate::specs::Page::blank, crate::specs::Page::blank_row))]
     pub fn blank() -> Page
         ensures { result ≡ blank }
@@ -57,7 +58,7 @@ impl Page {
 
     /// Returns the 40 codes of a row, 1 to 24, from column 0 on.
     ///
-    /// Its clause `page` also gives callers' proofs the shape of the page.
+    /// The clause `page` states the size of the page, for proofs of callers.
     pub fn row(&self, row: u8) -> &[u8; 40]
         requires { IsRow row }
         ensures value { result.now ≡ row_at self.now row }
@@ -67,7 +68,7 @@ impl Page {
         &self.rows[row as usize - 1]
     }
 
-    /// Replaces a row, 1 to 24, by 40 codes below 128. The other rows do not change.
+    /// Replaces a row, 1 to 24, by 40 codes below 128.
     pub fn set_row(&mut self, row: u8, codes: &[u8; 40])
         requires row { IsRow row }
         requires codes { AreCodes codes.now }
@@ -76,8 +77,7 @@ impl Page {
         self.rows[row as usize - 1] = *codes;
     }
 
-    /// Returns the row and column of the first cell in which two pages differ: the least row, then
-    /// the least column.
+    /// Returns the row and column of the first cell in which two pages differ, in reading order.
     ///
     /// Returns `None` if the pages are equal.
     pub fn first_difference(&self, other: &Page) -> Option<(u8, u8)>
@@ -92,7 +92,7 @@ impl Page {
         None
     }
 
-    /// Returns how many of the 960 cells of the page differ from a space.
+    /// Returns the number of cells, of 960, that are not spaces.
     #[tactic(auto, unfolding(crate::specs::Differing::rows_differing))]
     pub fn cells_not_blank(&self) -> u16
         ensures value { result ≡ differing blank self.now }
@@ -100,7 +100,7 @@ impl Page {
     {
         let mut count = 0;
         for row in 0..24 {
-            // Most rows are blank, and comparing a row is faster than counting.
+            // For speed: most rows are blank, and a comparison is faster than counting.
             if !are_equal(&spaces(), &self.rows[row]) {
                 count += differing_columns(&spaces(), &self.rows[row]);
             }
@@ -118,7 +118,8 @@ fn spaces() -> [u8; 40]
     [0x20; 40]
 }
 
-// Returns whether two rows are equal. The three masks are combined to need only one branch.
+// Returns whether two rows are equal. Combines the masks of three blocks, so that one branch
+// suffices.
 #[inline(always)]
 fn are_equal(a: &[u8; 40], b: &[u8; 40]) -> bool
     ensures { IsTrue result → a.now ≡ b.now }
@@ -132,7 +133,7 @@ fn are_equal(a: &[u8; 40], b: &[u8; 40]) -> bool
     (prefix == 0) & (middle == 0) & (last == 0)
 }
 
-// Returns the least column in which two rows differ, or `None` if the rows are equal.
+// Returns the first column in which two rows differ, or `None` if the rows are equal.
 fn first_column(a: &[u8; 40], b: &[u8; 40]) -> Option<u8>
     ensures { MatchOption result (a.now ≡ b.now) (λ c. (c < 40)
         × (slice_index a.now c ≢ slice_index b.now c)

@@ -1,4 +1,4 @@
-//! Receivers of one page: their trait, and the effect of a list of packets.
+//! The trait of receivers of one page.
 ghost use Rattle.std.specs.Prelude.{◌≡◌, ℕ, true, false};
 ghost use Rattle.ttx_packet.specs.PageId.{PageIdValue};
 ghost use Rattle.ttx_page.specs.Receiver.{Hears, HearsLeaving, LeavesCells, State, Step};
@@ -8,23 +8,23 @@ use ttx_packet::{Packet, PageId};
 
 /// A level 1 receiver of one page (EN 300 706), which receives packets and decodes the page.
 ///
-/// The law of a receiver is the clause `step` of `hear`: each packet is one step of the receiver
-/// relation in `specs/Receiver`. The relation leaves the code of a cell open if its byte has even
-/// parity; a receiver specifies that code in `leaves`. `Keep` and `Blank` are the two extremes.
-/// `DropRow` is not a `Receiver`, since it drops whole rows.
+/// The clause `step` of `hear` restricts a receiver: each packet changes it as `specs/Receiver`
+/// allows. There the code stored for a byte of even parity is left open; a receiver specifies it in
+/// `leaves`. `Keep` and `Blank` are the two extremes. `DropRow` is not a `Receiver`, since it drops
+/// whole rows.
 pub trait Receiver: Sized {
     /// The page to which the receiver is tuned.
     ghost tuned_to: { Self → PageIdValue };
 
-    /// Whether the receiver has received the page, whether the page is open, and the page's
+    /// The state: whether a header of the page was received, whether the page is open, and its
     /// contents.
     ghost state: { Self → State };
 
-    /// The new code of a cell whose byte has even parity, given the cell's old code.
+    /// The code stored in a cell for a byte of even parity, given the old code.
     ghost leaves: { ℕ → ℕ };
 
-    /// Creates a receiver of `page_id` that has received nothing. Its page is not open and has the
-    /// contents of `page`, which may be anything that the page showed before.
+    /// Creates a receiver tuned to `page_id` that has received nothing. Its page is not open, and
+    /// has the contents of `page`, which may be any page displayed before.
     fn tune(page_id: PageId, page: Page) -> Self
         ensures tuned { tuned_to result ≡ page_id }
         ensures state { state result ≡ record { heard = false; is_open = false; page = page } };
@@ -37,8 +37,8 @@ pub trait Receiver: Sized {
     fn heard(&self) -> bool
         ensures { result ≡ (state self.now).heard };
 
-    /// Returns whether rows of the page's magazine are being stored: a header of the page was
-    /// received, and no later header ended the page.
+    /// Returns whether the page is open, so that rows of its magazine are stored: a header of the
+    /// page was received, and no later header has ended it.
     fn open(&self) -> bool
         ensures { result ≡ (state self.now).is_open };
 
@@ -46,8 +46,7 @@ pub trait Receiver: Sized {
     fn page(&self) -> &Page
         ensures { result.now ≡ (state self.now).page };
 
-    /// Receives a packet by one step of the receiver relation, with the receiver's choice at each
-    /// byte of even parity.
+    /// Receives a packet. The receiver chooses what to store for each byte of even parity.
     fn hear(&mut self, packet: &Packet)
         ensures step { Step (tuned_to self.old) (state self.old) packet.now (state self.new) }
         ensures cells { LeavesCells leaves (tuned_to self.old) (state self.old) packet.now
@@ -55,7 +54,8 @@ pub trait Receiver: Sized {
         ensures tuned { tuned_to self.new ≡ tuned_to self.old };
 }
 
-/// Receives a list of packets in order, with the receiver's choice at each byte of even parity.
+/// Receives all packets of a list, in order. The receiver chooses what to store for each byte of
+/// even parity.
 #[tactic(auto, using(crate::proofs::RunLemmas::run_more))]
 pub fn hear_all<R: Receiver>(receiver: &mut R, packets: &[Packet])
     ensures run { Hears (R.tuned_to receiver.old) (R.state receiver.old) packets.now

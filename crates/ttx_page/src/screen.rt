@@ -1,4 +1,4 @@
-//! A receiver's screen, which shows a page once it is complete.
+//! The screen of a receiver, which displays a page when it is complete.
 ghost use Rattle.std.specs.Prelude.{◌≡◌, Some};
 ghost use Rattle.ttx_page.specs.Receiver.{LeavesCells, Step};
 ghost use Rattle.ttx_page.specs.Screen.{Shows, ShowsAt, ShowsWaiting, display, screen_after};
@@ -7,10 +7,10 @@ use crate::page::Page;
 use crate::receiver::Receiver;
 use ttx_packet::Packet;
 
-/// Receives a packet. If the packet ends the open page, the decoded page is shown on the screen.
+/// Receives a packet. If the packet ends the open page, copies the decoded page to the screen.
 ///
-/// The screen `None` shows nothing yet. A header of the page itself does not change the screen: a
-/// page is shown when a header of another page ends it, as in libzvbi.
+/// `screen` is `None` as long as nothing is displayed. A header of the page itself does not change
+/// the screen: as in libzvbi, a page is displayed when a header of another page ends it.
 pub fn show<R: Receiver>(receiver: &mut R, screen: &mut Option<Page>, packet: &Packet)
     ensures step { Step (R.tuned_to receiver.old) (R.state receiver.old) packet.now
         (R.state receiver.new) }
@@ -40,7 +40,7 @@ fn put_on(screen: &mut Option<Page>, page: &Page)
     }
 }
 
-/// Receives a list of packets in order, with a screen that behaves as in `show`.
+/// Receives all packets of a list, in order, and updates the screen as `show` does.
 #[tactic(auto, using(crate::proofs::RunLemmas::run_more))]
 pub fn show_all<R: Receiver>(receiver: &mut R, screen: &mut Option<Page>, packets: &[Packet])
     ensures run { Shows (R.tuned_to receiver.old)

@@ -1,6 +1,6 @@
-//! The number of cells in which two blocks of a row differ, one cell per lane of a vector.
+//! Counts the cells in which two blocks of a row differ, one cell per lane of a vector.
 //!
-//! The comparison gives one bit per cell, and the result is the number of ones.
+//! A comparison of the vectors gives one bit per cell; the count is the number of ones.
 ghost use Rattle.std.specs.Prelude.{◌≡◌, ◌≤◌};
 ghost use Rattle.ttx_page.specs.Differing.{columns_differing};
 

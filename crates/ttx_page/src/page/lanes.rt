@@ -4,8 +4,8 @@ ghost use Rattle.ttx_page.specs.Lanes.{differing_mask};
 
 use std::simd::prelude::*;
 
-// Returns a mask with one bit for each cell of two blocks, set if the cells differ. The lowest bit
-// is that of the first cell.
+// Returns a mask with one bit per cell, the lowest bit for the first cell. A bit is set if the
+// cells of the two blocks differ.
 #[inline(always)]
 pub(super) fn differing(a: &[u8; 16], b: &[u8; 16]) -> u64
     ensures { result ≡ differing_mask a.now b.now }

@@ -1,5 +1,4 @@
--- Each exit of the loop of `listen_pes_packets` shows how reception of the file ends; by
--- WaysOutLemmas.
+-- Each exit of the loop of `listen_pes_packets` determines how reception ends.
 use Rattle.std.proofs.Common.{◌+◌, ◌≤◌, ◌∙◌, Err, List, Ok, Option, Result, Some, ap, arith, length}
 use Rattle.std.proofs.Common.{refl, subst, sym}
 use Rattle.std.proofs.lemmas.Result.{err_from_is_err_and}

@@ -1,4 +1,4 @@
--- After n PES packets the receiver has used all packets of these PES packets that reach it.
+-- After n PES packets the receiver has used all their packets that arrive.
 use Rattle.std.proofs.Common.{◌≡◌, ◌*◌, ◌-◌, ◌≤◌, ℕ, List, Option, Some}
 use Rattle.ttx_page.specs.Screen.{display}
 use Rattle.ttx_pes.specs.PesGrammar.{most_units}

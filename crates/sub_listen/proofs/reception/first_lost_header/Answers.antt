@@ -1,5 +1,4 @@
--- `first_lost_header` finds the first packet that is listed as lost but must not be, packet by
--- packet. By first_lost_header-none, is_first_lost_header and lost_later.
+-- `first_lost_header` tests one packet after another.
 use Rattle.std.proofs.lemmas.Bool.Decides.{nat_tests}
 use Rattle.std.proofs.Common.{◌<◌, ℕ, length, arith, rules, sym, ◌∙◌}
 use Rattle.std.proofs.lemmas.List.{length-map, nil_from_length}

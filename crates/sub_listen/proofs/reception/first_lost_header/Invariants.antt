@@ -1,4 +1,4 @@
--- No packet examined so far is listed as lost unless it may be lost.
+-- Each packet so far that is listed as lost may be lost.
 use Rattle.std.proofs.Common.{◌≡◌, ◌+◌, drop, option_map}
 use Rattle.sub_rules.specs.PacketRules.{packets_of_units}
 use Rattle.sub_listen.specs.Reception.{first_lost_header, reception_of}

@@ -1,4 +1,4 @@
--- Applying the remaining flips to the bytes gives the packet with all flips.
+-- Applying the remaining bit flips to the bytes gives the packet with all bit flips.
 use Rattle.std.proofs.Common.{◌≡◌, drop}
 use Rattle.sub_request.specs.Flips.{with_flips}
 use Rattle.sub_listen.proofs.reception.flipped.Given as goal

@@ -1,4 +1,4 @@
--- The loop of `hear_units` passes one more packet to the receiver: next_packet.
+-- Each iteration of `hear_units` passes one more packet to the receiver.
 use Rattle.std.proofs.Common.{◌≡◌, ◌+◌, ◌<◌, ℕ, ◌∷◌, List, drop, length, arith, rules, subst, ◌∙◌}
 use Rattle.std.proofs.lemmas.List.{length-map}
 use Rattle.ttx_packet.specs.PageId.{PageIdValue}

@@ -1,4 +1,4 @@
--- Once the receiver has used the remaining packets, it has used all packets of the PES packet.
+-- When the receiver has used the remaining packets, it has used all packets of the PES packet.
 use Rattle.std.proofs.Common.{◌≡◌, ◌+◌, drop}
 use Rattle.sub_rules.specs.PacketRules.{packets_of_units}
 use Rattle.ttx_page.specs.Screen.{Display, display}

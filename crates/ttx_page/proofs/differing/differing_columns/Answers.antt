@@ -1,5 +1,4 @@
--- Each block of a row adds its differing columns to the count of `differing_columns`:
--- columns_in_chunk.
+-- Each block of a row adds its number of differing columns.
 use Rattle.std.proofs.Common.{◌≡◌, ◌+◌, ◌*◌, drop, arith, rules, sym, ap₂, ◌∙◌}
 use Rattle.std.proofs.lemmas.Bool.Decides.{nat_tests}
 use lib.Lanes.{chunk}

@@ -1,4 +1,4 @@
--- If the three masks are empty, the rows are equal: none_so_far.
+-- If the three masks are zero, the rows are equal.
 use Rattle.std.proofs.Common.{◌≡◌, ℕ, ◌<◌, false, drop, get_or, ap₂, ◌∙◌, arith, rules}
 use Rattle.std.proofs.lemmas.Bool.Decides.{nat_tests}
 use Rattle.std.proofs.lemmas.Simd.{length-zip2}

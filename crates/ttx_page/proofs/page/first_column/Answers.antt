@@ -1,5 +1,4 @@
--- The masks of the blocks of 16 columns give the first column in which two rows differ:
--- none_so_far, first_so_far.
+-- The masks of the blocks of 16 columns give the first column in which two rows differ.
 use Rattle.std.proofs.Common.{◌≡◌, ◌*◌, false, drop, ap₂, ◌∙◌, arith, rules}
 use Rattle.std.proofs.lemmas.Simd.{length-zip2}
 use lib.Lanes.{zip2}

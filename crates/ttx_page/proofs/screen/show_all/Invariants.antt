@@ -1,5 +1,4 @@
--- After each iteration of `show_all`, the packets so far are a run of the receiver with a screen
--- that waits.
+-- After each iteration of `show_all`, the receiver and its screen have received the packets so far.
 use Rattle.std.proofs.Common.{◌≡◌, take}
 use Rattle.ttx_page.specs.Screen.{Shows, ShowsWaiting, display}
 use Rattle.ttx_page.proofs.screen.show_all.Given as goal

@@ -1,5 +1,4 @@
--- The number of ones of the mask is the number of differing cells of two blocks of 16:
--- ones_compared.
+-- The number of ones of the mask is the number of differing cells of two blocks of 16.
 use Rattle.std.proofs.Common.{arith}
 use Rattle.std.proofs.lemmas.Bool.Decides.{nat_tests}
 use Rattle.ttx_page.proofs.DifferingLemmas.{columns_le}

@@ -1,5 +1,4 @@
--- Each row adds its differing cells to the count of `cells_not_blank`; a blank row adds none:
--- blank-more, columns_same.
+-- Each row adds its number of cells that are not spaces; a blank row adds none.
 use Rattle.std.proofs.Common.{arith}
 use Rattle.std.proofs.lemmas.Bool.Decides.{nat_tests}
 use Rattle.ttx_page.proofs.DifferingLemmas.{blank-more, columns_same}
