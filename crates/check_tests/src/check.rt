@@ -1,4 +1,4 @@
-//! `check`: verdicts on transmissions of `Hi` with one change.
+//! The verdicts of `check` on transmissions for `Hi` with one change.
 use crate::answers::{assert_fills, assert_reports};
 use crate::asserting::assert_same_in;
 use answer_fixtures::{ACCEPTED, CHECK};
@@ -10,7 +10,7 @@ use std::alloc::Global;
 use std::process::Abort;
 use sub_io::MemSink;
 
-// Asserts the line of a check of the subtitle file of `Hi` and a PES file.
+// Asserts the line of a check of this PES file against the subtitle file with `Hi`.
 fn assert_judges(rt: &(impl Abort + Alloc<A = Global>), pes: &[u8], want: &str) {
     assert_reports(rt, &CHECK, &file_of_hi(), pes, want);
 }
@@ -65,8 +65,8 @@ fn refuses_a_cut_subtitle_file(rt: HostRuntime) {
     }
 }
 
-// Asserts the line of a check of `Hi` after a byte of its schedule was changed. Each change has the
-// place, the old value and the new one.
+// Asserts the line of a check after bytes of the schedule for `Hi` were changed. Each change has
+// the position, the old value and the new value.
 fn assert_changed(rt: &(impl Abort + Alloc<A = Global>), want: &str, changes: &[[u8; 3]]) {
     for [place, from, to] in changes {
         let mut pes = schedule_of_hi();
@@ -94,16 +94,17 @@ fn judges_a_byte_that_is_changed(rt: HostRuntime) {
     assert_changed(&rt, "refused 71 NoFirstHeader frame 10:00:00:00\n", &[[46, 0x03, 0xC3]]);
     assert_changed(&rt, ACCEPTED,
         &[[6, 0x84, 0x80], [45, 0x10, 0x1F], [46, 0x03, 0x02], [48, 0xE7, 0xE0], [48, 0xE7, 0x27]]);
-    // Changes of a header packet: the page tens with one wrong bit, and with two; C4 clear.
+    // Changes of a header packet: one wrong bit in the page tens, two wrong bits in the page tens,
+    // and C4 clear.
     assert_changed(&rt, "refused 65 HeaderCode frame 10:00:00:00 packet 0\n",
         &[[53, 0x0B, 0x8B], [53, 0x0B, 0x68]]);
     assert_changed(&rt, "refused 67 Control frame 10:00:00:00 packet 0\n", &[[55, 0x0B, 0xA8]]);
-    // Changes of other packets: a wrong bit in the address of the row; the H of the row; C11 of the
-    // closing header.
+    // Changes of other packets: a wrong bit in the address of the row, the letter H of the row, and
+    // C11 in the header that ends the page.
     assert_changed(&rt, "refused 64 Address frame 10:00:00:00 packet 1\n", &[[97, 0xD9, 0x59]]);
     assert_changed(&rt, "refused 68 Parity frame 10:00:00:00 packet 1\n", &[[117, 0x13, 0x12]]);
     assert_changed(&rt, "refused 66 Mode frame 10:00:00:00 packet 2\n", &[[151, 0xA8, 0x40]]);
-    // The first PES packet has the length of a longer one, whose fourth data unit begins with 00
+    // The first PES packet has the length of a longer packet, whose fourth data unit starts with 00
     // 00.
     let mut pes = schedule_of_hi();
     (pes[4], pes[5]) = (0x01, 0x6A);
@@ -113,7 +114,7 @@ fn judges_a_byte_that_is_changed(rt: HostRuntime) {
 // The bytes of a gap marker from byte 6 on.
 const FILL: [u8; 178] = [0xFF; 178];
 
-// The second payload of a PES packet, all bytes FF.
+// The second payload of a PES packet, with FF in all bytes.
 const PAYLOAD_OF_FF: [u8; 184] = [0xFF; 184];
 
 #[test]
@@ -123,14 +124,14 @@ fn reports_a_gap_marker_where_all_bytes_from_6_on_are_ff(rt: HostRuntime) {
     assert_judges(&rt, &pes, "refused 45 Lost pes 0\n");
     pes[183] = 0xFE;
     assert_judges(&rt, &pes, "refused 33 Flags pes 0\n");
-    // A PES packet of two payloads is a gap marker only if the second payload is FF, too.
+    // A PES packet of two payloads is a gap marker only if all bytes of the second payload are FF.
     (pes[4], pes[5], pes[183]) = (0x01, 0x6A, 0xFF);
     assert_judges(&rt, &pes, "refused 33 Flags pes 0\n");
     put(&mut pes, 184, &PAYLOAD_OF_FF);
     assert_judges(&rt, &pes, "refused 45 Lost pes 0\n");
 }
 
-// Asserts the line of a check of `Hi` for each other value of a byte of its schedule.
+// Asserts the line of a check for each other value of a byte in the schedule for `Hi`.
 fn assert_judges_others(rt: &(impl Abort + Alloc<A = Global>), place: usize, want: &str) {
     let mut pes = schedule_of_hi();
     assert!(rt; place < 368);
@@ -153,7 +154,7 @@ fn judges_every_other_value_of_a_byte(rt: HostRuntime) {
     }
 }
 
-// Asserts the line of a check of `Hi` with the packets `first` at 10:00:00:00, and `last` two
+// Asserts the line of a check with the packets `first` at 10:00:00:00, and the packets `last` two
 // seconds later.
 fn assert_judges_two(
     rt: &(impl Abort + Alloc<A = Global>),
@@ -169,15 +170,14 @@ fn assert_judges_two(
 
 #[test]
 fn judges_packets_between_those_of_a_page(rt: HostRuntime) {
-    // A header of another page follows the row, in parallel and in serial mode.
+    // A header of another page follows the row, in parallel mode and in serial mode.
     let sent = [HEADER, OTHER_HEADER, ROW, CLOSING];
     assert_judges_two(&rt, &sent, &[HEADER, CLOSING], ACCEPTED);
     let (header, closing) = (in_serial_mode(&HEADER), in_serial_mode(&CLOSING));
     let sent = [header, in_serial_mode(&OTHER_HEADER), ROW, closing];
     let refused = "refused 72 Content frame 10:00:00:00 row 22 column 16\n";
     assert_judges_two(&rt, &sent, &[header, closing], refused);
-    // Packets that follow the row: the same row, the row with an `h` instead of its `H`, and a
-    // packet 26.
+    // Packets after the row: the same row, the row with `h` instead of `H`, and a packet 26.
     let last = [HEADER, CLOSING];
     assert_judges_two(&rt, &[HEADER, ROW, ROW, CLOSING], &last, ACCEPTED);
     let mut row = ROW;

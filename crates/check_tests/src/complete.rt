@@ -1,4 +1,4 @@
-//! Complete pages, required by `--complete`, and pages that are spread over several frames.
+//! Complete pages, which `--complete` requires, and pages that are spread over several frames.
 use crate::answers::assert_reports;
 use answer_fixtures::{ACCEPTED, CHECK};
 use fixtures::{
@@ -11,7 +11,7 @@ use sub_io::MemSink;
 
 const OPEN: &str = "refused 77 Incomplete frame 10:00:00:00\n";
 
-// Asserts the line of a check without `--complete`, and with it.
+// Asserts the lines of a check without and with `--complete`.
 fn assert_checks(
     rt: &(impl Abort + Alloc<A = Global>),
     stl: &[u8],
@@ -29,8 +29,8 @@ fn assert_checks(
     );
 }
 
-// Asserts the lines of a check of the schedule of `Hi` with two bytes changed, without `--complete`
-// and with it.
+// Asserts the lines of a check without and with `--complete` after two bytes of the schedule for
+// `Hi` were changed.
 fn assert_checks_changed(
     rt: &(impl Abort + Alloc<A = Global>),
     changes: [(usize, u8); 2],
@@ -50,13 +50,13 @@ fn assert_checks_changed(
 fn refuses_a_page_that_is_open_at_a_frames_end(rt: HostRuntime) {
     let content = "refused 72 Content frame 10:00:00:00 row 22 column 17\n";
     let at_the_end = "refused 77 Incomplete frame 10:00:02:00\n";
-    // The schedule of `Hi` is checked unchanged, then with a stuffing unit in place of its first
-    // closing header, and then in place of its second one.
+    // The schedule for `Hi` without a change, and with a stuffing unit instead of its first or its
+    // second header that ends the page.
     assert_checks_changed(&rt, [(138, 0x03), (138, 0x03)], ACCEPTED, ACCEPTED);
     assert_checks_changed(&rt, [(138, 0xFF), (138, 0xFF)], ACCEPTED, OPEN);
     assert_checks_changed(&rt, [(276, 0xFF), (276, 0xFF)], ACCEPTED, at_the_end);
-    // The first closing header becomes a stuffing unit, and the second start box (0B) of row 22
-    // becomes the code 49.
+    // A stuffing unit replaces the first header that ends the page, and code 49 replaces the second
+    // start box (0B) of row 22.
     assert_checks_changed(&rt, [(138, 0xFF), (115, 0x92)], content, content);
 }
 
@@ -71,8 +71,8 @@ fn reports_an_open_page_before_an_early_end_and_a_gap_before_it(rt: HostRuntime)
     assert_reports(&rt, &arguments, &file_of_hi(), &schedule_of_hi(), gap);
 }
 
-// Asserts the lines of a check of `Hi` with the packets `first` at 10:00:00:00, and `last` two
-// seconds later, without `--complete` and with it.
+// Asserts the lines of a check without and with `--complete`, with the packets `first` at
+// 10:00:00:00, and the packets `last` two seconds later.
 fn assert_checks_two(
     rt: &(impl Abort + Alloc<A = Global>),
     first: &[[u8; 42]],
@@ -99,7 +99,7 @@ fn counts_a_header_that_ends_the_page_alone(rt: HostRuntime) {
         ACCEPTED,
         ACCEPTED,
     );
-    // A header of the page follows the closing header.
+    // A header of the page follows the header that ended it.
     let again = [HEADER, ROW, CLOSING, HEADER, ROW];
     let three = "accepted 51 frames 3 transmissions\n";
     assert_checks_two(&rt, &again, &[HEADER, CLOSING], three, OPEN);

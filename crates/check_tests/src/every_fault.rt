@@ -1,11 +1,11 @@
-//! `check --all`: all faults of a subtitle file, also after refused subtitles.
+//! All faults of a subtitle file, also after rejected subtitles, with `check --all`.
 use crate::answers::assert_all;
 use answer_fixtures::CHECK;
 use fixtures::{HEAD, HI, TEN, block, file_of_five, file_of_two, head, put, schedule_of_hi};
 use std::alloc::Global;
 use std::process::Abort;
 
-/// The lines for the faults of the file of five subtitles.
+/// The lines for the faults in the file of five subtitles.
 pub const OF_FIVE: &str = "refused 57 Overlap block 2\n\
     refused 50 Character block 2 at 3\n\
     refused 50 Character block 3 at 3\n\
@@ -49,8 +49,8 @@ fn reads_on_after_a_subtitle_that_is_refused(rt: HostRuntime) {
         refused 18 Justify block 2\n\
         refused 50 Character block 3 at 3\n\
         3 faults\n");
-    // The first block of a subtitle whose TCO is its TCI, its last block, and a block with another
-    // SN.
+    // The first block of a subtitle with equal TCI and TCO, the last block of this subtitle, and a
+    // block with another SN.
     let mut open = head(TEN, TEN, 22);
     open[3] = 0;
     let mut other = head(TEN, TEN, 22);

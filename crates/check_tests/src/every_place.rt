@@ -1,5 +1,4 @@
-//! `check --all`: all events of a transmission, one line after another, and the trusted frames
-//! among them.
+//! All events of a transmission, and the clean frames between them, with `check --all`.
 ghost use Rattle.std.specs.Prelude.{◌≡◌, length};
 
 use crate::answers::{assert_all, assert_reports};
@@ -11,7 +10,7 @@ use std::alloc::Global;
 use std::process::Abort;
 use sub_io::MemSink;
 
-/// Asserts the output of `check --all` for a subtitle file and a PES file, with these options.
+/// Asserts the output of `check --all` for a subtitle file and a PES file with these options.
 pub fn assert_reported_of<'x>(
     rt: &(impl Abort + Alloc<A = Global>),
     stl: &[u8],
@@ -27,7 +26,7 @@ pub fn assert_reported_of<'x>(
     assert_all(rt, arguments, stl, pes, "", lines);
 }
 
-/// Asserts the output of `check --all` for the subtitle file of `Hi` and a PES file, with these
+/// Asserts the output of `check --all` for the subtitle file with `Hi` and a PES file, with these
 /// options.
 pub fn assert_reported<'x>(
     rt: &(impl Abort + Alloc<A = Global>),
@@ -86,15 +85,15 @@ fn reports_all_of_a_schedule_by_other_options(rt: HostRuntime) {
         1 faults\n");
 }
 
-// Changes of the schedule: the `H` of the row becomes a byte of even parity, or an `h`, or C4 of
-// the first header is cleared.
+// Changes of the schedule: a byte of even parity or the letter `h` instead of the letter `H` of the
+// row, and a first header with C4 clear.
 const EVEN: (usize, u8) = (117, 0x12);
 
 const OTHER: (usize, u8) = (117, 0x16);
 
 const NO_ERASE: (usize, u8) = (55, 0xA8);
 
-// Returns the schedule of `Hi` with two bytes changed.
+// Returns the schedule for `Hi` with two bytes changed.
 fn changed(rt: &impl Abort, first: (usize, u8), second: (usize, u8)) -> [u8; 368]
     ensures { length result ≡ 368 }
 {
@@ -111,14 +110,14 @@ fn reports_all_of_a_schedule_with_an_even_byte(rt: HostRuntime) {
     let lines = "refused 68 Parity frame 10:00:00:00 packet 1\n\
         trusted frames 10:00:02:00 10:00:02:00\n1 faults\n";
     assert_reported(&rt, &even, &[], lines);
-    // The next header comes two seconds later, and until then the letter may be missing on screens.
+    // The next header is sent two seconds later. Until then the letter may be missing on screens.
     let listen = ["subttx", "listen", "a", "--at", "10:00:01:24"];
     let shown = "heard yes\nopen no\nrow 22 |                ... i..                 |\n";
     assert_reports(&rt, &listen, &even, &[], shown);
 }
 
-// The bytes that are cut off may have been sent in the last frame that was read, so it is not
-// trusted; if no bytes are left, it is. Fault 74 is reported only if all bytes are read.
+// The bytes that are cut off may have been sent in the last frame, so this frame is not clean; if
+// no bytes are cut off, it is clean. Fault 74 is reported only if all bytes are read.
 #[rattlefmt::skip]
 #[test]
 fn doubts_the_last_frame_where_bytes_are_left(rt: HostRuntime) {
@@ -154,7 +153,7 @@ fn reports_all_of_a_schedule_with_bytes_changed(rt: HostRuntime) {
         ended 72 Content frame 10:00:01:24\n\
         trusted frames 10:00:02:00 10:00:02:00\n\
         1 faults\n");
-    // The first closing header becomes a stuffing unit.
+    // A stuffing unit replaces the first header that ends the page.
     assert_reported(&rt, &changed(&rt, (138, 0xFF), (138, 0xFF)), &[], ACCEPTED);
     assert_reported(&rt, &changed(&rt, (138, 0xFF), (138, 0xFF)), &["--complete"],
         "refused 77 Incomplete frame 10:00:00:00\n\
@@ -163,8 +162,8 @@ fn reports_all_of_a_schedule_with_bytes_changed(rt: HostRuntime) {
         1 faults\n");
 }
 
-// The third PES packet has an earlier frame than the second, whose header still counts for the
-// repeat bound.
+// The third PES packet has an earlier frame than the second PES packet, whose header still counts
+// for the repeat bound.
 #[test]
 fn goes_on_after_frames_that_do_not_rise(rt: HostRuntime) {
     let lines = "trusted frames 10:00:00:00 10:00:01:24\nrefused 62 Order pes 2\n1 faults\n";

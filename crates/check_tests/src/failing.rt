@@ -1,5 +1,5 @@
-//! Sources that fail at one call, give one byte at a time, or never end. The line names the block
-//! or the PES packet of the byte that was being read, or reports a fault that was found before.
+//! Sources that fail at one call, return one byte at a time, or never end. The line names the block
+//! or the PES packet that was being read, or an earlier fault.
 use crate::answers::assert_prints;
 use crate::asserting::assert_same_in;
 use answer_fixtures::{ACCEPTED, CHECK, SCHEDULE, answer_arguments};
@@ -11,8 +11,8 @@ use std::process::Abort;
 use sub_answer::Status;
 use sub_io::{FailAt, MemSink, MemSource, Source};
 
-// The line for a subtitle file whose source fails at each call. A call gives the GSI block or a TTI
-// block, and the last call finds the end.
+// The line for a subtitle file whose source fails, for each call. A call returns the GSI block or a
+// TTI block, and the last call returns the end.
 const BLOCKS: [&[u8]; 5] = [
     b"fault 26 Read block 0\n",
     b"fault 26 Read block 1\n",
@@ -21,7 +21,7 @@ const BLOCKS: [&[u8]; 5] = [
     b"fault 26 Read block 4\n",
 ];
 
-// The line for a PES file whose source fails at each call. A call gives a PES packet.
+// The line for a PES file whose source fails, for each call. A call returns a PES packet.
 const PACKETS: [&[u8]; 4] = [
     b"fault 41 Read pes 0\n",
     b"fault 41 Read pes 1\n",
@@ -29,7 +29,7 @@ const PACKETS: [&[u8]; 4] = [
     b"fault 41 Read pes 3\n",
 ];
 
-// Asserts the last line for a file whose source fails at call `call`, and the status.
+// Asserts the last line and the status for a file whose source fails at call `call`.
 fn assert_reports_at<'a>(
     rt: &(impl Abort + Alloc<A = Global>),
     arguments: &'a [&'a str],
@@ -57,8 +57,8 @@ fn assert_reports_at<'a>(
     );
 }
 
-// Asserts the last line if each call in turn fails: the fault of that call or, from call `found`
-// on, the fault of the file that is found before.
+// Asserts the last line for each failing call: the fault of this call or, from call `found` on, the
+// earlier fault of the file.
 fn assert_reports_last<'a>(
     rt: &(impl Abort + Alloc<A = Global>),
     arguments: &'a [&'a str],
@@ -110,14 +110,14 @@ fn a_reader_of_pes_packets_names_the_pes_packet_or_reports_a_fault_before(rt: Ho
     assert_reports_last(&rt, &packets, &good, &PACKETS, 4, b"");
     assert_reports_last(&rt, &packets, &wrong, &PACKETS, 2, start);
     let listen = ["subttx", "listen", "a.pes", "--at", "10:00:04:00"];
-    // The third PES packet has no later frame than the second.
+    // The third PES packet is not later than the second.
     let order = b"refused 62 Order pes 2\n";
     assert_reports_last(&rt, &listen, &good, &PACKETS, 3, order);
     assert_reports_last(&rt, &listen, &wrong, &PACKETS, 2, start);
 }
 
-// Asserts the line of a check of `Hi` and a PES file whose sources give one byte per pull and fail
-// at the given pulls. Returns how often each source was pulled and failed.
+// Asserts the line of a check of `Hi` and a PES file. The sources return one byte per pull and fail
+// at the given pulls. Returns the numbers of pulls and of failures for each source.
 fn assert_fails(
     rt: &(impl Abort + Alloc<A = Global>),
     pes: &[u8],
@@ -134,8 +134,8 @@ fn assert_fails(
     (stl.pulls, stl.failures(), pes.pulls, pes.failures())
 }
 
-// The subtitle source gives one byte in each of 1152 pulls, and then its end; the PES source does
-// so after 368 pulls.
+// The source of the subtitle file returns one byte in each of 1152 pulls, and then its end. The
+// source of the PES file does so after 368 pulls.
 #[test]
 fn reports_the_pes_packet_of_a_failing_pull(rt: HostRuntime) {
     let pes = schedule_of_hi();
@@ -162,7 +162,7 @@ fn reports_a_broken_rule_before_the_pull_that_fails_after_it(rt: HostRuntime) {
     assert_fails(&rt, &pes, 1153, 368, even);
 }
 
-// The PES source would fail, too, but is not called.
+// The source of the PES file would also fail, but is not called.
 #[test]
 fn reports_the_block_of_a_failing_pull(rt: HostRuntime) {
     let pes = schedule_of_hi();
@@ -177,8 +177,8 @@ fn reports_the_block_of_a_failing_pull(rt: HostRuntime) {
     }
 }
 
-// Asserts the line of a check of a subtitle source that gives the bytes `rest`, and then the bytes
-// `again` without end. No byte of the PES file is read.
+// Asserts the line of a check of a subtitle file that starts with the bytes `rest`, and then
+// repeats the bytes `again` without end. The PES file is not read.
 fn assert_ends_stl(rt: &(impl Abort + Alloc<A = Global>), rest: &[u8], again: &[u8], want: &[u8]) {
     let mut stl = Endless { rest, again };
     let inner = MemSource::new(&[]);
@@ -187,7 +187,7 @@ fn assert_ends_stl(rt: &(impl Abort + Alloc<A = Global>), rest: &[u8], again: &[
     assert_same_in(rt, &pes.pulls, &0, &want);
 }
 
-// Asserts the line of a check of a PES source that repeats the bytes `again` without end.
+// Asserts the line of a check of a PES file that repeats the bytes `again` without end.
 fn assert_ends_pes(rt: &(impl Abort + Alloc<A = Global>), again: &[u8], want: &[u8]) {
     let stl = file_of_hi();
     let mut stl = MemSource::new(&stl);
@@ -198,7 +198,7 @@ fn assert_ends_pes(rt: &(impl Abort + Alloc<A = Global>), again: &[u8], want: &[
 #[test]
 fn ends_on_sources_that_do_not(rt: HostRuntime) {
     assert_ends_stl(&rt, &[], &[0; 64], b"refused 11 Format block 0\n");
-    // The subtitle source gives comments without end.
+    // The subtitle file contains comments without end.
     let many = b"refused 25 TooManyBlocks block 100000\n";
     assert_ends_stl(&rt, &gsi(), &[1; 128], many);
     assert_ends_pes(&rt, &[0; 64], b"refused 31 Start pes 0\n");

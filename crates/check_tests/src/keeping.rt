@@ -1,4 +1,4 @@
-//! `check --keeping`: headers that repeat the page may keep its text, with C4, erase page, clear.
+//! Headers with C4 (erase page) clear, which `check --keeping` allows in repeats.
 use crate::answers::assert_reports;
 use crate::scope::{HO, at};
 use crate::within::assert_row;
@@ -8,7 +8,7 @@ use std::alloc::Global;
 use std::process::Abort;
 use sub_io::MemSink;
 
-// Asserts the line of a check for a row of a table: its PES packets, the options, the line.
+// Asserts the line of a check for a row of a table: the PES packets, the options and the line.
 fn assert_line(rt: &(impl Abort + Alloc<A = Global>), stl: &[u8], row: &[&[&str]; 3]) {
     let mut buffer = [0; 920];
     let mut pes = MemSink::new(&mut buffer);
@@ -28,7 +28,7 @@ fn assert_lines(rt: &(impl Abort + Alloc<A = Global>), stl: &[u8], rows: &[[&[&s
     }
 }
 
-// Asserts the lines that `check --all` prints for each row of a table.
+// Asserts the lines of `check --all` for each row of a table.
 fn assert_lists(rt: &(impl Abort + Alloc<A = Global>), stl: &[u8], rows: &[[&[&str]; 3]]) {
     for row in rows.iter() {
         assert_row(rt, stl, row);
@@ -39,7 +39,7 @@ const THREE: &str = "accepted 51 frames 3 transmissions\n";
 
 const FOUR: &str = "accepted 51 frames 4 transmissions\n";
 
-// The refusal of a header with C4 clear.
+// The line that rejects a header with C4 clear.
 const CONTROL: &str = "refused 67 Control frame 10:00:01:00 packet 0\n";
 
 #[rattlefmt::skip]
@@ -58,7 +58,7 @@ fn accepts_repeats_that_keep(rt: HostRuntime) {
     assert_lines(&rt, &file_of_hi(), &REPEATS);
 }
 
-// Transmissions in which a row with text is not sent again after a repeat.
+// Transmissions in which a row with text is missing after a repeat.
 #[rattlefmt::skip]
 const LEFT_OUT: [[&[&str]; 3]; 6] = [
     [&["0:hrc", "25:kc", "50:hc"], &["--keeping"], &[
@@ -152,7 +152,7 @@ const HEADERS: [[&[&str]; 3]; 4] = [
 
 #[rattlefmt::skip]
 const HEADERS_LISTED: [[&[&str]; 3]; 3] = [
-    // A repeat is compared with the header before it, even if that header was refused.
+    // A repeat is compared with the header before it, even if that header was rejected.
     [&["0:hrc", "25:Krc", "30:Krc", "50:hc"], &["--keeping"], &[
         "trusted frames 10:00:00:00 10:00:00:24\n\
         refused 67 Control frame 10:00:01:00 packet 0\n\
@@ -163,7 +163,7 @@ const HEADERS_LISTED: [[&[&str]; 3]; 3] = [
         refused 67 Control frame 10:00:01:00 packet 0\n\
         trusted frames 10:00:02:00 10:00:02:00\n\
         1 faults\n"]],
-    // No frame is trusted before a header that erases the page.
+    // No frame is clean before a header erases the page.
     [&["0:krc", "50:hc"], &["--keeping", "--every", "49"], &[
         "refused 73 Gap frame 10:00:01:24\n\
         ended 73 Gap frame 10:00:01:24\n\
@@ -177,7 +177,7 @@ fn requires_of_a_repeat_its_control_bits_and_its_subcode(rt: HostRuntime) {
     assert_lists(&rt, &file_of_hi(), &HEADERS_LISTED);
 }
 
-// Repeats that come while the page is open, or after rows of another page.
+// Repeats while the page is open, and repeats after rows of another page.
 #[rattlefmt::skip]
 const OPEN: [[&[&str]; 3]; 6] = [
     [&["0:hr", "1:krc", "50:hc"], &["--keeping", "--complete", "--within", "2"], &[
@@ -202,7 +202,7 @@ const BLANK: [[&[&str]; 3]; 2] = [
     [&["0:hrc", "50:hc", "51:ksc"], &["--keeping"], &["accepted 52 frames 3 transmissions\n"]],
 ];
 
-// A transmission that sends a header of the page with C4 clear before the subtitle begins.
+// A transmission with a header with C4 clear before the subtitle starts.
 #[rattlefmt::skip]
 const BEFORE: [[&[&str]; 3]; 1] = [
     [&["0:kc", "10:krc", "50:hc"], &["--keeping"], &[THREE]],
@@ -214,18 +214,19 @@ fn accepts_repeats_of_a_blank_page(rt: HostRuntime) {
     assert_lines(&rt, &file_of(&at(10, 50, &HI)), &BEFORE);
 }
 
-// The text `Hi` on a row, and the same text two rows below.
+// The text `Hi` in two rows, one of them two rows below the other.
 const HI_TWICE: [u8; 16] = [
     0x0D, 0x0B, 0x0B, 0x48, 0x69, 0x0A, 0x0A, 0x8A, 0x8A, 0x0D, 0x0B, 0x0B, 0x48, 0x69, 0x0A, 0x0A,
 ];
 
-// Returns the block of `HI_TWICE` on rows 20 and 22, from and to these frames after 10:00:00:00.
+// Returns the block of `HI_TWICE` in rows 20 and 22, with TCI and TCO at these frames after
+// 10:00:00:00.
 fn twice_at(from: u32, to: u32) -> [u8; 128] {
     let fields = head(TEN.saturating_add(from), TEN.saturating_add(to), 20);
     block(&fields, &HI_TWICE)
 }
 
-// Transmissions of a subtitle with `Hi` on two rows.
+// Transmissions of a subtitle with `Hi` in two rows.
 #[rattlefmt::skip]
 const TWO_ROWS: [[&[&str]; 3]; 2] = [
     [&["0:hRrc", "25:krRc", "50:hc"], &["--keeping"], &[THREE]],
@@ -249,7 +250,7 @@ fn requires_each_row_of_the_page_again(rt: HostRuntime) {
     assert_lists(&rt, &stl, &ONE_ROW);
 }
 
-// Transmissions of two subtitles, of which the second has the text `Ho`.
+// Transmissions of two subtitles. The second has the text `Ho`.
 #[rattlefmt::skip]
 const OTHER_TEXT: [[&[&str]; 3]; 2] = [
     [&["0:hrc", "50:hoc", "75:koc", "100:hc"], &["--keeping"], &[
@@ -258,14 +259,14 @@ const OTHER_TEXT: [[&[&str]; 3]; 2] = [
         "refused 69 RowChanged frame 10:00:02:00 packet 1\n"]],
 ];
 
-// A transmission in which the second subtitle, `Hi`, is on another row.
+// A transmission of two subtitles. The second has the text `Hi` in another row.
 #[rattlefmt::skip]
 const OTHER_ROW: [[&[&str]; 3]; 1] = [
     [&["0:hrc", "50:kRc", "100:hc"], &["--keeping"], &[
         "refused 72 Content frame 10:00:02:00 row 22 column 16\n"]],
 ];
 
-// A transmission in which the second subtitle has `Hi` on one more row.
+// A transmission of two subtitles. The second has the text `Hi` in one more row.
 #[rattlefmt::skip]
 const MORE_ROWS: [[&[&str]; 3]; 1] = [
     [&["0:hrc", "50:kRrc", "100:hc"], &["--keeping"], &["accepted 101 frames 3 transmissions\n"]],

@@ -1,7 +1,7 @@
 //! Tests of the answers of `check`, with devices in memory. Nothing in this crate is part of the
 //! product.
 //!
-//! These tests are a separate crate, since the tests of a crate are proved by one job.
+//! These tests are a separate crate, since all tests of a crate are proved by one process.
 #![tactic(auto)]
 
 #[cfg(test)]

@@ -1,5 +1,5 @@
-//! Output that is printed while a PES file arrives: all output is flushed whenever the source of
-//! the file may have to wait.
+//! Output while a PES file is still being received: all output is flushed before each read that may
+//! block.
 ghost use Rattle.std.specs.Prelude.{None};
 ghost use Rattle.sub_io.specs.Device.{buffers_nothing};
 
@@ -18,7 +18,7 @@ const PAGE_100: [&str; 7] = ["subttx", "check", "--all", "a", "b", "--page", "10
 // The arguments of `packets`.
 const PACKETS: [&str; 3] = ["subttx", "packets", "a"];
 
-// The lines for the schedule of `Hi` at its first PES packet, and at both PES packets.
+// The lines for the schedule for `Hi`: after its first PES packet, and after both PES packets.
 const AT_FIRST: &[u8] = b"refused 71 NoFirstHeader frame 10:00:00:00\n\
     refused 72 Content frame 10:00:00:00 row 22 column 16\n";
 
@@ -26,14 +26,14 @@ const AT_BOTH: &[u8] = b"refused 71 NoFirstHeader frame 10:00:00:00\n\
     refused 72 Content frame 10:00:00:00 row 22 column 16\n\
     ended 72 Content frame 10:00:01:24\n";
 
-// The part of an output's state that a source can see.
+// The state of an output, shared with a source.
 #[derive(Drop)]
 struct Line {
     // The number of bytes in the buffer of the output.
     buffered: Cell<u64>,
-    // The number of calls in which the output passed bytes on.
+    // The number of calls in which the output forwarded bytes.
     calls: Cell<u64>,
-    // The number of pulls of the source that happened while bytes were in the buffer.
+    // The number of pulls from the source while bytes were in the buffer.
     early: Cell<u64>,
 }
 
@@ -51,8 +51,8 @@ fn add(count: &Cell<u64>, more: u64) {
     count.set(count.get().saturating_add(more));
 }
 
-// A source that gives at most `most` bytes per pull, and checks whether bytes are in the buffer of
-// the output.
+// A source that returns at most `most` bytes per pull, and checks whether the buffer of the output
+// is empty.
 #[derive(Drop)]
 struct Fed<'a> {
     rest: &'a [u8],
@@ -85,7 +85,7 @@ impl Source for Fed<'_> {
     }
 }
 
-// An output that keeps all its bytes in a buffer until it is flushed.
+// An output that stores all bytes in a buffer until it is flushed.
 #[derive(Drop)]
 struct Holding<'a> {
     line: &'a Line,
@@ -118,9 +118,9 @@ impl Flush for Holding<'_> {
     }
 }
 
-// Answers a command with a PES file of which a read gives at most `most` bytes. Asserts that no
-// read found bytes in the buffer of the output, in how many calls the bytes were passed on, and
-// that only the last line, which comes after the last read, is still in the buffer.
+// Answers a command with a PES file that returns at most `most` bytes per read. Asserts that the
+// buffer of the output was empty at each read, the number of calls in which bytes were forwarded,
+// and that only the last line, which is printed after the last read, is still in the buffer.
 fn assert_hands_on<'a>(
     rt: &(impl Abort + Alloc<A = Global>),
     arguments: &'a [&'a str],
@@ -161,7 +161,7 @@ fn assert_hands_on<'a>(
 
 #[test]
 fn flushes_what_was_reported_before_each_read(rt: HostRuntime) {
-    // The two PES packets of the schedule, 184 bytes each, are read at once, one by one, and in
+    // The two PES packets of the schedule, 184 bytes each, are read together, separately, or in
     // parts.
     for (most, calls) in [(512, 1), (184, 2), (92, 2), (1, 2)] {
         assert_hands_on(&rt, &PAGE_100, most, calls, "2 faults\n");
@@ -169,8 +169,8 @@ fn flushes_what_was_reported_before_each_read(rt: HostRuntime) {
     }
 }
 
-// Asserts that nothing more is read or printed after lines could not be flushed, and how many bytes
-// were read. Each line and each flush is a call of the output.
+// Asserts that nothing more is read or printed after flushing failed, and the number of bytes read.
+// Each line and each flush is a call of the output.
 fn assert_stops(rt: &(impl Abort + Alloc<A = Global>), call: u64, lines: &[u8], bytes: u64) {
     let (stl, pes) = (file_of_hi(), schedule_of_hi());
     let inner = Drip { rest: &pes };

@@ -1,5 +1,5 @@
-//! `check` with each national option: each header of the page must have the option's bits C12 to
-//! C14.
+//! The national options of `check`. Each header of the page must have the bits C12 to C14 of the
+//! option.
 use crate::answers::assert_reports;
 use answer_fixtures::ACCEPTED;
 use fixtures::{file_of_hi, schedule_of_hi};
@@ -21,7 +21,7 @@ const FIRST_REFUSED: &str = "refused 67 Control frame 10:00:00:00 packet 0\n";
 
 const SECOND_REFUSED: &str = "refused 67 Control frame 10:00:02:00 packet 0\n";
 
-// Returns the transmission of `Hi` with these values of byte 9 in its two headers of the page.
+// Returns the transmission for `Hi` with these values of byte 9 in its two headers of the page.
 fn sent_with(first: u8, second: u8) -> [u8; 368] {
     let mut file = schedule_of_hi();
     (file[59], file[243]) = (first, second);
@@ -35,7 +35,7 @@ fn assert_checks(rt: &(impl Abort + Alloc<A = Global>), word: &str, pes: &[u8], 
 }
 
 // Asserts the lines of checks with the national option `word`, whose byte 9 is `own`, for the
-// transmissions of all national options.
+// transmissions with all national options.
 fn assert_asks_for(rt: &(impl Abort + Alloc<A = Global>), word: &str, own: u8) {
     for byte in LAST_BYTES {
         let is_own = byte == own;

@@ -1,4 +1,4 @@
-//! `check --pace`: the maximum distance of PES packets; and repeat bounds of up to a day.
+//! The maximum distance of PES packets, with `check --pace`, and repeat bounds of up to a day.
 use crate::within::assert_row;
 use answer_fixtures::ACCEPTED;
 use fixtures::file_of_hi;
@@ -16,7 +16,7 @@ const PACED: [[&[&str]; 3]; 11] = [
         ended 79 Silent frame 10:00:01:24\n\
         trusted frames 10:00:02:00 10:00:02:00\n\
         2 faults\n"]],
-    // The distance between PES packets counts, not between page headers.
+    // The maximum distance applies to PES packets, not to page headers.
     [&["0:hrc", "25:", "50:hc"], &["--pace", "25"], &[ACCEPTED]],
     [&["0:hrc", "25:rc", "50:hc"], &["--pace", "24", "--every", "50"], &[
         "trusted frames 10:00:00:00 10:00:00:23\n\

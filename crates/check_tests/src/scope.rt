@@ -1,4 +1,5 @@
-//! `check` with a part of a subtitle file, `--from` and `--to`, and with open subtitles, `--open`.
+//! Parts of a subtitle file, with `check --from` and `--to`, and open subtitles, with `check
+//! --open`.
 use crate::answers::{assert_all, assert_reports};
 use answer_fixtures::ACCEPTED;
 use fixtures::{HI, TEN, block, file_of_hi, file_of_two, head, push_spelled, put, schedule_of_hi};
@@ -9,10 +10,10 @@ use sub_io::MemSink;
 /// The text `Ho` with double height, in a box.
 pub const HO: [u8; 7] = [0x0D, 0x0B, 0x0B, 0x48, 0x6F, 0x0A, 0x0A];
 
-/// A text with a character that level 1 does not have.
+/// A text with a character that Teletext level 1 does not have.
 pub const BAD: [u8; 7] = [0x0D, 0x0B, 0x0B, 0x48, 0xE6, 0x0A, 0x0A];
 
-/// Returns the block of a text with TCI and TCO at these frames after 10:00:00:00.
+/// Returns the block of a text, with TCI and TCO at these frames after 10:00:00:00.
 pub fn at(from: u32, to: u32, text: &[u8; 7]) -> [u8; 128] {
     block(
         &head(TEN.saturating_add(from), TEN.saturating_add(to), 22),
@@ -28,12 +29,13 @@ pub fn file_of_blocks(first: &[u8; 128], second: &[u8; 128], third: &[u8; 128]) 
     file
 }
 
-/// Returns a file of `Hi`, a subtitle that can't be drawn, and `Hi` after a pause.
+/// Returns a file with three subtitles: `Hi`, a subtitle that can't be drawn, and `Hi` after a
+/// pause.
 pub fn file_with_bad() -> [u8; 1408] {
     file_of_blocks(&at(0, 50, &HI), &at(50, 100, &BAD), &at(120, 150, &HI))
 }
 
-// Asserts the output of `check --all` with options for a transmission in the short notation.
+// Asserts the output of `check --all` with these options for a transmission in the short notation.
 fn assert_reported(
     rt: &(impl Abort + Alloc<A = Global>),
     options: &[&str; 4],
@@ -50,7 +52,7 @@ fn assert_reported(
     assert_reports(rt, &arguments, stl, pes.written(), want);
 }
 
-// The option for subtitles from the beginning of the day on.
+// The option that selects all subtitles of the day.
 const FROM: [&str; 2] = ["--from", "00:00:00:00"];
 
 // Asserts the output of `check --all` with `--to`.
@@ -141,7 +143,8 @@ fn judges_the_subtitles_between_two_times(rt: HostRuntime) {
     assert_reports(&rt, &twice, &hi, &schedule_of_hi(), "usage 0 Words\n");
 }
 
-// Asserts the output for `Hi` in a file with this display standard, without `--open` and with it.
+// Asserts the lines of a check without and with `--open` for the subtitle file with `Hi`, with this
+// display standard.
 fn assert_takes(rt: &(impl Abort + Alloc<A = Global>), display: u8, plain: &str, open: &str) {
     let mut file = file_of_hi();
     file[11] = display;

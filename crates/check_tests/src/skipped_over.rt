@@ -1,10 +1,10 @@
-//! `check --all` of files with PES packets that can't be read, and are skipped.
+//! Skipped PES packets, which can't be read, with `check --all`.
 use crate::every_place::assert_reported;
 use fixtures::{FIRST, every_second, put};
 use std::alloc::Global;
 use std::process::Abort;
 
-// Asserts the lines for the schedule of `Hi`, sent each second, with two bytes changed, and with
+// Asserts the lines for the schedule for `Hi`, repeated each second, with two bytes changed and
 // `more` bytes after each PES packet.
 fn assert_reported_changed(
     rt: &(impl Abort + Alloc<A = Global>),
@@ -24,7 +24,7 @@ fn assert_reported_changed(
 #[rattlefmt::skip]
 #[test]
 fn trusts_nothing_around_a_pes_packet_that_is_skipped(rt: HostRuntime) {
-    // The data_identifier is wrong in the second PES packet, and in the last.
+    // The data_identifier is wrong in the second PES packet, or in the last.
     assert_reported_changed(&rt, (229, 0x20), (229, 0x20), 0,
         "refused 37 DataId pes 1\n\
         trusted frames 10:00:02:00 10:00:02:00\n\
@@ -34,7 +34,7 @@ fn trusts_nothing_around_a_pes_packet_that_is_skipped(rt: HostRuntime) {
         refused 37 DataId pes 2\n\
         refused 74 Late frame 10:00:01:00\n\
         2 faults\n");
-    // The length of a data unit is wrong in the first PES packet, and in the first two.
+    // The length of a data unit is wrong in the first PES packet, or in the first two.
     assert_reported_changed(&rt, (47, 0x2D), (47, 0x2D), 0,
         "refused 38 UnitLength pes 0\n\
         refused 63 Early frame 10:00:01:00\n\
@@ -71,8 +71,7 @@ fn skips_a_gap_marker_of_lost_packets(rt: HostRuntime) {
     assert_reported(&rt, &pes, &[], lines);
 }
 
-// Ten PES packets with the same fault, none of which can be read, are reported by the first and the
-// last one.
+// Only the first and the last of ten PES packets with the same fault are reported.
 #[test]
 fn reports_many_pes_packets_with_one_number_once(rt: HostRuntime) {
     let mut pes = [0; 1840];

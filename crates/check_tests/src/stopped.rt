@@ -1,5 +1,5 @@
-//! `check --all` if a device fails, or never ends: everything found before is reported, and the
-//! failure last, if the output takes its line.
+//! Failing devices, and devices that never end, with `check --all`. Everything found before is
+//! reported, and the failure last, if the output accepts its line.
 use crate::answers::{assert_fills, assert_prints};
 use crate::asserting::assert_same_in;
 use crate::every_fault::OF_FIVE;
@@ -13,8 +13,8 @@ use sub_io::{FailAt, MemSink, MemSource, Sink};
 // The arguments of a check of page 100, which is not sent.
 const PAGE_100: [&str; 7] = ["subttx", "check", "--all", "a", "b", "--page", "100"];
 
-// The lines for the schedule of `Hi` checked for page 100: at its first PES packet, at its second,
-// and at the end.
+// The lines for the schedule for `Hi`, checked for page 100: after its first PES packet, after its
+// second PES packet, and at the end.
 const AT_FIRST: &[u8] = b"refused 71 NoFirstHeader frame 10:00:00:00\n\
     refused 72 Content frame 10:00:00:00 row 22 column 16\n";
 
@@ -42,9 +42,10 @@ fn fills_an_output_that_has_less_room(rt: HostRuntime) {
     assert_fills(&rt, &CHECK_ALL, (&file_of_five(), &pes), &[], ALL_OF_FIVE);
 }
 
-// Asserts how many lines an output has that fails at a call, and that the output is not used
-// afterwards; and how often the PES source was called: each call gives a PES packet, and the last
-// call finds the end. Each call of the output is a line, except the one that flushes the lines.
+// Asserts the number of lines in an output that fails at a call, that the output is not used
+// afterwards, and the number of calls of the PES source. Each call of the source returns a PES
+// packet, and the last call returns the end. Each call of the output is a line, except for the call
+// that flushes the lines.
 fn assert_stops(rt: &(impl Abort + Alloc<A = Global>), call: u64, count: usize, pulls: u64) {
     let (stl, pes) = (file_of_hi(), schedule_of_hi());
     let inner = MemSource::new(&stl);
@@ -78,7 +79,7 @@ fn reads_no_more_once_an_output_failed(rt: HostRuntime) {
     assert_stops(&rt, 0, 0, 1);
     assert_stops(&rt, 1, 1, 1);
     assert_stops(&rt, 2, 2, 2);
-    // The source gives both PES packets at once, and is called once more for the end.
+    // The source returns both PES packets at once, and is called once more for the end.
     assert_stops(&rt, 3, 3, 2);
     assert_stops(&rt, 4, 3, 3);
 }
@@ -108,8 +109,8 @@ fn ends_on_a_source_without_end_where_the_output_is_full(rt: HostRuntime) {
     assert_same_in(&rt, &pes.pulls, &4, &lines);
 }
 
-// Asserts the lines for a PES source that gives one byte per pull and fails in turn at each pull of
-// a range.
+// Asserts the lines for a PES source that returns one byte per pull and fails, for each failing
+// pull in a range.
 fn assert_fails(
     rt: &(impl Abort + Alloc<A = Global>),
     calls: (u64, u64),
@@ -126,15 +127,16 @@ fn assert_fails(
 
 #[test]
 fn reports_what_was_found_before_a_pes_source_failed(rt: HostRuntime) {
-    // The source gives one byte in each of 368 pulls, and then its end.
+    // The source returns one byte in each of 368 pulls, and then its end.
     assert_fails(&rt, (0, 184), b"", b"fault 41 Read pes 0\n");
     assert_fails(&rt, (184, 368), AT_FIRST, b"fault 41 Read pes 1\n");
     assert_fails(&rt, (368, 369), AT_BOTH, b"fault 41 Read pes 2\n");
     assert_fails(&rt, (369, 370), AT_BOTH, b"2 faults\n");
 }
 
-// Asserts the lines if the source of five subtitles fails at a call: `count` lines, and the line of
-// the failure. Each call gives the GSI block, or a block, and the last call finds the end.
+// Asserts the lines if the source of the file with five subtitles fails at a call: `count` lines,
+// and the line about the failure. Each call returns the GSI block or a TTI block, and the last call
+// returns the end.
 fn assert_fails_at(rt: &(impl Abort + Alloc<A = Global>), call: u64, count: usize, line: &[u8]) {
     let (stl, pes) = (file_of_five(), schedule_of_hi());
     let mut source = FailAt::new(MemSource::new(&stl), call);

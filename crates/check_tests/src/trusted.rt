@@ -1,4 +1,4 @@
-//! `check --all`: trusted frames next to faults, reported as soon as they are known.
+//! Clean frames next to faults, with `check --all`. They are reported as soon as they are known.
 use crate::answers::{assert_fills, assert_prints};
 use crate::every_place::assert_reported;
 use answer_fixtures::CHECK_ALL;
@@ -12,8 +12,8 @@ use sub_io::{FailAt, MemSink, MemSource};
 // The arguments of a check with a repeat bound of a second.
 const EVERY_25: [&str; 7] = ["subttx", "check", "--all", "a", "b", "--every", "25"];
 
-// The lines for the schedule of `Hi` with a repeat bound of a second: at its second PES packet, and
-// all lines.
+// The lines for the schedule for `Hi` with a repeat bound of a second: after its second PES packet,
+// and at the end.
 const AT_BOTH: &str = "trusted frames 10:00:00:00 10:00:00:24\n\
     refused 73 Gap frame 10:00:01:00\n\
     ended 73 Gap frame 10:00:01:24\n";
@@ -24,7 +24,7 @@ const ALL: &str = "trusted frames 10:00:00:00 10:00:00:24\n\
     trusted frames 10:00:02:00 10:00:02:00\n\
     1 faults\n";
 
-// The first row has a byte of even parity, and the next header comes a second later.
+// The first row has a byte of even parity, and the next header is sent a second later.
 #[rattlefmt::skip]
 #[test]
 fn trusts_from_the_first_header_on(rt: HostRuntime) {
@@ -36,9 +36,8 @@ fn trusts_from_the_first_header_on(rt: HostRuntime) {
         1 faults\n");
 }
 
-// In the second PES packet a packet 26 comes before a row with a byte of even parity. The frames
-// before are trusted up to the row, since receivers depend on the row's parity but not on packet
-// 26.
+// The second PES packet has a packet 26 before a row with a byte of even parity. The frames before
+// this row are clean, since only the parity of the row matters to receivers, and not packet 26.
 #[rattlefmt::skip]
 #[test]
 fn reports_what_is_trusted_directly_before_what_ended_it(rt: HostRuntime) {
@@ -58,8 +57,8 @@ fn reports_what_is_trusted_directly_before_what_ended_it(rt: HostRuntime) {
         2 faults\n");
 }
 
-// Asserts the lines, with these arguments, for the schedule of `Hi` if its source fails at a call.
-// Each call gives a PES packet.
+// Asserts the lines with these arguments for the schedule for `Hi` if its source fails at a call.
+// Each call returns a PES packet.
 fn assert_fails<'a>(
     rt: &(impl Abort + Alloc<A = Global>),
     arguments: &'a [&'a str],

@@ -1,4 +1,4 @@
-//! `check --all` with a refused subtitle: all frames at other times are checked.
+//! Rejected subtitles, with `check --all`. The frames at other times are checked.
 use crate::answers::assert_all;
 use crate::scope::{BAD, HO, at, file_of_blocks, file_with_bad};
 use fixtures::{HI, block, file_of, file_of_two, head, push_spelled, put};
@@ -6,17 +6,17 @@ use std::alloc::Global;
 use std::process::Abort;
 use sub_io::MemSink;
 
-// An option with its default value, which changes nothing.
+// An option with its default value.
 const PLAIN: [&str; 2] = ["--every", "250"];
 
 // The options for complete pages.
 const COMPLETE: [&str; 2] = ["--every=250", "--complete"];
 
-// A transmission of `Hi`, of `Ho` instead of a subtitle that can't be drawn, and of `Hi` after a
-// pause.
+// A transmission of `Hi`, then of `Ho` instead of a subtitle that can't be drawn, and of `Hi` after
+// a pause.
 const ALL_SENT: [&str; 5] = ["0:hrc", "50:hoc", "100:hc", "120:hrc", "150:hc"];
 
-// Asserts the output of `check --all` with options for a transmission in the short notation.
+// Asserts the output of `check --all` with these options for a transmission in the short notation.
 fn assert_all_faults(
     rt: &(impl Abort + Alloc<A = Global>),
     options: [&str; 2],

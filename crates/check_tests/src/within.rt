@@ -1,5 +1,4 @@
-//! `check --within`: pages that become right some frames late, and several PES packets of one
-//! frame.
+//! Late pages, and several PES packets for one frame, with `check --within`.
 use crate::every_place::assert_reported_of;
 use answer_fixtures::ACCEPTED;
 use fixtures::{HEAD, HI, TEN, block, file_of_hi, file_of_two, head, push_spelled};
@@ -7,8 +6,8 @@ use std::alloc::Global;
 use std::process::Abort;
 use sub_io::MemSink;
 
-/// Asserts the output for a subtitle file and a transmission, by a row of a table: the PES packets,
-/// the options of the check, and the lines that `check --all` prints.
+/// Asserts the output of `check --all` for a row of a table: the PES packets, the options and the
+/// expected lines.
 pub fn assert_row(rt: &(impl Abort + Alloc<A = Global>), stl: &[u8], row: &[&[&str]; 3]) {
     let mut buffer = [0; 920];
     let mut pes = MemSink::new(&mut buffer);
@@ -17,7 +16,7 @@ pub fn assert_row(rt: &(impl Abort + Alloc<A = Global>), stl: &[u8], row: &[&[&s
     assert_reported_of(rt, stl, pes.written(), row[1], row[2][0]);
 }
 
-// Transmissions with late pages, and the number of frames within which pages have to become right.
+// Transmissions with late pages, and the number of frames within which pages must be right.
 #[rattlefmt::skip]
 const LATE: [[&[&str]; 3]; 22] = [
     [&["0:h", "1:rc", "50:hc"], &[], &[
@@ -45,7 +44,7 @@ const LATE: [[&[&str]; 3]; 22] = [
         ended 72 Content frame 10:00:00:02\n\
         trusted frames 10:00:02:00 10:00:02:00\n\
         1 faults\n"]],
-    // The page without the subtitle comes a frame late.
+    // The blank page is sent a frame late.
     [&["0:hrc", "51:hc"], &[], &[
         "trusted frames 10:00:00:00 10:00:01:24\n\
         refused 72 Content frame 10:00:02:00 row 22 column 16\n\
@@ -53,7 +52,7 @@ const LATE: [[&[&str]; 3]; 22] = [
         trusted frames 10:00:02:01 10:00:02:01\n\
         1 faults\n"]],
     [&["0:hrc", "51:hc"], &["--within", "1"], &["accepted 52 frames 2 transmissions\n"]],
-    // A code that is due in no frame, and a code that is due a frame later.
+    // A code that is expected in no frame, and a code that is expected a frame later.
     [&["0:hoc", "1:hrc", "50:hc"], &["--within", "3"], &[
         "refused 72 Content frame 10:00:00:00 row 22 column 20\n\
         ended 72 Content frame 10:00:00:00\n\
@@ -64,7 +63,7 @@ const LATE: [[&[&str]; 3]; 22] = [
         ended 72 Content frame 09:59:59:24\n\
         trusted frames 10:00:02:00 10:00:02:00\n\
         1 faults\n"]],
-    // The page without the subtitle is sent, and then the page with the subtitle again.
+    // The blank page is sent, and then the page with the subtitle again.
     [&["0:hrc", "50:hc", "51:hrc", "52:hc"], &["--within", "1"], &[
         "trusted frames 10:00:00:00 10:00:02:00\n\
         refused 72 Content frame 10:00:02:01 row 22 column 16\n\
@@ -79,7 +78,7 @@ const LATE: [[&[&str]; 3]; 22] = [
         ended 72 Content frame 10:00:02:01\n\
         trusted frames 10:00:02:02 10:00:02:02\n\
         2 faults\n"]],
-    // The page is right in the first frame except for its closing header.
+    // In the first frame, only the header that ends the page is missing.
     [&["0:hr", "1:h", "2:rc", "50:hc"], &["--within", "1"], &[
         "accepted 51 frames 3 transmissions\n"]],
     [&["0:hr", "1:h", "2:rc", "50:hc"], &["--within", "1", "--complete"], &[
@@ -110,7 +109,7 @@ const LATE: [[&[&str]; 3]; 22] = [
         "trusted frames 10:00:00:00 10:00:01:24\n\
         refused 74 Late frame 10:00:02:00\n\
         1 faults\n"]],
-    // No header of the page is sent at all.
+    // No header of the page is sent.
     [&["0:hrc", "50:hc"], &["--page", "100", "--every", "3", "--within", "1"], &[
         "refused 71 NoFirstHeader frame 10:00:00:00\n\
         refused 72 Content frame 10:00:00:01 row 22 column 16\n\
@@ -128,7 +127,7 @@ fn reports_which_pages_are_late(rt: HostRuntime) {
     }
 }
 
-// Transmissions with several PES packets of one frame, or with times close to those of frames.
+// Transmissions with several PES packets for one frame, or with times close to frames.
 #[rattlefmt::skip]
 const SENDINGS: [[&[&str]; 3]; 17] = [
     [&["0:h", "0+:rc", "50:hc"], &[], &[
@@ -208,7 +207,7 @@ const LONG: [[&[&str]; 3]; 2] = [
         1 faults\n"]],
 ];
 
-// Transmissions of `Hi` and a second subtitle, `Ho`, of two frames: the page has to be right at the
+// Transmissions of `Hi` and a second subtitle, `Ho`, of two frames. The page must be right at the
 // end of one of these frames.
 #[rattlefmt::skip]
 const SHORT: [[&[&str]; 3]; 2] = [
@@ -221,7 +220,7 @@ const SHORT: [[&[&str]; 3]; 2] = [
         1 faults\n"]],
 ];
 
-// Returns the subtitle file of `Hi`, directly followed by `Ho` with the TCO `tco`.
+// Returns a subtitle file with `Hi`, directly followed by `Ho` with the TCO `tco`.
 fn file_of_ho(tco: u32) -> [u8; 1280] {
     let mut text = HI;
     text[4] = 0x6F;
@@ -241,7 +240,7 @@ fn shows_each_subtitle_once(rt: HostRuntime) {
     }
 }
 
-// Asserts the output for a transmission with one byte changed, and the last bytes cut off.
+// Asserts the output for a transmission with one byte changed and the last bytes cut off.
 fn assert_changed(
     rt: &(impl Abort + Alloc<A = Global>),
     (place, value, cut): (usize, u8, usize),
@@ -259,20 +258,20 @@ fn assert_changed(
 #[rattlefmt::skip]
 #[test]
 fn reports_what_is_broken_within_frames(rt: HostRuntime) {
-    // The closing header becomes a stuffing unit.
+    // A stuffing unit replaces the header that ends the page.
     let page: &[&str] = &["0:hrc", "50:hc"];
     assert_changed(&rt, (138, 0xFF, 0), &[page, &["--within", "1", "--complete"], &[
         "refused 77 Incomplete frame 10:00:00:01\n\
         ended 77 Incomplete frame 10:00:01:24\n\
         trusted frames 10:00:02:00 10:00:02:00\n\
         1 faults\n"]]);
-    // The second PES packet of a frame has a byte of even parity.
+    // The second PES packet for a frame has a byte of even parity.
     let two: &[&str] = &["0:h", "0+:rc", "1:hrc", "50:hc"];
     assert_changed(&rt, (255, 0x12, 0), &[two, &["--within", "1"], &[
         "refused 68 Parity frame 10:00:00:00 packet 1\n\
         trusted frames 10:00:00:01 10:00:02:00\n\
         1 faults\n"]]);
-    // A PES packet between two PES packets of one frame has a wrong data_identifier.
+    // A PES packet between two PES packets for one frame has a wrong data_identifier.
     let three: &[&str] = &["0:hrc", "25:h", "25:c", "25+:rc", "50:hc"];
     assert_changed(&rt, (413, 0x20, 0), &[three, &["--within", "1"], &[
         "trusted frames 10:00:00:00 10:00:00:24\n\

@@ -1,4 +1,4 @@
-//! Files that are checked again after they were closed.
+//! Files whose size is checked after they were closed.
 ghost use Rattle.std.specs.Prelude.{◌<◌};
 ghost use Rattle.sub_io.specs.Device.{CanFail};
 
@@ -9,7 +9,7 @@ use std::process::Abort;
 use sub_files::{CheckedFile, SizeLookup};
 use sub_io::{Close, Failed, IntoFile, Sink};
 
-// A check of a closed file that finds as many bytes as its number says.
+// A size check that reports this number of bytes for any file.
 #[derive(Clone, Copy)]
 struct Finding(u64);
 
@@ -21,7 +21,7 @@ impl SizeLookup for Finding {
     }
 }
 
-// Asserts the result of a push, and how often the sink has failed afterwards.
+// Asserts the result of `push`, and the number of failed calls afterwards.
 fn assert_pushes<K: Sink>(
     rt: &impl Abort,
     sink: &mut K,
@@ -37,7 +37,7 @@ fn assert_pushes<K: Sink>(
     assert!(rt; sink.failures() == failures && failures < 9);
 }
 
-// Asserts the result of a store, and that a push fails afterwards.
+// Asserts the result of `store`, and that `push` fails afterwards.
 fn assert_stores<K: Close>(
     rt: &impl Abort,
     sink: &mut K,
@@ -52,7 +52,7 @@ fn assert_stores<K: Close>(
     assert_pushes(rt, sink, b"!", Err(Failed), failures + 1);
 }
 
-// Asserts the result of storing six bytes if `found` bytes are found after the file was closed.
+// Asserts the result of storing six bytes if the closed file has `found` bytes.
 fn assert_finds(rt: &impl Abort, found: u64, answer: Result<(), Failed>, failures: u64) {
     let mut buffer = [0; 8];
     let mut file = CheckedFile::new(MemoryFile::Created(&mut buffer, 0), Finding(found));

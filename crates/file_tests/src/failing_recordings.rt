@@ -1,5 +1,5 @@
-//! Recordings and PES files of which a read fails in the middle: which PES packet of the file is
-//! reported, and which output was printed and written before.
+//! Recordings and PES files that can't be read to the end: the reported PES packet, the output, and
+//! the output file.
 use crate::asserting::assert_same_in;
 use crate::pes_ranges::FIRST_LINES;
 use crate::recorded::{
@@ -17,7 +17,7 @@ const FAILED_1: &str = "fault 41 Read pes 1\n";
 
 const FAILED_3: &str = "fault 41 Read pes 3\n";
 
-// Asserts the output if a read fails after the given bytes. A file is written into `buffer`.
+// Asserts the output if reading fails after these bytes. An output file is written into `buffer`.
 fn assert_fails_in<'a>(
     rt: &(impl Abort + Alloc<A = Global>),
     arguments: &'a [&'a str],
@@ -39,7 +39,7 @@ fn assert_fails_in<'a>(
     );
 }
 
-// Asserts the output of a command that writes no file if a read fails after the given bytes.
+// Asserts the output of a command without an output file if reading fails after these bytes.
 fn assert_fails<'a>(
     rt: &(impl Abort + Alloc<A = Global>),
     arguments: &'a [&'a str],
@@ -49,8 +49,7 @@ fn assert_fails<'a>(
     assert_fails_in(rt, arguments, pes_packets, &mut [], want);
 }
 
-// Asserts the output of each command for a range of a recording: `check`, also with `--all`,
-// `packets` and `listen`.
+// Asserts the output of `check`, `check --all`, `packets` and `listen` for a range of a recording.
 fn assert_ranges_fail<'a>(
     rt: &(impl Abort + Alloc<A = Global>),
     range: &'a str,
@@ -112,7 +111,7 @@ fn reports_it_before_the_range_and_in_it(rt: HostRuntime) {
     let lost: [&[u8]; 5] = [&BEGINS_0, &FIRST, &BEGINS_2, &SECOND, &NULL];
     assert_ranges_fail(&rt, "3-", &lost, FAILED_3);
     assert_ranges_fail(&rt, "4-", &lost, FAILED_3);
-    // Faults before the failure are reported first, and nothing is read after the range.
+    // Earlier faults are reported before the failure, and nothing is read after the range.
     let arguments = ["subttx", "check", "a", "b", "--pid", "257"];
     assert_fails(&rt, &arguments, &lost, LOST);
     let arguments = ["subttx", "check", "a", "b", "--pid", "257", "--pes", "0-0"];
@@ -132,8 +131,7 @@ fn reports_it_of_a_range_of_a_file_of_pes_packets(rt: HostRuntime) {
     }
 }
 
-// Asserts the bytes that are extracted from a recording of which a read fails after the given
-// bytes.
+// Asserts the bytes that are extracted from a recording if reading fails after these bytes.
 fn assert_extracts(
     rt: &(impl Abort + Alloc<A = Global>),
     pes_packets: &[&[u8]],

@@ -1,4 +1,4 @@
-//! The files of a request: which calls are made for them, and the answers with these files.
+//! The calls that open the files of a request, and the answers with these files.
 use crate::asserting::{assert_same, assert_same_in};
 use crate::files_in_memory::{Entry, FilesInMemory, STANDARD_OUTPUT};
 use answer_fixtures::ACCEPTED;
@@ -11,7 +11,7 @@ use sub_io::{BufferedSink, MemSink};
 use sub_request::Request;
 use sub_words::ParseArguments;
 
-// A file that can be opened, and is empty.
+// A file that can be opened and is empty.
 const INPUT: Entry = Entry {
     name: "a",
     found: Found::At(1, 1),
@@ -19,7 +19,7 @@ const INPUT: Entry = Entry {
     fails: false,
 };
 
-// A name for which no file exists.
+// A name without a file.
 const NOTHING: Entry = Entry {
     name: "b",
     found: Found::Nothing,
@@ -27,13 +27,13 @@ const NOTHING: Entry = Entry {
     fails: false,
 };
 
-// Returns the entry of the name b with this result of a lookup.
+// Returns the entry for the name `b`, with this lookup result.
 fn second(found: Found) -> Entry<'static> {
     Entry { found, ..NOTHING }
 }
 
-// Asserts the calls for the files of a command, and whether the files are opened. A file can be
-// created if `buffer` is not empty.
+// Asserts the calls for the files of a command, and whether all files are opened. An output file
+// can be created only if `buffer` is not empty.
 fn assert_file_calls<'a, 'f>(
     rt: &(impl Abort + Alloc<A = Global>),
     arguments: &'a [&'a str],
@@ -81,15 +81,14 @@ fn creates_a_file_once_the_input_is_opened_and_both_are_looked_up(rt: HostRuntim
     assert_file_calls(&rt, &NORMAL, &there, &mut [0], "o0l0l1p?c1", true);
     let other = [INPUT, second(Found::At(1, 2))];
     assert_file_calls(&rt, &NORMAL, &other, &mut [0], "o0l0l1p?c1", true);
-    // First the output can't be created; then the input can't be opened.
+    // In the first case the output can't be created; in the second case the input can't be opened.
     assert_file_calls(&rt, &NORMAL, &there, &mut [], "o0l0l1p?c1", false);
     assert_file_calls(&rt, &NORMAL, &[NOTHING], &mut [0], "o?", false);
 }
 
 #[test]
 fn creates_no_file_over_the_input(rt: HostRuntime) {
-    // The output is the input under another name, or can't be looked up; or the input can't be
-    // looked up.
+    // The output is the input under another name, or one of the two can't be looked up.
     let link = [INPUT, second(Found::At(1, 1))];
     assert_file_calls(&rt, &NORMAL, &link, &mut [0], "o0l0l1p?", false);
     let unknown = [INPUT, second(Found::Unknown)];
@@ -108,7 +107,8 @@ fn creates_the_file_of_a_recording_as_that_of_a_subtitle_file(rt: HostRuntime) {
     assert_file_calls(&rt, &EXTRACT, &there, &mut [0], "o0l0l1p?c1", true);
     let other = [INPUT, second(Found::At(1, 2))];
     assert_file_calls(&rt, &EXTRACT, &other, &mut [0], "o0l0l1p?c1", true);
-    // First the output can't be created; then the recording can't be opened.
+    // In the first case the output can't be created; in the second case the recording can't be
+    // opened.
     assert_file_calls(&rt, &EXTRACT, &there, &mut [], "o0l0l1p?c1", false);
     assert_file_calls(&rt, &EXTRACT, &[NOTHING], &mut [0], "o?", false);
 }
@@ -131,8 +131,8 @@ fn creates_no_file_that_standard_output_goes_into(rt: HostRuntime) {
     let same = [INPUT, second(Found::At(1, 2)), printed];
     assert_file_calls(&rt, &NORMAL, &same, &mut [0], "o0l0l1p2", false);
     assert_file_calls(&rt, &EXTRACT, &same, &mut [0], "o0l0l1p2", false);
-    // Standard output goes to another file: on the same device, with the same inode, or the
-    // output's name has no file yet.
+    // Standard output goes to another file, with the same device or the same inode, or the output
+    // does not exist.
     let inode = [INPUT, second(Found::At(1, 3)), printed];
     assert_file_calls(&rt, &NORMAL, &inode, &mut [0], "o0l0l1p2c1", true);
     let device = [INPUT, second(Found::At(2, 2)), printed];
@@ -141,7 +141,7 @@ fn creates_no_file_that_standard_output_goes_into(rt: HostRuntime) {
     assert_file_calls(&rt, &NORMAL, &nothing, &mut [0], "o0l0l1p2c1", true);
 }
 
-// Returns whether a command is answered with files, and prints its output into `text`.
+// Returns whether a command with these files succeeds, and writes its output to `text`.
 fn answers<'a, D: FileSystem>(
     alloc: Global,
     arguments: &'a [&'a str],
@@ -159,7 +159,7 @@ fn answers<'a, D: FileSystem>(
     }
 }
 
-// Asserts the output of a command with a list of files, if there is memory and nothing fails.
+// Asserts the output of a command with these files, if no call fails and memory suffices.
 fn assert_answers<'a, 'f>(
     rt: &(impl Abort + Alloc<A = Global>),
     arguments: &'a [&'a str],
@@ -223,8 +223,8 @@ fn answers_each_command_that_reads_files(rt: HostRuntime) {
     assert_answers(&rt, &packet, &[], &mut [], HEADER_LINES);
 }
 
-// Asserts that a command is refused with this line for a subtitle file and a PES file of which any
-// read fails.
+// Asserts that a command rejects a subtitle file with this line. Any read of the PES file would
+// fail.
 fn assert_refuses_unread<'a>(
     rt: &(impl Abort + Alloc<A = Global>),
     arguments: &'a [&'a str],
@@ -251,7 +251,7 @@ fn assert_refuses_unread<'a>(
     );
 }
 
-// A byte of the PES file is read only if the subtitle file is not refused.
+// The PES file is read only if the subtitle file is accepted.
 #[test]
 fn reads_no_pes_file_with_a_refused_subtitle_file(rt: HostRuntime) {
     let stl = file_of_hi();
@@ -264,7 +264,7 @@ fn reads_no_pes_file_with_a_refused_subtitle_file(rt: HostRuntime) {
     assert_refuses_unread(&rt, &carried, &stl, "fault 41 Read pes 0\n");
 }
 
-// Asserts that exactly `written` was written into a buffer that was filled with ones before.
+// Asserts that exactly `written` was written into a buffer that was filled with FF.
 fn assert_starts(rt: &impl Abort, buffer: &[u8], written: &[u8]) {
     let len = written.len().min(buffer.len());
     let (begin, rest) = buffer.split_at(len);
@@ -280,7 +280,7 @@ fn writes_into_the_file_that_is_created(rt: HostRuntime) {
         bytes: Some(&stl),
         ..INPUT
     };
-    // The buffer has room for one more byte than is written.
+    // The buffer has room for one more byte than the command writes.
     let mut sent = [0xFF; 369];
     let schedule = ["subttx", "schedule", "a", "b"];
     let written = "written 2 transmissions\n";

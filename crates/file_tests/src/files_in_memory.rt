@@ -1,4 +1,4 @@
-//! A file system in memory: a list of files.
+//! A file system in memory.
 ghost use Rattle.std.specs.Prelude.{None};
 
 use std::fs::{Metadata, OpenFile};
@@ -9,7 +9,7 @@ use sub_io::{FromRead, IntoFile};
 /// The name of the entry for the file to which standard output goes.
 pub const STANDARD_OUTPUT: &str = "standard output";
 
-/// A name in the file system, and its file.
+/// A name in the file system, with its file.
 #[derive(Clone, Copy)]
 pub struct Entry<'a> {
     /// The name of the file.
@@ -18,15 +18,15 @@ pub struct Entry<'a> {
     pub found: Found,
     /// The contents of the file; `None` if it can't be opened.
     pub bytes: Option<&'a [u8]>,
-    /// Whether a read fails at the end of the contents.
+    /// Whether reading fails at the end of the contents.
     pub fails: bool,
 }
 
-/// Files by their names, a buffer for one file that is created, and the calls so far.
+/// A list of files, a buffer for one created file, and the calls so far.
 #[derive(Drop)]
 pub struct FilesInMemory<'a> {
     entries: &'a [Entry<'a>],
-    // The buffer of a file that can be created; `None` once a file is created.
+    // The buffer for a created file; `None` after a file was created.
     buffer: Option<&'a mut [u8]>,
     calls: [u8; 10],
     len: usize,
@@ -35,15 +35,15 @@ pub struct FilesInMemory<'a> {
 /// A file that was opened or created.
 #[derive(Drop)]
 pub enum MemoryFile<'a> {
-    /// The bytes that are still to be read, and whether a read fails after them.
+    /// The remaining bytes of an input file, and whether reading fails after them.
     Opened(&'a [u8], bool),
-    /// The buffer of a created file, and how many bytes were written into it.
+    /// The buffer of a created file, and the number of bytes written.
     Created(&'a mut [u8], usize),
 }
 
 impl<'a> FilesInMemory<'a> {
-    /// Returns a file system with these files; `buffer` is for a file that is created. If it is
-    /// empty no file can be created.
+    /// Creates a file system with these files. An output file is written into `buffer`, and can't
+    /// be created if `buffer` is empty.
     pub fn new(entries: &'a [Entry<'a>], buffer: &'a mut [u8]) -> Self {
         FilesInMemory {
             entries,
@@ -53,13 +53,14 @@ impl<'a> FilesInMemory<'a> {
         }
     }
 
-    /// Returns the calls so far, two bytes for each: `l`, `p`, `o` or `c` for a lookup, a lookup of
-    /// standard output, an open or a create, and the number of the file in the list, or `?`.
+    /// Returns the calls so far, with two bytes for each: `l` for a lookup, `p` for a lookup of
+    /// standard output, `o` for opening or `c` for creating a file, and the number of the file in
+    /// the list, or `?`.
     pub fn calls(&self) -> &[u8] {
         &self.calls[..self.len.min(10)]
     }
 
-    // Records a call, and returns the entry of the name.
+    // Records a call, and returns the entry for the name.
     fn ask(&mut self, call: u8, name: &str) -> Option<Entry<'a>> {
         self.note(call);
         let entries = self.entries;

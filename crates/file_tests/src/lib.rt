@@ -1,8 +1,7 @@
-//! Tests of the program's answers for recordings and ranges of PES packets, of the functions for
-//! PES packets, and of the files that a request opens. Nothing in this crate is part of the
-//! product.
+//! Tests of answers for recordings and ranges of PES packets, of the functions for PES packets, and
+//! of the files that a request opens. Nothing in this crate is part of the product.
 //!
-//! These tests are a separate crate, since the tests of a crate are proved by one job.
+//! These tests are a separate crate, since all tests of a crate are proved by one process.
 #![tactic(auto)]
 
 #[cfg(test)]

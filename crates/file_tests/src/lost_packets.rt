@@ -1,5 +1,5 @@
-//! Recordings with PES packets of many transport packets, some of which are left out, repeated or
-//! announce a jump.
+//! Recordings with PES packets of several TS packets, in which TS packets are missing, repeated, or
+//! announce a jump of the continuity counter.
 use crate::recorded::{JUMP, JUMP_FILL, LOST, assert_answers, put_pes_packets, recording};
 use answer_fixtures::answer_arguments;
 use fixtures::{TEN, block, file_of, head};
@@ -7,17 +7,18 @@ use std::alloc::Global;
 use std::process::Abort;
 use sub_io::{MemSink, MemSource};
 
-// Which of fifteen transport packets, counted from 1, are changed in the recording; 0 means none.
+// The changes to the fifteen TS packets of the recording. TS packets are counted from 1, and 0
+// means no change.
 #[derive(Clone, Copy)]
 struct Sent {
-    // The number of the transport packet that is left out.
+    // The number of the missing TS packet.
     left_out: usize,
-    // The number of the transport packet that is sent twice.
+    // The number of the TS packet that is sent twice.
     twice: usize,
-    // The number of the transport packet after which a jump is announced; all later counters are 5
-    // higher.
+    // The number of the TS packet after which a jump is announced. All later continuity counters
+    // are 5 higher.
     jump: usize,
-    // The number of the last transport packet.
+    // The number of the last TS packet.
     last: usize,
 }
 
@@ -28,7 +29,7 @@ const ALL: Sent = Sent {
     last: 15,
 };
 
-// Returns a subtitle file with one subtitle of 23 lines from row 1 on, whose page transmission is a
+// Returns a subtitle file with one subtitle of 23 lines from row 1 on. Its page transmission is a
 // PES packet of seven payloads.
 fn file_of_23_rows() -> [u8; 1152] {
     let text = b"A\x8AA\x8AA\x8AA\x8AA\x8AA\x8AA\x8AA\x8AA\x8AA\x8AA\x8AA\x8A\
@@ -36,8 +37,7 @@ fn file_of_23_rows() -> [u8; 1152] {
     file_of(&block(&head(TEN, TEN + 50, 1), text))
 }
 
-// Puts the schedule `pes`, three PES packets, into a recording as transport packets with 184 bytes
-// of payload each.
+// Writes a schedule of three PES packets to a recording, in TS packets with payloads of 184 bytes.
 fn put_packets(rt: &impl Abort, pes: &[u8], sent: Sent, recording: &mut MemSink) {
     assert!(rt; pes.len() == 2760);
     let (payloads, _) = pes.as_chunks::<184>();
@@ -67,7 +67,7 @@ fn put_packets(rt: &impl Abort, pes: &[u8], sent: Sent, recording: &mut MemSink)
     }
 }
 
-// Asserts the output of a check of the transport packets.
+// Asserts the output of a check of these TS packets.
 fn assert_checks(rt: &(impl Abort + Alloc<A = Global>), sent: Sent, want: &str) {
     let stl = file_of_23_rows();
     let mut buffer = [0; 2760];
@@ -110,8 +110,8 @@ fn refuses_where_one_is_missing(rt: HostRuntime) {
         let early = "refused 63 Early frame 10:00:01:00\n";
         assert_checks(&rt, Sent { left_out, ..ALL }, early);
     }
-    // If a jump is announced within a PES packet, transport packets are missing; if the recording
-    // ends within a PES packet, none is reported as missing.
+    // A jump within a PES packet means that TS packets are missing. A PES packet that is cut off at
+    // the end of the recording is not reported.
     assert_checks(&rt, Sent { jump: 10, ..ALL }, LOST);
     let late = "refused 74 Late frame 10:00:00:00\n";
     assert_checks(&rt, Sent { last: 10, ..ALL }, late);

@@ -1,5 +1,4 @@
-//! The functions for PES packets: their results for a PES file, and for the PES packets of a
-//! recording.
+//! The functions for PES packets, with PES packets of a PES file and of a recording.
 ghost use Rattle.sub_io.specs.Device.{CanFail};
 
 use crate::asserting::assert_same;
@@ -22,13 +21,13 @@ use sub_words::ParseArguments;
 use ttx_page::{Keep, Page, Receiver};
 use ttx_pes::{FilePesPackets, NumberedPesPackets, PesPackets};
 
-// The counts of the schedule of `Hi`.
+// The numbers of frames and page transmissions in the schedule for `Hi`.
 const COUNTS: Accepted = Accepted {
     frames: 51,
     transmissions: 2,
 };
 
-// Returns a recording in which PID 101 (hexadecimal) carries the schedule of `Hi`.
+// Returns a recording with the schedule for `Hi` in PID 101 (hexadecimal).
 fn recording_of_hi() -> [u8; 376] {
     let mut recording = [0; 376];
     put(&mut recording, 0, &BEGINS_0);
@@ -38,18 +37,18 @@ fn recording_of_hi() -> [u8; 376] {
     recording
 }
 
-// Returns the PES packets that a PID of a recording carries.
+// Returns the PES packets of a PID in a recording.
 fn carried(recording: &[u8], pid: Pid) -> RecordingPesPackets<MemSource<'_>> {
     RecordingPesPackets::new(MemSource::new(recording), pid, PacketSize::Plain)
 }
 
-// Returns the options of a check, and a PID. If one of them is invalid, nothing has been allocated
-// yet, so the test is proved sooner.
+// Returns the options of a check and a PID. The test is proved faster if these are created before
+// memory is allocated.
 fn given() -> Result<(Options, Pid), Fail> {
     Ok((every(250)?, Pid::new(0x101).ok_or("a PID")?))
 }
 
-// Returns the programme of `Hi`.
+// Returns the programme with the subtitle `Hi`.
 fn programme_of_hi(alloc: Global) -> Result<Programme, Fail> {
     let bytes = file_of_hi();
     let mut stl = MemSource::new(&bytes);
@@ -89,7 +88,7 @@ fn checks_pes_packets(rt: HostRuntime) -> Result<(), Fail> {
     Ok(())
 }
 
-// Asserts that PES packets have no events.
+// Asserts that PES packets cause no events.
 fn assert_reports_nothing<P: PesPackets>(
     rt: &impl Abort,
     programme: &Programme,
@@ -125,7 +124,7 @@ fn reports_nothing_of_pes_packets_that_are_accepted(rt: HostRuntime) -> Result<(
     Ok(())
 }
 
-// Asserts that a receiver has `Hi` in the middle of row 22 after it received PES packets.
+// Asserts that a receiver shows `Hi` in the middle of row 22 after these PES packets.
 fn assert_hears<P: PesPackets>(rt: &impl Abort, listening: &Listening, pes_packets: &mut P)
     requires { CanFail (P.failure_count pes_packets.old) }
 {

@@ -1,4 +1,4 @@
-//! Ranges of PES packets, of recordings and of PES files: the numbers of PES packets are those in
+//! Ranges of PES packets, in recordings and PES files. PES packets are reported by their numbers in
 //! the file.
 use crate::recorded::{
     BEGINS_0, BEGINS_1, BEGINS_2, EARLY, EMPTY, FILL, GAP_MARKER_HEAD, LATE, LOST, NULL,
@@ -10,7 +10,7 @@ use std::alloc::Global;
 use std::process::Abort;
 use sub_io::{MemSink, Sink, put_all};
 
-/// The output of `packets` for the first PES packet of the schedule of `Hi`.
+/// The output of `packets` for the first PES packet of the schedule for `Hi`.
 pub const FIRST_LINES: &str = "pes 0 pts 3240000000\n\
     unit 0 id 03 field 1 line 7 1515d0d015d015d00215\
     2020202020202020202020202020202020202020202020202020202020202020\n\
@@ -19,14 +19,14 @@ pub const FIRST_LINES: &str = "pes 0 pts 3240000000\n\
     unit 2 id 03 field 1 line 9 1515eaeaea2fea5e1515\
     2020202020202020202020202020202020202020202020202020202020202020\n";
 
-// The output of `packets` for the second PES packet of the schedule of `Hi`, after its number.
+// The output of `packets` for the second PES packet of the schedule for `Hi`, without its number.
 const SECOND_LINES: &str = "pts 3240180000\n\
     unit 0 id 03 field 1 line 7 1515d0d015d015d00215\
     2020202020202020202020202020202020202020202020202020202020202020\n\
     unit 1 id 03 field 1 line 8 1515eaeaea2fea5e1515\
     2020202020202020202020202020202020202020202020202020202020202020\n";
 
-// Asserts that four parts are printed one after another.
+// Asserts that four texts are printed one after another.
 fn assert_lists<'a>(
     rt: &(impl Abort + Alloc<A = Global>),
     arguments: &'a [&'a str],
@@ -54,7 +54,7 @@ fn lists_pes_packets_by_their_numbers_in_the_file(rt: HostRuntime) {
     let arguments = ["subttx", "packets", "b", "--pid", "257", "--pes", "2-"];
     let parts = ["", "pes 2 ", SECOND_LINES, "1 pes\n"];
     assert_lists(&rt, &arguments, &lost, parts);
-    // `packets` stops at a gap marker, and so does `listen`.
+    // The commands `packets` and `listen` stop at a gap marker.
     let arguments = ["subttx", "packets", "b", "--pid", "257"];
     let parts = [FIRST_LINES, "", "", LOST];
     assert_lists(&rt, &arguments, &lost, parts);

@@ -1,4 +1,4 @@
-//! Parts of the recordings of tests, and assertions about answers for recordings.
+//! Parts of recordings, and assertions about the answers for recordings.
 use crate::asserting::assert_same_in;
 use crate::files_in_memory::{Entry, FilesInMemory};
 use answer_fixtures::status_of;
@@ -11,14 +11,14 @@ use sub_io::{BufferedSink, MemSink, Sink, put_all};
 use sub_request::Request;
 use sub_words::ParseArguments;
 
-/// Bytes 0 to 3 of a transport packet of PID 101 (hexadecimal) that begins a PES packet, with
-/// continuity counter 0.
+/// Bytes 0 to 3 of a TS packet of PID 101 (hexadecimal) that starts a PES packet, with continuity
+/// counter 0.
 pub const BEGINS_0: [u8; 4] = [0x47, 0x41, 0x01, 0x10];
 
-/// Bytes 0 to 3 of a transport packet that begins a PES packet, with continuity counter 1.
+/// Bytes 0 to 3 of a TS packet that starts a PES packet, with continuity counter 1.
 pub const BEGINS_1: [u8; 4] = [0x47, 0x41, 0x01, 0x11];
 
-/// Bytes 0 to 3 of a transport packet that begins a PES packet, with continuity counter 2.
+/// Bytes 0 to 3 of a TS packet that starts a PES packet, with continuity counter 2.
 pub const BEGINS_2: [u8; 4] = [0x47, 0x41, 0x01, 0x12];
 
 /// The first bytes of a null packet.
@@ -27,28 +27,28 @@ pub const NULL: [u8; 4] = [0x47, 0x1F, 0xFF, 0x10];
 /// The payload of a null packet.
 pub const FILL: [u8; 184] = [0xFF; 184];
 
-/// A transport packet of PID 101 without a payload that announces a jump of the counter.
+/// A TS packet of PID 101 without payload that announces a jump of the continuity counter.
 pub const JUMP: [u8; 6] = [0x47, 0x01, 0x01, 0x20, 0xB7, 0x80];
 
-/// The bytes that fill the transport packet `JUMP`.
+/// The bytes that fill the TS packet `JUMP`.
 pub const JUMP_FILL: [u8; 182] = [0xFF; 182];
 
-/// The first bytes of a gap marker, which is filled with bytes of `FILL`.
+/// The first bytes of a gap marker. Its other bytes are FF.
 pub const GAP_MARKER_HEAD: [u8; 6] = [0x00, 0x00, 0x01, 0xBD, 0x00, 0xB2];
 
-/// The line if PES packets are missing after the first one.
+/// The line if PES packets are missing after the first PES packet.
 pub const LOST: &str = "refused 45 Lost pes 1\n";
 
-/// The line if the first PES packet of the schedule of `Hi` is not read.
+/// The line if the first PES packet of the schedule for `Hi` is missing.
 pub const EARLY: &str = "refused 63 Early frame 10:00:02:00\n";
 
-/// The line if the second PES packet of the schedule of `Hi` is not read.
+/// The line if the second PES packet of the schedule for `Hi` is missing.
 pub const LATE: &str = "refused 74 Late frame 10:00:00:00\n";
 
-/// The line if the file has no PES packet.
+/// The line if the file contains no PES packet.
 pub const EMPTY: &str = "refused 60 Empty\n";
 
-/// Puts byte strings into a sink one after another, as far as the sink has room.
+/// Writes byte strings to a sink one after another, as long as the sink has room.
 pub fn put_pes_packets(sink: &mut MemSink<'_>, pes_packets: &[&[u8]]) {
     for pes_packet in pes_packets {
         if sink.failures() == 0 {
@@ -57,7 +57,7 @@ pub fn put_pes_packets(sink: &mut MemSink<'_>, pes_packets: &[&[u8]]) {
     }
 }
 
-/// Returns the entry of the file `a`, the subtitle file, which is read completely.
+/// Returns the entry for subtitle file `a`.
 pub fn subtitle_file(bytes: &[u8]) -> Entry<'_> {
     Entry {
         name: "a",
@@ -67,8 +67,7 @@ pub fn subtitle_file(bytes: &[u8]) -> Entry<'_> {
     }
 }
 
-/// Returns the entry of the file `b`, whose contents end after these bytes, or of which a read
-/// fails after them.
+/// Returns the entry for file `b`. It ends after these bytes, or reading fails after them.
 pub fn recording(bytes: &[u8], fails: bool) -> Entry<'_> {
     Entry {
         name: "b",
@@ -78,7 +77,7 @@ pub fn recording(bytes: &[u8], fails: bool) -> Entry<'_> {
     }
 }
 
-// The entry of the file `c`, which can be written.
+// The entry for output file `c`.
 const WRITTEN: Entry = Entry {
     name: "c",
     found: Found::Nothing,
@@ -87,7 +86,7 @@ const WRITTEN: Entry = Entry {
 };
 
 /// Asserts the output of a command for a subtitle file and a recording, and the status that the
-/// last line implies. A file `c` is written into `buffer`.
+/// last line implies. Output file `c` is written into `buffer`.
 pub fn assert_answers<'a, 'f>(
     rt: &(impl Abort + Alloc<A = Global>),
     arguments: &'a [&'a str],
@@ -111,8 +110,8 @@ pub fn assert_answers<'a, 'f>(
     assert_same_in(rt, &text.get(len), &Some(&0), &arguments);
 }
 
-/// Asserts the output of a command for the subtitle file of `Hi` and a file that consists of these
-/// byte strings.
+/// Asserts the output of a command for the subtitle file with `Hi`, and a file that consists of
+/// these byte strings.
 pub fn assert_prints<'a>(
     rt: &(impl Abort + Alloc<A = Global>),
     arguments: &'a [&'a str],

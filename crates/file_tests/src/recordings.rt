@@ -1,4 +1,4 @@
-//! Recordings: the PES packets that a transport stream carries are checked and written.
+//! Checking and extracting the PES packets of a recording.
 use crate::asserting::assert_same_in;
 use crate::recorded::{
     BEGINS_0, BEGINS_1, BEGINS_2, EARLY, EMPTY, FILL, GAP_MARKER_HEAD, JUMP, JUMP_FILL, LATE, LOST,
@@ -10,23 +10,23 @@ use std::alloc::Global;
 use std::process::Abort;
 use sub_io::MemSink;
 
-// Bytes 0 to 3 of a transport packet of PID 101 (hexadecimal) that begins a PES packet, with
+// Bytes 0 to 3 of a TS packet of PID 101 (hexadecimal) that starts a PES packet, with continuity
 // counter 9.
 const BEGINS_9: [u8; 4] = [0x47, 0x41, 0x01, 0x19];
 
-// Bytes 0 to 3 of a transport packet that continues a PES packet, and of one with
-// transport_error_indicator.
+// Bytes 0 to 3 of a TS packet that continues a PES packet, and of a TS packet with
+// transport_error_indicator set.
 const GOES_ON_1: [u8; 4] = [0x47, 0x01, 0x01, 0x11];
 
 const WRONG_1: [u8; 4] = [0x47, 0xC1, 0x01, 0x11];
 
-// A transport packet whose adaptation field leaves no room for its payload.
+// A TS packet whose adaptation field leaves no room for its payload.
 const FULL_ADAPTATION: [u8; 5] = [0x47, 0x01, 0x01, 0x31, 0xB8];
 
 const FULL_ADAPTATION_FILL: [u8; 183] = [0xFF; 183];
 
-// The first bytes of transport packets with adaptation fields: two that begin a PES packet, with
-// 100 bytes of payload, and two that continue it, with 84 bytes or with 100.
+// The first bytes of TS packets with adaptation fields. The first two start a PES packet and have
+// 100 bytes of payload; the other two continue it, with 84 and 100 bytes.
 const SHORT_0: [u8; 6] = [0x47, 0x41, 0x01, 0x30, 83, 0x00];
 
 const SHORT_0_JUMP: [u8; 6] = [0x47, 0x41, 0x01, 0x30, 83, 0x80];
@@ -44,8 +44,8 @@ fn assert_checks(rt: &(impl Abort + Alloc<A = Global>), pes_packets: &[&[u8]], w
     assert_prints(rt, &CHECK, pes_packets, want);
 }
 
-// Asserts the output if the PES packets of a PID are extracted from a recording of these byte
-// strings, and the extracted bytes.
+// Asserts the output of `extract` for a recording that consists of these byte strings, and the
+// extracted bytes.
 fn assert_extracts<'a>(
     rt: &(impl Abort + Alloc<A = Global>),
     pid: &'a str,
@@ -77,7 +77,7 @@ fn checks_the_pes_packets_of_a_pid(rt: HostRuntime) {
     assert_prints(&rt, &arguments, &stream, ACCEPTED);
     let arguments = ["subttx", "check", "a", "b", "--pid", "258"];
     assert_prints(&rt, &arguments, &stream, EMPTY);
-    // A PID has 13 bits: PID 1101 is not PID 101 (hexadecimal).
+    // A PID has 13 bits, so PID 1101 is not PID 101 (hexadecimal).
     let far: [&[u8]; 6] = [
         &[0x47, 0x51, 0x01, 0x10],
         &FIRST,
@@ -168,7 +168,7 @@ fn refuses_what_is_no_teletext(rt: HostRuntime) {
     let (prefix, back) = FIRST.split_at(3);
     let start: [&[u8]; 6] = [&BEGINS_0, prefix, &[0xBE], &back[1..], &BEGINS_1, &SECOND];
     assert_checks(&rt, &start, "refused 31 Start pes 0\n");
-    // The PES file begins with a gap marker.
+    // The PES file starts with a gap marker.
     let marked: [&[u8]; 3] = [&FIRST[..6], &FILL[..178], &SECOND];
     let arguments = ["subttx", "check", "a", "b"];
     assert_prints(&rt, &arguments, &marked, "refused 45 Lost pes 0\n");
@@ -249,7 +249,7 @@ fn writes_what_a_recording_carries(rt: HostRuntime) {
         &BEGINS_0, &FIRST, &WRONG_1, &SECOND, &WRONG_1, &SECOND, &BEGINS_1, &SECOND,
     ];
     assert_extracts(&rt, "257", &wrong, written, &marked);
-    // The second transport packet has more bytes than the PES packet needs.
+    // The second TS packet has more bytes than the PES packet needs.
     let (prefix, back) = FIRST.split_at(100);
     let longer: [&[u8]; 9] = [
         &SHORT_0,

@@ -1,4 +1,4 @@
-//! `survey`: the output for a recording.
+//! The output of `survey` for a recording.
 use crate::recorded::{
     BEGINS_0, BEGINS_1, BEGINS_2, FILL, NULL, assert_answers, assert_prints, put_pes_packets,
     recording,
@@ -10,7 +10,8 @@ use sub_io::MemSink;
 
 const SURVEY: [&str; 3] = ["subttx", "survey", "b"];
 
-// Asserts the output for a recording of these byte strings of which a read fails at the end.
+// Asserts the output for a recording that consists of these byte strings, if reading fails after
+// them.
 fn assert_fails<'a>(
     rt: &(impl Abort + Alloc<A = Global>),
     arguments: &'a [&'a str],
@@ -92,7 +93,7 @@ fn reports_a_file_of_pes_packets_and_where_it_ends(rt: HostRuntime) {
     assert_prints(&rt, &arguments, &[b"RIFF"], other);
 }
 
-// The first PES packet of another PID, 258.
+// The first PES packet of PID 258.
 const OTHER: [u8; 4] = [0x47, 0x41, 0x02, 0x10];
 
 #[test]

@@ -1,4 +1,4 @@
-//! The lines of `survey` that other tools use, each for a recording with few other packets.
+//! The lines of `survey` that other tools use.
 use crate::recorded::{BEGINS_0, BEGINS_1, BEGINS_2, FILL, JUMP, JUMP_FILL, assert_prints};
 use fixtures::{FIRST, SECOND};
 
@@ -6,8 +6,8 @@ const SURVEY: [&str; 5] = ["subttx", "survey", "b", "--page", "100"];
 
 const PAGE_888: [&str; 3] = ["subttx", "survey", "b"];
 
-// Bytes 0 to 3 of more transport packets of PID 101 (hexadecimal) that begin a PES packet, by their
-// counters.
+// Bytes 0 to 3 of TS packets of PID 101 (hexadecimal) that start a PES packet, by continuity
+// counter.
 const BEGINS_3: [u8; 4] = [0x47, 0x41, 0x01, 0x13];
 
 const BEGINS_4: [u8; 4] = [0x47, 0x41, 0x01, 0x14];
@@ -18,12 +18,12 @@ const BEGINS_6: [u8; 4] = [0x47, 0x41, 0x01, 0x16];
 
 const BEGINS_7: [u8; 4] = [0x47, 0x41, 0x01, 0x17];
 
-// Bytes 0 to 3 of a transport packet with errors, and of a scrambled transport packet.
+// Bytes 0 to 3 of a TS packet with errors, and of a scrambled TS packet.
 const WRONG: [u8; 4] = [0x47, 0x81, 0x01, 0x11];
 
 const SCRAMBLED: [u8; 4] = [0x47, 0x01, 0x01, 0x91];
 
-// Bytes 0 to 3 of transport packets that continue a PES packet, by their counters.
+// Bytes 0 to 3 of TS packets that continue a PES packet, by continuity counter.
 const GOES_ON: [[u8; 4]; 5] = [
     [0x47, 0x01, 0x01, 0x11],
     [0x47, 0x01, 0x01, 0x12],
@@ -147,7 +147,7 @@ fn counts_headers_with_c6_alone(rt: HostRuntime) {
     assert_prints(&rt, &SURVEY, &stream, want);
 }
 
-// The tables of a transport stream: programme 1 has the PCR_PID 1FF0, MPEG-2 video in PID 110 and
+// The tables of a transport stream. Programme 1 has PCR_PID 1FF0, MPEG-2 video in PID 110 and
 // private data in PID 101.
 const PAT: [u8; 21] = [
     0x47, 0x40, 0x00, 0x10, 0x00, 0x00, 0xB0, 0x0D, 0x00, 0x01, 0xC1, 0x00, 0x00, 0x00, 0x01, 0xE1,
@@ -165,8 +165,8 @@ const PMT_HEVC: [u8; 31] = [
     0x00, 0x24, 0xE1, 0x10, 0xF0, 0x00, 0x06, 0xE1, 0x01, 0xF0, 0x00, 0x00, 0x50, 0x12, 0xF4,
 ];
 
-// A transport packet that begins the first picture of the video, with the random access flag, PTS
-// 3239907200 and DTS 3239900000; and the headers that its contents may begin with.
+// A TS packet that starts the first picture of the video, with random_access_indicator set, PTS
+// 3239907200 and DTS 3239900000; and the headers with which the picture may start.
 const FLAGGED: [u8; 25] = [
     0x47, 0x41, 0x10, 0x30, 0x01, 0x40, 0x00, 0x00, 0x01, 0xE0, 0x00, 0x00, 0x80, 0xC0, 0x0A, 0x37,
     0x04, 0x75, 0x1F, 0x01, 0x17, 0x04, 0x73, 0xE6, 0xC1,
@@ -181,8 +181,8 @@ const IDR_W_RADL: [u8; 5] = [0x00, 0x00, 0x01, 0x26, 0x01];
 
 const CRA_NUT: [u8; 5] = [0x00, 0x00, 0x01, 0x2A, 0x01];
 
-// Transport packets that begin pictures without DTS, each 3600 ticks after the picture before, and
-// the last 10800 ticks after it.
+// TS packets that start pictures without DTS. Each picture is 3600 ticks after the one before it,
+// except for the last, which is 10800 ticks after it.
 const SHOWN_1: [u8; 18] = [
     0x47, 0x41, 0x10, 0x11, 0x00, 0x00, 0x01, 0xE0, 0x00, 0x00, 0x80, 0x80, 0x05, 0x27, 0x04, 0x75,
     0x02, 0xE1,
@@ -340,8 +340,8 @@ fn reads_the_header_of_a_group_over_two_packets(rt: HostRuntime) {
     assert_prints(&rt, &SURVEY, &stream, want);
 }
 
-// PCR values in packets without a payload, each 1000 ticks less than the one before; and a packet
-// in which such a step back is announced.
+// PCR values in TS packets without payload, each 1000 ticks less than the one before it; and a TS
+// packet that announces such a step back.
 const PCR_0: [u8; 12] = [
     0x47, 0x1F, 0xF0, 0x20, 0xB7, 0x10, 0x00, 0x06, 0xDD, 0xD0, 0x7E, 0x00,
 ];

@@ -1,4 +1,4 @@
-//! Asserts the program's answers, with devices in memory.
+//! Assertions about the program's answers, with devices in memory.
 ghost use Rattle.sub_io.specs.Device.{CanFail};
 
 use answer_fixtures::{fills, prints, prints_of, reports};
@@ -10,8 +10,8 @@ fn assert_right(rt: &impl Abort, is_right: bool, arguments: &[&str]) {
     assert!(rt; is_right, "{arguments:?}");
 }
 
-/// Asserts the output of a command for two sources, as `prefix` and the expected end, and the
-/// status that the last line implies.
+/// Asserts that a command prints `prefix` followed by `end` for two sources, and returns the status
+/// that the last line implies.
 pub fn assert_prints<'a, S: Source, T: Source>(
     rt: &(impl Abort + Alloc<A = Global>),
     arguments: &'a [&'a str],
@@ -27,8 +27,8 @@ pub fn assert_prints<'a, S: Source, T: Source>(
     assert_right(rt, is_right, arguments);
 }
 
-/// Asserts the output for one file in memory, as `prefix` and `end`, and the status that the last
-/// line implies.
+/// Asserts that a command prints `prefix` followed by `end` for a file in memory, and returns the
+/// status that the last line implies.
 pub fn assert_prints_of<'a>(
     rt: &(impl Abort + Alloc<A = Global>),
     arguments: &'a [&'a str],
@@ -44,8 +44,8 @@ pub fn assert_prints_of<'a>(
 }
 
 /// Asserts the output of a command for two files in memory, and the status that the line implies.
-/// For a check, also that the check with `--all` prints this line as the first that is not about
-/// trusted frames.
+/// For `check`, also asserts that the first line of `check --all` that is not a `trusted` line is
+/// this line.
 pub fn assert_reports<'a>(
     rt: &(impl Abort + Alloc<A = Global>),
     arguments: &'a [&'a str],
@@ -60,7 +60,7 @@ pub fn assert_reports<'a>(
     );
 }
 
-/// Asserts that each output with less room than a text gets the beginning of the text.
+/// Asserts that each output that is smaller than a text receives the start of the text.
 pub fn assert_fills<'a>(
     rt: &(impl Abort + Alloc<A = Global>),
     arguments: &'a [&'a str],

@@ -1,11 +1,11 @@
-//! Arguments that are refused before anything is read.
+//! Invalid arguments, which are reported before any file is read.
 use crate::answers::{assert_fills, assert_reports};
 use std::alloc::Global;
 use std::process::Abort;
 use sub_request::Request;
 use sub_words::ParseArguments;
 
-// Asserts the line for refused arguments.
+// Asserts the line for invalid arguments.
 fn assert_refuses<'a>(rt: &(impl Abort + Alloc<A = Global>), arguments: &'a [&'a str], want: &str) {
     assert_reports(rt, arguments, &[], &[], want);
 }
@@ -25,7 +25,7 @@ fn prints_the_line_of_refused_arguments_into_any_output(rt: HostRuntime) {
     assert_fills(&rt, &same, none, &[], b"usage 7 SameFile\n");
 }
 
-// Arguments that are no command.
+// Arguments without a valid command.
 #[rattlefmt::skip]
 const NO_WORDS: [&[&str]; 65] = [
     &[], // not even the program's name
@@ -35,7 +35,7 @@ const NO_WORDS: [&[&str]; 65] = [
     &["subttx", "help", "Packet"],
     &["subttx", "help", "help"],
     &["subttx", "--help", "-h"],
-    // Status 0 of a check is a verdict, so no argument of a check requests help.
+    // Status 0 of a check is a verdict, so a check has no argument for help.
     &["subttx", "check", "a.stl", "b.pes", "-h"],
     &["subttx", "check", "a.stl", "b.pes", "--help"],
     &["subttx", "check", "a.stl", "b.pes", "--page", "-h"],
@@ -61,7 +61,7 @@ const NO_WORDS: [&[&str]; 65] = [
     &["subttx", "listen", "--at", "10:00:00:10"],
     &["subttx", "listen", "b.pes", "--at", "10:00:00:10", "--every", "25"],
     &["subttx", "--page", "888", "check", "a.stl", "b.pes"],
-    // A flag has no value, is given at most once, and belongs to some commands only.
+    // A flag has no value, may occur once, and is valid for some commands only.
     &["subttx", "check", "a", "b", "--complete=yes"],
     &["subttx", "check", "a", "b", "--complete", "--complete"],
     &["subttx", "listen", "a", "--at", "10:00:00:10", "--complete=yes"],
@@ -75,14 +75,14 @@ const NO_WORDS: [&[&str]; 65] = [
     &["subttx", "check", "a", "b", "--keeping", "--keeping"],
     &["subttx", "schedule", "a", "b", "--keeping"],
     &["subttx", "listen", "a", "--at", "10:00:00:10", "--keeping"],
-    // The option `--within` is given at most once, with a value, to a check or a receiver.
+    // The option `--within` has a value, may occur once, and is valid for a check or a receiver.
     &["subttx", "check", "a", "b", "--within"],
     &["subttx", "check", "a", "b", "--within", "1", "--within", "2"],
     &["subttx", "listen", "a", "--at", "10:00:00:10", "--within=1", "--within=1"],
     &["subttx", "schedule", "a", "b", "--within", "1"],
     &["subttx", "packets", "a", "--within", "1"],
-    // The options for transport packets and ranges belong to commands that read PES packets; each
-    // is given at most once, with a value.
+    // The options for TS packets and ranges are valid for commands that read PES packets. Each has
+    // a value, and may occur once.
     &["subttx", "packets", "a", "--pid"],
     &["subttx", "packets", "a", "--pes"],
     &["subttx", "check", "a", "b", "--pid", "1", "--pid", "1"],
@@ -93,7 +93,7 @@ const NO_WORDS: [&[&str]; 65] = [
     &["subttx", "schedule", "a", "b", "--pid", "257"],
     &["subttx", "schedule", "a", "b", "--packet-size", "188"],
     &["subttx", "schedule", "a", "b", "--pes", "0-1"],
-    // `extract` requires a PID, writes all its PES packets, and reads one recording.
+    // The command `extract` requires a PID, and has no range of PES packets.
     &["subttx", "extract", "a", "b"],
     &["subttx", "extract", "a", "--pid", "257"],
     &["subttx", "extract", "a", "b", "c", "--pid", "257"],
@@ -119,7 +119,7 @@ fn refuses_digits_that_are_no_packet(rt: HostRuntime) {
         "1515d0d015d015d0021520202020202020202020202020202020202020202020202020202020202020200",
         // A packet of 86 digits.
         "1515d0d015d015d00215202020202020202020202020202020202020202020202020202020202020202020",
-        // Packets of 84 characters, one of which is no digit.
+        // Packets of 84 characters, one of which is not a digit.
         "1515d0d015d015d0021520202020202020202020202020202020202020202020202020202020202020 0",
         "g515d0d015d015d002152020202020202020202020202020202020202020202020202020202020202020",
     ];
@@ -175,7 +175,7 @@ fn reports_the_first_fault_of_a_schedule(rt: HostRuntime) {
     for row in &SCHEDULES {
         assert_refuses_row(&rt, row);
     }
-    // A schedule refuses to write the file that it reads; a check may name the same file twice.
+    // A schedule must not overwrite the file that it reads. A check may name the same file twice.
     let options = [
         "subttx", "schedule", "a", "a", "--page", "8FF", "--every", "0", "--origin", "x",
         "--option", "polish",
@@ -189,7 +189,7 @@ fn reports_the_first_fault_of_a_schedule(rt: HostRuntime) {
     assert_refuses(&rt, &["subttx", "normal", "a", "a"], "usage 7 SameFile\n");
 }
 
-// The arguments of a check and of a receiver, one of which is `--within`, and the lines of both.
+// The arguments of a check and of a receiver, including `--within`, and the lines of both commands.
 #[rattlefmt::skip]
 const WITHINS: [[&str; 6]; 14] = [
     // The columns of the table: option, within, origin, time, line of the check, line of the
@@ -258,7 +258,7 @@ const PES_PACKETS: [[&str; 4]; 20] = [
     ["257", "188", "0-+1", "usage 88 Range\n"],
 ];
 
-// Asserts the line of each command that reads PES packets, for a row of `PES_PACKETS`.
+// Asserts the line of each command that reads PES packets for a row of `PES_PACKETS`.
 #[rattlefmt::skip]
 fn assert_refuses_pes(rt: &(impl Abort + Alloc<A = Global>), row: &[&str; 4]) {
     let arguments = [
@@ -283,7 +283,7 @@ fn refuses_pes_packets_that_can_not_be_meant(rt: HostRuntime) {
     }
 }
 
-// The range of PES packets and the maximum distance of a check, and the expected line.
+// The range and the maximum distance of PES packets in a check, and the expected line.
 #[rattlefmt::skip]
 const PACES: [[&str; 3]; 7] = [
     // The columns of the table: range, pace, line.
@@ -322,16 +322,16 @@ fn reports_faults_of_other_arguments_before_those_of_pes_packets(rt: HostRuntime
     assert_refuses(&rt, &option, "usage 83 BadOption\n");
     let origin = ["subttx", "listen", "a", "--at", "x", "--packet-size", "x", "--origin", "x"];
     assert_refuses(&rt, &origin, "usage 81 Origin\n");
-    // The packet size and the range are also checked without a PID.
+    // The packet size and the range are checked even without a PID.
     let sized = ["subttx", "check", "a", "b", "--packet-size", "190"];
     assert_refuses(&rt, &sized, "usage 87 PacketSize\n");
     assert_refuses(&rt, &["subttx", "packets", "a", "--pes", "1"], "usage 88 Range\n");
-    // A check may name the same file twice, also as a recording.
+    // A check may name the same file twice, even as a recording.
     let same = ["subttx", "check", "a", "a", "--pid", "x"];
     assert_refuses(&rt, &same, "usage 86 Pid\n");
 }
 
-// The arguments of a receiver in the order in which their faults are reported, and the expected
+// The arguments of a receiver, in the order in which their faults are reported, and the expected
 // line.
 #[rattlefmt::skip]
 const RECEIVERS: [[&str; 8]; 14] = [
@@ -370,7 +370,7 @@ fn reports_the_first_fault_of_a_receiver(rt: HostRuntime) {
     }
 }
 
-// Asserts that arguments request a check of the files `-a` and `-`.
+// Asserts that the arguments request a check of the files `-a` and `-`.
 fn assert_checks_dashes<'a>(rt: &(impl Abort + Alloc<A = Global>), arguments: &'a [&'a str]) {
     let Ok(request) = Request::parse(rt.alloc(), arguments) else {
         return panic!(rt; "{arguments:?} is no request");
@@ -383,7 +383,8 @@ fn assert_checks_dashes<'a>(rt: &(impl Abort + Alloc<A = Global>), arguments: &'
     }
 }
 
-// `clap` decides how arguments that begin with a dash, and repeated options, are read.
+// Arguments that start with a hyphen, and repeated options, are read as the argument parser `clap`
+// reads them.
 #[rattlefmt::skip]
 #[test]
 fn refuses_dashes_as_clap_does(rt: HostRuntime) {

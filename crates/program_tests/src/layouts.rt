@@ -1,5 +1,5 @@
-//! Layouts: the rows that `schedule` sends for a text drawn by a layout, and that `check` accepts
-//! them; texts that are refused, and texts that name no layout.
+//! The rows that `schedule` sends for a text with a layout, and that `check` accepts; rejected
+//! texts; and invalid layouts.
 ghost use Rattle.sub_io.specs.Device.{CanFail};
 
 use crate::answers::assert_reports;
@@ -11,8 +11,8 @@ use sub_answer::Status;
 use sub_io::{MemSink, MemSource};
 use ttx_packet::unham;
 
-// Each case has a text; VP and JC; the layout, empty for the default; and the expected rows
-// (number, column of the first cell, cells) or the line that is printed.
+// Each case has a text, VP and JC, the layout (empty for the default), and the expected rows (row
+// number, first column, cells) or the expected line.
 #[rattlefmt::skip]
 const CASES: [&[&[u8]]; 18] = [
     &[b"Hi", b"\x16\x02", b"", b"\x16\x11\x0B\x0BHi\x0A\x0A"],
@@ -38,7 +38,7 @@ const CASES: [&[&[u8]]; 18] = [
     &[b"\x0A", b"\x16\x02", b"strip=0A"],
 ];
 
-// Returns a subtitle file with one subtitle with a text, at this VP and JC.
+// Returns a subtitle file with one subtitle with this text, VP and JC.
 fn file_with(rt: &impl Abort, text: &[u8], place: &[u8]) -> [u8; 1152] {
     assert!(rt; text.len() <= 112 && place.len() == 2);
     let mut head = HEAD;
@@ -46,7 +46,7 @@ fn file_with(rt: &impl Abort, text: &[u8], place: &[u8]) -> [u8; 1152] {
     file_of(&block(&head, text))
 }
 
-// Returns byte `place` of the Teletext packet of a data unit of the first PES packet; bit 1 is the
+// Returns byte `place` of the Teletext packet in a data unit of the first PES packet. Bit 1 is the
 // lowest bit.
 fn byte_at(rt: &impl Abort, pes: &[u8], unit: usize, place: usize) -> u8 {
     assert!(rt; unit < 100 && place < 42);
@@ -55,7 +55,7 @@ fn byte_at(rt: &impl Abort, pes: &[u8], unit: usize, place: usize) -> u8 {
     pes[at].reverse_bits()
 }
 
-// Returns the packet number of a data unit: the row, or 0 for a header.
+// Returns the packet number in a data unit: the row, or 0 for a header.
 fn row_of(rt: &impl Abort, pes: &[u8], unit: usize) -> u8 {
     let low = unham(byte_at(rt, pes, unit, 0)).expect(rt, "a magazine");
     let high = unham(byte_at(rt, pes, unit, 1)).expect(rt, "a row");
@@ -63,7 +63,7 @@ fn row_of(rt: &impl Abort, pes: &[u8], unit: usize) -> u8 {
     low / 8 + 2 * high
 }
 
-// Asserts that a data unit sends a row: its number, its first column and its cells.
+// Asserts the row number, the first column and the cells of the row in a data unit.
 fn assert_sends(rt: &impl Abort, case: usize, pes: &[u8], unit: usize, row: &[u8]) {
     assert!(rt; row.len() > 2);
     assert!(rt; row_of(rt, pes, unit) == row[0], "row of case {case}");
@@ -96,7 +96,7 @@ fn assert_schedules<'a>(
     assert!(rt; status == Status::Done, "{arguments:?}");
 }
 
-// Asserts the schedule of a file, and the check of this schedule, with these options.
+// Asserts the schedule of a file with these options, and the check of this schedule.
 fn assert_answers<'a>(
     rt: &(impl Abort + Alloc<A = Global>),
     number: usize,
@@ -149,7 +149,7 @@ fn draws_texts_by_layouts(rt: HostRuntime) {
     }
 }
 
-// Asserts the schedule and the check of a text in German, with a layout that strips the bytes 0A.
+// Asserts the schedule and the check of a text in German, with a layout that removes the bytes 0A.
 fn assert_german(rt: &(impl Abort + Alloc<A = Global>), text: &[u8], row: &[u8]) {
     let stl = file_with(rt, text, &[22, 2]);
     let schedule = [
@@ -168,8 +168,8 @@ fn a_stripped_byte_parts_a_pair(rt: HostRuntime) {
     assert_german(&rt, b"a\x0A\xC8a", b"\x16\x11\x0B\x0Ba\x7B\x0A\x0A");
 }
 
-// The expected line, and the arguments of a check or a schedule: the layout's text names no layout,
-// or an earlier fault is reported.
+// The expected line, and the arguments of a check or a schedule: the layout is invalid, or an
+// earlier fault is reported.
 const REFUSED: [&[&str]; 5] = [
     &[
         "usage 89 Layout\n",

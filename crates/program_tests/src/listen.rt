@@ -1,4 +1,4 @@
-//! `listen`: the page that a receiver shows of the transmission of `Hi`.
+//! The page that a receiver shows after the transmission for `Hi`, with `listen`.
 use crate::answers::{assert_fills, assert_prints, assert_prints_of};
 use fixtures::{
     CLOSING, HEADER, ROW, TEN, every_second, every_second_twice, push_pes, push_spelled,
@@ -9,7 +9,7 @@ use std::process::Abort;
 use std::test::Fail;
 use sub_io::{FailAt, MemSink, MemSource};
 
-// The output for `Hi`, and the output if its first letter is hit.
+// The output for `Hi`, and the output if its first letter was received wrong.
 const HI: &str = "heard yes\nopen no\nrow 22 |                ...Hi..                 |\n";
 
 const HIT: &str = "heard yes\nopen no\nrow 22 |                ... i..                 |\n";
@@ -18,7 +18,7 @@ const BLANK: &str = "heard yes\nopen no\nblank\n";
 
 const NOTHING: &str = "heard no\n";
 
-// Flips of one bit in each coded byte of the header.
+// Bit flips, one in each coded byte of the header.
 const HEADER_FLIPS: &str = "0:0:1,0:1:2,0:2:3,0:3:4,0:4:5,0:5:6,0:6:7,0:7:8,0:8:1,0:9:2";
 
 const LOST_0: &str = "refused 76 LostHeader frame 10:00:00:00 packet 0\n";
@@ -45,7 +45,7 @@ fn assert_hears<'x>(
     assert_prints_of(rt, arguments, pes, &[], want.as_bytes());
 }
 
-// Asserts the output of a receiver for `Hi`, repeated every 25 frames.
+// Asserts the output for a receiver of `Hi`, repeated every 25 frames.
 fn assert_hears_by<'x>(
     rt: &(impl Abort + Alloc<A = Global>),
     receiver: &'x str,
@@ -61,7 +61,7 @@ fn assert_hears_by<'x>(
     assert_prints_of(rt, arguments, &every_second(), &[], want.as_bytes());
 }
 
-// Asserts the output of both receivers, `keep` and `blank`, for `Hi`, repeated every 25 frames.
+// Asserts the output for the receivers `keep` and `blank` of `Hi`, repeated every 25 frames.
 fn assert_both_hear<'x>(
     rt: &(impl Abort + Alloc<A = Global>),
     at: &'x str,
@@ -111,7 +111,7 @@ fn counts_packets_over_the_entire_file(rt: HostRuntime) {
         &["--skip", "3", "--flip", "4:21:1"],
         HIT,
     );
-    // The packet with flips is skipped, comes after the time, or does not exist.
+    // The packet with bit flips is skipped, is sent after the time, or does not exist.
     let skipped_over = ["--skip", "3", "--flip", "1:21:1", "--lose", "0,1"];
     assert_both_hear(&rt, "10:00:01:00", &skipped_over, HI);
     let later = ["--flip", "4:21:1", "--lose", "3,4"];
@@ -127,13 +127,13 @@ fn prints_what_is_on_the_screen(rt: HostRuntime) {
     assert_hears(&rt, &pes, "10:00:00:10", &complete, HI);
     assert_hears(&rt, &pes, "10:00:02:00", &complete, BLANK);
     assert_hears(&rt, &pes, "09:59:59:24", &complete, NOTHING);
-    // The first closing header becomes a stuffing unit, so the page is not shown until the second
-    // page transmission.
+    // A stuffing unit replaces the first header that ends the page, so the page is not shown before
+    // the second page transmission.
     pes[138] = 0xFF;
     assert_hears(&rt, &pes, "10:00:00:10", &complete, NOT_SHOWN);
     assert_hears(&rt, &pes, "10:00:01:00", &complete, HI);
-    // The second closing header becomes a stuffing unit, too. At another header of its page the
-    // receiver's screen does not change.
+    // A stuffing unit also replaces the second header that ends the page. At another header of its
+    // page, the receiver does not change its screen.
     pes[322] = 0xFF;
     assert_hears(&rt, &pes, "10:00:01:00", &complete, NOT_SHOWN);
 }
@@ -149,8 +149,8 @@ fn does_not_show_a_row_that_is_hit(rt: HostRuntime) {
     assert_hears(&rt, &pes, "10:00:00:10", &["--receiver", "drop"], HI);
 }
 
-// Asserts what both receivers show of the first page transmission with one flip: a cell has the due
-// code, or is a space if its byte was hit.
+// Asserts the pages of both receivers after the first page transmission with one bit flip: the cell
+// has the expected code, or is a space because its byte was received wrong.
 fn assert_shows_hit(
     rt: &(impl Abort + Alloc<A = Global>),
     packet: u8,
@@ -168,7 +168,7 @@ fn assert_shows_hit(
     Ok(())
 }
 
-// Asserts what a receiver shows of the first page transmission with these flips.
+// Asserts the page of a receiver after the first page transmission with these bit flips.
 fn assert_shows(rt: &(impl Abort + Alloc<A = Global>), receiver: &str, flips: &str, want: &[u8]) {
     let at = "10:00:00:10";
     let arguments = [
@@ -197,8 +197,8 @@ fn shows_a_space_where_a_byte_was_hit(rt: HostRuntime) -> Result<(), Fail> {
     Ok(())
 }
 
-// A row is sent twice, and a bit of its second packet is received wrong: the cell keeps its code,
-// or becomes a space.
+// A row is sent twice, and a bit of its second packet is received wrong. The cell has its old code
+// or a space.
 #[test]
 fn keeps_or_blanks_a_cell_as_requested(rt: HostRuntime) {
     let mut buffer = [0; 184];
@@ -212,7 +212,7 @@ fn keeps_or_blanks_a_cell_as_requested(rt: HostRuntime) {
     assert_hears(&rt, pes.written(), "10:00:00:10", &blank, hit);
 }
 
-// Three PES packets have the same data field. The second one has a flip, so the third one is not
+// Three PES packets have the same data field. The second has a bit flip, so the third is not
 // skipped as a repeat.
 #[test]
 fn hears_a_page_transmission_again_after_one_with_a_flip(rt: HostRuntime) {
@@ -227,7 +227,7 @@ fn hears_a_page_transmission_again_after_one_with_a_flip(rt: HostRuntime) {
     assert_hears(&rt, pes.written(), "10:00:00:02", &flip, HI);
 }
 
-// Transmissions with several PES packets of one frame, the time and options of `listen`, and its
+// Transmissions with several PES packets for one frame, the time and options of `listen`, and its
 // output.
 #[rattlefmt::skip]
 const SENDINGS: [[&[&str]; 3]; 16] = [
@@ -239,10 +239,10 @@ const SENDINGS: [[&[&str]; 3]; 16] = [
     [&["0:h", "0:rc", "1:hc"], &["10:00:00:00"], &["refused 62 Order pes 1\n"]],
     [&["0:h", "0:", "0:r", "0+:c", "1-:hc"], &["10:00:00:00", "--within", "50"], &[HI]],
     [&["0:hrc", "0:hc", "1:hrc"], &["10:00:00:00", "--within", "1"], &[BLANK]],
-    // A PES packet of an earlier frame is not reported if it comes after the time.
+    // A PES packet with an earlier frame is not reported if it follows the time.
     [&["1:hrc", "1:h", "0+:rc"], &["10:00:00:01", "--within", "1"], &["refused 62 Order pes 2\n"]],
     [&["1:hrc", "1:h", "0+:rc"], &["10:00:00:00", "--within", "1"], &[NOTHING]],
-    // A lost header is reported with its number in its frame.
+    // A lost header is reported with its packet number in the frame.
     [&["0:h", "0+:rc", "0+:hc", "1:hc"], &["10:00:00:00", "--within", "1", "--lose", "3"], &[
         "refused 76 LostHeader frame 10:00:00:00 packet 3\n"]],
     [&["0:h", "0:", "0+:rc", "1:hc"], &["10:00:00:00", "--within", "1", "--lose", "2"], &[LOST_2]],
@@ -252,7 +252,7 @@ const SENDINGS: [[&[&str]; 3]; 16] = [
         "refused 76 LostHeader frame 10:00:00:02 packet 0\n"]],
     [&["0:h", "1:rc", "2:hc"], &["10:00:00:02", "--lose", "3"], &[
         "refused 76 LostHeader frame 10:00:00:02 packet 0\n"]],
-    // A bit is flipped in the second PES packet of a frame.
+    // A bit is flipped in the second PES packet for a frame.
     [&["0:h", "0+:rc", "1:hc"], &["10:00:00:00", "--within", "1", "--flip", "1:21:1"], &[HIT]],
     [&["0:h", "0+:rc", "1:hc"], &["10:00:00:00", "--within", "1", "--complete"], &[HI]],
 ];
@@ -274,14 +274,15 @@ fn hears_pes_packets_of_one_frame(rt: HostRuntime) {
     }
 }
 
-// Transmissions whose repeats keep the page, the time and options of `listen`, and its output.
+// Transmissions with repeats that do not erase the page, the time and options of `listen`, and its
+// output.
 #[rattlefmt::skip]
 const REPEATS: [[&[&str]; 3]; 7] = [
     [&["0:hrc", "25:kc", "50:hc"], &["10:00:01:00"], &[HI]],
     [&["0:hrc", "25:kc", "50:hc"], &["10:00:01:00", "--receiver", "anew"], &[BLANK]],
     [&["0:krc", "50:hc"], &["10:00:01:00", "--receiver", "anew"], &[HI]],
     [&["0:hrrc", "50:hc"], &["10:00:00:00", "--receiver", "anew", "--flip", "2:21:1"], &[HIT]],
-    // A header is not received, or a page starts again while it is open.
+    // A header is not received, or the header of an open page is received again.
     [&["0:hrc", "25:kc", "50:hc"], &["10:00:00:00", "--receiver", "anew", "--skip", "1"], &[
         NOTHING]],
     [&["0:hr", "25:kc", "50:hc"], &["10:00:01:00", "--receiver", "anew", "--complete"], &[BLANK]],
@@ -318,7 +319,8 @@ fn assert_hears_cut(rt: &(impl Abort + Alloc<A = Global>), len: usize, at: &str,
 
 #[test]
 fn reports_a_cut_after_the_time(rt: HostRuntime) {
-    // The PES packet after the time is cut, and then a PES packet that is never read.
+    // In the first case the PES packet after the time is cut off; in the second case a later PES
+    // packet, which is not read.
     assert_hears_cut(&rt, 194, "10:00:00:10", "refused 30 Truncated pes 1\n");
     assert_hears_cut(&rt, 194, "09:00:00:00", NOTHING);
 }
@@ -329,8 +331,7 @@ fn calls_no_device_after_its_failure_or_the_time(rt: HostRuntime) {
     let arguments = ["subttx", "listen", "a", "--at", "10:00:00:10"];
     let want = HI.as_bytes();
     assert_fills(&rt, &arguments, (&pes, &[]), &[], want);
-    // The failing call of the source would give the PES packet after the second one, but is not
-    // made.
+    // The failing call of the source would return the third PES packet, but is not made.
     let mut source = FailAt::new(MemSource::new(&pes), 2);
     let mut none = MemSource::new(&[]);
     assert_prints(&rt, &arguments, &mut source, &mut none, &[], want);

@@ -1,4 +1,4 @@
-//! `normal`: the output for subtitle files, complete and refused.
+//! The output of `normal` for complete and rejected subtitle files.
 use crate::answers::{assert_prints, assert_prints_of};
 use answer_fixtures::answer_arguments;
 use fixtures::{Drip, Endless, HEAD, block, commented, file_of_two, gsi, normal_form};
@@ -7,16 +7,15 @@ use std::process::Abort;
 use sub_answer::Status;
 use sub_io::{FailAt, MemSink, MemSource, Sink};
 
-/// The words of a call of the command `normal` with the files `a` and `b`.
+/// The arguments of the command `normal` with the files `a` and `b`.
 pub const NORMAL: [&str; 4] = ["subttx", "normal", "a", "b"];
 
-// Asserts the line if one byte of a file with a comment, user data and a subtitle has another
-// value.
+// Asserts the line if one byte is changed in a file with a comment, user data and a subtitle.
 fn assert_refuses(rt: &(impl Abort + Alloc<A = Global>), place: usize, value: u8, line: &[u8]) {
     let mut input = commented();
     assert!(rt; place < 1536);
     input[place] = value;
-    // The output file has no room, so the test fails if anything is written.
+    // The output file has no room, so the test fails if any byte is written.
     assert_prints_of(rt, &NORMAL, &input, &[], line);
 }
 
@@ -45,7 +44,7 @@ fn refuses_a_block_at_its_first_fault(rt: HostRuntime) {
     assert_refuses(&rt, 1411, 0x01, b"refused 24 Unfinished block 4\n"); // its EBN
 }
 
-// Asserts the line and how many bytes are written for a file in memory.
+// Asserts the line and the number of bytes written for a file in memory.
 fn assert_answers(
     rt: &(impl Abort + Alloc<A = Global>),
     input: &[u8],
@@ -68,7 +67,8 @@ fn assert_answers(
     assert!(rt; is_right && is_done == (written > 0));
 }
 
-// Asserts the line and how many bytes are written for each length of the file in a range.
+// Asserts the line and the number of bytes written for the first bytes of a file, for each length
+// in a range.
 fn assert_answers_cuts(
     rt: &(impl Abort + Alloc<A = Global>),
     lengths: (usize, usize),
@@ -98,7 +98,7 @@ fn answers_files_of_each_length(rt: HostRuntime) {
 
 #[test]
 fn refuses_too_many_blocks(rt: HostRuntime) {
-    // The source gives a subtitle file of comments without end.
+    // The source returns a subtitle file with comments without end.
     let mut long = Endless {
         rest: &gsi(),
         again: &[1; 128],
@@ -108,7 +108,7 @@ fn refuses_too_many_blocks(rt: HostRuntime) {
     assert_prints(&rt, &NORMAL, &mut long, &mut none, &[], line);
 }
 
-// Asserts the line if byte `byte` can't be read, for a file that would be refused.
+// Asserts the line if byte `byte` can't be read. Without the failure the file would be rejected.
 fn assert_fails(rt: &(impl Abort + Alloc<A = Global>), byte: u64, line: &[u8]) {
     let mut input = commented();
     input[3] = b'x';

@@ -1,11 +1,11 @@
-//! `packet`: the output for packets of each number.
+//! The output of `packet` for each packet number.
 use crate::answers::{assert_fills, assert_prints_of};
 use std::alloc::Global;
 use std::process::Abort;
 use std::test::Fail;
 use ttx_packet::ham;
 
-// Asserts the text for a packet of these digits, also if the output has less room.
+// Asserts the text for a packet with these digits, also if the output is too small.
 fn assert_shows(rt: &(impl Abort + Alloc<A = Global>), digits: &str, text: &str) {
     let arguments = ["subttx", "packet", digits];
     assert_prints_of(rt, &arguments, &[], &[], text.as_bytes());
@@ -24,18 +24,18 @@ fn shows_headers(rt: HostRuntime) {
         "1515D0D015D015D002152020202020202020202020202020202020202020202020202020202020202020",
         "magazine 8 packet 0\npage 88 subcode 0000 control C4 C6 C7\n\
         text |                                |\n");
-    // A closing header in serial mode.
+    // The header that ends other pages, in serial mode.
     assert_shows(&rt,
         "1515eaEAea2fEA5e15022020202020202020202020202020202020202020202020202020202020202020",
         "magazine 8 packet 0\npage FF subcode 3F7F control C11\n\
         text |                                |\n");
-    // A header of page 100 with no control bit; its text is Hi, an even H, 7F and 1F, and spaces to
-    // the end.
+    // A header of page 100 with all control bits clear. Its text is Hi, an H of even parity, 7F and
+    // 1F, and spaces.
     assert_shows(&rt,
         "02151515151515151515c8e9487f1f202020202020202020202020202020202020202020202020202020",
         "magazine 1 packet 0\npage 00 subcode 0000 control none\n\
         text |Hi?..                           |\n");
-    // A header with each control bit set, and each bit of the subcode.
+    // Headers with each control bit set, and with each bit of the subcode set.
     assert_shows(&rt,
         "1515d0d0eaeaeaeaeaea2020202020202020202020202020202020202020202020202020202020202020",
         "magazine 8 packet 0\n\
@@ -50,11 +50,11 @@ fn shows_rows_and_packets_above_them(rt: HostRuntime) {
     assert_shows(&rt,
         "159b202020202020202020202020202020200d0b0bc8e98a8a2020202020202020202020202020202020",
         "magazine 8 packet 22\ntext |                ...Hi..                 |\n");
-    // Row 20, with an even byte in the first and the last column.
+    // Row 20 with a byte of even parity in the first and in the last column.
     assert_shows(&rt,
         "158ca0c8e92020202020202020202020202020202020202020202020202020202020202020202020c9a0",
         "magazine 8 packet 20\ntext |?Hi                                   ??|\n");
-    // Row 21, with the codes 7E and 7F.
+    // Row 21 with the codes 7E and 7F.
     assert_shows(&rt,
         "d08cfe7f7f7f7f7f7f7f7f7f7f7f7f7f7f7f7f7f7f7f7f7f7f7f7f7f7f7f7f7f7f7f7f7f7f7f7f7f7f7f",
         "magazine 8 packet 21\ntext |~.......................................|\n");
@@ -67,7 +67,7 @@ fn shows_rows_and_packets_above_them(rt: HostRuntime) {
 #[rattlefmt::skip]
 #[test]
 fn refuses_two_wrong_bits(rt: HostRuntime) {
-    // Two wrong bits in the first address byte, in the second, and in the page units.
+    // Two wrong bits in the first address byte, in the second address byte, and in the page units.
     assert_shows(&rt,
         "1615d0d015d015d002152020202020202020202020202020202020202020202020202020202020202020",
         "refused 3 BadAddress\n");
@@ -79,8 +79,7 @@ fn refuses_two_wrong_bits(rt: HostRuntime) {
         "refused 4 BadHeader\n");
 }
 
-// Asserts the output for the packet with this packet number and magazine of which each text byte is
-// an A.
+// Asserts the output for the packet with this magazine and packet number, and text bytes A.
 fn assert_shows_number(
     rt: &(impl Abort + Alloc<A = Global>),
     number: u8,

@@ -1,4 +1,4 @@
-//! `packets`: the output for PES files.
+//! The output of `packets` for PES files.
 use crate::answers::{assert_prints, assert_prints_of};
 use fixtures::{FIRST, schedule_of_hi};
 use std::alloc::Global;
@@ -7,7 +7,7 @@ use sub_io::{FailAt, MemSource};
 
 const PACKETS: [&str; 3] = ["subttx", "packets", "a"];
 
-// The output of `packets` for the schedule of `Hi`: its first PES packet, and the second one.
+// The output of `packets` for the two PES packets of the schedule for `Hi`.
 #[rattlefmt::skip]
 const LINES: &[u8] = b"pes 0 pts 3240000000\n\
     unit 0 id 03 field 1 line 7 1515d0d015d015d00215\
@@ -22,7 +22,7 @@ const LINES: &[u8] = b"pes 0 pts 3240000000\n\
     unit 1 id 03 field 1 line 8 1515eaeaea2fea5e1515\
     2020202020202020202020202020202020202020202020202020202020202020\n";
 
-// Asserts the lines and the last line for each length of the file in a range.
+// Asserts the lines and the last line for the first bytes of a file, for each length in a range.
 fn assert_lists(
     rt: &(impl Abort + Alloc<A = Global>),
     lengths: (usize, usize),
@@ -50,7 +50,7 @@ fn lists_the_complete_pes_packets_of_a_cut_file(rt: HostRuntime) {
 fn reports_a_fault_after_the_lines_before_it(rt: HostRuntime) {
     let start = b"refused 31 Start pes 0\n";
     assert_prints_of(&rt, &PACKETS, b"RIFF....", &[], start);
-    // The source's first call gives the first PES packet, and the second call fails.
+    // The source's first call returns the first PES packet, and the second call fails.
     let mut pes = FailAt::new(MemSource::new(&FIRST), 1);
     let mut none = MemSource::new(&[]);
     let (first, _) = LINES.split_at(360);

@@ -1,4 +1,4 @@
-//! Refused allocations, for an input that is read completely and for options with lists.
+//! Lack of memory, for an input that is read completely and for options with lists.
 use linked_list_allocator::LocalHeap;
 use std::alloc::Global;
 use std::process::Abort;
@@ -8,8 +8,8 @@ use sub_io::MemSource;
 use sub_request::Flip;
 use sub_words::parse_list;
 
-// Asserts whether this much memory suffices to read an input, and that otherwise the refused
-// allocation is reported.
+// Asserts whether this much memory is enough to read an input, and that a lack of memory is
+// reported.
 fn assert_reads(
     rt: &(impl Abort + Alloc<A = Global>),
     input: &[u8],
@@ -26,8 +26,8 @@ fn assert_reads(
 
 #[test]
 fn reports_each_growth_that_is_refused(rt: HostRuntime) -> Result<(), Fail> {
-    // The input is read in parts into a vector whose capacity doubles: 131,072 and then 262,144
-    // bytes at the end.
+    // The input is read into a vector whose capacity doubles, from 131,072 to 262,144 bytes at the
+    // end.
     let input = vec![in rt.alloc(); 0x20; 153_600]?;
     assert_reads(&rt, input.as_slice(), 0, false)?;
     assert_reads(&rt, input.as_slice(), 60_000, false)?;
@@ -36,7 +36,7 @@ fn reports_each_growth_that_is_refused(rt: HostRuntime) -> Result<(), Fail> {
     assert_reads(&rt, input.as_slice(), 1_000_000, true)
 }
 
-// Returns whether an allocation for a list of flips is refused with this much memory.
+// Returns whether memory runs out for a list of bit flips.
 fn refuses_flips(rt: &(impl Abort + Alloc<A = Global>), size: usize) -> Result<bool, Fail> {
     let heap = LocalHeap::new(rt.alloc(), size)?;
     let flips = "0:0:1,1:0:1,2:0:1,3:0:1,4:0:1,5:0:1,6:0:1,7:0:1,8:0:1";
@@ -49,7 +49,7 @@ fn refuses_flips(rt: &(impl Abort + Alloc<A = Global>), size: usize) -> Result<b
     }
 }
 
-// Returns whether an allocation for a list of lost packets is refused with this much memory.
+// Returns whether memory runs out for a list of lost packets.
 fn refuses_lost(rt: &(impl Abort + Alloc<A = Global>), size: usize) -> Result<bool, Fail> {
     let heap = LocalHeap::new(rt.alloc(), size)?;
     let lost = "0,1,2,3,4,5,6,7,8,9,10,11,12,13,14,15,16";

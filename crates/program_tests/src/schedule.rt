@@ -1,5 +1,4 @@
-//! `schedule`: the bytes that are written and the lines that are printed for subtitle files, and
-//! that `check` accepts the schedule.
+//! The bytes and the lines of `schedule`, and that `check` accepts the schedule.
 ghost use Rattle.sub_io.specs.Device.{CanFail};
 
 use crate::answers::assert_reports;
@@ -14,8 +13,8 @@ use std::test::Fail;
 use sub_answer::Status;
 use sub_io::{MemSink, MemSource, Sink};
 
-// Asserts the length of the schedule for these arguments, its line, and the line of a check with
-// this repeat bound.
+// Asserts the length and the line of the schedule for these arguments, and the line of a check of
+// it with this repeat bound.
 fn assert_schedules<'a>(
     rt: &(impl Abort + Alloc<A = Global>),
     arguments: &'a [&'a str],
@@ -93,7 +92,7 @@ fn schedules_texts_of_no_row_to_all_rows(rt: HostRuntime) {
     assert_schedules_text(&rt, 1, all, 1472);
 }
 
-// Returns a file of `Hi` and another subtitle in the two seconds after `Hi`.
+// Returns a file with `Hi` and a second subtitle in the two seconds after it.
 fn file_of_hi_and(rt: &impl Abort, text: &[u8]) -> [u8; 1280] {
     assert!(rt; text.len() <= 112);
     file_of_two(
@@ -138,7 +137,7 @@ fn schedules_2000_subtitles(rt: HostRuntime) -> Result<(), Fail> {
     Ok(())
 }
 
-// Asserts the line of a schedule and of a check for a file of two blocks.
+// Asserts the lines of a schedule and of a check for a file of two blocks.
 fn assert_refuses(rt: &(impl Abort + Alloc<A = Global>), file: &[u8; 1280], want: &str) {
     assert_reports(rt, &SCHEDULE, file, &[], want);
     assert_reports(rt, &CHECK, file, &[], want);
@@ -164,10 +163,10 @@ fn refuses_times(rt: HostRuntime) {
     let before = block(&head(TEN - 90_000, TEN + 100, 22), &HI);
     let out_of_order = "refused 56 OutOfOrder block 2\n";
     assert_refuses(&rt, &file_of_two(&hi, &before), out_of_order);
-    // A subtitle that is out of order is reported before its text.
+    // For a subtitle that is out of order, the order is reported and not the text.
     let early = block(&head(TEN - 90_000, TEN - 50, 22), &[0x0E]);
     assert_refuses(&rt, &file_of_two(&hi, &early), out_of_order);
-    // A refused text is reported before a fault of a later block.
+    // A rejected text is reported before a fault of a later block.
     let control = block(&HEAD, &[0x0E]);
     let refused = "refused 51 Control block 1 at 0\n";
     assert_refuses(&rt, &file_of_two(&control, &early), refused);
@@ -183,8 +182,8 @@ fn refuses_texts(rt: HostRuntime) {
     assert_refuses(&rt, &file_of_two(&low, &hi), "refused 19 Row block 1\n");
 }
 
-// Schedules `Hi` with a national option, and asserts byte 9 of the page's headers, as carried in
-// the PES packet.
+// Writes the schedule for `Hi` with a national option, and asserts byte 9 of the page's headers in
+// the PES packets.
 fn assert_schedules_by(rt: &(impl Abort + Alloc<A = Global>), option: &str, byte: u8) {
     let hi = file_of_hi();
     let mut buffer = [0; 400];

@@ -1,4 +1,4 @@
-//! `show`: the output for subtitle files, complete and refused.
+//! The output of `show` for complete and rejected subtitle files.
 use crate::answers::{assert_fills, assert_prints, assert_prints_of};
 use fixtures::{HEAD, block, file_of, file_of_hi};
 use std::alloc::Global;
@@ -7,7 +7,7 @@ use sub_io::{FailAt, MemSource};
 
 const SHOW: [&str; 3] = ["subttx", "show", "a"];
 
-// Asserts the output of `show` for a file, also to each output with less room.
+// Asserts the output of `show` for a file, also if the output is too small.
 fn assert_shows(rt: &(impl Abort + Alloc<A = Global>), file: &[u8], text: &[u8]) {
     assert_prints_of(rt, &SHOW, file, &[], text);
     assert_fills(rt, &SHOW, (file, &[]), &[], text);

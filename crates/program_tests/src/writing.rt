@@ -1,5 +1,4 @@
-//! `normal` and `schedule`: the bytes that are written if a device fails, and all bytes if no
-//! device fails.
+//! The bytes that `normal` and `schedule` write if a device fails, and if no device fails.
 ghost use Rattle.sub_io.specs.Device.{CanFail};
 
 use crate::answers::assert_fills;
@@ -11,7 +10,7 @@ use std::process::Abort;
 use sub_answer::Status;
 use sub_io::{Close, FailAt, MemSink, MemSource, Sink};
 
-// Asserts the line that is printed when a file is written, and the status.
+// Asserts the line and the status of a command that writes a file.
 fn assert_writes<'a, F: Close>(
     rt: &(impl Abort + Alloc<A = Global>),
     arguments: &'a [&'a str],
@@ -29,8 +28,8 @@ fn assert_writes<'a, F: Close>(
     assert!(rt; status == want && out.written() == line, "{arguments:?}");
 }
 
-// Asserts that a file with less room gets the beginning of the output, and is not used after the
-// call that fails.
+// Asserts that an output file that is too small receives the start of the bytes, and is not used
+// after the failed call.
 fn assert_cuts<'a>(
     rt: &(impl Abort + Alloc<A = Global>),
     arguments: &'a [&'a str],
@@ -48,7 +47,7 @@ fn assert_cuts<'a>(
     );
 }
 
-// Asserts that a file is not used after call `call`, which fails.
+// Asserts that the output file is not used after call `call`, which fails.
 fn assert_stops<'a>(
     rt: &(impl Abort + Alloc<A = Global>),
     arguments: &'a [&'a str],
@@ -62,7 +61,7 @@ fn assert_stops<'a>(
     assert!(rt; file.calls_after_failure == 0, "{arguments:?}, call {call}");
 }
 
-// Asserts that the written file is complete, and the line, also to an output with less room.
+// Asserts the complete output file and the line, also if the output is too small.
 fn assert_writes_all<'a>(
     rt: &(impl Abort + Alloc<A = Global>),
     arguments: &'a [&'a str],
@@ -77,8 +76,8 @@ fn assert_writes_all<'a>(
     assert_fills(rt, arguments, (input, &[]), written, line);
 }
 
-// Asserts which bytes are written and which line is printed if the file has less room, if one of
-// its three calls fails, and if no call fails.
+// Asserts the bytes written and the line if the output file is too small, if one of its three calls
+// fails, and if no call fails.
 fn assert_devices<'a>(
     rt: &(impl Abort + Alloc<A = Global>),
     arguments: &'a [&'a str],
@@ -98,14 +97,14 @@ fn assert_devices<'a>(
 
 #[test]
 fn normal_writes_a_prefix_where_a_device_fails(rt: HostRuntime) {
-    // The calls of the file: the GSI block, a push of the subtitle, and the store.
+    // The calls of the output file: the GSI block, the subtitle, and `store`.
     let (line, fault) = (b"written 1 subtitles\n", b"fault 29 Write\n");
     assert_devices(&rt, &NORMAL, &commented(), &normal_form(), line, fault);
 }
 
 #[test]
 fn schedule_writes_a_prefix_where_a_device_fails(rt: HostRuntime) {
-    // The calls of the file: two pushes and its store.
+    // The calls of the output file: two pushes, and `store`.
     let (line, fault) = (b"written 2 transmissions\n", b"fault 42 Write\n");
     assert_devices(
         &rt,

@@ -52,7 +52,8 @@ fn assert_holds(rt: &impl Abort, programme: &Programme) {
     assert_same(rt, &programme.national(), &National::German);
 }
 
-// Asserts the last frames of both subtitles of a programme.
+// Asserts the frames at which the two subtitles of a programme end, and the TCIs of these
+// subtitles.
 fn assert_both_end(rt: &impl Abort, programme: &Programme) {
     for frame in [0, TEN - 1, TEN, TEN + 49, TEN + 51, TEN + 99, TEN + 101] {
         assert_same_in(rt, &programme.tci_of_ending(frame), &None, &frame);

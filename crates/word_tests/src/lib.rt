@@ -1,7 +1,7 @@
-//! Tests of arguments that make a request: requests, and the values in them. Nothing in this crate
-//! is part of the product.
+//! Tests of parsing arguments: requests, and the values in them. Nothing in this crate is part of
+//! the product.
 //!
-//! These tests are a separate crate, since the tests of a crate are proved by one job.
+//! These tests are a separate crate, since all tests of a crate are proved by one process.
 #![tactic(auto)]
 
 #[cfg(test)]

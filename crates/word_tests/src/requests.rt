@@ -1,4 +1,4 @@
-//! The requests that arguments make.
+//! Parsing arguments as requests.
 use crate::asserting::{assert_same, assert_same_in};
 use fixtures::options;
 use mpeg_ts::{PacketSize, Pid};
@@ -25,7 +25,7 @@ fn reads_the_arguments_of_files(rt: HostRuntime) {
     }
 }
 
-// Arguments that request help: a word for help, alone or together with a command.
+// Arguments that request help: a word for help, alone or with a command.
 #[rattlefmt::skip]
 const HELPS: [&[&str]; 9] = [
     &["subttx", "--help"],
@@ -76,7 +76,8 @@ fn reads_help_after_a_command_as_the_name_of_a_file(rt: HostRuntime) {
     }
 }
 
-// Asserts that arguments request the schedule of files a and b with these options.
+// Asserts that the arguments request a schedule of subtitle file `a`, written to file `b`, with
+// these options.
 fn assert_schedules<'a>(
     rt: &(impl Abort + Alloc<A = Global>),
     arguments: &'a [&'a str],
@@ -128,7 +129,7 @@ fn reads_the_arguments_of_a_schedule(rt: HostRuntime) -> Result<(), Fail> {
     Ok(())
 }
 
-// Asserts that a request reads a subtitle file a and writes a file b.
+// Asserts that a request reads subtitle file `a` and writes file `b`.
 fn assert_writes(rt: &impl Abort, request: &Request<'_>) {
     match request.files() {
         FileNames::Write(input, output) => assert!(rt; input.name() == "a" && output.name() == "b"),
@@ -136,7 +137,7 @@ fn assert_writes(rt: &impl Abort, request: &Request<'_>) {
     }
 }
 
-// Asserts that arguments request a check of files a and b with these flags.
+// Asserts that the arguments request a check of files `a` and `b` with these flags.
 fn assert_checks<'a>(
     rt: &(impl Abort + Alloc<A = Global>),
     arguments: &'a [&'a str],
@@ -179,8 +180,8 @@ fn reads_the_flags_of_a_check(rt: HostRuntime) {
     assert_checks(&rt, &both, true, true);
 }
 
-// Returns the part of a subtitle file that arguments select: whether open subtitles are included,
-// and the frames from which and before which subtitles begin.
+// Returns the part of a subtitle file that the arguments select: whether open subtitles are
+// included, and the range of frames in which subtitles start.
 fn scope_of<'a>(alloc: Global, arguments: &'a [&'a str]) -> Option<(bool, u32, u32)> {
     match Request::parse(alloc, arguments) {
         Ok(Request::Check { scope, .. }) => Some((scope.takes_open, scope.from, scope.to)),
@@ -211,7 +212,7 @@ fn allowed(request: &Request<'_>) -> Option<u64> {
     }
 }
 
-// Asserts the value of `within` that arguments request.
+// Asserts the value of `within` in the requested options.
 fn assert_allows<'a>(rt: &(impl Abort + Alloc<A = Global>), arguments: &'a [&'a str], frames: u64) {
     match Request::parse(rt.alloc(), arguments) {
         Ok(request) => assert_same(rt, &allowed(&request), &Some(frames)),
@@ -231,8 +232,8 @@ fn reads_the_frames_that_are_allowed(rt: HostRuntime) {
     assert_allows(&rt, &["subttx", "listen", "a", "--within", "1", "--at", at], 1);
 }
 
-// Returns the repeat bound and the maximum distance of PES packets that a check requests, in
-// frames.
+// Returns the repeat bound and the maximum distance of PES packets, in frames, of a requested
+// check.
 fn bounds(request: &Request<'_>) -> Option<(u64, Option<u64>)> {
     match request {
         Request::Check { options, .. } => Some((options.every(), options.pace())),
@@ -240,7 +241,8 @@ fn bounds(request: &Request<'_>) -> Option<(u64, Option<u64>)> {
     }
 }
 
-// Asserts the repeat bound and the maximum distance of PES packets that arguments request.
+// Asserts the repeat bound and the maximum distance of PES packets, in frames, that the arguments
+// request.
 fn assert_bounds<'a>(
     rt: &(impl Abort + Alloc<A = Global>),
     arguments: &'a [&'a str],
@@ -261,7 +263,7 @@ fn reads_a_pace(rt: HostRuntime) {
     assert_bounds(&rt, &day, (2_160_000, Some(2_160_000)));
 }
 
-// Returns whether repeats may keep the page in a requested check.
+// Returns whether the options of a requested check allow headers that do not erase the page.
 fn keeps(request: &Request<'_>) -> Option<bool> {
     match request {
         Request::Check { options, .. } => Some(options.may_keep()),
@@ -269,7 +271,7 @@ fn keeps(request: &Request<'_>) -> Option<bool> {
     }
 }
 
-// Asserts whether repeats may keep the page, as arguments request.
+// Asserts whether the arguments allow headers that do not erase the page.
 fn assert_keeps<'a>(rt: &(impl Abort + Alloc<A = Global>), arguments: &'a [&'a str], want: bool) {
     match Request::parse(rt.alloc(), arguments) {
         Ok(request) => assert_same(rt, &keeps(&request), &Some(want)),
@@ -287,8 +289,8 @@ fn reads_whether_repeats_may_keep(rt: HostRuntime) {
     assert_keeps(&rt, &all, true);
 }
 
-// Asserts that arguments request to listen to file a with this page and PTS of frame 0, up to a
-// frame, with this number of skipped packets, and with these flips and lost packets.
+// Asserts that the arguments request `listen` for file `a`, with this page, PTS of frame 0, last
+// frame and number of skipped packets, and with these bit flips and lost packets.
 fn assert_listens<'a>(
     rt: &(impl Abort + Alloc<A = Global>),
     arguments: &'a [&'a str],
@@ -312,15 +314,15 @@ fn assert_listens<'a>(
     }
 }
 
-// Asserts the request of `listen`: the page, the PTS of frame 0, the last frame, and the number of
-// skipped packets.
+// Asserts the page, the PTS of frame 0, the last frame and the number of skipped packets of a
+// requested `listen`.
 fn assert_file_calls(rt: &impl Abort, listening: &Listening, want: &Options, at: u32, skip: u64) {
     assert!(rt; listening.options.page() == want.page());
     assert!(rt; listening.options.origin() == want.origin());
     assert!(rt; listening.at == at && listening.skip == skip);
 }
 
-// The flips of `--flip 1:21:1,02:0:8`.
+// The bit flips of `--flip 1:21:1,02:0:8`.
 #[rattlefmt::skip]
 const FLIPS: [Flip; 2] = [
     Flip { packet: 1, byte: 21, bit: 1 },
@@ -368,7 +370,7 @@ fn names_what_is_read_and_what_is_written(rt: HostRuntime) {
     }
 }
 
-// Returns the selection of PES packets that a request reads.
+// Returns the PES packets that a request selects.
 fn read_by<'r, 'a>(request: &'r Request<'a>) -> Option<&'r PesSelection<'a>> {
     match request {
         Request::Packets { pes } => Some(pes),
@@ -378,7 +380,7 @@ fn read_by<'r, 'a>(request: &'r Request<'a>) -> Option<&'r PesSelection<'a>> {
     }
 }
 
-// Asserts which PES packets of a file b arguments select.
+// Asserts the PES packets of file `b` that the arguments select.
 fn assert_reads<'a>(
     rt: &(impl Abort + Alloc<A = Global>),
     arguments: &'a [&'a str],
@@ -398,7 +400,7 @@ fn assert_reads<'a>(
     }
 }
 
-// Returns the transport stream that consists of the packets of a PID.
+// Returns the transport stream with this PID and packet size.
 fn stream_of(number: u16, packet_size: PacketSize) -> Option<TransportStream> {
     match Pid::new(number) {
         Some(pid) => Some(TransportStream { pid, packet_size }),
@@ -413,7 +415,7 @@ fn reads_which_pes_packets_are_read(rt: HostRuntime) {
     assert_reads(&rt, &["subttx", "packets", "b"], &None, &all);
     assert_reads(&rt, &["subttx", "check", "a", "b"], &None, &all);
     assert_reads(&rt, &["subttx", "listen", "b", "--at", "10:00:00:10"], &None, &all);
-    // The range of PES packets is from the second one on, or from one to another.
+    // A range from the second PES packet on, and ranges between two PES packets.
     let behind = PesPacketRange::new(2, None);
     assert_reads(&rt, &["subttx", "packets", "b", "--pes", "2-"], &None, &behind);
     let some = PesPacketRange::new(0, Some(1));
@@ -442,11 +444,11 @@ fn reads_of_which_transport_packets(rt: HostRuntime) {
         "subttx", "listen", "b", "--pid", "8190", "--packet-size", "204", "--pes", "7-", "--at", at,
     ];
     assert_reads(&rt, &given, &corrected, &PesPacketRange::new(7, None));
-    // The packet size has no effect without a PID.
+    // The packet size is ignored without a PID.
     assert_reads(&rt, &["subttx", "packets", "b", "--packet-size", "192"], &None, &all);
 }
 
-// Asserts that arguments request to write the PES packets of file a to file b.
+// Asserts that the arguments request to write the PES packets of file `a` to file `b`.
 fn assert_extracts<'a>(
     rt: &(impl Abort + Alloc<A = Global>),
     arguments: &'a [&'a str],
@@ -469,7 +471,7 @@ fn assert_extracts<'a>(
     }
 }
 
-// Asserts that a request reads a recording a and writes a file b.
+// Asserts that a request reads recording `a` and writes file `b`.
 fn assert_writes_pes(rt: &impl Abort, request: &Request<'_>) {
     match request.files() {
         FileNames::Extract(input, output) => {

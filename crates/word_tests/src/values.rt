@@ -1,5 +1,5 @@
-//! Numbers, flips, lists of numbers and flips, times, receivers, PIDs, packet sizes and ranges, as
-//! users write them.
+//! Parsing the values of arguments: numbers, bit flips, lists, times, receivers, PIDs, packet sizes
+//! and ranges.
 use crate::asserting::{assert_same, assert_same_in};
 use mpeg_ts::PacketSize;
 use std::alloc::{AllocError, Global};
@@ -14,13 +14,13 @@ fn reads_numbers(rt: HostRuntime) {
     assert_same(&rt, &parse_number("0"), &Some(0));
     assert_same(&rt, &parse_number("0000000007"), &Some(7)); // ten digits
     assert_same(&rt, &parse_number("9999999999"), &Some(9_999_999_999));
-    // Texts that are no numbers: eleven digits, no digits, and characters other than digits.
+    // Invalid numbers: more than ten digits, no digits, and other characters than digits.
     for text in ["00000000007", "10000000000", "", "+1", "-1", "1 ", "1x"] {
         assert_same_in(&rt, &parse_number(text), &None, &text);
     }
 }
 
-// Returns how many numbers a text lists, and the last number.
+// Returns the length of the list of numbers in a text, and its last number.
 fn numbers_in(alloc: Global, text: &str) -> Result<Option<(usize, u64)>, AllocError> {
     match parse_list::<_, u64>(alloc, text)? {
         Some(list) => Ok(Some((list.len(), list.last().copied().unwrap_or(0)))),
@@ -28,7 +28,7 @@ fn numbers_in(alloc: Global, text: &str) -> Result<Option<(usize, u64)>, AllocEr
     }
 }
 
-// Lists of 64 numbers, the most that are allowed, and of one number more.
+// A list of 64 numbers, the maximum, and a list of 65 numbers.
 const NUMBERS: &str =
     "0,1,2,3,4,5,6,7,8,9,10,11,12,13,14,15,16,17,18,19,20,21,22,23,24,25,26,27,28,29,30,31,\
     32,33,34,35,36,37,38,39,40,41,42,43,44,45,46,47,48,49,50,51,52,53,54,55,56,57,58,59,60,\
@@ -50,7 +50,7 @@ fn reads_lists_of_numbers(rt: HostRuntime) {
         &Ok(Some((3, 9_999_999_999))),
     );
     assert_same(&rt, &numbers_in(alloc, NUMBERS), &Ok(Some((64, 63))));
-    // Texts that are no list: with the same value twice, or with other faults.
+    // Invalid lists: a value occurs twice, or the text has another fault.
     for text in [
         "1,01",
         "1,2,1",
@@ -65,14 +65,14 @@ fn reads_lists_of_numbers(rt: HostRuntime) {
     }
 }
 
-// The value of `flips_in` for a list without a last flip.
+// The value of `flips_in` for a list without a last bit flip.
 const NO_FLIP: Flip = Flip {
     packet: 0,
     byte: 0,
     bit: 0,
 };
 
-// Returns how many flips a text lists, and the last flip.
+// Returns the length of the list of bit flips in a text, and its last bit flip.
 fn flips_in(alloc: Global, text: &str) -> Result<Option<(usize, Flip)>, AllocError> {
     match parse_list::<_, Flip>(alloc, text)? {
         Some(list) => Ok(Some((list.len(), list.last().copied().unwrap_or(NO_FLIP)))),
@@ -80,7 +80,8 @@ fn flips_in(alloc: Global, text: &str) -> Result<Option<(usize, Flip)>, AllocErr
     }
 }
 
-// Asserts how many flips a text lists, and the packet, byte and bit of the last flip.
+// Asserts the length of the list of bit flips in a text, and the packet, byte and bit of its last
+// bit flip.
 fn assert_flips(
     rt: &(impl Abort + Alloc<A = Global>),
     text: &str,
@@ -96,7 +97,7 @@ fn assert_flips(
     );
 }
 
-// Lists of 64 flips, the most that are allowed, and of one flip more.
+// A list of 64 bit flips, the maximum, and a list of 65 bit flips.
 const FLIPS: &str =
     "0:0:1,1:1:2,2:2:3,3:3:4,4:4:5,5:5:6,6:6:7,7:7:8,8:8:1,9:9:2,10:10:3,11:11:4,12:12:5,\
     13:13:6,14:14:7,15:15:8,16:16:1,17:17:2,18:18:3,19:19:4,20:20:5,21:21:6,22:22:7,\
@@ -175,7 +176,7 @@ fn reads_receivers(rt: HostRuntime) {
     }
 }
 
-// Returns the number of the PID that a text gives.
+// Returns the PID in a text.
 fn pid_in(text: &str) -> Option<u16> {
     match parse_pid(text) {
         Some(pid) => Some(pid.number()),
@@ -202,14 +203,14 @@ fn reads_pids(rt: HostRuntime) {
 #[test]
 fn refuses_pids(rt: HostRuntime) {
     for text in [
-        // The PID of null packets, and numbers that would be another PID if cut to 13, 16 or 32
-        // bits.
+        // The PID of null packets, and numbers that would be another PID after truncation to 13, 16
+        // or 32 bits.
         "8191", "0x1fff", "0x2101", "8449", "65793", "0x10101", "4294967553", "9999999999",
         "0xffffffff",
-        // Numbers of eleven decimal digits, and of nine hexadecimal digits.
+        // Numbers with eleven decimal digits or nine hexadecimal digits.
         "00000000257", "0x000000101",
-        // Texts without digits, or with signs, spaces, another `0x`, or characters other than
-        // digits.
+        // Texts without digits, and texts with signs, spaces, a wrong prefix, or other characters
+        // than digits.
         "", "0x", "x", "-1", "+1", "0x+1", "0x-1", "-0x101", "+0x101", " 257", "257 ", "0x 101",
         "0X101", "x101", "101h", "0x10g", "0x0x101", "1e2", "$101", "257,258",
     ] {
@@ -232,8 +233,8 @@ fn reads_packet_sizes(rt: HostRuntime) {
     }
 }
 
-// Returns the number of the first PES packet of a range, and how many PES packets the range has
-// room for.
+// Returns the number of the first PES packet of a range, and the maximum number of PES packets in
+// the range.
 fn range_in(text: &str) -> Option<(u64, Option<u64>)> {
     match parse_range(text) {
         Some(range) => Some((range.first(), range.most())),
@@ -257,11 +258,11 @@ fn reads_ranges(rt: HostRuntime) {
 #[test]
 fn refuses_ranges(rt: HostRuntime) {
     for text in [
-        // Ranges whose last number is before the first.
+        // Ranges that end before their first number.
         "2-1", "10-9", "1-0",
-        // Texts with one number, none, or three.
+        // Texts with one number, no number, or three numbers.
         "1", "", "-", "-1", "--", "1--2", "1-2-", "1-2-3", "-1-2",
-        // Numbers of eleven digits, signs, spaces, and texts that are no numbers.
+        // Numbers with eleven digits, signs or spaces, and other invalid numbers.
         "00000000001-1", "1-00000000001", "10000000000-", "+1-2", "1-+2", " 1-2", "1 -2", "1- 2",
         "1-2 ", "1- ", "a-b", "1-x", "x-1", "x-", "0x1-2", "1,2", "1:2", "1..2",
     ] {
