@@ -1,5 +1,5 @@
--- If no frame may be late and every repeat must have C4 (erase page) set, `GoodBy` is `Good`, and
--- the guarantees are those of the main theorem.
+-- If `within` is 0 and each header must have C4 (erase page) set, `GoodBy` is the same as `Good`,
+-- and the guarantees are the same.
 use Rattle.std.specs.Prelude.{◌≡◌, ◌↔◌, ℕ, false, IsTrue}
 use Rattle.stl_rows.specs.Programme.{IsProgramme, ProgrammeValue}
 use Rattle.sub_plan.specs.Options.{OptionsValue}
@@ -10,8 +10,8 @@ use Rattle.sub_laws.specs.OnScreen.{Complete}
 use Rattle.sub_laws.specs.Repeats.{MayBeTrustedBy}
 use Rattle.sub_laws.specs.Stretch.{MayBeTrusted}
 
--- If `within` is 0, a transmission is good by the options exactly if it is good and, if complete
--- pages are required, its pages are complete.
+-- If `within` is 0, a transmission is good under the options if and only if it is good and, if
+-- complete pages are required, its pages are complete.
 abbrev pub LawOfNoDelay : Type 0
 LawOfNoDelay =
     (programme : ProgrammeValue) (transmission : Transmission) (options : OptionsValue)
@@ -21,8 +21,8 @@ LawOfNoDelay =
     ↔ (Good programme transmission options
     × (IsTrue options.asks_complete → Complete transmission options))
 
--- If `within` is 0 and every repeat must have C4 (erase page) set, a range of frames that may be
--- trusted by the options may be trusted: the guarantees are the same.
+-- If `within` is 0 and each header must have C4 (erase page) set, the guarantees for repeats in the
+-- frames from a to b include the guarantees without them.
 abbrev pub LawOfTrustWithoutDelay : Type 0
 LawOfTrustWithoutDelay =
     (programme : ProgrammeValue) (transmission : Transmission) (options : OptionsValue) (a b : ℕ)

@@ -1,5 +1,5 @@
--- The events for a transmission, place by place: a fault is reported exactly if a rule is broken at
--- that place. The list `all_of_pes_packets` has the places in order.
+-- The events of a transmission report exactly its broken rules: at each place, a fault is reported
+-- if and only if a rule is broken there.
 use Rattle.std.specs.Prelude.{◌≡◌, ◌↔◌, ℕ, suc, ◌<◌, ◌≤◌, List, [], length, map, Option}
 use Rattle.std.specs.Prelude.{Some, None, IsTrue, IsFalse}
 use Rattle.ttx_packet.specs.PacketAddress.{IsPacket}
@@ -25,15 +25,15 @@ use Rattle.sub_rules.specs.declared.packet_rule.PacketRule.TheVariants as rule
 use Rattle.sub_rules.specs.declared.packet_rule.Watched.{Watched}
 use Rattle.sub_laws.specs.OnScreen.{Complete}
 
--- (row, column) is the first wrong cell after n frames of the list, at the end of frame f.
+-- The first wrong cell at the end of frame f, after n frames of the transmission.
 pub record WrongFirst (g : Criteria) (frames : Transmission) (n f row column : ℕ) : Type 0 where
   pub is_cell : IsCell row column
   pub broken : ShowsDue g frames n f row column → ⊥
   pub above : (r k : ℕ) → IsCell r k → r < row → ShowsDue g frames n f r k
   pub before : (k : ℕ) → k < column → ShowsDue g frames n f row k
 
--- What each rule for the end of a frame requires at the end of frame f, after n frames of the list.
--- If the expected page is unknown, any code may be in any cell.
+-- The requirement of each rule that is checked at the end of frame f, after n frames of the
+-- transmission. If the expected page is unknown, any code may be in any cell.
 abbrev pub IsKept : EndRule → Criteria → Transmission → ℕ → ℕ → Type 0
 IsKept end.Content g frames n f =
     IsFalse (g.undecided f)
@@ -45,8 +45,8 @@ IsKept end.Incomplete g frames n f = IsEnded g frames n
 IsKept end.Undecided g frames n f = IsFalse (g.undecided f)
 IsKept end.Silent g frames n f = IsPaced g frames n f
 
--- A rule is among the active faults at the end of frame f exactly if it is broken; wrong content is
--- reported at the first wrong cell.
+-- A fault is active at the end of frame f if and only if its rule is broken. For wrong text, the
+-- fault gives the first wrong cell.
 pub record AreActiveFaults (g : Criteria) (frames : Transmission) (n f : ℕ) : Type 0 where
   pub rules :
       (rule : EndRule)
@@ -56,16 +56,15 @@ pub record AreActiveFaults (g : Criteria) (frames : Transmission) (n f : ℕ) : 
       → (active_faults_at g frames n f).content ≡ Some x
       → WrongFirst g frames n f x.0 x.1
 
--- A packet of 42 bytes, sent after packets that keep all rules. Its address bytes are code words,
--- and it has odd parity if it is a row of the open page. Two such packets of one row are equal if
--- they have the same codes.
+-- A packet of 42 bytes that has correct address bytes, follows packets without faults and, if it is
+-- a row of the open page, has odd parity. Such rows are equal if they have the same codes.
 pub record IsComparable (w : Watched) (before : List (List ℕ)) (p : List ℕ) : Type 0 where
   pub clean : AreClean w before
   pub whole : IsPacket p
   pub exact : KeepsRule rule.Address w before p
   pub odd : KeepsRule rule.Parity w before p
 
--- At each place of a transmission a fault is reported exactly if a rule is broken there.
+-- At each place of a transmission, a fault is reported if and only if a rule is broken there.
 pub record ReportsBroken (g : Criteria) (frames : Transmission) : Type 0 where
   -- The first frame is not after the first TCI, and each later frame is after the frame before it.
   pub start :
@@ -73,37 +72,37 @@ pub record ReportsBroken (g : Criteria) (frames : Transmission) : Type 0 where
       ↔ ((first : ℕ) → g.first_tci ≡ Some first → frame_at frames 0 ≤ first)
   pub order :
       (i : ℕ) → (order_events g frames (suc i) ≡ []) ↔ (frame_at frames i < frame_at frames (suc i))
-  -- The test of each rule for packets succeeds exactly if the rule is kept. Rows are compared by
-  -- their codes, which determine the bytes of packets that keep the rules before it.
+  -- The test of each packet rule passes if and only if the packet keeps the rule. Rows are compared
+  -- by their codes; for packets without other faults, the codes determine the bytes.
   pub rules :
       (r : PacketRule) (before : List (List ℕ)) (p : List ℕ)
       → (r ≡ rule.RowChanged → IsComparable g.watched before p)
       → IsFalse (breaks r g.watched before p) ↔ KeepsRule r g.watched before p
   -- The first frame has a header of the page.
   pub header : (first_header_events g frames 0 ≡ []) ↔ HasHeader g frames 0
-  -- The active faults at the end of a frame. A fault is reported if it was not active at the end
-  -- before.
+  -- The active faults at the end of a frame are exact. A fault is reported if it was not active at
+  -- the end of the frame before.
   pub ends : (n f : ℕ) → n ≤ length frames → AreActiveFaults g frames n f
   -- No subtitle ends after the last frame of the transmission.
   pub late :
       (late_events g frames ≡ [])
       ↔ ((last : ℕ) → g.last_tco ≡ Some last → last ≤ end_frame frames)
-  -- If there is any event for packets of 42 bytes, there is a fault. If subtitles were refused,
-  -- trusted frames are reported even without a fault.
+  -- If there is any event, there is a fault, unless subtitles were rejected: then trusted frames
+  -- are reported even without a fault.
   pub first :
       IsFalse g.any_refused
       → EachPacket IsPacket frames
       → first_reported (all_of_pes_packets g (map Sent frames)) ≡ None
       → all_of_pes_packets g (map Sent frames) ≡ []
 
--- If `within` is 0, the events for a transmission report exactly its broken places, in order. So
--- the first fault is the first broken place.
+-- If `within` is 0, the events of a transmission report each broken rule at its place, in order,
+-- and nothing else. So the first fault is at the first broken place.
 abbrev pub LawOfBrokenPlaces : Type 0
 LawOfBrokenPlaces = (g : Criteria) (frames : Transmission) → g.within ≡ 0 → ReportsBroken g frames
 
--- A PES file has no event exactly if none of its PES packets is skipped, their frames are good by
--- the options, and the file was read to its end. If `within` is not 0, consecutive PES packets of
--- one frame are merged.
+-- A PES file has no event if and only if no PES packet is skipped, its frames are good under the
+-- options, and the entire file was read. If `within` is not 0, consecutive PES packets of one frame
+-- are merged.
 abbrev pub LawOfNothingReportedRepeats : Type 0
 LawOfNothingReportedRepeats =
     (programme : ProgrammeValue) (options : OptionsValue) (unread : Option Unread)
@@ -116,9 +115,9 @@ LawOfNothingReportedRepeats =
     × GoodBy options.keeps programme (joined options.within (frames_of pes_packets)) options
     × (unread ≡ None))
 
--- If every repeat must have C4 (erase page) set and `within` is 0, a PES file has no event exactly
--- if none of its PES packets is skipped, its frames are good, with complete pages if these are
--- required, and the file was read to its end.
+-- If each header must have C4 (erase page) set and `within` is 0, a PES file has no event if and
+-- only if no PES packet is skipped, its frames are good, with complete pages if these are required,
+-- and the entire file was read.
 abbrev pub LawOfNothingReported : Type 0
 LawOfNothingReported =
     (programme : ProgrammeValue) (options : OptionsValue) (unread : Option Unread)

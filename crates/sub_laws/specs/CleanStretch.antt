@@ -1,5 +1,4 @@
--- A clean range of frames: frames in increasing order without reports of faults that a receiver
--- depends on, whatever else is reported in the frame range or elsewhere.
+-- A range of frames without faults that affect receivers.
 use Rattle.std.specs.Prelude.{Bool, None, Option, IsFalse, IsTrue}
 use Rattle.std.specs.Prelude.{◌≡◌, ℕ, ◌-◌, ◌<◌, ◌≤◌, ◌⊎◌, List, [], ◌++◌, length, take}
 use Rattle.std.specs.Prelude.{slice_index_or}
@@ -15,10 +14,10 @@ use Rattle.sub_rules.specs.declared.packet_rule.PacketRule.{PacketRule}
 use Rattle.sub_laws.specs.OnScreen.{CompleteWithin}
 use Rattle.sub_laws.specs.Sufficient.{IsSufficient}
 
--- ---- packets and ends of a stretch
+-- ---- packets and frame ends in a range of frames
 
 -- A property holds for each packet of the frames from a to b, given all packets that were sent
--- before the packet, from the first packet of the transmission.
+-- before it.
 abbrev pub AtPackets :
     (List (List ℕ) → List ℕ → Type 0) → Transmission → ℕ → ℕ → Type 0
 AtPackets Holds frames a b =
@@ -30,8 +29,8 @@ AtPackets Holds frames a b =
     → Holds (packets_before frames i ++ take k (packets_of_frame frames i))
     (slice_index_or (packets_of_frame frames i) k [])
 
--- The end of frame f, after the first n frames of the list: f is frame n - 1 of the list; or f is a
--- later frame of the day before the next frame of the list, and has no packets of its own.
+-- Frame f ends after the first n frames of the transmission. It is the last of them, or a later
+-- frame without packets before the next frame of the transmission.
 abbrev pub IsEnd : Transmission → ℕ → ℕ → Type 0
 IsEnd frames n f =
     (0 < n)
@@ -41,29 +40,28 @@ IsEnd frames n f =
     × (f < frame_at frames n)
     × ((i : ℕ) → i < n → frame_at frames i < f)))
 
--- A property holds at the end of each frame from a to b, given the number of frames so far and the
--- frame.
+-- A property holds at the end of each frame from a to b, given the number of transmission frames up
+-- to it.
 abbrev pub AtEnds : (ℕ → ℕ → Type 0) → Transmission → ℕ → ℕ → Type 0
 AtEnds Holds frames a b = (n f : ℕ) → IsEnd frames n f → a ≤ f → f ≤ b → Holds n f
 
--- The frames from a to b are within the transmission.
+-- The frames from a to b lie within the transmission.
 pub record IsStretch (frames : Transmission) (a b : ℕ) : Type 0 where
   pub not_empty : 0 < length frames
   pub from : first_frame frames ≤ a
   pub in_order : a ≤ b
   pub to : b ≤ last_frame frames
 
--- ---- reports of a stretch
+-- ---- faults in a range of frames
 
--- A receiver depends on this rule for packets: a frame with a packet that breaks the rule is not
--- clean.
+-- A packet that breaks this rule affects receivers.
 abbrev pub is_needed : PacketRule → Bool
 is_needed r = (fault_row (packet_fault r 0 0)).invalidates
 
--- The frame range has no report that a receiver depends on: the frames of the entire transmission
--- rise; no packet of the frame range breaks a rule that receivers depend on; at no end in the frame
--- range wrong content or a missing header is active, whether reported in the frame range or before;
--- and at each end the expected page is known, and was known at the `within` frames before.
+-- The range of frames has no fault that affects receivers: frame numbers increase in the entire
+-- transmission; no packet of the range breaks a rule that affects receivers; no wrong cell or
+-- missing header is active at the end of any of its frames; and the expected page of each frame,
+-- and of the `within` frames before it, is known.
 pub record IsUnreported (g : Criteria) (frames : Transmission) (a b : ℕ) : Type 0 where
   pub stretch : IsStretch frames a b
   pub rising : IsRising frames
@@ -75,25 +73,23 @@ pub record IsUnreported (g : Criteria) (frames : Transmission) (a b : ℕ) : Typ
   pub gap : AtEnds (λ n f. IsFalse (active_faults_at g frames n f).gap) frames a b
   pub undecided : AtEnds (λ n f. IsFalse (active_faults_at g frames n f).undecided) frames a b
 
--- The page is open at no end of the frames from a to b.
+-- The fault `Incomplete` is not active at the end of any frame from a to b.
 abbrev pub NoneOpen : Criteria → Transmission → ℕ → ℕ → Type 0
 NoneOpen g frames a b =
     AtEnds (λ n f. IsFalse (active_faults_at g frames n f).incomplete) frames a b
 
--- The criteria of a programme and options, if subtitles of the file may have been refused
--- (`any_refused`) and the expected page is unknown at the frames `undecided` for that reason.
+-- The criteria for these subtitles and options, if other subtitles may have been rejected.
+-- `undecided` are the frames with an unknown expected page.
 abbrev pub criteria_unsure :
     ProgrammeValue → OptionsValue → Option Unread → Bool → (ℕ → Bool) → Criteria
 criteria_unsure programme options unread any_refused undecided =
     record (criteria_of programme options unread)
     { any_refused = any_refused; undecided = undecided }
 
--- If every repeat must have C4 (erase page) set and `within` is 0, a range of frames without
--- reports that a receiver depends on has the sufficient parts of the rules, so it may be trusted
--- (`LawOfStretch`). If complete pages are required, and the page is open at no end in the frame
--- range, its pages are complete, so the expected page is on screens, too. So the reports of a
--- refused transmission show which part may still be trusted: frames in increasing order, from the
--- first header of the page in a range of frames.
+-- If each header must have C4 (erase page) set and `within` is 0, a range of frames without faults
+-- that affect receivers meets the sufficient conditions (`LawOfStretch`). If its pages have ended
+-- at each frame end, they are complete. So the report on a rejected transmission shows which part
+-- of it is correct for receivers.
 abbrev pub LawOfUnreportedStretch : Type 0
 LawOfUnreportedStretch =
     (programme : ProgrammeValue) (transmission : Transmission) (options : OptionsValue)

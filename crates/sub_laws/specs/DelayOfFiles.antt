@@ -1,4 +1,4 @@
--- The transmission that a PES file carries with a greater `within`; a good transmission stays good.
+-- The transmission that a PES file carries stays the same and stays good if `within` is increased.
 use Rattle.std.specs.Prelude.{ℕ, ◌^◌, ◌<◌, ◌≤◌, Bool, List}
 use Rattle.stl_rows.specs.Programme.{ProgrammeValue}
 use Rattle.sub_plan.specs.FrameTime.{clock_of}
@@ -12,9 +12,9 @@ abbrev pub within_frames : ℕ → OptionsValue → OptionsValue
 within_frames more options = record options { within = more }
 
 -- If the bytes of a PES file carry a transmission with some `within`, they carry it with any
--- greater `within`: the PTS of a frame is within its tolerance, and in rising frames no frame is
--- sent by two PES packets. If the transmission is good with the smaller `within`, it is good with
--- the greater one. So an accepted file is accepted with more frames, too.
+-- greater `within`: each PTS stays within its tolerance, and no two PES packets have the same
+-- frame. If the transmission is good with the smaller `within`, it is good with the greater one. So
+-- an accepted file is still accepted.
 abbrev pub LawOfLongerDelayOfFiles : Type 0
 LawOfLongerDelayOfFiles =
     (keeps : Bool) (programme : ProgrammeValue) (options : OptionsValue) (more : ℕ)

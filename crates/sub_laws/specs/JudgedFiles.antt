@@ -1,5 +1,4 @@
--- The subtitles with which a transmission is compared if subtitles of the file were refused, or
--- only a part of the file is requested.
+-- The reliable subtitles of a file, of which others may be rejected or outside the requested range.
 use Rattle.std.specs.Prelude.{◌≡◌, ℕ, true, List, ◌++◌, length, None, Option}
 use Rattle.std.specs.List.{AllByRecursion, concat}
 use Rattle.stl_file.specs.Gsi.{gsi_size}
@@ -14,9 +13,9 @@ use Rattle.sub_rules.specs.FrameRules.{Unread, criteria_of_judged, is_due_undeci
 use Rattle.sub_rules.specs.PesPacketEvents.{all_of_pes_packets}
 use Rattle.sub_rules.specs.PesPackets.{PesPacket}
 
--- A part of a subtitle file gives the same reliable subtitles as the file from which the blocks of
--- all other subtitles were removed, if the file can be read to its end. A transmission can be
--- judged by both or by neither.
+-- A range of a subtitle file has the same reliable subtitles as the file without the blocks of all
+-- other subtitles, if the file can be read to its end. A transmission can be checked against both
+-- or against neither.
 abbrev pub LawOfJudgedParts : Type 0
 LawOfJudgedParts =
     (drawing : Drawing) (gsi : List ℕ) (blocks : List (List ℕ))
@@ -28,9 +27,9 @@ LawOfJudgedParts =
     × (can_judge drawing (gsi ++ concat blocks)
     ≡ can_judge (of_day drawing) (gsi ++ concat (kept_blocks drawing.scope None blocks)))
 
--- If two subtitle files agree on the reliable subtitles, on the frames whose expected page is
--- unknown, and on whether subtitles were refused, the events for a PES file are the same. So
--- neither the texts nor the times of refused subtitles matter otherwise.
+-- If two subtitle files have the same reliable subtitles, the same frames with an unknown expected
+-- page, and rejected subtitles both or neither, a PES file has the same events for both. So neither
+-- the text nor the times of rejected subtitles matter otherwise.
 abbrev pub LawOfEqualReports : Type 0
 LawOfEqualReports =
     (one other : JudgedValue) (options : OptionsValue) (unread : Option Unread)

@@ -1,4 +1,4 @@
--- The laws of the main theorem: a good transmission keeps its guarantees.
+-- The laws of the main theorem: a good transmission meets its guarantees.
 use Rattle.std.specs.Prelude.{◌↔◌, ℕ, ◌+◌, ◌≤◌, All, Bool, IsTrue, List}
 use Rattle.ttx_page.specs.PacketKind.{kind}
 use Rattle.ttx_page.specs.Span.{holds_header}
@@ -11,7 +11,7 @@ use Rattle.sub_laws.specs.LostRows.{IsRobustWithLosses}
 use Rattle.sub_laws.specs.Stretch.{HasPromises}
 
 -- A receiver that starts at any packet of frame g of a good transmission gets a header of the page
--- by the end of frame g + every. So no receiver waits longer for its page than the repeat bound.
+-- by the end of frame g + `every`, so within the repeat bound.
 abbrev pub LawOfWindow : Type 0
 LawOfWindow =
     (programme : ProgrammeValue) (transmission : Transmission) (options : OptionsValue)
@@ -21,18 +21,16 @@ LawOfWindow =
     → g + options.every ≤ f
     → IsTrue (holds_header (kind options.page) (on_air transmission g j f))
 
--- A good transmission is robust, also with lost rows. Receivers of both classes recover whatever
--- they contained before, so earlier transmissions and errors no longer matter after the next
--- header. If the pages of the transmission are complete, the expected page is on the receivers'
--- screens.
+-- A good transmission is robust, even if rows are lost. Receivers of both classes recover whatever
+-- they received before, so earlier errors no longer matter after the next header. If pages are
+-- complete, the expected page is on the receivers' screens.
 abbrev pub LawOfGood : Type 0
 LawOfGood =
     (programme : ProgrammeValue) (transmission : Transmission) (options : OptionsValue)
     → Good programme transmission options
     → HasPromises programme transmission options
 
--- A transmission is robust to lost rows, for the case that no packet is lost, exactly if it is
--- robust.
+-- A transmission is robust without lost packets if and only if it is robust.
 abbrev pub LawOfAllKept : Type 0
 LawOfAllKept =
     (programme : ProgrammeValue) (transmission : Transmission) (options : OptionsValue)

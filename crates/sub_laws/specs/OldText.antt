@@ -1,5 +1,5 @@
--- When old text is gone from a receiver that contained it before the receiver was tuned in, if
--- repeats may have C4 (erase page) clear: at the latest when text ends or changes.
+-- If repeats may have C4 (erase page) clear, a receiver may show old text after it was tuned in.
+-- The text is gone at the latest when text ends or changes.
 use Rattle.std.specs.Prelude.{◌≡◌, ◌≢◌, ℕ, ◌+◌, ◌-◌, ◌<◌, ◌≤◌, Bool, List, IsTrue}
 use Rattle.ttx_page.specs.DroppedRows.{ExcusedBy}
 use Rattle.ttx_page.specs.LostRows.{IsHitOrLost, arrivals_of}
@@ -17,9 +17,8 @@ use Rattle.sub_rules.specs.Transmission.{packets_between}
 use Rattle.sub_laws.specs.LostRows.{IsReceivedWithLosses}
 use Rattle.sub_laws.specs.Robust.{HoldsDuePage}
 
--- Text ends or changes in a cell at frame e: the same code other than a space is expected in that
--- cell in each of the `within` + 1 frames before e, and in none of the `within` + 1 frames from e
--- on.
+-- Text ends or changes in a cell at frame e: the same code, not a space, is expected in the cell in
+-- each of the `within` + 1 frames before e, and in none of the `within` + 1 frames from e on.
 pub record TextEnds (programme : ProgrammeValue) (within e row column code : ℕ) : Type 0 where
   pub is_cell : IsCell row column
   pub is_text : code ≢ space
@@ -27,9 +26,9 @@ pub record TextEnds (programme : ProgrammeValue) (within e row column code : ℕ
       (f : ℕ) → f < e → e ≤ f + within + 1 → cell (due_in programme f) row column ≡ code
   pub gone : (f : ℕ) → e ≤ f → f ≤ e + within → cell (due_in programme f) row column ≢ code
 
--- The contents of a receiver's page at the end of frame f: each cell has a space, or a code that is
--- expected in that cell in frame f or in one of the `within` frames before. If the page is correct
--- or `within` is 0, each cell has the code of the expected page or an excused space.
+-- The page of a receiver at the end of frame f: each cell has a space, or a code that was expected
+-- in it within the last `within` frames. If the page is correct or `within` is 0, each cell has the
+-- expected code, or a space that is allowed because of an error.
 pub record HoldsWhatIsDue
     (keeps : Bool) (programme : ProgrammeValue) (transmission : Transmission)
     (options : OptionsValue) (f : ℕ) (IsExcused : ℕ → ℕ → Type 0) (new : State)
@@ -43,10 +42,9 @@ pub record HoldsWhatIsDue
       → HoldsDuePage programme f IsExcused new.page
   pub at_once : options.within ≡ 0 → HoldsDuePage programme f IsExcused new.page
 
--- If text ends or changes at frame e of a good transmission, a header that begins the text of the
--- page is sent in that frame, or, if `within` is not 0, at most `within` frames before or after it.
--- So old text is gone by then: a receiver that was tuned in before these frames, whatever it
--- contained, has the contents that are expected from the end of the last of these frames on.
+-- If text ends or changes at frame e of a good transmission, a header that erases the page is sent
+-- in that frame, or at most `within` frames before or after it. So a receiver that was tuned in
+-- before has erased its old text by then, and has only expected codes.
 abbrev pub LawOfOldText : Type 0
 LawOfOldText =
     (keeps : Bool) (programme : ProgrammeValue) (transmission : Transmission)

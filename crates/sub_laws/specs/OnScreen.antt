@@ -1,5 +1,4 @@
--- The screen of a receiver that shows a page only after a later header has ended it, wherever the
--- receiver starts, whatever bits are wrong and whatever rows are lost.
+-- The screen of a receiver that shows a page only after a later header has ended it.
 use Rattle.std.specs.Prelude.{◌≡◌, ℕ, ◌≤◌, Bool, List, [], Some, IsTrue, IsFalse}
 use Rattle.ttx_page.specs.DroppedRows.{ExcusedBy}
 use Rattle.ttx_page.specs.LostRows.{IsHitOrLost, arrivals_of}
@@ -16,9 +15,8 @@ use Rattle.sub_laws.specs.Robust.{HoldsDuePage}
 use Rattle.sub_rules.specs.Transmission.{Transmission, first_frame, last_frame, on_air}
 use Rattle.sub_rules.specs.Transmission.{on_air_until}
 
--- Pages are complete in the frames from a to b: at the end of each of these frames, with packets of
--- its own or not, the last header of the page, if any, was followed by a header that ends the page.
--- So the page is not open at the end.
+-- Pages are complete in the frames from a to b: by the end of each of these frames, the last header
+-- of the page was followed by a header that ends the page.
 abbrev pub CompleteWithin : Transmission → OptionsValue → ℕ → ℕ → Type 0
 CompleteWithin transmission options a b =
     (f : ℕ)
@@ -32,10 +30,9 @@ abbrev pub Complete : Transmission → OptionsValue → Type 0
 Complete transmission options =
     CompleteWithin transmission options (first_frame transmission) (last_frame transmission)
 
--- Receivers of the class show the expected page in the frames from a to b: wherever a receiver
--- starts and stops, whatever it receives, whatever it contained and showed before, and whatever it
--- chooses, its screen has a page after a header of the page was sent. That page is the expected
--- page, except for spaces that are excused as in `RecoversWithin`.
+-- In the frames from a to b, the screens of receivers of this class show the expected page once a
+-- header of the page was sent, wherever a receiver starts and stops, and whatever it received and
+-- showed before. A cell may have a space because of an error, as in `RecoversWithin`.
 abbrev pub ShownWithin :
     ReceiverClass → ProgrammeValue → Transmission → OptionsValue → ℕ → ℕ → Type 0
 ShownWithin class programme transmission options a b =
@@ -50,8 +47,8 @@ ShownWithin class programme transmission options a b =
     (IsHitOrLost options.page (on_air transmission g j f) (arrivals_of arrived got)))
     page
 
--- The schedule of a programme with at least one subtitle has complete pages, in both transmission
--- modes.
+-- The schedule of a subtitle file with at least one subtitle has complete pages, in serial and
+-- parallel mode.
 abbrev pub LawOfCompletePlan : Type 0
 LawOfCompletePlan =
     (programme : ProgrammeValue) (options : OptionsValue) (serial : Bool)

@@ -1,5 +1,5 @@
--- The page that every receiver has of a transmission, whatever the receiver contained before,
--- wherever it starts, whatever bits are wrong and whatever rows are lost.
+-- The guarantee that receivers show the expected page after the next header, whatever they received
+-- before.
 use Rattle.std.specs.Prelude.{ℕ, Bool, List}
 use Rattle.ttx_page.specs.DroppedRows.{ExcusedBy}
 use Rattle.ttx_page.specs.LostRows.{IsHitOrLost, arrivals_of}
@@ -10,11 +10,10 @@ use Rattle.sub_laws.specs.LostRows.{IsReceivedWithLosses}
 use Rattle.sub_laws.specs.Robust.{IsServed}
 use Rattle.sub_rules.specs.Transmission.{Transmission, on_air}
 
--- Receivers of the class recover in the frames from a to b: wherever a receiver starts and stops in
--- these frames, whatever it receives, whatever it contained before (any page, open or not, with or
--- without a header), and whatever it chooses, it is served. A space is excused only if its byte was
--- hit or its row lost; for a receiver that drops rows, if any byte of its row was hit, or the row
--- lost.
+-- Receivers of this class recover in the frames from a to b: the guarantee `IsServed` holds
+-- wherever a receiver starts and stops in these frames, and whatever page it had before. A cell may
+-- have a space only if its byte had a wrong bit or its row was lost; for receivers that drop a row
+-- with an error, if any byte of its row had a wrong bit or the row was lost.
 abbrev pub RecoversWithin :
     ReceiverClass → ProgrammeValue → Transmission → OptionsValue → ℕ → ℕ → Type 0
 RecoversWithin class programme transmission options a b =

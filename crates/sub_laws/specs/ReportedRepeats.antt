@@ -1,5 +1,5 @@
--- The guarantees for frames without reports that a receiver depends on, if repeats may have C4
--- (erase page) clear.
+-- The guarantees for frames without faults that affect receivers, if repeats may have C4 (erase
+-- page) clear.
 use Rattle.std.specs.Prelude.{◌≡◌, ℕ, ◌≤◌, Bool, Option}
 use Rattle.stl_rows.specs.Programme.{IsProgramme, ProgrammeValue}
 use Rattle.sub_plan.specs.Options.{OptionsValue}
@@ -14,12 +14,12 @@ pub record IsSufficientRepeats
     (keeps : Bool) (programme : ProgrammeValue) (transmission : Transmission)
     (options : OptionsValue) (a b : ℕ)
     : Type 0 where
-  -- The frame range has what recovery needs (`LawOfRepeatedStretch`).
+  -- Receivers recover in the range of frames (`LawOfRepeatedStretch`).
   pub stretch : IsRepeatedStretch keeps transmission options a b
-  -- At the end of each frame the code of a cell is a space, or was expected in that cell within the
+  -- At the end of each frame, each cell has a space, or a code that was expected in it within the
   -- last `within` frames.
   pub codes : KeepsDueCodes keeps programme transmission options a b
-  -- If `within` is 0, each cell is correct at the end of each frame.
+  -- If `within` is 0, the page is correct at the end of each frame.
   pub whole :
       options.within ≡ 0
       → (f : ℕ)
@@ -27,10 +27,10 @@ pub record IsSufficientRepeats
       → f ≤ b
       → IsCorrectPage keeps programme options.page transmission f
 
--- A range of frames without reports that a receiver depends on is sufficient, whatever `within` is;
--- and if the page is open at no end in the frame range, its frames are finished in time. So the
--- reports of a refused transmission show which part may still be trusted: from the first header in
--- a range of frames that begins the text of the page, whatever a receiver contained before.
+-- A range of frames without faults that affect receivers meets the sufficient conditions. If its
+-- pages have ended at each frame end, its frames are finished in time. So the report on a rejected
+-- transmission shows which part of it is correct for receivers: from the first header that erases
+-- the page on.
 abbrev pub LawOfUnreportedRepeats : Type 0
 LawOfUnreportedRepeats =
     (programme : ProgrammeValue) (transmission : Transmission) (options : OptionsValue)

@@ -1,5 +1,5 @@
--- The page that every receiver has of a transmission, wherever the receiver starts and whatever
--- bits are wrong.
+-- The guarantee that every receiver has the expected page, wherever it starts and whatever bits are
+-- wrong.
 use Rattle.std.specs.Prelude.{◌≡◌, ℕ, ◌+◌, ◌≤◌, ◌⊎◌, ◌||◌, List, length, IsTrue, IsFalse}
 use Rattle.std.specs.List.{AllZip}
 use Rattle.ttx_packet.specs.OneBit.{AreNear}
@@ -13,16 +13,16 @@ use Rattle.sub_plan.specs.Options.{OptionsValue}
 use Rattle.sub_rules.specs.Transmission.{Transmission, first_frame, last_frame, packets_of, on_air}
 use Rattle.sub_plan.specs.Schedule.{due_in}
 
--- A receiver starts at packet j of frame g and stops at the end of frame f, within the frames from
--- a to b. If j is the number of packets of frame g, the receiver starts after all packets of that
--- frame.
+-- A receiver starts at packet j of frame g, or after its last packet, and stops at the end of frame
+-- f. Both frames are in the range from a to b.
 pub record IsListening (transmission : Transmission) (a b g j f : ℕ) : Type 0 where
   pub from : a ≤ g
   pub in_order : g ≤ f
   pub to : f ≤ b
   pub in_frame : j ≤ length (packets_of transmission g)
 
--- Each cell of a page has the code of the page expected at the frame, or an excused space.
+-- Each cell has the code of the expected page of frame f, or a space that is allowed because of an
+-- error.
 abbrev pub HoldsDuePage : ProgrammeValue → ℕ → (ℕ → ℕ → Type 0) → Rows → Type 0
 HoldsDuePage programme f IsExcused page =
     (row column : ℕ)
@@ -31,28 +31,30 @@ HoldsDuePage programme f IsExcused page =
     ⊎ ((cell page row column ≡ space) × IsExcused row column)
 
 -- The guarantee to a receiver that listened from frame g to the end of frame f. The packets `sent`
--- were sent, and the receiver's state went from `old` to `new`.
+-- were sent, and the receiver's state changed from `old` to `new`.
 pub record IsServed
     (programme : ProgrammeValue) (options : OptionsValue) (g f : ℕ)
     (sent : List (List ℕ)) (IsExcused : ℕ → ℕ → Type 0) (old new : State)
     : Type 0 where
-  -- By the end of frame g + every a header of the page was sent.
+  -- A header of the page was sent by the end of frame g + `every`.
   pub in_time : g + options.every ≤ f → IsTrue (holds_header (kind options.page) sent)
-  -- The receiver has received a header of the page exactly if it had before or a header was sent.
+  -- The receiver has received a header of the page if and only if it had before or a header was
+  -- sent.
   pub heard : new.heard ≡ (old.heard || holds_header (kind options.page) sent)
-  -- After a header was sent, each cell has the code of the expected page, or an excused space.
+  -- Once a header was sent, each cell has the expected code, or a space that is allowed because of
+  -- an error.
   pub cells :
       IsTrue (holds_header (kind options.page) sent)
       → HoldsDuePage programme f IsExcused new.page
-  -- After a header was sent, the page of the receiver is open exactly if no page header after the
-  -- last header of the page ended it.
+  -- Once a header was sent, the receiver's page is open if and only if no page header has ended it
+  -- since its last header.
   pub is_open :
       IsTrue (holds_header (kind options.page) sent)
       → new.is_open ≡ is_unended (kind options.page) sent
 
--- A robust transmission: wherever a receiver starts and stops, whatever it receives with at most
--- one wrong bit in each byte, whatever old page it contains before its first header, and whatever
--- it chooses, the guarantee `IsServed` holds, and a space is excused only if its byte was hit.
+-- A robust transmission: the guarantee `IsServed` holds wherever a receiver starts and stops, with
+-- at most one wrong bit in each byte, and whatever page it had before its first header. A cell may
+-- have a space only if its byte had a wrong bit.
 abbrev pub Robust : ProgrammeValue → Transmission → OptionsValue → Type 0
 Robust programme transmission options =
     (g j f : ℕ) (got : List (List ℕ)) (old new : State)

@@ -1,9 +1,9 @@
-//! The laws of transmissions: a good transmission is robust (the main theorem), and how rules,
-//! broken places and reports are related.
+//! Laws of transmissions: a good transmission is robust (the main theorem), and the reports of a
+//! check are exact.
 //!
-//! `sub_rules` defines the rules, and `ttx_page` defines receivers and noise. This crate contains
-//! no program: `specs/` defines what every receiver makes of a transmission, such as `Robust`, and
-//! each function is a law.
+//! `sub_rules` defines the rules, and `ttx_page` defines receivers and bit errors. This crate
+//! contains no program: `specs/` defines the guarantees, such as `Robust`, and the contract of each
+//! function states a law.
 //!
 //! ```text
 //! law_of_good: Good programme transmission options → HasPromises programme transmission options

@@ -1,8 +1,8 @@
 //! The requirements on a transmission, and the faults of a transmission that breaks them.
 //!
-//! `specs/` defines a transmission, how it is read from the bytes of a PES file, the rules of a good
-//! transmission (`Good`), and the events that a check reports (`Events`). `sub_checker` checks these
-//! rules.
+//! `specs/` defines a transmission, how it is read from the bytes of a PES file, the rules of a
+//! good transmission (`Good`), and the events that a check reports (`Events`). `sub_checker` checks
+//! these rules.
 //!
 //! ```text
 //! next_pes_packet(&mut reader, &mut source, &options, 0)?;

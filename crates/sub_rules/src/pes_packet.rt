@@ -38,8 +38,8 @@ pub enum NextPesPacket {
 ///
 /// # Errors
 ///
-/// Returns `Pes` with `Truncated`, `Start`, `Length` or `TooMany` if the next bytes are no PES packet,
-/// and with `Read` if the source fails.
+/// Returns `Pes` with `Truncated`, `Start`, `Length` or `TooMany` if the next bytes are no PES
+/// packet, and with `Read` if the source fails.
 #[inline(always)]
 pub fn next_pes_packet<P: PesPackets>(
     reader: &mut ComparingReader,

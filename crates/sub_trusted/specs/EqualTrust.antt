@@ -1,4 +1,4 @@
--- Which frames are trusted does not depend on what the refused subtitles of a file contained.
+-- Which frames are trusted does not depend on the contents of rejected subtitles.
 use Rattle.std.specs.Prelude.{◌≡◌, ◌≢◌, ℕ, ◌<◌, ◌≤◌, ◌⊎◌, Bool, List, [], ◌∷◌, Contains, Option}
 use Rattle.std.specs.Prelude.{IsFalse, IsTrue}
 use Rattle.stl_file.specs.Subtitle.{SubtitleValue}
@@ -12,26 +12,26 @@ use Rattle.sub_rules.specs.declared.event.Event.TheVariants.{Trusted}
 use Rattle.sub_laws.specs.CleanStretch.{AtEnds, criteria_unsure}
 use Rattle.sub_trusted.specs.TrustedFrames.{rising_of}
 
--- The subtitle is expected only at frames whose expected page is unknown.
+-- The subtitle is expected only in frames whose expected page is unknown.
 pub record IsDueAmong (undecided : ℕ → Bool) (t : SubtitleValue) : Type 0 where
   pub times : t.tci < t.tco
   pub within : (f : ℕ) → t.tci ≤ f → f < t.tco → IsTrue (undecided f)
 
--- The list has the subtitles `judged`, in order, and among them others that are each due only at
--- frames whose expected page is unknown.
+-- The list has the subtitles `judged`, in order, and others that are expected only in frames whose
+-- expected page is unknown.
 abbrev pub HasOtherSubtitles : (ℕ → Bool) → List SubtitleValue → List SubtitleValue → Type 0
 HasOtherSubtitles undecided judged [] = judged ≡ []
 HasOtherSubtitles undecided judged (t ∷ all) =
     ((rest : List SubtitleValue) × (judged ≡ t ∷ rest) × HasOtherSubtitles undecided rest all)
     ⊎ (IsDueAmong undecided t × HasOtherSubtitles undecided judged all)
 
--- The page is correct at the end of frame b.
+-- The page is finished at the end of frame b.
 abbrev pub IsCorrectAt : Criteria → List PesPacket → ℕ → Type 0
 IsCorrectAt g pes_packets b =
     AtEnds (λ n f. IsFalse (is_unfinished g (rising_of g pes_packets) n f))
     (rising_of g pes_packets) b b
 
--- The frames `from` to `to` are reported as trusted, in one event.
+-- One event reports that the frames `from` to `to` are trusted.
 abbrev pub AreTrusted : Criteria → List PesPacket → ℕ → ℕ → Type 0
 AreTrusted g pes_packets from to =
     (first : ℕ)
@@ -40,10 +40,10 @@ AreTrusted g pes_packets from to =
     × (to ≤ last)
     × Contains (all_of_pes_packets g pes_packets) (Trusted first last)
 
--- Frames that are reported as trusted although subtitles were refused are also reported, in one
--- event, for a file with any other subtitles in place of the refused ones, if these are expected
--- only at frames whose expected page was unknown; or nothing at all is reported. If the page may be
--- late, this holds up to each frame at whose end the page is correct.
+-- Frames that are trusted although subtitles were rejected are also trusted for a file with any
+-- other subtitles in place of the rejected ones, if these are expected only in frames whose
+-- expected page was unknown, and if that file has any event. If `within` is not 0, this holds up to
+-- each frame with a finished page.
 abbrev pub LawOfEqualTrust : Type 0
 LawOfEqualTrust =
     (programme : ProgrammeValue) (options : OptionsValue) (unread : Option Unread)

@@ -1,5 +1,5 @@
--- The guarantees for the frames that are reported as trusted, whatever is broken elsewhere, and
--- that no other frames could be trusted.
+-- The guarantees for trusted frames, and that all frames with these guarantees are reported as
+-- trusted.
 use Rattle.std.specs.Prelude.{◌≡◌, ◌≢◌, ℕ, zero, suc, ◌+◌, ◌<◌, ◌≤◌, ◌==◌, ◌&&◌, nat_lt, Bool}
 use Rattle.std.specs.Prelude.{List, [], ◌∷◌, ◌++◌, ◌⊎◌, Contains, length, take, Option, Some}
 use Rattle.std.specs.Prelude.{IsFalse, IsTrue, if◌then◌else◌, true}
@@ -21,50 +21,46 @@ use Rattle.sub_laws.specs.CleanStretch.{AtEnds, IsUnreported, criteria_unsure}
 use Rattle.sub_laws.specs.OnScreen.{CompleteWithin}
 use Rattle.sub_laws.specs.Stretch.{MayBeTrusted}
 
--- ---- the part of a file in which frames rise
+-- ---- the frames before a fault in the frame order
 
--- Frame n of the list is the first frame, or after the frame before it.
+-- Frame n of the transmission is its first frame, or is after the frame before it.
 unfoldable pub rises_at : Transmission → ℕ → Bool
 rises_at frames zero = true
 rises_at frames (suc i) = nat_lt (frame_at frames i) (frame_at frames (suc i))
 
--- The number of frames, of the first n of the list, before the first frame that is not after its
--- predecessor.
+-- The number of frames, of the first n of the transmission, before the first frame that is not
+-- after the one before it.
 unfoldable pub rising_count : Transmission → ℕ → ℕ
 rising_count frames zero = 0
 rising_count frames (suc n) =
     if (rising_count frames n == n) && rises_at frames n then suc n else rising_count frames n
 
--- The rising part of the list: the frames before the first frame that is not after its predecessor;
--- all frames if they rise.
+-- The frames of the transmission before the first frame that is not after the one before it.
 abbrev pub rising_part : Transmission → Transmission
 rising_part frames = take (rising_count frames (length frames)) frames
 
--- The rising part of the frames of PES packets.
+-- The frames of the PES packets, up to the first frame that is not after the one before it.
 abbrev pub rising_of : Criteria → List PesPacket → Transmission
 rising_of g pes_packets = rising_part (sent_by_pes_packets g pes_packets)
 
--- Frame i of the list has a header with which the text of the page begins: any header of the page,
--- or, if repeats may have C4 (erase page) clear, a header that erases it.
+-- Frame i of the transmission has a header that erases the page. If C4 (erase page) must always be
+-- set, any header of the page counts.
 abbrev pub BeginsText : Criteria → Transmission → ℕ → Type 0
 BeginsText g frames i =
     holds_beginning g.watched.keeps (kind g.watched.page) (packets_of_frame frames i) ≡ true
 
--- ---- packets on air outside the trusted frames
+-- ---- packets on air before and after trusted frames
 
--- In the frames `from` to `to` exactly the packets that were read are on air: the frames on air
--- rise, they begin no later than the first frame that was read, and each frame has the packets that
--- were read. Before and after these frames anything may be on air.
+-- The packets on air in the frames `from` to `to` are those that were read. Frame numbers on air
+-- increase. Before and after these frames, anything may be on air.
 pub record IsAsRead (read on_air : Transmission) (from to : ℕ) : Type 0 where
   pub rising : IsRising on_air
   pub first : first_frame on_air ≤ first_frame read
   pub same : (f : ℕ) → from ≤ f → f ≤ to → packets_of on_air f ≡ packets_of read f
 
--- No skipped PES packet may have been sent in the frames `from` to `to`. What a skipped PES packet
--- puts on air is unknown. It may have been sent in the frame of the PES packet before it, between
--- two PES packets of that frame or after its last one. So that frame, if it is in the rising part,
--- must not be one of the frames `from` to `to`. For a receiver that is tuned in at the next frame
--- that is read, the skipped packet is in the past.
+-- No skipped PES packet was sent in the frames `from` to `to`. A skipped packet belongs to the
+-- frame of the PES packet before it, or comes after that frame, so that frame must not be one of
+-- these frames.
 abbrev pub IsSkippedOutside : Criteria → List PesPacket → ℕ → ℕ → Type 0
 IsSkippedOutside g pes_packets from to =
     (earlier later : List PesPacket) (u : Unread)
@@ -74,21 +70,20 @@ IsSkippedOutside g pes_packets from to =
     → (last_frame (sent_by_pes_packets g earlier) < from) ⊎
     (to < last_frame (sent_by_pes_packets g earlier))
 
--- The frames `from` to `to`, as read from the PES packets, may stay whatever is on air before and
--- after them.
+-- A property holds for any transmission that has the packets read in the frames `from` to `to`,
+-- whatever is on air before and after them.
 pub record StaysAsRead
     (g : Criteria) (pes_packets : List PesPacket) (from to : ℕ) (Stays : Transmission → Type 0)
     : Type 0 where
-  -- The packets that the skipped PES packets put on air are not in the trusted frames.
+  -- No skipped PES packet was sent in these frames.
   pub skipped : IsSkippedOutside g pes_packets from to
   pub stays : (on_air : Transmission) → IsAsRead (rising_of g pes_packets) on_air from to → Stays
       on_air
 
--- ---- promises for trusted frames
+-- ---- guarantees for trusted frames
 
--- The frames `from` to `to` may stay on air as they are, given the packets up to frame `to`. Frame
--- `from` has a header of the page, so a receiver that is tuned in at one of the frames recovers
--- whatever it contained before; and if complete pages are required, the pages of these frames are
+-- The guarantees for the frames `from` to `to`. Frame `from` has a header of the page, so a
+-- receiver that is tuned in recovers. If complete pages are required, the pages of these frames are
 -- complete, so the expected page is on screens.
 pub record MayStay
     (programme : ProgrammeValue) (transmission : Transmission) (options : OptionsValue)
@@ -98,11 +93,9 @@ pub record MayStay
   pub trusted : MayBeTrusted programme transmission options from to
   pub complete : IsTrue options.asks_complete → CompleteWithin transmission options from to
 
--- If every repeat must have C4 (erase page) set and `within` is 0, frames of a PES file that are
--- reported as trusted may stay, as read from the part in which frame numbers increase, whatever is
--- broken and whatever is on air elsewhere. So someone who repairs a transmission need not touch
--- these frames. If subtitles were refused, this law holds for the programme of the reliable
--- subtitles, whatever is expected at frames whose expected page is unknown.
+-- If each header must have C4 (erase page) set and `within` is 0, the guarantees hold for trusted
+-- frames of a PES file, whatever is on air before and after them. So these frames need no repair.
+-- If subtitles were rejected, this holds for the reliable subtitles.
 abbrev pub LawOfTrusted : Type 0
 LawOfTrusted =
     (programme : ProgrammeValue) (options : OptionsValue) (unread : Option Unread)
@@ -116,8 +109,8 @@ LawOfTrusted =
     to
     (λ on_air. MayStay programme on_air options from to)
 
--- At each trusted frame the expected page is known, and it was known at each of the `within` frames
--- before, from the first frame that was read.
+-- The expected page of each trusted frame is known, and so are the expected pages of the `within`
+-- frames before it, from the first frame that was read.
 abbrev pub LawOfTrustedKnown : Type 0
 LawOfTrustedKnown =
     (g : Criteria) (pes_packets : List PesPacket) (from to : ℕ)
@@ -128,12 +121,12 @@ LawOfTrustedKnown =
     → from ≤ f + g.within
     → IsFalse (g.undecided f)
 
--- ---- every frame that may stay is reported
+-- ---- all frames with the guarantees are reported
 
--- The frames a to b of the rising part may be trusted: they have no report that a receiver depends
--- on, no fault is active at any of their ends, and if `within` is not 0 frame b is finished; no
--- skipped PES packet may have been sent in them; and b is before the last of the rising frames if
--- that frame is in doubt, since a frame that is not after it or unreadable bytes follow.
+-- The frames a to b could be reported as trusted: they have no fault that affects receivers, no
+-- fault is active at any of their ends, no skipped PES packet was sent in them, and if `within` is
+-- not 0, frame b is finished. They exclude the last frame before a frame number that does not
+-- increase or before unreadable bytes.
 pub record CanStay (g : Criteria) (pes_packets : List PesPacket) (a b : ℕ) : Type 0 where
   pub unreported : IsUnreported g (rising_of g pes_packets) a b
   pub fault_free :
@@ -150,13 +143,14 @@ pub record CanStay (g : Criteria) (pes_packets : List PesPacket) (a b : ℕ) : T
       → b < last_frame (rising_of g pes_packets)
   pub before_unread : (u : Unread) → g.unread ≡ Some u → b < last_frame (rising_of g pes_packets)
 
--- Anything is reported: an event of the PES file, or a refused subtitle.
+-- The PES file has any event, or a subtitle was rejected.
 abbrev pub IsAnythingReported : Criteria → List PesPacket → Type 0
 IsAnythingReported g pes_packets = (all_of_pes_packets g pes_packets ≢ []) ⊎ IsTrue g.any_refused
 
--- If anything is reported, the frames of a range of frames that may be trusted are reported as
--- trusted, in one event, from a frame that begins the text of the page on. So every frame that may
--- stay is reported, except, if `within` is not 0, the frames after the last finished one.
+-- If the PES file has any event, or a subtitle was rejected, each range of frames that could be
+-- trusted is reported as trusted, in one event, from its first header that erases the page on. So
+-- all frames with the guarantees are reported; if `within` is not 0, except those after the last
+-- finished frame.
 abbrev pub LawOfAllTrusted : Type 0
 LawOfAllTrusted =
     (g : Criteria) (pes_packets : List PesPacket) (a b i : ℕ)

@@ -1,5 +1,4 @@
--- The guarantees for the frames that are reported as trusted if the page may be late and repeats
--- may or may not keep the page, whatever is broken elsewhere.
+-- The guarantees for trusted frames if `within` is not 0 or repeats may have C4 (erase page) clear.
 use Rattle.std.specs.Prelude.{ℕ, ◌<◌, Bool, Contains, IsTrue, List, Option}
 use Rattle.ttx_page.specs.PacketKind.{kind}
 use Rattle.ttx_page.specs.Span.{holds_beginning}
@@ -15,11 +14,10 @@ use Rattle.sub_laws.specs.CleanStretch.{criteria_unsure}
 use Rattle.sub_laws.specs.Repeats.{MayBeTrustedBy}
 use Rattle.sub_trusted.specs.TrustedFrames.{StaysAsRead}
 
--- The frames `from` to `to` may stay on air as they are, given the packets up to frame `to`,
--- whether or not repeats may have C4 (erase page) clear. Frame `from` has a header that begins the
--- text of the page, so a receiver that is tuned in at its beginning recovers whatever it contained
--- before. Later in these frames a receiver recovers if its page was blank or if it starts again at
--- each header; any other receiver recovers from the next header that erases the page.
+-- The guarantees for the frames `from` to `to`. Frame `from` has a header that erases the page, so
+-- a receiver that is tuned in at its beginning recovers. A receiver that is tuned in later recovers
+-- if its page was blank or if it erases it at each header; any other receiver recovers from the
+-- next header with C4 (erase page) set.
 pub record MayStayBy
     (programme : ProgrammeValue) (transmission : Transmission) (options : OptionsValue)
     (from to : ℕ)
@@ -31,11 +29,9 @@ pub record MayStayBy
       0 < options.within
       → SomeFinishedBy options.keeps programme transmission options from to
 
--- Frames of a PES file that are reported as trusted may stay, as read from the part in which frame
--- numbers increase, whatever is broken and whatever is on air elsewhere. So someone who repairs a
--- transmission need not touch these frames. If `within` is not 0, consecutive PES packets of one
--- frame are merged. If subtitles were refused, this law holds for the programme of the reliable
--- subtitles.
+-- The guarantees hold for trusted frames of a PES file, whatever is on air before and after them.
+-- So these frames need no repair. If `within` is not 0, consecutive PES packets of one frame are
+-- merged. If subtitles were rejected, this holds for the reliable subtitles.
 abbrev pub LawOfTrustedRepeats : Type 0
 LawOfTrustedRepeats =
     (programme : ProgrammeValue) (options : OptionsValue) (unread : Option Unread)

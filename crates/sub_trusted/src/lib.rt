@@ -1,8 +1,8 @@
-//! The frames of a faulty transmission that may stay on air: the frames that are reported as
-//! trusted.
+//! Laws about trusted frames: the frames of a faulty transmission that can be broadcast again
+//! unchanged.
 //!
 //! `sub_laws` defines the guarantees for a range of frames, and `sub_rules` defines the reports.
-//! This crate contains no program: each function is a law.
+//! This crate contains no program: the contract of each function states a law.
 //!
 //! ```text
 //! law_of_trusted_repeats: Contains (all_of_pes_packets g list) (Trusted from to) → MayStayBy ..
