@@ -1,6 +1,5 @@
--- Whether repeats may keep the page does not change the contents of both files (`mean-keeps`), and
--- a transmission that is good with one setting is good with the other (`good-keeps`). Used for
--- `law_of_accepted_keeping` and `law_of_accepted_none_keeps`.
+-- The option that repeats may keep the page does not change the contents of the files. A good
+-- transmission without this option is good with it.
 use Rattle.std.proofs.Common.{ℕ, Bool, true, List, sym, subst}
 use Rattle.stl_file.specs.Subtitle.{SubtitleValue}
 use Rattle.stl_rows.specs.Programme.{ProgrammeValue}
@@ -16,8 +15,7 @@ use Rattle.sub_check.proofs.AcceptedWithinLemmas.{none_failed}
 abbrev options_with_keeps : Bool → OptionsValue → OptionsValue
 options_with_keeps may options = record options { keeps = may }
 
--- The contents of the files depend only on the clock of the options, not on whether repeats may
--- keep the page.
+-- Of the options, only those of the clock affect the contents of the files.
 mean-keeps :
     (may : Bool) (drawing : Drawing) (options : OptionsValue) (stl pes : List ℕ)
     (subtitles : List SubtitleValue) (t : Transmission)

@@ -1,5 +1,4 @@
--- The contents of both files do not change with a greater `within`. Used for
--- `law_of_accepted_within_more`.
+-- A greater `within` does not change the contents of the files.
 use Rattle.std.proofs.Common.{◌≡◌, false, refl, Result, Ok, Err, IsOk}
 use Rattle.sub_io.specs.Device.{failed}
 use Rattle.sub_rules.specs.Fault.{is_failure}

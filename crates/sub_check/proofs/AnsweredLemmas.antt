@@ -1,6 +1,4 @@
--- The events for the whole file decide the answers of `check` (`answered`, `accepted_none`,
--- `refused_first`) and of `check_all` (`checked_first`, `reports_events`). If no subtitle was
--- refused, the events are those for the programme (`reports_known`).
+-- The events for the whole PES file determine the results of `check` and `check_all`.
 use Rattle.std.proofs.Common.{◌≡◌, ℕ, List, Option, Some, None}
 use Rattle.std.proofs.Common.{Result, Ok, Err, IfOk, false, refl}
 use Rattle.std.proofs.Common.{subst}
@@ -26,8 +24,8 @@ use Rattle.sub_check.proofs.RuleReportedLemmas.{first_of_rule}
 use Rattle.sub_check.proofs.VerdictLemmas.{Decides, IsAllRead, ReadsSoFar, checked_at_once}
 use Rattle.sub_check.proofs.VerdictLemmas.{checked_by}
 
--- The answer of `check` agrees with the bytes of the file: with any options, and if each header has
--- to erase the page, which has to be right at the end of each frame.
+-- The result of `check` agrees with the bytes of the file: with any options, and also with the
+-- default options (no repeat keeps the page, and no delay is allowed).
 pub record IsAnswered
     (programme : ProgrammeValue) (options : OptionsValue) (bytes : List ℕ)
     (answer : Result Accepted CheckFault)

@@ -1,7 +1,5 @@
--- The answer of `check_files` agrees with the bytes of both files (`files_accepted`,
--- `files_refused`, and with any options `files_accepted_by`, `files_refused_by`). The files are
--- accepted exactly if the subtitle file gives a programme and the PES file has a good transmission
--- of this programme (`as_accepted`, `of_accepted`).
+-- The result of `check_files` agrees with the bytes of both files. They are accepted exactly if the
+-- subtitle file gives a programme and the PES file has a good transmission of it.
 use Rattle.std.proofs.lemmas.Bool.Decides.{nat_tests}
 use Rattle.std.proofs.Common.{◌≡◌, ℕ, List, Result, Ok, Err, false, sym, ap, ◌∙◌, subst, arith}
 use Rattle.std.specs.Prelude.{IsTrue}
@@ -33,8 +31,8 @@ pub same_programme :
     (a b : ProgrammeValue) (r : Result ProgrammeValue LoadFault) → r ≡ Ok a → r ≡ Ok b → a ≡ b
 same_programme a b r e f = let both = sym e ∙ f in cc
 
--- If the subtitle file was loaded, an answer that reports no failure reports no failed read of the
--- PES file.
+-- If the subtitle file was loaded, a result without a device failure does not report a failed read
+-- of the PES file.
 answer_after_loading :
     (answer : Result Accepted CheckFault)
     → failed is_subtitle_fault answer ≡ false

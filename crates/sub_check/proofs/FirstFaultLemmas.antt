@@ -1,5 +1,4 @@
--- The fault that the audience of `check` stored decides the answer (`nothing_kept`, `fault_kept`,
--- `read_failed`, `fails_at_packet`).
+-- The stored fault determines the result of `check`.
 use Rattle.std.proofs.lemmas.Bool.Decides.{nat_tests}
 use Rattle.std.proofs.Common.{◌≡◌, ◌≤◌, ℕ, zero, suc, List, Option, Some, None, Result, Ok, Err}
 use Rattle.std.proofs.Common.{true, false, is_some, refl, sym, ◌∙◌, subst, arith, length, take}
@@ -60,8 +59,7 @@ module _ (programme : ProgrammeValue) (options : OptionsValue) (bytes : List ℕ
             (λ g h. prefix_of_rule programme options bytes n g h) first.one_by_one,
       )
 
-  -- If all events were reported and no fault was kept, no event is a fault. This lemma and the next
-  -- are separate from the answers that use them, which would otherwise check each case again.
+  -- If all events were reported and no fault was stored, no event is a fault.
   none_reported : (empty kept : Option CheckFault) (a : Accepted)
       → empty ≡ None
       → is_some kept ≡ false
@@ -120,7 +118,7 @@ module _ (programme : ProgrammeValue) (options : OptionsValue) (bytes : List ℕ
         (λ looked. absurd (true≢false (sym own ∙ looked)))
         (λ pes is. none_before empty kept f pes e fault_free reported (let same = is in cc))
 
--- If the bytes of the source are unknown, they may be any PES packets.
+-- Any number of valid PES packets, for a source whose bytes are unknown.
 any_packets : (n : ℕ)
     → AllByRecursion (λ b. (v : PesValue) × IsValidPesPacket v b)
     (replicate n (canonical_packet empty_value))
@@ -130,7 +128,7 @@ any_packets (suc n) =
     record { pts = omega arith; few = omega arith; each = tt; in_order = tt } in
     ((empty_value, canonical_is_packet empty_value is), any_packets n)
 
--- If the source failed after PES packets none of which was skipped, it failed within a PES packet.
+-- If the source failed and no PES packet was skipped, it failed within a PES packet.
 pub fails_at_packet : (programme : ProgrammeValue) (options : OptionsValue)
     (empty kept : Option CheckFault) (f : CheckFault) (pes : ℕ) (old new : Option (List ℕ))
     → empty ≡ None

@@ -1,6 +1,4 @@
--- An audience that stores the first fault of a rule stores the first fault among the events
--- (`kept_eq`); if this fault is a wrong cell, receivers show the kept code in the cell
--- (`different_of_first`).
+-- The stored fault is the first fault among the events.
 use Rattle.std.proofs.lemmas.Bool.Decides.{nat_tests}
 use Rattle.std.proofs.Common.{◌≡◌, ℕ, List, [], ◌∷◌, length, Option, Some, None, Result, Err, refl}
 use Rattle.std.proofs.Common.{sym, subst, arith, All, true}
@@ -59,8 +57,8 @@ nothing_after_first_fault : (f : CheckFault) (new : Option CheckFault) (xs : Lis
 nothing_after_first_fault f new [] reported = reported
 nothing_after_first_fault f new (x ∷ xs) (mid, keeps, rest) = let none = keeps.0 in cc
 
--- An audience that stores the first fault of a rule stores the first fault among the events, if it
--- is one of a rule.
+-- A report sink that stores the first broken rule stores the first fault among the events, if that
+-- fault is a broken rule.
 pub kept_eq : (new : Option CheckFault) (xs : List Event)
     → ((f : CheckFault) → first_reported xs ≡ Some f → is_of_rule f ≡ true)
     → ReportsInOrder KeepsFirstFault None new xs

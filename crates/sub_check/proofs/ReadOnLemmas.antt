@@ -1,5 +1,5 @@
--- The frames and events of a PES file up to its first skipped PES packet are a beginning of those
--- of the whole file. Main lemmas: `read_to_the_end`, `first_of_taken`, `all_are_sent`.
+-- The frames and events of a PES file up to its first skipped PES packet are a prefix of those of
+-- the whole file.
 use Rattle.std.proofs.Common.{◌≡◌, ℕ, suc, ◌≤◌, List, [], ◌∷◌, ◌++◌, length, take, drop, Option}
 use Rattle.std.proofs.Common.{Some, None, refl, sym, ap, ◌∙◌}
 use Rattle.std.proofs.lemmas.List.{length-take-le, take-append-drop}
@@ -23,7 +23,7 @@ use Rattle.sub_check.specs.CheckedFiles.{events_of_first_pes_packets}
 use Rattle.sub_rules.specs.PesPacketEvents.{events_of_pes_packets}
 use Rattle.sub_rules.specs.Trusted.{reported_after}
 
--- If the PES packets are read to the end of the file, none of them is skipped.
+-- If a PES file is read without a fault to its end, no PES packet is skipped.
 all_sent : (pes_packets : List PesPacket) (unread : Option Unread)
     → (read_until_skipped pes_packets unread).unread ≡ None
     → ((read_until_skipped pes_packets unread).frames ≡ frames_of pes_packets)

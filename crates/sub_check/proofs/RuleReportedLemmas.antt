@@ -1,5 +1,4 @@
--- Each fault that is reported for a PES file is a broken rule, among all its PES packets
--- (`first_of_rule`) and among the first ones (`prefix_of_rule`).
+-- Each fault that is reported for a PES file is a broken rule.
 use Rattle.std.proofs.lemmas.Bool.Decides.{nat_tests}
 use Rattle.std.proofs.Common.{◌≡◌, ℕ, zero, suc, Bool, true, false, not, List, [], ◌∷◌, length}
 use Rattle.std.proofs.Common.{subst, take, map, Option, Some, None, refl, sym, ap, ◌∙◌, arith}

@@ -1,6 +1,5 @@
--- The events for the whole file decide whether the file is accepted and which promises its
--- transmission keeps: with any options (`checked_by`), and if each header has to erase the page,
--- which has to be right at the end of each frame (`checked_at_once`).
+-- The events for the whole file determine whether the file is accepted, and which properties its
+-- transmission has.
 use Rattle.std.proofs.lemmas.Bool.Decides.{nat_tests}
 use Rattle.std.proofs.lemmas.Slice.Zip.{AllZip-long}
 use Rattle.std.proofs.Common.{◌≡◌, ◌≢◌, ◌↔◌, ℕ, ◌≤◌, List, [], Bool, All, Some, None}
@@ -56,13 +55,13 @@ use Rattle.sub_check.specs.CheckedFiles.{events_of_first_pes_packets, frames_rea
 use Rattle.sub_check.proofs.FirstReportedLemmas.{different_of_first, each_complete}
 use Rattle.sub_check.proofs.ReadOnLemmas.{read_to_the_end}
 
--- The whole PES file was read: each of its PES packets, up to the unread rest.
+-- The whole PES file was read, up to a rest that contains no PES packet.
 abbrev pub IsAllRead : ProgrammeValue → OptionsValue → List ℕ → Accepted → Type 0
 IsAllRead programme options bytes a =
     let file = pes_packet_file_of (clock_of options) bytes in
     IsReadOn (criteria_of programme options file.unread) (clock_of options) bytes file.pes_packets a
 
--- An accepted file has no fault among its events, and the fault that is returned is the first one.
+-- A file is accepted if no event is a fault; otherwise the first fault is returned.
 abbrev pub Decides : ProgrammeValue → OptionsValue → List ℕ → Result Accepted CheckFault → Type 0
 Decides programme options bytes result =
     MatchResult result
@@ -70,7 +69,7 @@ Decides programme options bytes result =
     × (first_reported (all_events_of programme options bytes) ≡ None))
     (λ f. first_reported (all_events_of programme options bytes) ≡ Some f)
 
--- If the source failed within a PES packet, the packets before it have no fault among their events.
+-- If the source failed within a PES packet, no event of the packets before it is a fault.
 abbrev pub ReadsSoFar : ProgrammeValue → OptionsValue → List ℕ → Result Accepted CheckFault → Type 0
 ReadsSoFar programme options bytes result =
     (pes : ℕ)
@@ -96,8 +95,8 @@ module _ (programme : ProgrammeValue) (options : OptionsValue) (is : IsOptions o
       (joined_after-read IsPacket options.within [] (frames_of file.pes_packets) tt
       (sent_complete file.pes_packets (file_pes_packets_sound (clock_of options) 0 bytes).each)))
 
-  -- No fault is reported exactly if each PES packet is sent, the frames are good, and no bytes are
-  -- left.
+  -- No fault is reported exactly if all PES packets are readable, the transmission is good, and no
+  -- bytes remain.
   reported_none :
       (first_reported (all_events_of programme options bytes) ≡ None)
       ↔ ((length (frames_of file.pes_packets) ≡ length file.pes_packets)
@@ -163,7 +162,7 @@ module _ (programme : ProgrammeValue) (options : OptionsValue) (is : IsOptions o
       → ⊥
   not_refused f first all good none = none-some f (sym (reported_none.1 (all, good, none)) ∙ first)
 
-  -- The file is accepted exactly if the bytes carry a good transmission.
+  -- The file is accepted exactly if its bytes carry a good transmission.
   accepted_from :
       (result : Result Accepted CheckFault)
       → Decides programme options bytes result

@@ -1,5 +1,5 @@
--- A pair of files that is accepted if each header of the page has to erase it is accepted if
--- repeats may keep the page; and the converse, if no header keeps the page.
+-- If files are accepted without the option that repeats may keep the page, they are also accepted
+-- with it; and conversely, if no header keeps the page.
 use Rattle.std.specs.Prelude.{◌≡◌, ℕ, true, false, List, IsFalse, IsOk, Result}
 use Rattle.sub_io.specs.Device.{failed}
 use Rattle.ttx_page.specs.Noise.{ErasesPage}
@@ -12,13 +12,13 @@ use Rattle.sub_rules.specs.declared.fault.CheckFault.{CheckFault}
 use Rattle.sub_checker.specs.declared.accepted.Accepted.{Accepted}
 use Rattle.sub_check.specs.CheckedFiles.{AreAcceptedBy, MeanWithin}
 
--- The options, changed so that repeats may keep the page.
+-- The options with the setting that repeats may keep the page: a header without C4, erase page, is
+-- allowed.
 abbrev pub keeping : OptionsValue → OptionsValue
 keeping options = record options { keeps = true }
 
--- If the bytes of a subtitle file and of a PES file are accepted although no header may keep the
--- page, they are also accepted if repeats may keep it, unless a source fails or an allocation is
--- refused.
+-- A subtitle file and a PES file that are accepted if each header must erase the page (C4) are also
+-- accepted if repeats may keep the page, unless a source fails or an allocation is refused.
 abbrev pub LawOfAcceptedKeeping : Type 0
 LawOfAcceptedKeeping =
     (drawing : Drawing) (options : OptionsValue) (stl pes : List ℕ)
@@ -30,8 +30,9 @@ LawOfAcceptedKeeping =
     → IsOk answer
     → IsOk later
 
--- If the bytes of both files are accepted with repeats that may keep the page, and each header of
--- the page in the transmission erases it, they are also accepted if no header may keep the page.
+-- A subtitle file and a PES file that are accepted if repeats may keep the page are also accepted
+-- if each header must erase the page (C4), provided that each header of the page in the
+-- transmission does.
 abbrev pub LawOfAcceptedNoneKeeps : Type 0
 LawOfAcceptedNoneKeeps =
     (drawing : Drawing) (options : OptionsValue) (stl pes : List ℕ)

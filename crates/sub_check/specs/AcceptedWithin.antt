@@ -1,4 +1,4 @@
--- A pair of files that is accepted with some `within` is accepted with any greater `within`.
+-- Files that are accepted with some delay `within` are also accepted with any greater delay.
 use Rattle.std.specs.Prelude.{◌≡◌, ℕ, ◌^◌, ◌<◌, ◌≤◌, List, false, IsOk, Result}
 use Rattle.sub_io.specs.Device.{failed}
 use Rattle.stl_rows.specs.declared.layout.Drawing.{Drawing}
@@ -9,9 +9,8 @@ use Rattle.sub_laws.specs.DelayOfFiles.{within_frames}
 use Rattle.sub_checker.specs.declared.accepted.Accepted.{Accepted}
 use Rattle.sub_check.specs.CheckedFiles.{AreAcceptedBy}
 
--- If the bytes of a subtitle file and of a PES file are accepted with some `within`, 0 included,
--- they are also accepted with any greater `within`, unless a source fails or an allocation is
--- refused.
+-- A subtitle file and a PES file that are accepted with some delay of `within` frames, possibly 0,
+-- are also accepted with any greater delay, unless a source fails or an allocation is refused.
 abbrev pub LawOfAcceptedWithinMore : Type 0
 LawOfAcceptedWithinMore =
     (drawing : Drawing) (options : OptionsValue) (more : ℕ) (stl pes : List ℕ)

@@ -1,4 +1,4 @@
--- The checker's answer for the bytes of a subtitle file and a PES file.
+-- The result of the checker, in terms of the bytes of a subtitle file and a PES file.
 use Rattle.std.specs.Prelude.{◌≡◌, ◌≢◌, ◌↔◌, ℕ, ◌≤◌, length, take, List, [], Bool, false, true}
 use Rattle.std.specs.Prelude.{Option, Some, None, All, Contains, IsOk, Result, Ok, Err, IfOk, IfErr}
 use Rattle.std.specs.Prelude.{IfSome, IsFalse, IsTrue, ◌+◌, ◌++◌, flat_map, ⊤}
@@ -44,13 +44,13 @@ use Rattle.sub_rules.specs.declared.fault.CheckFault.TheVariants as fault
 
 -- ---- faults and counts of an answer
 
--- If the answer refuses the subtitle file, its fault is the one that loading the file reports.
+-- If the result is a fault of the subtitle file, it is the fault that loading this file reports.
 abbrev pub ReportsSubtitles : Drawing → List ℕ → Result Accepted CheckFault → Type 0
 ReportsSubtitles drawing file (Err (fault.Subtitles f)) = ReportsFault drawing file f.block f.kind
 ReportsSubtitles drawing file _ = ⊤
 
--- The counts of an accepted transmission: the number of frames of the day from the first frame to
--- the last, and the number of headers of the page.
+-- The counts of an accepted transmission: the number of frames from its first to its last frame,
+-- and the number of headers of the page.
 pub record HasCounts (page : PageIdValue) (frames : Transmission) (a : Accepted) : Type 0 where
   pub frames_are : a.frames + first_frame frames ≡ last_frame frames + 1
   pub transmissions_eq :
@@ -58,25 +58,25 @@ pub record HasCounts (page : PageIdValue) (frames : Transmission) (a : Accepted)
 
 -- ---- the contents of both files
 
--- The bytes of a subtitle file and of a PES file have these subtitles and this transmission as
--- their contents.
+-- The bytes of the subtitle file contain these subtitles, and the bytes of the PES file carry this
+-- transmission.
 pub record Mean
     (drawing : Drawing) (origin : ℕ) (stl pes : List ℕ)
     (subtitles : List SubtitleValue) (transmission : Transmission)
     : Type 0 where
-  -- The subtitle file is a GSI block and the TTI blocks of these subtitles (EBU Tech 3264).
+  -- The subtitle file consists of a GSI block and the TTI blocks of these subtitles (EBU Tech
+  -- 3264).
   pub gsi : List ℕ
   pub subtitle_file : IsFileFor drawing.scope stl gsi subtitles
-  -- The subtitles are in order and disjoint, and each has a page.
+  -- The subtitles are in time order and do not overlap, and each can be drawn as a page.
   pub in_order : AreInOrder subtitles
   pub drawable : All (λ t. IsOk (drawn drawing t)) subtitles
-  -- The PES file is joined PES packets (EN 300 472), one for each frame of the transmission, with
+  -- The PES file consists of PES packets (EN 300 472), one for each frame of the transmission, with
   -- the PTS and the Teletext packets of that frame.
   pub carries : Carries origin pes transmission
 
--- The bytes of both files are accepted if the page has to be right at the end of each frame: the
--- files contain some subtitles and a good transmission of these subtitles, with complete pages if
--- the options require them.
+-- Both files are accepted with the default options, without any delay: they contain some subtitles
+-- and a good transmission of these, with complete pages if the options require them.
 pub record IsAccepted
     (drawing : Drawing) (options : OptionsValue) (stl pes : List ℕ) : Type 0 where
   pub subtitles : List SubtitleValue
@@ -85,17 +85,17 @@ pub record IsAccepted
   pub good : Good (record { drawing = drawing; records = subtitles }) transmission options
   pub complete : IsTrue options.asks_complete → Complete transmission options
 
--- The answer for the bytes of both files if the page has to be right at the end of each frame.
+-- The result for the bytes of both files with the default options, without any delay.
 pub record AreAccepted
     (drawing : Drawing) (options : OptionsValue) (stl pes : List ℕ)
     (answer : Result Accepted CheckFault)
     : Type 0 where
-  -- The answer is `Ok` exactly if the files are accepted, unless a source fails or an allocation is
+  -- The result is `Ok` exactly if the files are accepted, unless a source fails or an allocation is
   -- refused.
   pub accepted :
       failed is_failure answer ≡ false → IsOk answer ↔ IsAccepted drawing options stl pes
-  -- An accepted transmission keeps all promises, and its pages are complete if the options require
-  -- it.
+  -- An accepted transmission has all properties of `HasPromises`, and complete pages if the options
+  -- require them.
   pub serves :
       (subtitles : List SubtitleValue) (transmission : Transmission)
       → Mean drawing options.origin stl pes subtitles transmission
@@ -105,8 +105,8 @@ pub record AreAccepted
 
 -- ---- the contents of both files, with any options
 
--- The contents of both files, as in `Mean`, but with the clock of the options: a PTS may be
--- slightly early or late, and PES packets of one frame are merged.
+-- The contents of both files with any options: a PTS may be slightly early or late, and PES packets
+-- of the same frame are merged.
 pub record MeanWithin
     (drawing : Drawing) (options : OptionsValue) (stl pes : List ℕ)
     (subtitles : List SubtitleValue) (transmission : Transmission)
@@ -117,8 +117,8 @@ pub record MeanWithin
   pub drawable : All (λ t. IsOk (drawn drawing t)) subtitles
   pub carries : CarriesBy (clock_of options) options.within pes transmission
 
--- The bytes of both files are accepted with any options: the files contain some subtitles and a
--- transmission of these subtitles that is good by the options.
+-- Both files are accepted with these options: they contain some subtitles and a transmission of
+-- these that is good by the options.
 pub record IsAcceptedBy
     (drawing : Drawing) (options : OptionsValue) (stl pes : List ℕ) : Type 0 where
   pub subtitles : List SubtitleValue
@@ -127,16 +127,16 @@ pub record IsAcceptedBy
   pub good :
       GoodBy options.keeps (record { drawing = drawing; records = subtitles }) transmission options
 
--- The answer for the bytes of both files with any options.
+-- The result for the bytes of both files with any options.
 pub record AreAcceptedBy
     (drawing : Drawing) (options : OptionsValue) (stl pes : List ℕ)
     (answer : Result Accepted CheckFault)
     : Type 0 where
-  -- The answer is `Ok` exactly if the files are accepted, unless a source fails or an allocation is
+  -- The result is `Ok` exactly if the files are accepted, unless a source fails or an allocation is
   -- refused.
   pub accepted :
       failed is_failure answer ≡ false → IsOk answer ↔ IsAcceptedBy drawing options stl pes
-  -- An accepted transmission keeps the promises of `HasPromisesBy`.
+  -- An accepted transmission has the properties of `HasPromisesBy`.
   pub serves :
       (subtitles : List SubtitleValue) (transmission : Transmission)
       → MeanWithin drawing options stl pes subtitles transmission
@@ -146,28 +146,28 @@ pub record AreAcceptedBy
 
 -- ---- a PES file, checked against a programme
 
--- All events for the bytes of a PES file, checked against a programme. Reading goes on after
--- skipped PES packets; trusted frames are included.
+-- All events of a check of a PES file against a programme. Reading continues after skipped PES
+-- packets; reports of trusted frames are included.
 abbrev pub all_events_of : ProgrammeValue → OptionsValue → List ℕ → List Event
 all_events_of programme options bytes =
     let file = pes_packet_file_of (clock_of options) bytes in
     all_of_pes_packets (criteria_of programme options file.unread) file.pes_packets
 
--- The frames that the PES packets of a file carry; if `within` is not 0, consecutive packets of one
--- frame are merged.
+-- The frames that the PES packets of a file carry. If `within` is not 0, consecutive PES packets of
+-- the same frame are merged.
 abbrev pub frames_read : OptionsValue → List ℕ → Transmission
 frames_read options bytes =
     joined options.within (frames_of (pes_packet_file_of (clock_of options) bytes).pes_packets)
 
--- The events for the first n PES packets of a file, checked against a programme.
+-- The events of a check of the first n PES packets of a file against a programme.
 abbrev pub events_of_first_pes_packets : ProgrammeValue → OptionsValue → List ℕ → ℕ → List Event
 events_of_first_pes_packets programme options bytes n =
     let file = pes_packet_file_of (clock_of options) bytes in
     events_of_pes_packets (criteria_of programme options file.unread) (take n file.pes_packets)
 
--- The answer for the bytes of a PES file, checked against a programme with any options. An answer
--- that refuses the subtitle file, or that reports a failed source or allocation, says nothing about
--- these bytes.
+-- The result of a check of a PES file against a programme, with any options. A result that refuses
+-- the subtitle file, or reports a failed source or a refused allocation, depends on other things
+-- than these bytes.
 pub record IsCheckedBy
     (programme : ProgrammeValue) (options : OptionsValue) (bytes : List ℕ)
     (answer : Result Accepted CheckFault)
@@ -181,41 +181,40 @@ pub record IsCheckedBy
       ↔ ((transmission : Transmission)
       × CarriesBy (clock_of options) options.within bytes transmission
       × GoodBy options.keeps programme transmission options)
-  -- An accepted transmission is good by the options, and keeps the promises of `HasPromisesBy`.
+  -- An accepted transmission is good by the options, and has the properties of `HasPromisesBy`.
   pub serves :
       (transmission : Transmission)
       → CarriesBy (clock_of options) options.within bytes transmission
       → IsOk answer
       → GoodBy options.keeps programme transmission options
       × HasPromisesBy options.keeps programme transmission options
-  -- The counts of an accepted file are those of the transmission.
+  -- The counts of an accepted file are the counts of its transmission.
   pub counts :
       (transmission : Transmission)
       → CarriesBy (clock_of options) options.within bytes transmission
       → IfOk answer (HasCounts options.page transmission)
-  -- The returned fault is the first fault among the events.
+  -- The returned fault is the first fault among all events.
   pub first :
       failed is_subtitle_fault answer ≡ false
       → failed is_pes_read answer ≡ false
       → IfErr answer (λ f. first_reported (all_events_of programme options bytes) ≡ Some f)
-  -- A failure of the source is reported for the PES packet that could not be read: the packets
-  -- before it were read, and there is no fault among their events.
+  -- A failure of the source is reported at the PES packet that could not be read; no event of the
+  -- packets before it is a fault.
   pub read :
       (pes : ℕ)
       → answer ≡ Err (fault.Pes pes Read)
       → (pes ≤ length (pes_packet_file_of (clock_of options) bytes).pes_packets)
       × (first_reported (events_of_first_pes_packets programme options bytes pes) ≡ None)
-  -- If the fault is `Content`, the cell that it names is wrong, and receivers that start at the
-  -- first packet, and receive each bit correctly, show the kept code in that cell. If the page
-  -- still has time to become right, the kept code was due in the cell at none of the last `within`
-  -- frames.
+  -- If the fault is `Content`, receivers that start at the first packet and receive each bit
+  -- correctly show a wrong code in the cell that the fault names. If the page may still become
+  -- right later, that code was expected at none of the last `within` frames.
   pub content :
       (frame row column : ℕ)
       → answer ≡ Err (fault.Content frame row column)
       → IsDifferentEverywhere programme options
       (joined options.within (pes_file_of (clock_of options) bytes).frames) frame row column
-  -- The output of `schedule` for the programme and the same options is accepted, unless the maximum
-  -- distance of PES packets is less than the repeat bound.
+  -- The transmission that `schedule` makes for the programme and the same options is accepted,
+  -- unless the maximum distance of PES packets is less than the maximum distance of repeats.
   pub schedule :
       (serial : Bool)
       → bytes ≡ plan programme options serial
@@ -225,8 +224,8 @@ pub record IsCheckedBy
       → failed is_pes_read answer ≡ false
       → IsOk answer
 
--- The answer if each header of the page has to erase it, and the page has to be right at the end of
--- each frame, in terms of the seven rules. Everything in `IsCheckedBy` holds as well.
+-- The result with the default options (each header erases the page, and no delay is allowed), in
+-- terms of the seven rules. `IsCheckedBy` is true as well.
 pub record IsChecked
     (programme : ProgrammeValue) (options : OptionsValue) (bytes : List ℕ)
     (answer : Result Accepted CheckFault)
@@ -241,31 +240,31 @@ pub record IsChecked
       × Carries options.origin bytes transmission
       × Good programme transmission options
       × (IsTrue options.asks_complete → Complete transmission options))
-  -- An accepted transmission keeps all promises, and its pages are complete if the options require
-  -- it.
+  -- An accepted transmission has all properties of `HasPromises`, and complete pages if the options
+  -- require them.
   pub serves :
       (transmission : Transmission)
       → Carries options.origin bytes transmission
       → IsOk answer
       → HasPromises programme transmission options
       × (IsTrue options.asks_complete → Complete transmission options)
-  -- If the fault is `Content`, every receiver that starts at the first packet, and receives each
-  -- bit correctly, shows another code than the due one in the cell that the fault names.
+  -- If the fault is `Content`, every receiver that starts at the first packet and receives each bit
+  -- correctly shows a code other than the expected one in the cell that the fault names.
   pub content :
       (frame row column : ℕ)
       → answer ≡ Err (fault.Content frame row column)
       → IsWrongEverywhere programme options (pes_file_of (clock_of options) bytes).frames frame row
       column
 
--- The answer for the bytes of a subtitle file, and for those of a PES file if they are known.
+-- The result for the bytes of a subtitle file, and for the bytes of a PES file if these are known.
 pub record AreChecked
     (drawing : Drawing) (options : OptionsValue) (file : List ℕ) (pes : Option (List ℕ))
     (answer : Result Accepted CheckFault)
     : Type 0 where
-  -- If the answer refuses the subtitle file, its fault is the first fault of the file, or its
-  -- source failed or an allocation was refused.
+  -- If the result is a fault of the subtitle file, it is the first fault of that file, or its
+  -- source failed, or an allocation was refused.
   pub subtitles : ReportsSubtitles drawing file answer
-  -- A subtitle file that gives no programme is refused.
+  -- A subtitle file from which no programme can be loaded is refused.
   pub refused :
       ((programme : ProgrammeValue) → loaded drawing file ≢ Ok programme)
       → failed is_subtitle_fault answer ≡ true
@@ -281,33 +280,34 @@ pub record AreChecked
       → loaded drawing file ≡ Ok programme
       → IfKnown pes (λ bytes. IsCheckedBy programme options bytes answer)
 
--- The answer of `check`, given the first fault: the counts if there is none.
+-- The result of `check` for this first fault; the counts if there is no fault.
 abbrev pub answer_by : Option CheckFault → Accepted → Result Accepted CheckFault
 answer_by None a = Ok a
 answer_by (Some f) a = Err f
 
--- The answer of `check`, given all events.
+-- The result of `check` for these events: the first fault, or the counts.
 abbrev pub first_answer : List Event → Accepted → Result Accepted CheckFault
 first_answer events a = answer_by (first_reported events) a
 
 -- ---- a PES file, checked against the reliable subtitles of a file
 
--- All events for the bytes of a PES file, checked against the reliable subtitles of a file. If no
+-- All events of a check of a PES file against the reliable subtitles of a subtitle file. If no
 -- subtitle was refused, they are the events for its programme.
 abbrev pub all_events_by : JudgedValue → OptionsValue → List ℕ → List Event
 all_events_by judged options bytes =
     let file = pes_packet_file_of (clock_of options) bytes in
     all_of_pes_packets (criteria_of_judged judged options file.unread) file.pes_packets
 
--- The events for the first n PES packets of a file, checked against the reliable subtitles of a
+-- The events of a check of the first n PES packets of a file against the reliable subtitles of a
 -- subtitle file.
 abbrev pub events_of_first_by : JudgedValue → OptionsValue → List ℕ → ℕ → List Event
 events_of_first_by judged options bytes n =
     let file = pes_packet_file_of (clock_of options) bytes in
     events_of_pes_packets (criteria_of_judged judged options file.unread) (take n file.pes_packets)
 
--- Frames that are reported as trusted may stay on air as they are, whatever is on air elsewhere: in
--- the part of the transmission in which the frames rise, receivers recover in these frames.
+-- Frames that are reported as trusted need no correction on air: receivers recover in them,
+-- whatever is transmitted in other frames. This applies to the part of the transmission with rising
+-- frames.
 abbrev pub ReportsWhatMayStay : JudgedValue → OptionsValue → List ℕ → Type 0
 ReportsWhatMayStay judged options bytes =
     let file = pes_packet_file_of (clock_of options) bytes in
@@ -316,8 +316,8 @@ ReportsWhatMayStay judged options bytes =
     → StaysAsRead (criteria_of_judged judged options file.unread) file.pes_packets from to
     (λ on_air. MayStay judged.programme on_air options from to)
 
--- Frames that are reported as trusted may stay on air with any options, whatever `within` is, and
--- whether repeats may keep the page or not: for receivers that may forget the page, too.
+-- Frames that are reported as trusted need no correction on air with any options: with any delay
+-- `within`, and for receivers that keep or blank the page at a repeat without C4, erase page.
 abbrev pub ReportsWhatMayStayBy : JudgedValue → OptionsValue → List ℕ → Type 0
 ReportsWhatMayStayBy judged options bytes =
     let file = pes_packet_file_of (clock_of options) bytes in
@@ -326,8 +326,8 @@ ReportsWhatMayStayBy judged options bytes =
     → StaysAsRead (criteria_of_judged judged options file.unread) file.pes_packets from to
     (λ on_air. MayStayBy judged.programme on_air options from to)
 
--- At each frame that is reported as trusted the due page is known, and it was known at each of the
--- `within` frames before, from the first frame that was read.
+-- At each frame that is reported as trusted, and at each of the `within` frames before it that were
+-- read, the expected page is known.
 abbrev pub ReportsWhatIsKnown : JudgedValue → OptionsValue → List ℕ → Type 0
 ReportsWhatIsKnown judged options bytes =
     let file = pes_packet_file_of (clock_of options) bytes in
@@ -340,9 +340,8 @@ ReportsWhatIsKnown judged options bytes =
     → from ≤ frame + options.within
     → IsFalse (is_due_undecided judged frame)
 
--- The events for the first n PES packets, if the source fails after them, are a prefix of all
--- events. So the promises for trusted frames hold for the frames that were reported before the
--- failure.
+-- If the source fails after n PES packets, their events are a prefix of all events. So the
+-- properties of trusted frames apply to the frames reported before the failure.
 abbrev pub BeginsWhatIsReported : JudgedValue → OptionsValue → List ℕ → Type 0
 BeginsWhatIsReported judged options bytes =
     (n : ℕ)
@@ -350,10 +349,9 @@ BeginsWhatIsReported judged options bytes =
     × (all_events_by judged options bytes
     ≡ events_of_first_by judged options bytes n ++ rest)
 
--- The events reported to a device for the bytes of a PES file, checked against the reliable
--- subtitles. If the device did not stop the check: all events, and the answer has the counts.
--- Otherwise: a prefix of the events, and no counts. If the source failed: the events of the PES
--- packets before the failure.
+-- The events that a check of a PES file reports. If the report sink did not stop the check, all
+-- events are reported, and the result has the counts. If it did, a prefix of the events is
+-- reported. If the source failed, the events of the PES packets before the failure are reported.
 abbrev pub ReportsEvents : {D : Type 0} → JudgedValue → OptionsValue → List ℕ
     → (D → Event → D → Type 0) → D → D → Result (Option Accepted) CheckFault → Type 0
 ReportsEvents judged options bytes IsReported old new (Ok (Some a)) =

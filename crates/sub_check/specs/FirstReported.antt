@@ -1,4 +1,4 @@
--- The audience to which `check` passes all events. Only contracts of private functions use these
+-- The report sink to which `check` reports all events. Only private contracts use these
 -- definitions.
 use Rattle.std.specs.Prelude.{◌≡◌, ◌||◌, Bool, false, not, Option, Some, None}
 use Rattle.std.specs.Prelude.{if◌then◌else◌}
@@ -7,25 +7,24 @@ use Rattle.sub_rules.specs.declared.event.Event.{Event}
 use Rattle.sub_rules.specs.declared.event.Event.TheVariants.{Ended, SkippedUntil, Reported, Trusted}
 use Rattle.sub_rules.specs.declared.fault.CheckFault.{CheckFault}
 
--- The fault reports a broken rule: it is neither a fault of the subtitle file nor a failure of the
--- PES source or sink.
+-- The fault is a broken rule: it is neither a fault of the subtitle file nor a device failure.
 pub record IsRuleFault (f : CheckFault) : Type 0 where
   pub no_source : is_pes_read f ≡ false
   pub no_write : is_pes_write f ≡ false
   pub no_subtitle : is_subtitle_fault f ≡ false
 
--- The fault reports a broken rule: it is neither a fault of the subtitle file nor a failure of the
--- PES source or sink.
+-- The fault is a broken rule: it is neither a fault of the subtitle file nor a device failure.
 abbrev pub is_of_rule : CheckFault → Bool
 is_of_rule f = not (is_pes_read f || is_pes_write f || is_subtitle_fault f)
 
--- The fault of an event, if the event reports a broken rule.
+-- The fault of an event that reports a broken rule; `None` for all other events.
 abbrev pub rule_fault_of : Event → Option CheckFault
 rule_fault_of (Reported f) = if is_of_rule f then Some f else None
 rule_fault_of (Ended rule frame) = None
 rule_fault_of (SkippedUntil f) = None
 rule_fault_of (Trusted from to) = None
 
--- A `FirstFault` stores the first fault, and no event is reported to it afterwards.
+-- How an event changes a `FirstFault`: it stores the first fault, after which no event is reported
+-- to it.
 abbrev pub KeepsFirstFault : Option CheckFault → Event → Option CheckFault → Type 0
 KeepsFirstFault old event new = (old ≡ None) × (new ≡ rule_fault_of event)

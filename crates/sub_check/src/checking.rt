@@ -1,4 +1,4 @@
-//! The exact checker: checks the PES packets of a file against a programme.
+//! Checks the PES packets of a file against a programme.
 ghost use Rattle.std.specs.Prelude.{◌≡◌, ℕ, Err, IfErr, IfOk, IfSome, IsFalse, false, is_none};
 ghost use Rattle.std.specs.Prelude.{true};
 ghost use Rattle.sub_io.specs.Device.{CanFail, CountsIf, failed};
@@ -32,27 +32,27 @@ use ttx_pes::{PesFault, PesPackets};
 ///
 /// # Errors
 ///
-/// Returns the faults of `check`.
+/// Returns the same faults as `check`.
 pub fn check_pes_packets<P: PesPackets>(
     programme: &Programme,
     source: &mut P,
     options: &Options,
 ) -> Result<Accepted, CheckFault>
     requires { CanFail (P.failure_count source.old) }
-    // If the bytes of the source are known, they decide the answer: the PES file is accepted
-    // exactly if it carries a good transmission of the programme, which is then robust.
+    // If the bytes of the source are known, the PES file is accepted exactly if it carries a good
+    // transmission of the programme. Such a transmission is robust.
     ensures checked { IsFalse options.now.keeps → options.now.within ≡ 0
         → IfKnown (P.remaining source.old) (λ bytes.
         IsChecked programme.now options.now bytes result) }
-    // With any options, including those that allow late frames or repeats that keep the page, the
-    // PES file is accepted exactly if its transmission is good by these options.
+    // With any options, the PES file is accepted exactly if its transmission is good by these
+    // options. Options may allow late pages, or repeats that keep the page.
     ensures checked_by { IfKnown (P.remaining source.old) (λ bytes.
         IsCheckedBy programme.now options.now bytes result) }
-    // A failure of the source is reported for the PES packet in which it happened; the packets
+    // A failure of the source is reported at the PES packet that could not be read; the packets
     // before it were consumed.
     ensures read { (pes : ℕ) → result ≡ Err (CheckFault.Pes pes PesFault.Read)
         → FailsAtPacket pes (P.remaining source.old) (P.left source.new) }
-    // No answer refuses a subtitle file, nothing is written, and `Read` is returned exactly if the
+    // No fault of a subtitle file and no `Write` is returned. `Read` is returned exactly if the
     // source failed in this call.
     ensures own { failed is_subtitle_fault result ≡ false }
     ensures no_write { failed is_pes_write result ≡ false }
@@ -67,8 +67,8 @@ pub fn check_pes_packets<P: PesPackets>(
     }
 }
 
-// Reports everything that is broken in a PES file, checked against a programme whose subtitle file
-// has no refused subtitles.
+// Checks PES packets against a programme, and reports all faults. For a subtitle file without
+// refused subtitles.
 fn report_known<P: PesPackets, A: LiveAudience<Event>>(
     programme: &Programme,
     source: &mut P,
@@ -94,13 +94,13 @@ fn report_known<P: PesPackets, A: LiveAudience<Event>>(
     report_pes_packets(&Judging::known(programme), source, options, audience)
 }
 
-/// Checks PES packets against the reliable subtitles of a file, and reports everything that is
-/// broken, as `check_all` does for the PES packets of a source.
+/// Checks PES packets against the reliable subtitles of a subtitle file, and reports all faults, as
+/// `check_all` does for the PES packets of a source.
 ///
 /// # Errors
 ///
-/// Returns `Pes` with `Read` if a device failed. The events of all packets before the failure have
-/// been reported.
+/// Returns `Pes` with `Read` if a device failed. The events of all PES packets before the failure
+/// have been reported.
 pub fn check_all_pes_packets<P: PesPackets, A: LiveAudience<Event>>(
     judging: &Judging<'_>,
     source: &mut P,
@@ -110,12 +110,12 @@ pub fn check_all_pes_packets<P: PesPackets, A: LiveAudience<Event>>(
     requires failures { CanFail (P.failure_count source.old) }
     requires continues { A.has_stopped audience.old ≡ false }
     requires still { A.has_pending_reports audience.old ≡ false }
-    // If the bytes of the source are known, they decide which events are reported.
+    // If the bytes of the source are known, they determine the reported events.
     ensures reported { IfKnown (P.remaining source.old) (λ bytes.
         ReportsEvents judging.now options.now bytes A.is_reported audience.old audience.new
         result) }
-    // If all events were reported and no subtitle was refused, `check` returns the first fault
-    // among the events, or the same counts if there is no fault.
+    // If all events were reported and no subtitle was refused, `check` would return the first fault
+    // among them, or the same counts if there is no fault.
     ensures first { (programme : ProgrammeValue)
         → judging.now ≡ known programme
         → IsFalse options.now.keeps
@@ -128,35 +128,34 @@ pub fn check_all_pes_packets<P: PesPackets, A: LiveAudience<Event>>(
         → IfKnown (P.remaining source.old) (λ bytes.
         IfOk result (λ counts. IfSome counts (λ a. IsCheckedBy programme options.now bytes
         (first_answer (all_events_of programme options.now bytes) a)))) }
-    // The next four clauses are laws about the events. They mention neither the answer nor the
-    // audience; they are repeated in this contract so that callers can use them. Trusted frames may
-    // stay on air as they are, whatever is on air elsewhere.
+    // The next four clauses are laws about the events, repeated here for callers. Frames reported
+    // as trusted need no correction on air, whatever is transmitted in other frames.
     ensures trusted { IsFalse options.now.keeps → options.now.within ≡ 0
         → IfKnown (P.remaining source.old) (λ bytes.
         ReportsWhatMayStay judging.now options.now bytes) }
-    // Trusted frames may stay on air with any options: with frames of delay, and for receivers that
-    // may forget the page if repeats may keep it.
+    // Frames reported as trusted need no correction on air with any options: with any delay, and
+    // for receivers that keep or blank the page at a repeat.
     ensures trusted_by { IfKnown (P.remaining source.old) (λ bytes.
         ReportsWhatMayStayBy judging.now options.now bytes) }
-    // At trusted frames the due page is known.
+    // At frames reported as trusted, the expected page is known.
     ensures known { IfKnown (P.remaining source.old) (λ bytes.
         ReportsWhatIsKnown judging.now options.now bytes) }
-    // The events before a failure of the source are a prefix of all events.
+    // The events reported before a failure of the source are a prefix of all events.
     ensures begins { IfKnown (P.remaining source.old) (λ bytes.
         BeginsWhatIsReported judging.now options.now bytes) }
-    // No counts are returned exactly if the audience stopped the check.
+    // The result has no counts exactly if the report sink stopped the check.
     ensures stopped { IfOk result (λ counts. A.has_stopped audience.new ≡ is_none counts) }
-    // Whatever the source contains, a list of events was reported, and the audience had not stopped
-    // the check if the source failed.
+    // For any source, some list of events was reported; if the source failed, the report sink had
+    // not stopped the check.
     ensures some { ReportsSome A.is_reported audience.old audience.new }
     ensures continues { IfErr result (λ _. A.has_stopped audience.new ≡ false) }
-    // A failure of the source is reported for the PES packet in which it happened; the packets
+    // A failure of the source is reported at the PES packet that could not be read; the packets
     // before it were consumed. No other `Err` is returned.
     ensures read { (pes : ℕ) → result ≡ Err (CheckFault.Pes pes PesFault.Read)
         → FailsAtPesPacket pes (P.remaining source.old) (P.left source.new) }
     ensures only { IfErr result (λ f. is_pes_read f ≡ true) }
-    // All reports are flushed before the source may ask its device, which may fail. So no report is
-    // held back if the device failed.
+    // All reports are flushed before the source may read from its device, which may fail. So after
+    // a failure no report is still buffered.
     ensures requested { A.buffered audience.old ≡ 0 → IfErr result (λ _. A.buffered audience.new ≡
         0) }
     ensures device { P.device source.new ≡ P.device source.old }

@@ -1,4 +1,4 @@
-//! Checks a pair of files: a subtitle file, and the PES file that carries it.
+//! Checks a subtitle file and the PES file that carries its subtitles.
 ghost use Rattle.std.specs.Prelude.{◌≡◌, ℕ, ◌<◌, Err, IsFalse, false, true};
 ghost use Rattle.sub_io.specs.Device.{CanFail, CountsIf, failed};
 ghost use Rattle.sub_io.specs.Reading.{IfKnown};
@@ -22,12 +22,12 @@ use ttx_pes::PesFault;
 
 /// Loads a subtitle file, and checks a PES file against it.
 ///
-/// The subtitle file is read to its end before the first byte of the PES file is read.
+/// Reads the complete subtitle file before the PES file.
 ///
 /// # Errors
 ///
-/// Returns `Subtitles` with the fault of `load`; the PES source is unchanged then. Otherwise
-/// returns the faults of `check`.
+/// Returns `Subtitles` with the fault of `load` if the subtitle file is refused; the PES file is
+/// not read then. Otherwise returns the faults of `check`.
 pub fn check_files<S: Source, P: Source>(
     alloc: Global,
     stl: &mut S,
@@ -39,38 +39,38 @@ pub fn check_files<S: Source, P: Source>(
 ) -> Result<Accepted, CheckFault>
     requires stl { CanFail (S.failure_count stl.old) }
     requires pes { CanFail (P.failure_count pes.old) }
-    // If the bytes of both sources are known, no source fails and no allocation is refused, the
-    // files are accepted exactly if they are a subtitle file and a PES file with a good
-    // transmission of its subtitles; and an accepted transmission is robust.
+    // If the bytes of both sources are known, the files are accepted exactly if the PES file has a
+    // good transmission of the subtitles, unless a source fails or an allocation is refused. An
+    // accepted transmission is robust.
     ensures accepted { IsFalse options.now.keeps → options.now.within ≡ 0
         → IfKnown (S.remaining stl.old) (λ file.
         IfKnown (P.remaining pes.old) (λ bytes.
         AreAccepted (drawing_within national layout scope) options.now file bytes result)) }
-    // With any options, including those that allow late frames or repeats that keep the page, the
-    // files are accepted exactly if the transmission is good by these options, and an accepted
-    // transmission keeps the promises of `HasPromisesBy`.
+    // With any options, the files are accepted exactly if the transmission is good by these
+    // options, and an accepted transmission has the properties of `HasPromisesBy`. Options may
+    // allow late pages, or repeats that keep the page.
     ensures accepted_by { IfKnown (S.remaining stl.old) (λ file.
         IfKnown (P.remaining pes.old) (λ bytes.
         AreAcceptedBy (drawing_within national layout scope) options.now file bytes result)) }
-    // The known bytes decide which fault is returned, with its place.
+    // If the bytes are known, they determine the returned fault and its place.
     ensures checked { IfKnown (S.remaining stl.old) (λ file.
         AreChecked (drawing_within national layout scope) options.now file (P.remaining pes.old)
         result) }
-    // A failed read of the subtitle file names the block that was being read, and there is no fault
-    // before it.
+    // A failed read of the subtitle file is reported at the block that was being read; no block
+    // before it has a fault.
     ensures stl_read { (fault : LoadFault)
         → result ≡ Err (CheckFault.Subtitles fault)
         → is_load_read fault ≡ true
         → FailsLoading (drawing_within national layout scope) (S.remaining stl.old)
         (S.remaining stl.new) fault.block }
-    // A failed read of the PES file names the PES packet in which it happened.
+    // A failed read of the PES file is reported at the PES packet that could not be read.
     ensures pes_read { (index : ℕ)
         → result ≡ Err (CheckFault.Pes index PesFault.Read)
         → FailsAtPacket index (P.remaining pes.old) (P.remaining pes.new) }
-    // If the subtitle file is refused, no byte of the PES file is read. Nothing is ever written.
+    // If the subtitle file is refused, no byte of the PES file is read. No `Write` is returned.
     ensures before { failed is_subtitle_fault result ≡ true → pes.new ≡ pes.old }
     ensures no_write { failed is_pes_write result ≡ false }
-    // Each source failed in this call exactly if its `Read` is returned.
+    // For each source, its `Read` is returned exactly if it failed in this call.
     ensures stl_count { CountsIf S.failure_count stl.old (failed is_stl_read result) stl.new }
     ensures pes_count { CountsIf P.failure_count pes.old (failed is_pes_read result) pes.new }
 {

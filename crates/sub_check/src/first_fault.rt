@@ -1,4 +1,4 @@
-//! The audience that `check` passes to the checker.
+//! The report sink of `check`, which stores the first fault.
 ghost use Rattle.std.specs.Prelude.{◌≡◌, Option, None, Some, IfSome, is_some, false, not, true};
 ghost use Rattle.std.proofs.Common.{refl, subst, sym};
 ghost use Rattle.sub_check.specs.FirstReported.{IsRuleFault, KeepsFirstFault, is_of_rule};
@@ -9,9 +9,10 @@ use sub_io::{Audience, Live, LiveAudience, Stopped};
 use sub_rules::{CheckFault, Event};
 use ttx_pes::PesFault;
 
-/// Stores the first fault of a rule and stops the check at this fault. Ignores all other events.
+/// A report sink that stores the first broken rule and stops the check there. It ignores all other
+/// events.
 ///
-/// In contracts, the value of a `FirstFault` is the stored fault.
+/// Its model is the stored fault.
 #[derive(Drop)]
 pub struct FirstFault {
     fault: Option<CheckFault>,
@@ -26,14 +27,14 @@ impl Model for FirstFault {
 }
 
 impl FirstFault {
-    /// Returns an audience to which nothing was reported yet.
+    /// Creates a report sink that has received no event.
     pub fn new() -> Self
         ensures { result ≡ None }
     {
         FirstFault { fault: None }
     }
 
-    /// Returns the stored fault, after the audience stopped the check.
+    /// Returns the stored fault, after the check was stopped.
     pub fn into_fault(self) -> CheckFault
         requires { is_some self ≡ true }
         ensures kept { self ≡ Some result }
@@ -51,7 +52,7 @@ impl Audience<Event> for FirstFault {
 
     ghost has_stopped = { λ f. is_some f };
 
-    // Stores the fault of the event, if a rule is broken, and stops the check.
+    // Stores the fault of the event and stops the check, if a rule is broken.
     #[tactic(auto, using(sub_io::proofs::ReportingLemmas::tellings))]
     fn report(&mut self, item: Event) -> Result<(), Stopped> {
         match item {
@@ -71,12 +72,12 @@ impl Live for FirstFault {
 
     ghost is_flushed = { λ old ok new. (new ≡ old) × (is_some new ≡ not ok) };
 
-    // Returns `false`: the fault is only stored in memory, so no report is ever pending.
+    // Returns `false`, since the fault is stored in memory and no report is pending.
     fn has_pending(&self) -> bool {
         false
     }
 
-    // Has no report to flush; returns `Stopped` if a fault is stored.
+    // Does nothing. Returns `Stopped` if a fault is stored.
     fn flush_pending(&mut self) -> Result<(), Stopped> {
         if self.fault.is_some() {
             return Err(Stopped);
@@ -94,8 +95,8 @@ impl LiveAudience<Event> for FirstFault {
     } };
 }
 
-// Returns whether a fault reports a broken rule: it is not a fault of the subtitle file or of a
-// failed device.
+// Returns whether a fault is a broken rule: it is neither a fault of the subtitle file nor a device
+// failure.
 fn is_of_rule(fault: &CheckFault) -> bool
     ensures is { result ≡ is_of_rule fault.now }
     ensures own { result ≡ true → IsRuleFault fault.now }

@@ -1,10 +1,10 @@
-//! The exact checker of a PES file against a programme, and the headline: a good transmission of a
+//! The checker of a PES file against a programme, and the main theorem: a good transmission of a
 //! programme is robust.
 //!
-//! Joins `sub_checker`, which reports everything that is broken, with `sub_laws` and `sub_trusted`,
-//! whose laws say what the reports mean, and re-exports their names, those of `sub_rules`, and the
-//! law of `sub_packets`. `check` accepts exactly the good transmissions (`Good` of `sub_rules`),
-//! and returns the first reported fault (`Events`) for any other:
+//! Combines `sub_checker`, which reports all faults, with `sub_laws` and `sub_trusted`, whose laws
+//! state what the reports mean, and re-exports their public names, those of `sub_rules`, and the
+//! law of `sub_packets`. `check` accepts exactly the good transmissions (`Good` in `sub_rules`),
+//! and returns the first fault for any other:
 //!
 //! ```text
 //! check(&programme, &mut source, &options)?; // Accepted { frames: 51, transmissions: 2 }

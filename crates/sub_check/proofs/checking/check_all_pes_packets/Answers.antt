@@ -1,5 +1,4 @@
--- The events reported are those of the whole file, and their first fault is the answer of `check`:
--- AnsweredLemmas.
+-- The reported events are those of the whole file, and `check` returns their first fault.
 use Rattle.std.proofs.Common.{drop, sym, take}
 use Rattle.std.proofs.lemmas.List.{take-append-drop}
 use Rattle.stl_rows.specs.Judged.{has_refused}

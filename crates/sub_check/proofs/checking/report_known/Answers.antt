@@ -1,4 +1,4 @@
--- If no subtitle was refused, the criteria are those of the programme: `reports_known`.
+-- If no subtitle was refused, the criteria are those of the programme.
 use Rattle.sub_check.proofs.AnsweredLemmas.{programme_known, reports_known}
 use Rattle.sub_check.proofs.checking.report_known.Goals as goal
 

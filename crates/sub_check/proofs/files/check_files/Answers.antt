@@ -1,5 +1,5 @@
--- The PES file is checked against the programme of the subtitle file (`same_programme`), and the
--- answer agrees with both files (`files_accepted`, `files_refused`), also with any options.
+-- The PES file is checked against the programme of the subtitle file, and the result agrees with
+-- both files.
 use Rattle.std.proofs.lemmas.Bool.Decides.{nat_tests}
 use Rattle.std.proofs.Common.{arith}
 use Rattle.stl_rows.specs.Layout.{drawing_within}
