@@ -154,13 +154,13 @@ printed-framed items cells = grind (
   printed-headed,
 )
 
--- The prepared form of a line has the same cells from the first printable one to the last.
+-- The prepared form of a line has the same cells from the first printable cell to the last.
 pub printed-prepared : (items : LayoutItems) (cells : List ℕ)
     → printed (prepared_by items cells) ≡ printed cells
 unfolding prepared_by
 printed-prepared items cells = grind (arith, nat_tests, printed-framed, printed-trimmed)
 
--- The row that shows a line has the same cells as the line, from the first printable one to the
+-- The row that shows a line has the same cells as the line, from the first printable cell to the
 -- last.
 pub printed-row : (start : ℕ) (line : List ℕ) → start + length line ≤ 40
     → printed (row_from start line) ≡ printed line

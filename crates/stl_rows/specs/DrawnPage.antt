@@ -77,8 +77,8 @@ last_depth items depth other (line ∷ lines) =
     then last_depth items (depth + pitch items) depth lines
     else last_depth items (if items.pack then depth else depth + pitch items) other lines
 
--- The layout item `row`: the depth of line 0, which is VP plus the rows that all lines are moved
--- down.
+-- The layout item `row`: the depth of line 0, its row before the shift, which is VP plus the rows
+-- that all lines are moved down.
 abbrev pub first_depth : LayoutItems → ℕ → ℕ
 first_depth items vp = vp + items.lower
 

@@ -115,7 +115,7 @@ pub record FailsReporting
       (filter (is_reported_before block) (faults drawing all)))
 
 -- A subtitle without faults ends at block `at`, and `reported` are exactly the faults of the file
--- before that subtitle. The times of the subtitle before are `before`.
+-- before that subtitle. The previous subtitle has the times `before`.
 abbrev pub EndsSubtitleAfter : Drawing → Option Times → List LoadFault → ℕ → Findings → Type 0
 EndsSubtitleAfter drawing before reported at no_more = ⊥
 EndsSubtitleAfter drawing before reported at (breaks fault block) = ⊥

@@ -81,7 +81,8 @@ are_some [] = false
 are_some (j ∷ js) = true
 
 -- A transmission can be checked against the reliable subtitles of the file: the file was read to
--- its end, and the reliable subtitles are at least one and do not overlap.
+-- its end, and it has at least one reliable subtitle, without overlap between the reliable
+-- subtitles.
 abbrev pub can_judge : Drawing → List ℕ → Bool
 can_judge drawing file =
     let judged = (judged_of drawing file).judged in

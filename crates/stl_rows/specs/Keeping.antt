@@ -90,8 +90,8 @@ are_none (bit ∷ bits) = false
 abbrev pub are_all_kept : KeptRecords → Bool
 are_all_kept k = are_none k.after_other && not k.is_before_other
 
--- A transmission can be checked against the kept subtitles: no fault was reported, or they are at
--- least one and do not overlap.
+-- A transmission can be checked against the kept subtitles: no fault was reported, or there is at
+-- least one kept subtitle and the kept subtitles do not overlap.
 abbrev pub is_enough : KeptRecords → Bool
 is_enough k = are_all_kept k || (are_some (all_kept k) && are_in_order (all_kept k))
 

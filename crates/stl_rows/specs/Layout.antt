@@ -79,7 +79,7 @@ default_items = record {
   higher = 0;
 }
 
--- The layout if the user gives none.
+-- The default layout.
 abbrev pub default_layout : Layout
 default_layout = record { items = None }
 

@@ -39,8 +39,8 @@ loaded drawing file =
     unless_reported (faults drawing file)
     (record { drawing = drawing; records = records_of (findings_for drawing.scope file) })
 
--- A subtitle ends at block `at`, and no fault comes up to that block. The times of the subtitle
--- before are `before`.
+-- A subtitle ends at block `at`, and no fault comes up to that block. The previous subtitle has the
+-- times `before`.
 abbrev pub EndsAfterTimes : Drawing → Option Times → ℕ → Findings → Type 0
 EndsAfterTimes drawing before at no_more = ⊥
 EndsAfterTimes drawing before at (breaks fault block) = ⊥

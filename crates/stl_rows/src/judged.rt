@@ -1,4 +1,4 @@
-//! Programmes of the reliable subtitles of a file that also has unreliable ones.
+//! Programmes of the reliable subtitles of a file that also has unreliable subtitles.
 
 ghost use Rattle.std.specs.Prelude.{◌≡◌};
 ghost use Rattle.std.specs.List.{list_any};

@@ -118,7 +118,7 @@ impl<A: Allocator + Copy> Kept<A> {
         self.after_other.truncate(left);
     }
 
-    // Takes the next subtitle of the file. `clean`: the subtitle has no fault. `in_order`: its
+    // Processes the next subtitle of the file. `clean`: the subtitle has no fault. `in_order`: its
     // times are in order with those of the previous subtitle; if they are not, neither of the two
     // is kept.
     pub(crate) fn put(
@@ -148,8 +148,8 @@ impl<A: Allocator + Copy> Kept<A> {
         self.after_other.is_empty() && !self.is_before_other
     }
 
-    // Returns whether a transmission can be checked against the kept subtitles: they are all
-    // subtitles of the file, or at least one, without overlap.
+    // Returns whether a transmission can be checked against the kept subtitles: all subtitles of
+    // the file are kept, or at least one is, and the kept subtitles do not overlap.
     fn is_enough(&self) -> bool
         ensures { result ≡ is_enough self.now }
     {

@@ -356,8 +356,8 @@ impl Programme {
         tci_ending_at(&self.drawing, &self.subtitles, frame)
     }
 
-    // Returns whether the expected page is unknown at a frame, given which subtitles have an
-    // unreliable one before them.
+    // Returns whether the expected page is unknown at a frame, given the bits of the subtitles that
+    // directly follow an unreliable subtitle.
     #[tactic(auto, unfolding(crate::specs::Judged::is_undecided_in))]
     pub(crate) fn is_undecided(
         &self,

@@ -63,8 +63,8 @@ with_within_value options rows = do
   frames ← ok_or (between 0 50 (number_of_text (argument (codes "within") rows))) fault.Within
   Ok (record options { within = frames })
 
--- The argument `[--pace K]` as an option: PES packets are at most 1 to 2,160,000 frames apart;
--- without the argument there is no limit.
+-- The argument `[--pace K]` as an option: the maximum distance of PES packets, 1 to 2,160,000
+-- frames; without the argument there is no limit.
 abbrev pub pacing_of : OptionsValue → List Row → Result OptionsValue UsageFault
 pacing_of options rows =
     option_map_or

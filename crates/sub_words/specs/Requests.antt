@@ -170,8 +170,8 @@ requested_in name rows =
 
 -- ---- the result of parsing the arguments
 
--- The fault was found by the program's own checks of the arguments, not by `clap`, and is no lack
--- of memory.
+-- The fault was found by the program's own checks of the arguments, not by `clap`, by allocating
+-- memory or by opening a file.
 abbrev pub is_own : UsageFault → Bool
 is_own fault.Words = false
 is_own fault.Memory = false

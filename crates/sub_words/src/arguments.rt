@@ -53,7 +53,7 @@ pub fn flag_at<'a>(matches: &ArgMatches<'a>, id: &str) -> bool
 ///
 /// # Errors
 ///
-/// Returns `BadPage`, then `Every`, then `Origin`.
+/// Returns the first fault of `BadPage`, `Every` and `Origin`.
 pub fn options_at<'a>(matches: &ArgMatches<'a>, every: Option<u64>) -> Result<Options, UsageFault>
     ensures { result ≡ options_of every (rows_of (found_of matches.now)) }
 {
@@ -73,7 +73,7 @@ pub fn options_at<'a>(matches: &ArgMatches<'a>, every: Option<u64>) -> Result<Op
 ///
 /// # Errors
 ///
-/// Returns only `Within`.
+/// The only fault is `Within`.
 pub fn with_within_option<'a>(
     matches: &ArgMatches<'a>,
     options: Options,
@@ -91,7 +91,7 @@ pub fn with_within_option<'a>(
 ///
 /// # Errors
 ///
-/// Returns only `Pace`.
+/// The only fault is `Pace`.
 pub fn pacing_at<'a>(matches: &ArgMatches<'a>, options: Options) -> Result<Options, UsageFault>
     ensures { result ≡ pacing_of options (rows_of (found_of matches.now)) }
 {
@@ -133,7 +133,7 @@ fn usage_fault_of(fault: OptionFault) -> UsageFault
 ///
 /// # Errors
 ///
-/// Returns only `BadLayout`.
+/// The only fault is `BadLayout`.
 pub fn layout_at<'a>(matches: &ArgMatches<'a>) -> Result<Layout, UsageFault>
     ensures { result ≡ layout_of (rows_of (found_of matches.now)) }
 {
@@ -148,7 +148,7 @@ pub fn layout_at<'a>(matches: &ArgMatches<'a>) -> Result<Layout, UsageFault>
 ///
 /// # Errors
 ///
-/// Returns only `BadTime`.
+/// The only fault is `BadTime`.
 pub fn scope_at<'a>(matches: &ArgMatches<'a>) -> Result<Scope, UsageFault>
     ensures { result ≡ scope_of (rows_of (found_of matches.now)) }
 {
@@ -177,18 +177,18 @@ fn frame_at<'a>(matches: &ArgMatches<'a>, id: &str) -> Result<Option<u32>, Usage
 ///
 /// # Errors
 ///
-/// Returns only `Pid`.
+/// The only fault is `Pid`.
 pub fn pid_at<'a>(matches: &ArgMatches<'a>) -> Result<Pid, UsageFault>
     ensures { result ≡ required_pid_of (rows_of (found_of matches.now)) }
 {
     parse_pid(text_at(matches, "pid")).ok_or(UsageFault::Pid)
 }
 
-/// Returns the packet size of `--packet-size`: the distance of transport packets.
+/// Returns the packet size that `--packet-size` gives.
 ///
 /// # Errors
 ///
-/// Returns only `PacketSize`.
+/// The only fault is `PacketSize`.
 pub fn packet_size_at<'a>(matches: &ArgMatches<'a>) -> Result<PacketSize, UsageFault>
     ensures { result ≡ packet_size_of (rows_of (found_of matches.now)) }
 {
@@ -196,7 +196,7 @@ pub fn packet_size_at<'a>(matches: &ArgMatches<'a>) -> Result<PacketSize, UsageF
 }
 
 // Returns the transport stream with the PID of `--pid`, or `None` without `--pid`, in which case
-// the packet size has no effect. The faults are `Pid`, then `PacketSize`.
+// the packet size has no effect. The faults are `Pid` and `PacketSize`, in this order.
 fn stream_at<'a>(matches: &ArgMatches<'a>) -> Result<Option<TransportStream>, UsageFault>
     ensures { result ≡ stream_of (rows_of (found_of matches.now)) }
 {
@@ -212,7 +212,7 @@ fn stream_at<'a>(matches: &ArgMatches<'a>) -> Result<Option<TransportStream>, Us
 ///
 /// # Errors
 ///
-/// Returns `BadPage`, then `Pid`, then `PacketSize`.
+/// Returns the first fault of `BadPage`, `Pid` and `PacketSize`.
 pub fn survey_options_at<'a>(matches: &ArgMatches<'a>) -> Result<SurveyOptions, UsageFault>
     ensures { result ≡ survey_options_of (rows_of (found_of matches.now)) }
 {
@@ -248,7 +248,7 @@ fn range_at<'a>(matches: &ArgMatches<'a>) -> Result<Option<PesPacketRange>, Usag
 ///
 /// # Errors
 ///
-/// Returns `Pid`, then `PacketSize`, then `Range`.
+/// Returns the first fault of `Pid`, `PacketSize` and `Range`.
 // Callers of `pes_at` match on the result, since the prover has no rule for `?` on a struct that
 // contains a reference.
 #[tactic(auto, unfolding(crate::specs::Arguments::pes_selection_of))]
@@ -271,7 +271,7 @@ pub fn pes_at<'a>(matches: &ArgMatches<'a>) -> Result<PesSelection<'a>, UsageFau
 ///
 /// # Errors
 ///
-/// Returns only `Memory`.
+/// The only fault is `Memory`.
 pub fn list_at<'a, T: Item + Drop>(
     alloc: Global,
     matches: &ArgMatches<'a>,

@@ -40,7 +40,7 @@ pcr_base p =
     else Some (slice_index p 6 * 0x200_0000 + slice_index p 7 * 0x2_0000 + slice_index p 8 * 0x200
     + slice_index p 9 * 2 + slice_index p 10 / 0x80)
 
--- The payload of a transport packet. Empty if the packet has no payload or is unusable.
+-- The payload of a transport packet, or an empty list if the packet has no payload or is unusable.
 abbrev pub payload_in : List ℕ → List ℕ
 payload_in p = if has_payload p && not (is_wrong p) then payload p else []
 

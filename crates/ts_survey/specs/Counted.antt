@@ -21,7 +21,7 @@ pub record BeginsAt (passed : ℕ) (packets : PacketsInStep) : Type 0 where
   pub run : packets.run ≡ 0
   pub skipped : packets.skipped ≡ passed
 
--- If the recording is a transport stream, its state is that at the beginning of the stream.
+-- If the recording is a transport stream, its state is the state at the beginning of the stream.
 abbrev pub BeginsStream : ℕ → Kind → Type 0
 BeginsStream passed (Stream packets multiplex) = BeginsAt passed packets
 BeginsStream passed _ = ⊤

@@ -5,7 +5,7 @@ use Rattle.ts_survey.specs.InStep.{TakesAll}
 use Rattle.ts_survey.specs.declared.recording.Kind.{Kind}
 use Rattle.ts_survey.specs.declared.recording.Kind.TheVariants.{Stream, Unknown}
 
--- The kind of the recording is not known yet.
+-- The kind of the recording is still unknown.
 abbrev pub is_unknown : Kind → Bool
 is_unknown Unknown = true
 is_unknown _ = false

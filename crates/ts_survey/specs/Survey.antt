@@ -8,12 +8,12 @@ use Rattle.ts_survey.specs.declared.reporting.SurveyFault.TheVariants.{Read, Wri
 abbrev pub Grows : Option (List ℕ) → Option (List ℕ) → Type 0
 Grows old new = (text : List ℕ) × Appends old new text
 
--- The fault is that the source of the recording failed.
+-- The fault means that the source of the recording failed.
 abbrev pub is_survey_read : SurveyFault → Bool
 is_survey_read Read = true
 is_survey_read _ = false
 
--- The fault is that the sink failed.
+-- The fault means that the sink failed.
 abbrev pub is_survey_write : SurveyFault → Bool
 is_survey_write Write = true
 is_survey_write _ = false

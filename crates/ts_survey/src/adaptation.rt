@@ -48,7 +48,8 @@ pub fn pcr_base(packet: &[u8; PACKET]) -> Option<u64>
     )
 }
 
-/// Returns the payload of a transport packet. Empty if the packet has no payload or is unusable.
+/// Returns the payload of a transport packet, or an empty slice if the packet has no payload or is
+/// unusable.
 pub fn payload_in(packet: &[u8; PACKET]) -> &[u8]
     ensures { result.now ≡ payload_in packet.now }
 {

@@ -165,8 +165,8 @@ impl Clock {
         is_usual(ticks, self.ticks.count, self.ticks.middle())
     }
 
-    /// Returns the last PCR, if it is recent: fewer packets ago than four times the usual number of
-    /// packets between two PCRs, or than 256 packets if that is more.
+    /// Returns the last PCR if it is recent: fewer than 256 packets ago, or fewer than four times
+    /// the usual number of packets between two PCRs.
     pub fn near(&self, number: u64) -> Option<u64> {
         let Some((pcr, at)) = self.last else {
             return None;

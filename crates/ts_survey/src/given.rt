@@ -174,8 +174,8 @@ impl TakesPesPackets for Given {
     }
 }
 
-// Returns the fault of bytes that are no PES packet with Teletext. Returns `None` for a PES packet
-// with Teletext and for a gap marker.
+// Returns the number of the fault of bytes that are no PES packet with Teletext. Returns `None` for
+// a PES packet with Teletext and for a gap marker.
 fn refusal_of(bytes: &[u8]) -> Option<u16> {
     let head = bytes.first_chunk()?;
     match size_of(head) {

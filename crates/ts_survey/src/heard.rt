@@ -1,5 +1,5 @@
-//! The events of a PES packet as they are printed: characters for events, and the numbers of its
-//! page headers.
+//! The events of a PES packet in the form in which they are printed: a character for each event,
+//! and the numbers of the page headers.
 ghost use Rattle.std.specs.Prelude.{◌<◌, IfSome};
 
 use crate::text::{Text, upper_digit};
@@ -22,7 +22,7 @@ pub struct Heard {
 }
 
 impl Heard {
-    /// Creates a value without events.
+    /// Creates an empty list of events.
     pub fn new() -> Heard {
         Heard {
             characters: ArrayVec::new(),

@@ -422,7 +422,7 @@ impl Multiplex {
         true
     }
 
-    // Reads a new section: of the PAT, whose PID has the first index, or of a PMT.
+    // Reads a new section of the PAT or of a PMT. The PID of the PAT has the index 0.
     fn read_section(&mut self, table: u8, section: &[u8], text: &mut Text)
         ensures requested { KeepsRequested self.old self.new }
     {

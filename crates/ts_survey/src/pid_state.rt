@@ -1,4 +1,4 @@
-//! The state of every PID: its continuity counter, and what it carries.
+//! The state of each PID: its continuity counter and the kind of its data.
 
 use mpeg_ts::{PACKET, announces_jump, counter_of, has_payload};
 use std::alloc::Global;

@@ -12,7 +12,7 @@ use mpeg_ts::SurveyOptions;
 use std::alloc::Global;
 use sub_io::{Flush, Source, put_all};
 
-/// Why a recording was not read to its end.
+/// The reason why a recording was not read to its end.
 #[derive(Clone, Copy, Debug, PartialEq, Eq)]
 pub enum SurveyFault {
     /// The source of the recording failed.

@@ -85,7 +85,7 @@ fn crc_shifted(crc: u32) -> u32
 }
 
 /// The name of a section, which distinguishes it from other sections: table_id, the number after it
-/// (program_number in a PMT), and section_number. The version of a section is known by its CRC_32.
+/// (program_number in a PMT), and section_number. A new version of a section has another CRC_32.
 #[derive(Clone, Copy, PartialEq, Eq)]
 pub struct SectionName {
     pub table: u8,

@@ -1,4 +1,4 @@
--- `are_in_order`: testing one subtitle for overlap, and the end of the list.
+-- `are_in_order` tests one subtitle for overlap in each iteration.
 use Rattle.std.proofs.Common.{arith, sym, ◌∙◌}
 use Rattle.std.proofs.lemmas.Bool.Decides.{nat_tests}
 use Rattle.stl_rows.proofs.KeepingLemmas.{in_order-all, in_order-end, in_order-next}

@@ -1,4 +1,4 @@
--- `first_line`: testing one more cell, and the end of the cells.
+-- `first_line` tests one cell in each iteration.
 use Rattle.std.proofs.Common.{arith}
 use Rattle.std.proofs.lemmas.Bool.Decides.{nat_tests}
 use Rattle.stl_rows.proofs.FirstLineLemmas.{first_line-all, first_line-end, first_line-more}

@@ -1,4 +1,5 @@
--- `send_all` writes the page transmissions from base to base, and then that of the last frame.
+-- `send_all` writes the page transmissions from base to base, and then the page transmission of the
+-- last frame.
 use Rattle.std.proofs.Common.{◌≡◌, arith, refl, rules, ◌∙◌, inr, []}
 use Rattle.std.proofs.lemmas.Result.{err_from_is_err_and}
 use Rattle.sub_plan.specs.Schedule.{due_in}

@@ -1,4 +1,4 @@
--- `command_with`: adding one more rule to the command.
+-- `command_with` adds one rule to the command in each iteration.
 use Rattle.std.proofs.Common.{◌∙◌, ap, refl}
 use Rattle.clap.specs.Words.{app_of, with_rule}
 use Rattle.sub_words.specs.Commands.{clap_rule}

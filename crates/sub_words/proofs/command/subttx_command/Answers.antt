@@ -1,4 +1,4 @@
--- `subttx_command`: the program without commands, with one more command, and with all commands.
+-- `subttx_command` adds one command to the program in each iteration.
 use Rattle.std.proofs.Common.{◌∙◌, ap, rules}
 use Rattle.clap.specs.Words.{app_of, with_subcommand}
 use Rattle.sub_words.specs.Commands.{subttx_app, with_command}

@@ -1,4 +1,4 @@
--- `field_of`: the parts of the text are those between its colons.
+-- `field_of` splits the text at its colons.
 use Rattle.std.proofs.Common.{lit<}
 use Rattle.std.proofs.lemmas.Iterator.Consumers.{nth_from_yields_List}
 use Rattle.std.proofs.lemmas.Iterator.Splits.{YieldsList-from_str_split}

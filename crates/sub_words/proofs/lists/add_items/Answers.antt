@@ -1,4 +1,4 @@
--- `add_items`: the list after one more text, which may be an item or not, and after all texts.
+-- `add_items` appends the item of each text, until a text is no item.
 use Rattle.std.proofs.Common.{◌≡◌, ◌∙◌, ◌+◌, ◌<◌, ◌≤◌, ℕ, Bool, true, false, List, ◌∷◌, Option}
 use Rattle.std.proofs.Common.{Some, None, drop, get_or, length, map, subst, sym}
 use Rattle.std.proofs.lemmas.List.{at_drop_all, at_drop_more}

@@ -1,4 +1,4 @@
--- `texts_of`: the parts of the text are those between its commas.
+-- `texts_of` splits the text at its commas.
 use Rattle.std.proofs.Common.{lit<}
 use Rattle.std.proofs.lemmas.Iterator.Consumers.{map_from_collect}
 use Rattle.std.proofs.lemmas.Iterator.Splits.{YieldsList-from_str_split}
