@@ -1,5 +1,4 @@
--- Reading a recording step by step returns what the transport packets of the PID carry:
--- carried_given.
+-- Reading a recording step by step returns what the transport packets of the PID carry.
 use Rattle.std.proofs.Common.{◌≡◌, ℕ, zero, suc, ◌+◌, ◌≤◌, ◌<◌, List, [], ◌∷◌, ◌++◌, length, drop}
 use Rattle.std.proofs.Common.{Bool, true, false, Option, None, refl, sym, ap, ◌∙◌, subst}
 use Rattle.std.proofs.Common.{arith}
@@ -94,7 +93,8 @@ no_packet_yet : (wrong : Bool)
 unfolding with_gap_markers
 no_packet_yet wrong = grind (arith, nat_tests)
 
--- From the start of a recording, the reassembly of good packets returns the bytes of their parts.
+-- From the start of a recording, the reassembly of good packets returns the outcomes of their
+-- parts.
 joined_start : (wrong : Bool) (goods : List GoodPacket)
     → FirstIsCut goods
     → HavePayloads goods

@@ -1,5 +1,4 @@
--- The bytes returned for a recording are those that the bytes consumed from it carry; main lemmas:
--- gives_then, failed_read, next_gives.
+-- The output for a recording is what the consumed bytes carry.
 use Rattle.std.proofs.Common.{◌≡◌, ℕ, List, [], ◌++◌, take, Option, Some, None, sym, ap, ◌∙◌}
 use Rattle.std.proofs.Common.{append_assoc, subst}
 use Rattle.std.proofs.lemmas.List.{append-nil, append_cancel_right}
@@ -38,8 +37,7 @@ gives_then u v w before mid after first then = record {
         ∙ ap (λ (l : List ℕ). ys ++ l) (alike more)
         ∙ sym (append_assoc ys zs (output_of w more)))
 
--- If the bytes consumed from the start of a recording yield no more output, the bytes returned are
--- what they carry.
+-- If the consumed bytes of a recording give no more output, the output so far is what they carry.
 carried_taken : (number distance : ℕ) (v : StreamValue) (bytes given : List ℕ)
     → ((more : List ℕ)
     → output_of (start_of_stream number distance) (bytes ++ more) ≡ given ++ output_of v more)
@@ -65,8 +63,8 @@ carried_left number distance v all taken rest given is same none =
     ∙ ap (λ (l : List ℕ). l ++ output_of v rest)
     (sym (carried_taken number distance v taken given same none))
 
--- If a read fails within a PES packet of the recording, it fails within the same packet of the
--- bytes before the rest.
+-- If a read fails within a PES packet of the recording, it fails within the same PES packet of the
+-- consumed bytes.
 failed_before : (index : ℕ) (all prefix left : List ℕ)
     → all ≡ prefix ++ left
     → FailsAtPacket index (Some all) (Some left)
@@ -146,8 +144,8 @@ nothing_gives before reported u v w takes same only =
     (sym (only ∙ ap (λ (j : JoiningValue). record v { joining = j }) same))
     (record { given = []; takes = takes })
 
--- If reading on has made an item ready and that item was returned, the bytes consumed contain the
--- item.
+-- If further reading made an item pending, and this item was returned, the consumed bytes contain
+-- it.
 pub next_gives : (before reported : Option (List ℕ)) (u v w : StreamValue) (n : Next)
     → TakesPrefix (output_of u) (output_of v) before reported
     → TakesNext v.joining n w.joining

@@ -1,5 +1,4 @@
--- The output of the reassembly of packet after packet is the output of their parts; main lemmas:
--- claims, new_part.
+-- The output of the reassembly, packet by packet, is the output of the parts.
 use Rattle.std.proofs.lemmas.Bool.Decides.{nat_tests}
 use Rattle.std.proofs.Common.{◌≡◌, ℕ, List, [], ◌∷◌, ◌++◌, length, take, Bool, true, false}
 use Rattle.std.proofs.Common.{refl, sym, ap, ◌∙◌, subst, arith, append_assoc}
@@ -31,8 +30,8 @@ use Rattle.mpeg_ts.proofs.OutcomeLemmas.{other_with_last, outcome-headless, outc
 use Rattle.mpeg_ts.proofs.OutcomeLemmas.{fault_free_after, tail, tail-whole, up_to-last}
 use Rattle.mpeg_ts.proofs.OutcomeLemmas.{found_in_complete}
 
--- The output of good packets in order, after everything that was ready was returned. `wrong`: an
--- unusable packet follows the last good packet.
+-- The output of further good packets, after all pending items were returned. `wrong`: an unusable
+-- packet follows the last good packet.
 abbrev pub joined : JoiningValue → Bool → List GoodPacket → List ℕ
 joined v wrong [] = if has_ended v.part then [] else gap_marker_where (wrong && gave_packet v.given)
 joined v wrong (g ∷ more) =
@@ -47,7 +46,7 @@ pub joined-ended : (v : JoiningValue) (wrong : Bool) (goods : List GoodPacket)
 joined-ended v wrong [] e = rw e refl
 joined-ended v wrong (g ∷ more) e = rw e refl
 
--- The output of good packets is the output of their parts, for each state of the part before them.
+-- The output of good packets is the output of their parts, for each state of the part before.
 pub record OutputOfGoods (wrong : Bool) (goods : List GoodPacket) : Type 0 where
   pub headless :
       (v : JoiningValue) (part : Part)
@@ -210,8 +209,8 @@ new_part_after_incomplete wrong more part h g h1 = grind (
   output-again,
 )
 
--- The output of good packets is the output of their parts, from any state of reassembly (by
--- induction over the packets).
+-- The output of good packets is the output of their parts, from any state of reassembly. By
+-- induction over the packets.
 pub claims : (wrong : Bool) (goods : List GoodPacket) → HavePayloads goods → OutputOfGoods wrong
     goods
 claims wrong [] all = record {

@@ -1,5 +1,4 @@
--- The output of the events of a PID in order is the output of the good packets among them; main
--- lemma: notes_joined.
+-- The output of the events of a PID is the output of the good packets among them.
 use Rattle.std.proofs.lemmas.Bool.Decides.{nat_tests}
 use Rattle.std.proofs.Common.{◌≡◌, ℕ, ◌<◌, List, [], ◌∷◌, ◌++◌, length, Bool, true, false}
 use Rattle.std.proofs.Common.{Option, Some, None, refl, sym, ap, ◌∙◌, subst, arith, append_assoc}
@@ -63,7 +62,7 @@ part_continued_fresh part v p = grind (arith, nat_tests, grown_fresh)
 good_fresh : (link : PacketLink) (v : JoiningValue) (p : List ℕ) → IsFresh (after_good link v p) p
 good_fresh link v p = grind (arith, nat_tests, started_fresh, part_continued_fresh)
 
--- The state of reassembly stores the last good packet, if any.
+-- The state of reassembly stores the last good packet, if there is one.
 abbrev pub KeepsLast : JoiningValue → Option (List ℕ) → Type 0
 KeepsLast v None = v.last ≡ []
 KeepsLast v (Some q) = IsLast v q × (0 < length (payload q))
@@ -116,7 +115,7 @@ counter_kept : (v : JoiningValue) (q p : List ℕ)
     → counter_continues v.header p ≡ counts_on q p
 counter_kept v q p h1 = grind (arith, nat_tests, get_or-take)
 
--- The link in the state of reassembly agrees with the link by the history of events.
+-- The link from the state of reassembly agrees with the link from the history of events.
 link_same : (v : JoiningValue) (s : PacketHistory) (o : Option (List ℕ)) (p : List ℕ)
     → KeepsLast v o
     → v.has_jump ≡ s.has_jump
@@ -124,7 +123,7 @@ link_same : (v : JoiningValue) (s : PacketHistory) (o : Option (List ℕ)) (p : 
     → link_after v v.last p ≡ link_from o s p
 link_same v s o p h1 h2 h3 = grind (arith, nat_tests, link_some, counter_kept)
 
--- Each transport packet among the events that has a payload has a nonempty payload.
+-- If a transport packet among the events has a payload, the payload is not empty.
 abbrev pub AreSound : List Note → Type 0
 AreSound [] = Unit {0}
 AreSound (Valid p ∷ more) = (has_payload p ≡ true → 0 < length (payload p)) × AreSound more
@@ -200,7 +199,7 @@ abbrev pub BeginBroken : Bool → List GoodPacket → Type 0
 BeginBroken wrong [] = wrong ≡ true
 BeginBroken wrong (g ∷ more) = g.link ≡ Break
 
--- After an unusable packet that follows a good packet, the next good packet comes after a break.
+-- After an unusable packet, the link of the next good packet is a break.
 begin_broken : (s : PacketHistory) (q : List ℕ) (all : List Note)
     → s.has_wrong ≡ true
     → s.good ≡ Some q
@@ -267,7 +266,7 @@ broken_first v Break p wrong more is =
     let cut : (begins p || true) ≡ true = or_true (begins p) in
     rw cut (started_first (begins p) v p wrong more)
 
--- After an unusable packet, a gap marker comes before the output of further good packets.
+-- After an unusable packet, a gap marker precedes the output of further good packets.
 gap_first : (v : JoiningValue) (g : Given) (wrong : Bool) (goods : List GoodPacket)
     → has_ended v.part ≡ false
     → (gave_packet g ≡ true → BeginBroken wrong goods)
@@ -372,8 +371,7 @@ last_good_unchanged : (v w : JoiningValue) (o : Option (List ℕ))
     → KeepsLast w o
 last_good_unchanged v w o h1 h2 h3 h4 = grind (arith, nat_tests)
 
--- The output of the events of a PID is the output of the good packets among them (by induction over
--- the events).
+-- By induction over the events of the PID.
 pub notes_joined : (v : JoiningValue) (s : PacketHistory) (all : List Note)
     → Knows v s
     → AreSound all

@@ -1,5 +1,4 @@
--- The output of parts as it becomes known packet by packet; main lemmas: with_gap_markers-nothing,
--- outcomes-from, tail-whole, output-other.
+-- The output of parts, packet by packet.
 use Rattle.std.proofs.Common.{◌≡◌, ℕ, ◌+◌, ◌-◌, ◌≤◌, ◌<◌, List, [], ◌∷◌, ◌++◌, length, take}
 use Rattle.std.proofs.Common.{Bool, true, false, refl, ap, ◌∙◌, arith, append_assoc}
 use Rattle.std.proofs.Common.{length-append, Result, Ok, Err}
@@ -24,8 +23,8 @@ use Rattle.mpeg_ts.specs.declared.joining.Found.TheVariants as found
 pub by_bool : {P : Type 0} (b : Bool) → (b ≡ true → P) → (b ≡ false → P) → P
 by_bool b h1 h2 = grind (arith, nat_tests)
 
--- The bytes of outcomes, given the item returned last: a gap marker is returned as soon as a gap is
--- known.
+-- The bytes of outcomes after the item returned last. A gap marker is returned as soon as a gap is
+-- detected.
 abbrev pub output : Given → List PartOutcome → List ℕ
 output g [] = []
 output g (Gap ∷ more) = gap_marker_where (gave_packet g) ++ output (last_output_after true g) more
@@ -265,7 +264,8 @@ tail-whole wrong part size (g ∷ more) all begins w =
     is_lt : (m n : ℕ) → m < n → nat_lt m n ≡ true
     is_lt m n lt = grind (arith, nat_tests)
 
--- The bytes of a part with a wrong start code or length are returned, whatever packets follow.
+-- The bytes of a part with a wrong start code or length are returned unchanged, whatever packets
+-- follow.
 pub output-other : (g : Given) (wrong : Bool) (part : Part) (goods : List GoodPacket)
     → part.begins ≡ true
     → HasWrongStartOrLength (part_bytes part)

@@ -1,5 +1,4 @@
--- The items that are ready to be returned; main lemmas: none_pending, packet_found,
--- pes_packet_first, rest_first.
+-- The pending items.
 use Rattle.std.proofs.lemmas.Bool.Decides.{nat_tests}
 use Rattle.std.proofs.Common.{◌≡◌, ℕ, ◌≤◌, ◌<◌, List, [], ◌++◌, length, take, Ok}
 use Rattle.std.proofs.Common.{refl, sym, ap, ◌∙◌, arith, length-append}
@@ -37,7 +36,7 @@ nothing_in xs ys zs e =
     let all : length (xs ++ (ys ++ zs)) ≡ 0 = ap length e in
     omega (arith, all, length-append xs (ys ++ zs), length-append ys zs)
 
--- If no byte is ready, no item is ready.
+-- If no byte is pending, no item is pending.
 pub none_pending : (w : PendingItem) (part : PartState) (bytes : List ℕ)
     → IsPendingFor w part bytes
     → pending_item_bytes w bytes ≡ []
@@ -65,7 +64,7 @@ size_counts : (h : List ℕ) (size : ℕ) → size_at h ≡ Ok size → 6 ≤ si
 unfolding size_at
 size_counts h size e = grind (arith, nat_tests)
 
--- The bytes of a part that is found complete begin with a PES packet, valid or not.
+-- The bytes of a complete part begin with a PES packet, whether its contents are valid or not.
 pub packet_found : (bytes : List ℕ) (size : ℕ)
     → AreBytes bytes
     → found_in bytes ≡ found.CompletePesPacket size

@@ -1,5 +1,4 @@
--- Reading the PES packets of a recording; main lemmas: end_received, rest_received,
--- pes_packet_received.
+-- Reading the PES packets of a recording.
 use Rattle.std.proofs.Common.{◌≡◌, ◌≢◌, ℕ, List, [], ◌++◌, length, take, Option, Some, None}
 use Rattle.std.proofs.Common.{true, refl, sym, ap, ◌∙◌, arith, inl, subst}
 use Rattle.std.proofs.lemmas.Bool.Decides.{nat_tests}
@@ -52,7 +51,7 @@ pes_packet_taken before known_bytes u v w pes_packet keeps prefix same only =
         → Consumes (remaining_output u before) (remaining_output w known_bytes) pes_packet
     back p = rw whole p
 
--- If the bytes that are ready begin no PES packet, they are all remaining output.
+-- If the pending bytes do not begin with a PES packet, they are the remaining output.
 rest_given : (v : StreamValue) (bytes : List ℕ)
     → v.joining.pending ≡ v.joining.bytes
     → has_ended v.joining.part ≡ true

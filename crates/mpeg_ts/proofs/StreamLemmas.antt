@@ -1,5 +1,4 @@
--- Reading a recording for one PID: taking an item does not change the output still to come; main
--- lemmas: stream_packet, stream_skipped, stream_end.
+-- Processing an item does not change the output still to be returned.
 use Rattle.std.proofs.Common.{◌≡◌, ℕ, zero, suc, ◌+◌, ◌-◌, ◌≤◌, ◌<◌, List, [], ◌∷◌, ◌++◌}
 use Rattle.std.proofs.Common.{length}
 use Rattle.std.proofs.Common.{take, drop, Option, Some, Bool, true, false, refl, sym, ap, ◌∙◌}
@@ -289,8 +288,8 @@ loss_gives : (j : JoiningValue) (more : List Note)
 unfolding later_output
 loss_gives j more h1 = grind (arith, nat_tests, by_bool)
 
--- Out of step, at most `distance` bytes contain no transport packet, since no sync byte is followed
--- by another at the distance.
+-- Out of step, at most `distance` bytes contain no transport packet, since no sync byte in them is
+-- followed by another one at that distance.
 skipped_give : (distance number run room : ℕ) (j : JoiningValue) (bytes : List ℕ)
     → length bytes ≤ distance
     → later_output (delivered j) (notes distance number run (items distance false room bytes)) ≡ []
@@ -316,7 +315,7 @@ skipped_give distance number run (suc room) j bytes few =
     and_false true = refl
     and_false false = refl
 
--- Bytes that do not determine the next item yield no output.
+-- Too few bytes to determine the next item give no output.
 stream_short : (distance number run : ℕ) (in_step : Bool) (j : JoiningValue) (bytes : List ℕ)
     → length bytes < bytes_needed distance in_step
     → j.pending ≡ []
@@ -347,7 +346,7 @@ pub need_end : (known_bytes : Option (List ℕ)) (v : StreamValue)
 need_end known_bytes v h1 h2 h3 h4 =
     grind (arith, nat_tests, stream_short, needs_packet, length-append, length-drop)
 
--- No byte is read after those that determine the next item, since fewer bytes yield no output.
+-- No byte is read beyond those that determine the next item, since fewer bytes give no output.
 pub need_requests : {D : Type 0} (IsPull : D → ℕ → Option ℕ → D → Type 0) (borrowed : D → List ℕ)
     (remaining : D → Option (List ℕ)) (v : StreamValue) (w : WindowValue) (before after : D)
     (ok : Bool) (count : ℕ)
@@ -396,7 +395,7 @@ long_ahead : (v : StreamValue) (bytes : List ℕ)
     → 188 ≤ length (bytes_ahead v bytes)
 long_ahead v bytes h1 = grind (arith, nat_tests, length-drop, length-append)
 
--- Taking a transport packet does not change the output still to come.
+-- Processing a transport packet does not change the output still to be returned.
 pub packet_taken : (v w : StreamValue) (bytes : List ℕ)
     → 188 ≤ v.distance
     → v.lead + 188 ≤ length v.window.buffered
@@ -426,7 +425,7 @@ packet_taken v w bytes far there going idle distance number run step joining ahe
     ∙ stream_packet v.distance v.number v.run v.in_step v.joining (bytes_ahead v bytes) far
     (long_ahead v bytes there) begins going idle
 
--- Skipping a byte that belongs to no packet does not change the output still to come.
+-- Skipping a byte that belongs to no packet does not change the output still to be returned.
 pub byte_skipped : (v w : StreamValue) (bytes : List ℕ)
     → 188 ≤ v.distance
     → v.lead + 188 ≤ length v.window.buffered
@@ -448,7 +447,7 @@ pub other_pid : (v : StreamValue) (p : List ℕ)
     → v ≡ record v { joining = after_packet v.number p v.joining }
 other_pid v p h1 = grind (arith, nat_tests)
 
--- Skipping buffered bytes that contain no packet does not change the output still to come.
+-- Skipping buffered bytes that contain no packet does not change the output still to be returned.
 pub junk_given : (v w : StreamValue) (count : ℕ) (bytes : List ℕ)
     → count ≤ length v.window.buffered
     → v.in_step ≡ false
@@ -661,7 +660,8 @@ other_skipped distance number from at j bytes rest near within sync other going 
     (sym (append_assoc (take at bytes) unit rest)
     ∙ ap (λ (l : List ℕ). l ++ rest) (sym (take-add at distance bytes)))
 
--- Skipping lent packets of other PIDs does not change the output still to come.
+-- Skipping packets of other PIDs in the source's buffer does not change the output still to be
+-- returned.
 pub others_given : (v w : StreamValue) (taken bytes : List ℕ) (count : ℕ)
     → length taken ≡ count
     → v.window.buffered ≡ []
@@ -704,8 +704,8 @@ unit_taken distance number j unit rest p near size packet sync going idle =
     ∙ stream_packet distance number 0 true j (unit ++ rest) near
     (omega (arith, size, length-append unit rest)) begins going idle
 
--- Skipping lent packets of other PIDs and taking a packet of the PID does not change the output
--- still to come.
+-- Skipping packets of other PIDs in the source's buffer, and processing one of the PID, does not
+-- change the output still to be returned.
 pub packet_given : (v w : StreamValue) (borrowed p bytes : List ℕ) (place count : ℕ)
     → count ≡ place + v.distance
     → count ≤ length borrowed

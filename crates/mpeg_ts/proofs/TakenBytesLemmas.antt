@@ -1,5 +1,4 @@
--- Bytes consumed from a source and the output still to come, whatever bytes follow; main lemmas:
--- takes_then, takes_kept.
+-- Consumed bytes of a source and the output still to be returned.
 use Rattle.std.proofs.Common.{◌≡◌, ℕ, List, [], ◌++◌, Option, Some, None, refl, sym, ap, ◌∙◌}
 use Rattle.std.proofs.Common.{append_assoc}
 use Rattle.std.proofs.KnownBytes.{Consumes-kept, Consumes-nil, Consumes-trans}

@@ -1,7 +1,7 @@
 -- The good transport packets of a PID, each with its link to the good packet before it. A good
--- packet is usable, carries a payload, and does not repeat the packet before (ISO/IEC 13818-1,
--- continuity_counter: a packet may be sent twice; discontinuity_indicator: a jump of the counter is
--- announced).
+-- packet is usable, has a payload, and does not repeat the packet before it (ISO/IEC 13818-1,
+-- 2.4.3.3: continuity_counter, by which a packet may be sent twice; 2.4.3.5:
+-- discontinuity_indicator).
 use Rattle.std.specs.Prelude.{ℕ, ◌+◌, ◌*◌, ◌%◌, ◌==◌, ◌&&◌, ◌||◌, not, Bool, true, false}
 use Rattle.std.specs.Prelude.{if◌then◌else◌, List, [], ◌∷◌, Option, Some, None, bytes_eq}
 use Rattle.mpeg_ts.specs.PacketsInStep.{Item, Packet, Skipped}
@@ -10,24 +10,24 @@ use Rattle.mpeg_ts.specs.TransportPacket.{packet_header, payload}
 
 -- ---- events of a PID
 
--- An event of a PID: a usable transport packet; an unusable one; or a loss: so many bytes were
--- skipped in a row that packets of the PID may be missing.
+-- An event of a PID: a usable transport packet, an unusable transport packet, or a loss. A loss
+-- means that so many consecutive bytes were skipped that packets of the PID may be missing.
 pub data Note : Type 0 where
   Valid : List ℕ → Note
   Wrong : Note
   Loss : Note
 
 -- The number of skipped bytes that counts as a loss: the size of 15 transport packets, after which
--- the counter may have its expected value again.
+-- the continuity_counter could continue by chance.
 abbrev pub loss_size : ℕ → ℕ
 loss_size distance = 15 * distance
 
--- The event of a transport packet of the PID: the packet is usable or not.
+-- The event of a transport packet of the PID: usable or unusable.
 abbrev pub note_of : List ℕ → Note
 note_of p = if is_wrong p then Wrong else Valid p
 
--- The events of a PID among items, in order, if `run` bytes were skipped in a row before the items.
--- A loss is an event of the last byte that makes it.
+-- The events of a PID in a list of items, if `run` consecutive bytes were skipped before the items.
+-- A loss is an event of the byte with which the skipped bytes become a loss.
 unfoldable pub notes : ℕ → ℕ → ℕ → List Item → List Note
 notes distance number run [] = []
 notes distance number run (Packet p ∷ items) =
@@ -39,9 +39,9 @@ notes distance number run (Skipped ∷ items) =
 
 -- ---- good transport packets
 
--- The link of a good transport packet to the good packet before it: the packet is the first; it
--- follows that packet; a jump of the counter was announced between them, and no data is known to be
--- lost; or data was lost between them.
+-- The link of a good transport packet to the good packet before it: there is none before it
+-- (`First`); it follows that packet directly; a discontinuity was announced between them and no
+-- data is known to be lost (`Seam`); or data was lost between them (`Break`).
 pub data PacketLink : Type 0 where
   First : PacketLink
   Follows : PacketLink
@@ -53,8 +53,8 @@ pub record GoodPacket : Type 0 where
   pub link : PacketLink
   pub packet : List ℕ
 
--- The last good transport packet (`None` if no good packet came yet), and which events came after
--- it: its repeat, an announced jump, an unusable packet, a loss.
+-- The last good transport packet (`None` before the first), and the events since then: it was
+-- repeated, a discontinuity was announced, an unusable packet came, or a loss.
 pub record PacketHistory : Type 0 where
   pub good : Option (List ℕ)
   pub has_repeat : Bool
@@ -72,13 +72,13 @@ empty_history good = record {
   has_loss = false;
 }
 
--- Two transport packets have the same bytes 0 to 3 and the same payload.
+-- The two transport packets have equal bytes 0 to 3 and equal payloads.
 abbrev pub is_same : List ℕ → List ℕ → Bool
 is_same p q = bytes_eq (packet_header p) (packet_header q) && bytes_eq (payload p) (payload q)
 
--- A transport packet with a payload repeats a good packet: both are the same, and no repeat came
--- before. No jump was announced between them, and the repeat announces a jump only if the good
--- packet did.
+-- The transport packet repeats a good packet: both have equal bytes 0 to 3 and equal payloads, and
+-- this is the first repeat. No discontinuity was announced between them, and the repeat announces
+-- one only if the good packet did.
 abbrev pub is_repeat_of : Option (List ℕ) → PacketHistory → List ℕ → Bool
 is_repeat_of None history p = false
 is_repeat_of (Some q) history p =
@@ -89,11 +89,11 @@ is_repeat_of (Some q) history p =
 abbrev pub is_repeat : PacketHistory → List ℕ → Bool
 is_repeat history p = is_repeat_of history.good history p
 
--- The continuity counter of packet q is that of packet p plus one, modulo 16.
+-- The continuity_counter of packet q is that of packet p plus one, modulo 16.
 abbrev pub counts_on : List ℕ → List ℕ → Bool
 counts_on p q = counter q == (counter p + 1) % 0x10
 
--- The link of a good transport packet to the good packet before it, if any.
+-- The link of a good transport packet to the good packet before it; `First` if there is none.
 abbrev pub link_from : Option (List ℕ) → PacketHistory → List ℕ → PacketLink
 link_from None history p = First
 link_from (Some q) history p =
@@ -112,11 +112,11 @@ pub record GoodPackets : Type 0 where
   pub packets : List GoodPacket
   pub wrong_after : Bool
 
--- Adds a good transport packet in front of others.
+-- Adds a good transport packet in front of a list of good packets.
 abbrev pub with_good : GoodPacket → GoodPackets → GoodPackets
 with_good g more = record { packets = g ∷ more.packets; wrong_after = more.wrong_after }
 
--- The good transport packets among events that follow the history.
+-- The good transport packets among further events of the PID, after this history.
 unfoldable pub good_after : PacketHistory → List Note → GoodPackets
 good_after history [] = record { packets = []; wrong_after = history.has_wrong }
 good_after history (Wrong ∷ notes) = good_after (record history { has_wrong = true }) notes

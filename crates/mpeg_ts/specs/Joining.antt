@@ -1,5 +1,5 @@
--- The reassembly of the PES packets of a PID, one event at a time. `Carried` defines the result in
--- the standard's terms.
+-- The reassembly of the PES packets of a PID, one event at a time. The file `Carried` defines the
+-- result in the standard's terms.
 use Rattle.std.specs.Prelude.{◌≡◌, ℕ, ◌+◌, ◌≤◌, ◌%◌, ◌==◌, ◌&&◌, ◌||◌, not, nat_lt}
 use Rattle.std.specs.Prelude.{nat_le, Bool, true, false}
 use Rattle.std.specs.Prelude.{if◌then◌else◌, List, [], ◌∷◌, ◌++◌, length, take, bytes_eq}
@@ -25,11 +25,11 @@ use Rattle.mpeg_ts.specs.declared.pending_item.Next.TheVariants as next
 use Rattle.mpeg_ts.specs.declared.pending_item.PendingItem.{PendingItem}
 use Rattle.mpeg_ts.specs.declared.pending_item.PendingItem.TheVariants as pending_item
 
--- The state of reassembly: of the last good transport packet its bytes 0 to 3, whether it announced
--- a jump, and its payload (empty if no good packet came yet); whether its repeat came since then, a
--- jump was announced, or data was lost; the progress of its part; the bytes of the part, or only
--- the last payload if no more of the part will be returned; what was returned last; and the bytes
--- that are ready to be returned.
+-- The state of reassembly. Of the last good transport packet: its bytes 0 to 3, whether it
+-- announced a discontinuity, and its payload (empty before the first good packet). Since then:
+-- whether it was repeated, a discontinuity was announced, or data was lost. The progress of the
+-- current part; the bytes of the part, or only the last payload if no more of the part will be
+-- returned; the item returned last; and the pending bytes.
 pub record JoiningValue : Type 0 where
   pub header : List ℕ
   pub announced : Bool
@@ -57,7 +57,7 @@ initial_joining = record {
   pending = [];
 }
 
--- The current part has ended the stream, so no output follows the bytes that are ready.
+-- The current part has ended the stream, so no output follows the pending bytes.
 abbrev pub has_ended : PartState → Bool
 has_ended Ended = true
 has_ended _ = false
@@ -78,8 +78,8 @@ repeats v p =
     not v.has_repeat && (not v.has_jump && ((not (announces_jump p) || v.announced)
     && (bytes_eq v.header (packet_header p) && bytes_eq v.last (payload p))))
 
--- The continuity counter of packet p is one more than the counter in the bytes 0 to 3 of the packet
--- before, modulo 16.
+-- The continuity_counter of packet p is one more, modulo 16, than that in bytes 0 to 3 of the
+-- packet before it.
 abbrev pub counter_continues : List ℕ → List ℕ → Bool
 counter_continues head p = counter p == (slice_index head 3 % 0x10 + 1) % 0x10
 
@@ -92,7 +92,7 @@ link_after v (x ∷ xs) p =
     else if counter_continues v.header p then Follows
     else Break
 
--- The state with p as the last good packet, except for the payload.
+-- The state of reassembly with p as the last good transport packet, except for its payload.
 abbrev pub remembering : JoiningValue → List ℕ → JoiningValue
 remembering v p = record v {
   header = packet_header p;
@@ -102,32 +102,33 @@ remembering v p = record v {
   has_break = false;
 }
 
--- The item returned last, after a possible gap. Only the first gap after a PES packet has a marker.
+-- The item returned last, after a possible gap. Only the first gap after a PES packet has a gap
+-- marker.
 abbrev pub last_output_after : Bool → Given → Given
 last_output_after gap g = if gap && gave_packet g then given.GapMarker else g
 
--- The state after a possible gap: a gap marker is ready if the gap is directly after a PES packet,
--- and otherwise nothing is ready.
+-- The state of reassembly after a possible gap. A gap marker is pending if the gap follows a PES
+-- packet directly; otherwise nothing is pending.
 abbrev pub with_gap : Bool → JoiningValue → JoiningValue
 with_gap gap v = record v {
   given = last_output_after gap v.given;
   pending = gap_marker_where (gap && gave_packet v.given);
 }
 
--- What `count` bytes collected for a PES packet contain, given the size of that packet.
+-- The kind of contents of `count` collected bytes, for this size in their first six bytes.
 abbrev pub found_by_size : ℕ → Result ℕ PesFault → Found
 found_by_size count (Ok size) = if nat_le size count then found.CompletePesPacket size
     else found.Unfinished
 found_by_size count (Err f) = found.Other f
 
--- What the bytes collected for a PES packet contain: a complete packet, an incomplete packet, or a
--- wrong start code or length.
+-- The kind of contents of the collected bytes: a complete PES packet, an incomplete PES packet, or
+-- a wrong start code or length.
 unfoldable pub found_in : List ℕ → Found
 found_in bytes =
     if nat_lt (length bytes) 6 then found.Unfinished
     else found_by_size (length bytes) (size_at (take 6 bytes))
 
--- Updates the state of an incomplete PES packet by what its bytes contain.
+-- The state of reassembly after the collected bytes were examined.
 abbrev pub settled_as : Found → JoiningValue → JoiningValue
 settled_as found.Unfinished v = v
 settled_as (found.Other f) v = record v { part = Ended; pending = v.pending ++ v.bytes }
@@ -137,59 +138,60 @@ settled_as (found.CompletePesPacket size) v = record v {
   pending = v.pending ++ (take size v.bytes ++ gap_marker_where (nat_lt size (length v.bytes)));
 }
 
--- Appends bytes to an incomplete PES packet.
+-- The state of reassembly after bytes were appended to an incomplete PES packet.
 abbrev pub grown : Bool → JoiningValue → List ℕ → JoiningValue
 grown gap v more =
     settled_as (found_in (v.bytes ++ more))
     (with_gap gap (record v { part = Open; bytes = v.bytes ++ more; last = more }))
 
--- Stores bytes that will not be part of a PES packet.
+-- The state of reassembly after a payload was stored that is not part of a PES packet.
 abbrev pub with_buffered : Bool → JoiningValue → List ℕ → JoiningValue
 with_buffered gap v more = with_gap gap (record v { bytes = more; last = more })
 
--- Starts a part, the packets of one PES packet, with a payload. A gap comes before it if data was
--- lost or the part before is incomplete.
+-- The state of reassembly after a payload starts a new part, the transport packets of one PES
+-- packet. A gap comes before it if data was lost or the part before is incomplete.
 abbrev pub begun : Bool → Bool → JoiningValue → List ℕ → JoiningValue
 begun breaks true v more =
     grown (breaks || not (is_complete v.part)) (record v { bytes = [] }) more
 begun breaks false v more =
     with_buffered (breaks || not (is_complete v.part)) (record v { part = Headless }) more
 
--- Continues the current part with a payload. After a complete PES packet, more payload is a gap.
+-- The state of reassembly after the current part continues with a payload. After a complete PES
+-- packet, more payload is a gap.
 abbrev pub part_continued : PartState → JoiningValue → List ℕ → JoiningValue
 part_continued Open v more = grown false v more
 part_continued Complete v more = with_buffered true v more
 part_continued _ v more = with_buffered false v more
 
--- The state after a good transport packet p with this link to the last good packet.
+-- The state of reassembly after a good transport packet p with this link.
 abbrev pub after_good : PacketLink → JoiningValue → List ℕ → JoiningValue
 after_good link v p =
     if begins p || is_unlinked link then
     begun (is_break link) (begins p) (remembering v p) (payload p)
     else part_continued v.part (remembering v p) (payload p)
 
--- The state after a usable transport packet p of the PID.
+-- The state of reassembly after a usable transport packet p of the PID.
 unfoldable pub after_valid : JoiningValue → List ℕ → JoiningValue
 after_valid v p =
     if not (has_payload p) then record v { has_jump = v.has_jump || announces_jump p }
     else if repeats v p then record v { has_repeat = true }
     else after_good (link_after v v.last p) v p
 
--- The state after an event of the PID, if nothing was ready before.
+-- The state of reassembly after an event of the PID, if nothing was pending before.
 abbrev pub after_note : JoiningValue → Note → JoiningValue
 after_note v (Valid p) = after_valid v p
 after_note v Wrong = with_gap true (record v { has_break = true })
 after_note v Loss = record v { has_break = true }
 
--- The state after everything that was ready was returned.
+-- The state of reassembly after all pending items were returned.
 abbrev pub delivered : JoiningValue → JoiningValue
 delivered v = record v { pending = [] }
 
--- The state after everything that was ready was returned, without any stored bytes.
+-- The state of reassembly after all pending items were returned and the collected bytes cleared.
 abbrev pub emptied : JoiningValue → JoiningValue
 emptied v = record v { last = []; bytes = []; pending = [] }
 
--- The bytes that further events yield, after everything that was ready was returned.
+-- The output of further events, after all pending items were returned.
 unfoldable pub later_output : JoiningValue → List Note → List ℕ
 later_output v [] = []
 later_output v (note ∷ more) =
@@ -198,12 +200,12 @@ later_output v (note ∷ more) =
 
 -- ---- the representation of ready items in the program
 
--- The items that are ready: a gap marker, or none.
+-- The pending item: a gap marker, or none.
 abbrev pub gap_marker_alone : Bool → PendingItem
 gap_marker_alone true = pending_item.GapMarker
 gap_marker_alone false = pending_item.Nothing
 
--- The bytes of the items that are ready.
+-- The bytes of the pending items.
 abbrev pub pending_item_bytes : PendingItem → List ℕ → List ℕ
 pending_item_bytes pending_item.Nothing bytes = []
 pending_item_bytes pending_item.GapMarker bytes = gap_marker
@@ -212,12 +214,12 @@ pending_item_bytes (pending_item.Packet gap_marker_before size gap_marker_after)
 pending_item_bytes (pending_item.Rest gap_marker_before fault) bytes = gap_marker_where
     gap_marker_before ++ bytes
 
--- The bytes begin no PES packet, for this fault.
+-- The bytes do not begin with a PES packet, because of this fault.
 abbrev pub IsRefused : List ℕ → PesFault → Type 0
 IsRefused bytes fault = (6 ≤ length bytes) × (size_at (take 6 bytes) ≡ Err fault)
 
--- The items that are ready fit the stored bytes: a PES packet is at their front, or they begin no
--- PES packet and the part has ended the stream.
+-- The pending items agree with the stored bytes: a pending PES packet is at their front, or they do
+-- not begin with a PES packet and the part has ended the stream.
 abbrev pub IsPendingFor : PendingItem → PartState → List ℕ → Type 0
 IsPendingFor pending_item.Nothing part bytes = ⊤
 IsPendingFor pending_item.GapMarker part bytes = ⊤
@@ -234,21 +236,22 @@ pub record IsJoining (w : PendingItem) (payload_size : ℕ) (part : PartState) (
     pub room : part ≡ Open → length bytes ≤ 1655
     pub waits : IsPendingFor w part bytes
 
--- The bytes of an item that was taken.
+-- The bytes of the taken item.
 abbrev pub taken_bytes : Next → List ℕ → List ℕ
 taken_bytes next.Nothing bytes = []
 taken_bytes next.GapMarker bytes = gap_marker
 taken_bytes (next.Packet size) bytes = take size bytes
 taken_bytes (next.Rest fault) bytes = bytes
 
--- The bytes of an item that was taken are part of the stored bytes.
+-- The bytes of the taken item are within the stored bytes.
 abbrev pub IsWithin : Next → List ℕ → Type 0
 IsWithin next.Nothing bytes = ⊤
 IsWithin next.GapMarker bytes = ⊤
 IsWithin (next.Packet size) bytes = size ≤ length bytes
 IsWithin (next.Rest fault) bytes = ⊤
 
--- Takes the next item from those that are ready. Bytes that begin no PES packet stay ready.
+-- The effect of taking the next pending item. Bytes that do not begin with a PES packet stay
+-- pending.
 abbrev pub TakesNext : JoiningValue → Next → JoiningValue → Type 0
 TakesNext old next.Nothing new = (old.pending ≡ []) × (new ≡ old)
 TakesNext old next.GapMarker new =
@@ -264,7 +267,7 @@ TakesNext old (next.Rest fault) new =
     × (has_ended old.part ≡ true)
     × (new ≡ old)
 
--- Takes the next item of any kind; its bytes are no longer ready.
+-- The effect of taking the next pending item of any kind. Its bytes are no longer pending.
 abbrev pub TakesFirst : JoiningValue → Next → JoiningValue → Type 0
 TakesFirst old next new =
     (old.pending ≡ taken_bytes next new.bytes ++ new.pending)

@@ -1,20 +1,20 @@
 -- The positions of the transport packets in a recording, and the bytes that belong to no packet.
 --
--- Transport packets follow one another at equal distances of 188, 192 or 204 bytes. As long as the
--- first byte of a packet is the sync byte, the next packet is expected at that distance: reading is
--- in step. If the first byte is another byte, reading is out of step, and bytes are skipped one by
--- one, up to a sync byte that is followed by another sync byte at that distance (own).
+-- Transport packets follow one another at equal distances of 188, 192 or 204 bytes. Reading is in
+-- step as long as each packet begins with a sync byte at that distance from the packet before.
+-- Otherwise reading is out of step, and bytes are skipped one by one, up to a sync byte that is
+-- followed by another sync byte at that distance (own).
 use Rattle.std.specs.Prelude.{ℕ, zero, suc, ◌^◌, ◌==◌, ◌&&◌, ◌||◌, nat_lt, Bool, true, false}
 use Rattle.std.specs.Prelude.{if◌then◌else◌, List, [], ◌∷◌, length, take, drop, slice_index}
 use Rattle.mpeg_ts.specs.TransportPacket.{packet_size, sync_byte}
 
--- An item of a recording: a transport packet of 188 bytes, or a byte that belongs to no packet.
+-- An item of a recording: a transport packet of 188 bytes, or a byte outside packets.
 pub data Item : Type 0 where
   Packet : List ℕ → Item
   Skipped : Item
 
--- The bytes begin with a transport packet: with a sync byte and, out of step, another sync byte at
--- the distance. (A byte after the end reads as 0, which is no sync byte.)
+-- The bytes begin with a transport packet: with a sync byte and, if reading is out of step, another
+-- sync byte at the packet distance. (A byte after the end counts as 0.)
 abbrev pub begins_packet : ℕ → Bool → List ℕ → Bool
 begins_packet distance in_step bytes =
     (slice_index bytes 0 == sync_byte)
@@ -25,7 +25,8 @@ abbrev pub bytes_needed : ℕ → Bool → ℕ
 bytes_needed distance true = packet_size
 bytes_needed distance false = suc distance
 
--- The items at the front of bytes, at most `room`. Fewer than 188 bytes at the end contain no item.
+-- The first items of the bytes, at most `room` items. Fewer than 188 bytes at the end contain no
+-- item.
 unfoldable pub items : ℕ → Bool → ℕ → List ℕ → List Item
 items distance in_step zero bytes = []
 items distance in_step (suc room) bytes =
@@ -34,12 +35,12 @@ items distance in_step (suc room) bytes =
     Packet (take packet_size bytes) ∷ items distance true room (drop distance bytes)
     else Skipped ∷ items distance false room (drop 1 bytes)
 
--- The number of bytes before the first transport packet: with a distance of 192, a time stamp of 4
--- bytes precedes each packet.
+-- The number of bytes before the first transport packet: 4 bytes of a time stamp if the packet
+-- distance is 192, otherwise 0.
 abbrev pub lead_size : ℕ → ℕ
 lead_size distance = if distance == 192 then 4 else 0
 
--- The maximum number of bytes of a recording that are read.
+-- The maximum number of bytes that are read from a recording.
 unfoldable pub most_bytes : ℕ
 most_bytes = 2 ^ 48
 
@@ -47,8 +48,7 @@ most_bytes = 2 ^ 48
 abbrev pub read_bytes : ℕ → List ℕ → List ℕ
 read_bytes distance recording = drop (lead_size distance) (take most_bytes recording)
 
--- The items of a recording. Each item has at least one byte, so the number of bytes bounds the
--- number of items.
+-- The items of a recording. There are at most as many items as bytes.
 abbrev pub items_of : ℕ → List ℕ → List Item
 items_of distance recording =
     items distance true (length (read_bytes distance recording)) (read_bytes distance recording)

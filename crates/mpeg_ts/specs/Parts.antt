@@ -1,7 +1,7 @@
--- Splits the good transport packets of a PID into parts, each with at most one PES packet. A
--- complete part yields a PES packet, and an incomplete part a gap (ISO/IEC 13818-1,
--- payload_unit_start_indicator: a PES packet begins with the first byte of the payload; its length
--- is that of EN 300 472).
+-- Splits the good transport packets of a PID into parts with at most one PES packet each. A
+-- complete part gives a PES packet, and an incomplete part gives a gap (ISO/IEC 13818-1,
+-- payload_unit_start_indicator: a PES packet begins with the first byte of the payload; EN 300 472:
+-- the length of a PES packet).
 use Rattle.std.specs.Prelude.{ℕ, ◌-◌, ◌&&◌, ◌||◌, not, nat_lt, nat_le, Bool, true, false}
 use Rattle.std.specs.Prelude.{if◌then◌else◌, List, [], ◌∷◌, ◌++◌, length, take, Result, Ok, Err}
 use Rattle.std.specs.List.{concat}
@@ -17,24 +17,23 @@ pub record Part : Type 0 where
   pub begins : Bool
   pub payloads : List (List ℕ)
 
--- The link says that data was lost between a good transport packet and the good packet before it.
+-- Data was lost between a good transport packet and the good packet before it.
 abbrev pub is_break : PacketLink → Bool
 is_break Break = true
 is_break _ = false
 
--- The link says that a jump of the counter was announced between a good transport packet and the
--- good packet before it, and that no data is known to be lost.
+-- A discontinuity was announced between a good transport packet and the good packet before it, and
+-- no data is known to be lost.
 abbrev pub is_seam : PacketLink → Bool
 is_seam Seam = true
 is_seam _ = false
 
--- The link says that a good transport packet does not continue the PES packet of the good packet
--- before it.
+-- A good transport packet does not continue the PES packet of the good packet before it.
 abbrev pub is_unlinked : PacketLink → Bool
 is_unlinked Follows = false
 is_unlinked _ = true
 
--- A good transport packet starts a part if it begins a PES packet, or does not follow the good
+-- A good transport packet starts a new part: it begins a PES packet, or does not continue the good
 -- packet before it.
 abbrev pub begins_part : GoodPacket → Bool
 begins_part g = begins g.packet || is_unlinked g.link
@@ -51,7 +50,7 @@ part_of g = record {
 abbrev pub with_packet : Part → GoodPacket → Part
 with_packet part g = record part { payloads = part.payloads ++ payload g.packet ∷ [] }
 
--- The current part, extended by the good transport packets that belong to it, and the parts after
+-- The current part, extended by the good transport packets that continue it, and the parts after
 -- it.
 unfoldable pub parts_from : Part → List GoodPacket → List Part
 parts_from part [] = part ∷ []
@@ -59,21 +58,21 @@ parts_from part (g ∷ more) =
     if begins_part g then part ∷ parts_from (part_of g) more
     else parts_from (with_packet part g) more
 
--- The parts into which good transport packets split.
+-- The parts of a list of good transport packets.
 abbrev pub parts : List GoodPacket → List Part
 parts [] = []
 parts (g ∷ more) = parts_from (part_of g) more
 
 -- ---- the outcomes of parts
 
--- The outcome of a part: a PES packet; a gap, if data is missing; or bytes whose start code or
--- length is not that of a PES packet with Teletext, which end the stream.
+-- The outcome of a part: a PES packet; a gap, if data is missing; or bytes that end the stream,
+-- since their start code or length is not that of a Teletext PES packet.
 pub data PartOutcome : Type 0 where
   Pes : List ℕ → PartOutcome
   Gap : PartOutcome
   Other : List ℕ → PartOutcome
 
--- The outcome of missing data: a gap, or nothing if no data is missing.
+-- A gap if data is missing, otherwise no outcome.
 abbrev pub gap_where : Bool → List PartOutcome
 gap_where true = Gap ∷ []
 gap_where false = []
@@ -82,15 +81,14 @@ gap_where false = []
 abbrev pub part_bytes : Part → List ℕ
 part_bytes part = concat part.payloads
 
--- The joined payloads up to and including the payload with which `count` bytes are reached.
+-- The first payloads, joined, until they have at least `count` bytes.
 unfoldable pub up_to : ℕ → List (List ℕ) → List ℕ
 up_to count [] = []
 up_to count (first ∷ more) =
     if nat_le count (length first) then first else first ++ up_to (count - length first) more
 
--- The outcome of a part that begins a PES packet, given the size in its first six bytes if their
--- start code and length are valid. `cut_off`: the recording may end within the part; then missing
--- data is no gap.
+-- The outcome of a part that begins a PES packet, for the size that its first six bytes give.
+-- `cut_off`: the recording may end within the part, so missing data is no gap.
 abbrev pub outcome_of_size : Bool → Part → Result ℕ PesFault → List PartOutcome
 outcome_of_size cut_off part (Ok size) =
     if nat_le size (length (part_bytes part)) then
@@ -98,16 +96,16 @@ outcome_of_size cut_off part (Ok size) =
     else gap_where (not cut_off)
 outcome_of_size cut_off part (Err f) = Other (up_to 6 part.payloads) ∷ []
 
--- The outcome of a part. A part is complete if its first packet begins a PES packet and it is at
--- least as long as that PES packet. Bytes after the PES packet count as a gap, and so does an
--- incomplete part.
+-- The outcome of a part. A part is complete if it begins a PES packet and has at least as many
+-- bytes as that PES packet. Bytes after the PES packet count as a gap, and so does an incomplete
+-- part.
 unfoldable pub outcome : Bool → Part → List PartOutcome
 outcome cut_off part =
     if part.begins && nat_le 6 (length (part_bytes part)) then
     outcome_of_size cut_off part (size_at (take 6 (part_bytes part)))
     else gap_where (not cut_off)
 
--- The recording may end within the part: the part is the last one, and no unusable packet follows.
+-- The recording may end within the part: it is the last part, and no unusable packet follows it.
 abbrev pub may_be_cut_off : Bool → List Part → Bool
 may_be_cut_off wrong_after [] = not wrong_after
 may_be_cut_off wrong_after (_ ∷ _) = false

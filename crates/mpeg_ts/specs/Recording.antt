@@ -1,11 +1,10 @@
--- Specifies how the PES packets of a recording are read: the state of reading, and whether more
--- packets may follow.
+-- The model of a reader of the PES packets of a recording.
 use Rattle.std.specs.Prelude.{◌≡◌, ℕ, Bool, true, false, List, [], Option, option_map}
 use Rattle.mpeg_ts.specs.Joining.{has_ended}
 use Rattle.mpeg_ts.specs.Stream.{StreamValue, start_of_stream}
 
--- The model of a reader of a recording: its source, the state of reading, and whether it has
--- returned `Rest`.
+-- The model of a reader of a recording: its source, the reading state, and whether it has returned
+-- `Rest`.
 pub record RecordingValue (D : Type 0) : Type 0 where
   pub device : D
   pub stream : StreamValue
@@ -19,12 +18,12 @@ at_start device number distance = record {
   is_over = false;
 }
 
--- The bytes that are ready begin no PES packet, and no output follows them.
+-- The pending bytes do not begin with a PES packet, and no output follows them.
 pub record IsAtRest (v : StreamValue) : Type 0 where
   pub all : v.joining.pending ≡ v.joining.bytes
   pub ended : has_ended v.joining.part ≡ true
 
--- The bytes that a reader has left: none after `Rest`, and `known_bytes` before.
+-- The remaining bytes of a reader: none after it returned `Rest`, and `known_bytes` before.
 abbrev pub left_of : Bool → Option (List ℕ) → Option (List ℕ)
 left_of false known_bytes = known_bytes
 left_of true known_bytes = option_map (λ bytes. []) known_bytes

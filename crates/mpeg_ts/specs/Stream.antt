@@ -1,4 +1,4 @@
--- The state of reading a recording for one PID, and the bytes that are still to be returned.
+-- The reading state of a recording for one PID, and the output that follows from it.
 use Rattle.std.specs.Prelude.{◌≡◌, ℕ, ◌+◌, ◌-◌, ◌^◌, ◌≤◌, ◌==◌, Bool, true, false, if◌then◌else◌}
 use Rattle.std.specs.Prelude.{List, [], ◌++◌, length, drop, nat_lt, slice_index, Option, option_map}
 use Rattle.mpeg_ts.specs.GoodPackets.{Loss, loss_size, note_of, notes}
@@ -9,9 +9,9 @@ use Rattle.mpeg_ts.specs.Pid.{greatest_pid}
 use Rattle.mpeg_ts.specs.TransportPacket.{pid, sync_byte}
 use Rattle.mpeg_ts.specs.Window.{WindowValue, buffered_and_left}
 
--- The state of reading a recording: the PID and the distance of packets; the buffered bytes; how
--- many bytes are skipped before the next item; whether reading is in step; how many bytes were
--- skipped in a row; and the state of reassembly.
+-- The reading state of a recording: the PID, the packet size, the buffered bytes, the number of
+-- bytes to skip before the next item, whether reading is in step, the number of consecutive skipped
+-- bytes, and the state of reassembly.
 pub record StreamValue : Type 0 where
   pub number : ℕ
   pub distance : ℕ
@@ -21,7 +21,7 @@ pub record StreamValue : Type 0 where
   pub run : ℕ
   pub joining : JoiningValue
 
--- The state of reading at the start of a recording.
+-- The reading state at the start of a recording.
 abbrev pub start_of_stream : ℕ → ℕ → StreamValue
 start_of_stream number distance = record {
   number = number;
@@ -33,32 +33,32 @@ start_of_stream number distance = record {
   joining = initial_joining;
 }
 
--- The output of reading: the bytes that are ready, and then those that `bytes`, from the next item
--- on, yield.
+-- The output of a reading state: the pending bytes, followed by the output for `bytes`, which begin
+-- with the next item.
 unfoldable pub stream_output : ℕ → ℕ → ℕ → Bool → JoiningValue → List ℕ → List ℕ
 stream_output distance number run in_step joining bytes =
     joining.pending
     ++ later_output (delivered joining)
     (notes distance number run (items distance in_step (length bytes) bytes))
 
--- The bytes from the next item on, if the source has `bytes` left.
+-- The bytes from the next item on, if `bytes` remain in the source.
 abbrev pub bytes_ahead : StreamValue → List ℕ → List ℕ
 bytes_ahead v bytes = drop v.lead (buffered_and_left v.window bytes)
 
--- The bytes that are still to be returned, if the source has `bytes` left.
+-- The output still to be returned, if `bytes` remain in the source.
 abbrev pub output_of : StreamValue → List ℕ → List ℕ
 output_of v bytes =
     stream_output v.distance v.number v.run v.in_step v.joining (bytes_ahead v bytes)
 
--- The bytes that are still to be returned, if the source's bytes are known.
+-- The output still to be returned, if the bytes of the source are known.
 abbrev pub remaining_output : StreamValue → Option (List ℕ) → Option (List ℕ)
 remaining_output v known_bytes = option_map (output_of v) known_bytes
 
--- Some bytes are still to be returned, if the source has `bytes` left.
+-- Output is still to be returned, if `bytes` remain in the source.
 abbrev pub has_output : StreamValue → List ℕ → Bool
 has_output v bytes = nat_lt 0 (length (output_of v bytes))
 
--- Some bytes are ready to be returned.
+-- Bytes are pending.
 abbrev pub is_some_ready : StreamValue → Bool
 is_some_ready v = nat_lt 0 (length v.joining.pending)
 
@@ -70,15 +70,15 @@ bytes_at_most v = (length v.window.buffered + v.window.left) - v.lead
 abbrev pub after_packet : ℕ → List ℕ → JoiningValue → JoiningValue
 after_packet number p j = if pid p == number then after_note j (note_of p) else j
 
--- The state of reassembly after a skipped byte, with `run` skipped bytes before it.
+-- The state of reassembly after a skipped byte, if `run` bytes were skipped directly before it.
 abbrev pub after_skipped : ℕ → ℕ → JoiningValue → JoiningValue
 after_skipped distance run j = if run + 1 == loss_size distance then after_note j Loss else j
 
--- The bytes are a transport packet of the PID.
+-- The bytes begin with a transport packet of the PID.
 abbrev pub BeginsPacket : ℕ → List ℕ → Type 0
 BeginsPacket number p = (slice_index p 0 ≡ sync_byte) × (pid p ≡ number)
 
--- The invariant of the numbers in the state of reading.
+-- The invariant of the numbers in the reading state.
 pub record IsStream (number distance lead run taken : ℕ) (in_step : Bool) : Type 0 where
   pub is_pid : number ≤ greatest_pid
   pub near : 188 ≤ distance

@@ -32,22 +32,22 @@ begins p = slice_index p 1 / 0x40 % 2 == 1
 abbrev pub counter : List ℕ → ℕ
 counter p = slice_index p 3 % 0x10
 
--- The bits adaptation_field_control say that the transport packet has an adaptation field.
+-- The transport packet has an adaptation field, by its adaptation_field_control.
 abbrev pub has_adaptation : List ℕ → Bool
 has_adaptation p = slice_index p 3 / 0x20 % 2 == 1
 
--- The bits adaptation_field_control say that the transport packet has a payload.
+-- The transport packet has a payload, by its adaptation_field_control.
 abbrev pub has_payload : List ℕ → Bool
 has_payload p = slice_index p 3 / 0x10 % 2 == 1
 
--- The bit discontinuity_indicator of a transport packet, if its adaptation field has it: a jump of
--- the counter is announced.
+-- The discontinuity_indicator of a transport packet is set: it announces a discontinuity of the
+-- continuity_counter.
 abbrev pub announces_jump : List ℕ → Bool
 announces_jump p =
     has_adaptation p && not (slice_index p 4 == 0) && (slice_index p 5 / 0x80 % 2 == 1)
 
 -- The transport packet is unusable: its transport_error_indicator is set, it is scrambled, or its
--- adaptation field leaves no room for its payload.
+-- adaptation field leaves no space for the payload.
 abbrev pub is_wrong : List ℕ → Bool
 is_wrong p =
     (slice_index p 1 / 0x80 % 2 == 1)

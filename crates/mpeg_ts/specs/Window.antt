@@ -1,18 +1,19 @@
--- The buffer for the bytes of a recording that are examined next.
+-- The buffer for the next bytes of a recording.
 use Rattle.std.specs.Prelude.{◌≡◌, ℕ, ◌<◌, Bool, false, List, ◌++◌, length, take}
 use Rattle.std.specs.Prelude.{Option, option_map}
 use Rattle.sub_io.specs.Asking.{Requests}
 
--- The size of the buffer in bytes.
+-- The size of the window buffer in bytes.
 abbrev pub window_size : ℕ
 window_size = 205
 
--- The buffered bytes of a recording, and how many more bytes may be read.
+-- The buffered bytes of a recording, and the number of bytes that may still be read.
 pub record WindowValue : Type 0 where
   pub buffered : List ℕ
   pub left : ℕ
 
--- The buffered bytes followed by those that may still be read, if the source has `bytes` left.
+-- The buffered bytes, followed by the bytes that may still be read, if `bytes` remain in the
+-- source.
 abbrev pub buffered_and_left : WindowValue → List ℕ → List ℕ
 buffered_and_left w bytes = w.buffered ++ take w.left bytes
 
@@ -20,8 +21,8 @@ buffered_and_left w bytes = w.buffered ++ take w.left bytes
 abbrev pub known_bytes_left : WindowValue → Option (List ℕ) → Option (List ℕ)
 known_bytes_left w known_bytes = option_map (take w.left) known_bytes
 
--- At most `count` bytes from the first buffered byte on are read, whatever predicate says which
--- bytes are enough, as long as fewer bytes are never enough.
+-- No byte is requested after the first `count` bytes from the first buffered byte on, for any
+-- predicate that is false for fewer bytes.
 pub record RequestsUpTo
     {D : Type 0} (IsPull : D → ℕ → Option ℕ → D → Type 0) (borrowed : D → List ℕ)
     (remaining : D → Option (List ℕ))

@@ -1,15 +1,16 @@
-//! Gap markers, which replace missing data of a recording.
+//! Gap markers, which stand for missing data of a recording.
 //!
-//! A gap marker has the form of a PES packet, so readers need no second way to learn of gaps. It is
-//! FF from byte 6 on, unlike any PES packet of EN 300 472: a reader rejects a gap marker with fault
-//! 45, `Lost`.
+//! A gap marker has the form of a PES packet, so readers of PES packets need no other way to detect
+//! gaps. All its bytes from byte 6 on are FF, unlike in any PES packet of EN 300 472. A reader
+//! rejects it with fault 45, `Lost`.
 ghost use Rattle.std.specs.Prelude.{◌≡◌};
 ghost use Rattle.mpeg_ts.specs.Carried.{gap_marker};
 
 /// The size of a gap marker in bytes.
 pub(crate) const GAP_MARKER_SIZE: usize = 184;
 
-// The gap marker: the start and the length of a PES packet, and FF in all other bytes (own).
+// A gap marker: the start code and the length field of a PES packet, and FF in all other bytes
+// (own).
 #[rattlefmt::skip]
 static GAP_MARKER: [u8; GAP_MARKER_SIZE] = [
     0x00, 0x00, 0x01, 0xBD, 0x00, 0xB2, 0xFF, 0xFF, 0xFF, 0xFF, 0xFF, 0xFF, 0xFF, 0xFF, 0xFF, 0xFF,

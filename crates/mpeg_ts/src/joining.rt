@@ -21,21 +21,21 @@ use crate::transport_packet::{
 use std::marker::Model;
 use ttx_pes::PesFault;
 
-/// The progress of the PES packet to which the last good transport packet belongs.
+/// The progress of the current PES packet, to which the last good transport packet belongs.
 #[derive(Drop)]
 pub(crate) enum PartState {
-    /// No PES packet has begun, or its first bytes are missing. The payloads yield no output.
+    /// No PES packet has begun, or its first bytes are missing. Payloads give no output.
     Headless,
     /// A PES packet has begun and is incomplete.
     Open,
     /// The current PES packet is complete and was returned.
     Complete,
-    /// The start code or length is not that of a PES packet with Teletext. The bytes were returned
-    /// unchanged, and no output follows.
+    /// The start code or length is not that of a Teletext PES packet. The bytes were returned
+    /// unchanged, and nothing more is returned.
     Ended,
 }
 
-/// The item that was returned last.
+/// The kind of the item that was returned last.
 #[derive(Drop)]
 pub(crate) enum Given {
     /// No PES packet was returned yet.
@@ -46,32 +46,33 @@ pub(crate) enum Given {
     GapMarker,
 }
 
-/// What the bytes collected for a PES packet contain.
+/// The kind of contents of the bytes collected for a PES packet.
 #[derive(Drop)]
 pub(crate) enum Found {
-    /// The bytes collected are an incomplete PES packet.
+    /// An incomplete PES packet.
     Unfinished,
-    /// The bytes collected begin with a PES packet of this size in bytes.
+    /// A complete PES packet of this size in bytes.
     CompletePesPacket(usize),
-    /// The bytes collected have a wrong start code or length.
+    /// Bytes with a wrong start code or length.
     Other(PesFault),
 }
 
 /// Reassembles the PES packets of a PID. The caller passes the transport packets of the PID one by
-/// one, and has to take all items that are ready before it passes the next packet.
+/// one, and must take all pending items before it passes the next transport packet.
 ///
-/// The model has the stored state, and the bytes that are ready.
+/// Its model has the state of reassembly and the pending bytes.
 #[derive(Drop)]
 pub struct Joining {
-    // The payloads collected for the current PES packet, or only the last payload if they yield no
-    // more output.
+    // The payloads collected for the current PES packet, or only the last payload if no more output
+    // follows from them.
     bytes: PartBytes,
-    // Facts about the last good transport packet: bytes 0 to 3, the size of its payload at the end
-    // of `bytes` (0 if no good packet came yet), and whether it announced a jump.
+    // The last good transport packet: its bytes 0 to 3, the size of its payload at the end of
+    // `bytes` (0 before the first good packet), and whether it announced a discontinuity.
     header: [u8; 4],
     payload_size: usize,
     announced: bool,
-    // Events since the last good transport packet: its repeat, an announced jump, lost data.
+    // Events since the last good transport packet: it was repeated, a discontinuity was announced,
+    // or data was lost.
     has_repeat: bool,
     has_jump: bool,
     has_break: bool,
@@ -121,7 +122,7 @@ impl Joining {
         }
     }
 
-    /// Returns whether no item is ready.
+    /// Returns whether no item is pending.
     #[tactic(auto, using(crate::proofs::ReadyLemmas::idling))]
     #[inline(always)]
     pub fn is_idle(&self) -> bool
@@ -133,7 +134,7 @@ impl Joining {
         }
     }
 
-    /// Returns whether no output will follow the bytes that are ready.
+    /// Returns whether no output follows the pending bytes.
     #[inline(always)]
     pub fn has_ended(&self) -> bool
         ensures { result ≡ has_ended self.now.part }
@@ -144,7 +145,7 @@ impl Joining {
         }
     }
 
-    // Takes an unusable transport packet of the PID.
+    // Processes an unusable transport packet of the PID.
     #[tactic(auto, using(crate::proofs::ReadyLemmas::growing))]
     pub(crate) fn note_wrong(&mut self)
         requires { self.old.pending ≡ [] }
@@ -154,14 +155,15 @@ impl Joining {
         self.pending_item = gap_marker_alone(put_gap_marker(true, &mut self.given));
     }
 
-    /// Records that so many bytes were skipped in a row that packets of the PID may be missing.
+    /// Records a loss: so many consecutive bytes were skipped that transport packets of the PID may
+    /// be missing.
     pub fn note_loss(&mut self)
         ensures { self.new ≡ after_note self.old Loss }
     {
         self.has_break = true;
     }
 
-    /// Takes a transport packet of the PID.
+    /// Processes a transport packet of the PID.
     pub fn take_packet(&mut self, packet: &[u8; PACKET])
         requires { self.old.pending ≡ [] }
         ensures { self.new ≡ after_note self.old (note_of packet.now) }
@@ -173,7 +175,7 @@ impl Joining {
         }
     }
 
-    // Takes a usable transport packet of the PID.
+    // Processes a usable transport packet of the PID.
     #[tactic(auto, unfolding(crate::specs::Joining::after_valid))]
     fn take(&mut self, packet: &[u8; PACKET])
         requires idle { self.old.pending ≡ [] }
@@ -207,7 +209,7 @@ impl Joining {
         last
     }
 
-    /// Returns whether a transport packet repeats the last good packet.
+    /// Returns whether a transport packet is a repeat of the last good one.
     pub fn is_repeat(&self, packet: &[u8; PACKET]) -> bool
         requires payload { has_payload packet.now ≡ true }
         requires valid { is_wrong packet.now ≡ false }
@@ -221,8 +223,9 @@ impl Joining {
             && self.last_payload() == payload_of(packet)
     }
 
-    // Returns whether data was lost between the last good packet and `packet`. Returns `false` for
-    // the first packet, and at an announced jump, where lost data cannot be detected.
+    // Returns whether data was lost between the last good transport packet and `packet`. Returns
+    // `false` for the first packet, and after an announced discontinuity, where a loss cannot be
+    // detected.
     fn is_break(&self, packet: &[u8; PACKET]) -> bool
         ensures { result ≡ is_break (link_after self.now self.now.last packet.now) }
     {
@@ -238,8 +241,8 @@ impl Joining {
         counter_of(packet) != (self.header[3] % 0x10 + 1) % 0x10
     }
 
-    // Returns whether `packet` does not continue the last good packet: it is the first packet, data
-    // was lost before it, or a jump is announced.
+    // Returns whether `packet` does not continue the last good transport packet: it is the first
+    // packet, data was lost before it, or a discontinuity was announced.
     fn is_unlinked(&self, packet: &[u8; PACKET]) -> bool
         ensures { result ≡ is_unlinked (link_after self.now self.now.last packet.now) }
     {
@@ -252,7 +255,7 @@ impl Joining {
         counter_of(packet) != (self.header[3] % 0x10 + 1) % 0x10
     }
 
-    /// Returns whether a jump of the counter was announced between the last good packet and
+    /// Returns whether a discontinuity was announced between the last good transport packet and
     /// `packet` (discontinuity_indicator), and no data is known to be lost.
     pub fn is_after_seam(&self, packet: &[u8; PACKET]) -> bool
         ensures { result ≡ is_seam (link_after self.now self.now.last packet.now) }
@@ -263,7 +266,7 @@ impl Joining {
         self.has_jump || announces_jump(packet)
     }
 
-    // Stores a transport packet as the last good packet, except for its payload.
+    // Stores a transport packet as the last good one, except for its payload.
     #[inline(always)]
     fn remember(&mut self, packet: &[u8; PACKET])
         ensures { self.new ≡ remembering self.old packet.now }
@@ -285,7 +288,7 @@ impl Joining {
         }
     }
 
-    // Starts to collect the payloads of a PES packet.
+    // Starts a new PES packet with a payload.
     #[inline(always)]
     fn begin_part(&mut self, is_break: bool, begins: bool, payload: &[u8])
         requires idle { self.old.pending ≡ [] }
@@ -329,7 +332,7 @@ impl Joining {
         self.payload_size = 0;
     }
 
-    // Stores only this payload, which will not be part of a PES packet.
+    // Stores a payload that is not part of a PES packet, and clears all earlier bytes.
     #[tactic(auto, using(crate::proofs::ReadyLemmas::growing))]
     #[inline(never)]
     fn buffer_payload(&mut self, gap: bool, payload: &[u8])
@@ -343,8 +346,8 @@ impl Joining {
         self.pending_item = gap_marker_alone(put_gap_marker(gap, &mut self.given));
     }
 
-    // Appends a payload to an incomplete PES packet. If the packet is now complete, it becomes
-    // ready to be returned.
+    // Appends a payload to an incomplete PES packet. If the PES packet is now complete, it becomes
+    // pending.
     #[tactic(auto, using(crate::proofs::ReadyLemmas::growing))]
     #[inline(always)]
     fn grow(&mut self, gap: bool, payload: &[u8])
@@ -385,8 +388,8 @@ impl Joining {
         }
     }
 
-    /// Takes the next item that is ready. Bytes that are no PES packet stay, so that `extract` can
-    /// read them; `take_first` takes them too.
+    /// Takes the next pending item. Bytes that are no PES packet stay pending, so that `extract`
+    /// can read them; `take_first` removes them too.
     #[tactic(auto, using(crate::proofs::ReadyLemmas::taking))]
     #[inline(always)]
     pub fn take_next(&mut self) -> Next
@@ -431,7 +434,7 @@ impl Joining {
         }
     }
 
-    /// Returns the bytes of an item that was taken.
+    /// Returns the bytes of an item that `take_next` returned.
     #[inline(always)]
     pub fn taken(&self, next: Next) -> &[u8]
         requires { IsWithin next self.now.bytes }
@@ -456,7 +459,7 @@ impl Joining {
         self.bytes.as_slice()
     }
 
-    // Clears all stored bytes, since everything that was ready was returned.
+    // Clears all stored bytes, after all pending items were returned.
     #[tactic(auto, using(crate::proofs::ReadyLemmas::idling))]
     pub(crate) fn deliver(&mut self)
         ensures { self.new ≡ emptied self.old }
@@ -465,7 +468,7 @@ impl Joining {
         self.clear();
     }
 
-    /// Takes the next item that is ready, of whatever kind.
+    /// Takes the next pending item, of any kind.
     #[tactic(auto, using(crate::proofs::ReadyLemmas::firsts))]
     pub fn take_first(&mut self) -> Next
         ensures first { TakesFirst self.old result self.new }
@@ -480,7 +483,7 @@ impl Joining {
     }
 }
 
-// Returns whether a gap needs a marker: only the first gap after a PES packet needs one.
+// Returns whether a gap needs a gap marker: only the first gap after a PES packet does.
 #[inline(always)]
 fn put_gap_marker(gap: bool, given: &mut Given) -> bool
     ensures given { given.new ≡ last_output_after gap given.old }

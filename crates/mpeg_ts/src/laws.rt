@@ -1,14 +1,14 @@
-//! Laws of reading a recording. Each law is the contract of a function.
+//! Laws about reading a recording. Each contract states a law.
 ghost use Rattle.mpeg_ts.specs.TakenBytes.{LawOfCalls, LawOfFailedRead};
 
-/// Consecutive calls together return the output that each of them returned.
+/// The output of consecutive calls is the joined output of these calls.
 #[tactic(auto, using(crate::proofs::GivenLemmas::gives_then))]
 pub fn law_of_calls()
     ensures { LawOfCalls }
 {}
 
-/// If a read fails within a PES packet of a recording, the bytes consumed so far carry as many
-/// complete PES packets as precede that packet.
+/// If a read fails within a PES packet of a recording, the consumed bytes carry exactly the
+/// complete PES packets before it.
 pub fn law_of_failed_read()
     ensures { LawOfFailedRead }
 {}

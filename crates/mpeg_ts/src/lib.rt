@@ -1,9 +1,8 @@
 //! Transport streams (ISO/IEC 13818-1): the PES packets of one PID.
 //!
-//! Reads the PES packets with Teletext that the transport packets of a PID carry, as if they were
-//! in a PES file, with a gap marker wherever data is missing between two of them. So every reader
-//! of PES packets can read them from a recording too. Builds on `sub_io` for devices and on
-//! `ttx_pes` for PES packets.
+//! Reads the Teletext PES packets that the transport packets of a PID carry, in the form of a PES
+//! file, with a gap marker wherever data is missing between two of them. So every reader of PES
+//! files can also read recordings. Uses `sub_io` for devices and `ttx_pes` for PES packets.
 //!
 //! ```text
 //! let pid = Pid::new(0x101).ok_or(..)?;

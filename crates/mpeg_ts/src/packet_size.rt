@@ -1,15 +1,15 @@
-//! The distance of transport packets in a recording.
+//! The packet size of a recording: the distance from one transport packet to the next.
 ghost use Rattle.std.specs.Prelude.{◌≡◌};
 
-/// The number of bytes from the start of one transport packet to the start of the next. A packet
-/// has 188 bytes (ISO/IEC 13818-1), to which recorders may add more.
+/// The number of bytes from the start of one transport packet to the start of the next. A transport
+/// packet has 188 bytes (ISO/IEC 13818-1), to which recorders may add bytes.
 #[derive(Clone, Copy, Debug, PartialEq, Eq)]
 pub enum PacketSize {
-    /// 188 bytes: only packets.
+    /// 188 bytes: transport packets only.
     Plain,
-    /// 192 bytes: a time stamp of four bytes before each packet.
+    /// 192 bytes: each transport packet follows a time stamp of four bytes.
     TimeStamped,
-    /// 204 bytes: 16 bytes of a Reed-Solomon code after each packet.
+    /// 204 bytes: each transport packet is followed by 16 bytes of a Reed-Solomon code.
     ErrorCorrected,
 }
 

@@ -1,4 +1,4 @@
-//! The buffer in which the payloads of a PES packet are collected.
+//! A buffer that collects the payloads of a PES packet.
 ghost use Rattle.std.specs.Prelude.{◌≡◌, ℕ, ◌+◌, ◌≤◌, [], ◌++◌, length, take};
 ghost use Rattle.sub_io.specs.Reading.{AreBytes};
 ghost use Rattle.ttx_pes.specs.PesPackets.{IsPesPacket};
@@ -11,10 +11,10 @@ use crate::joining::Found;
 use std::marker::Model;
 use ttx_pes::size_of;
 
-// The size of the buffer in bytes: room for an incomplete PES packet and one more payload.
+// The size of the buffer in bytes: an incomplete PES packet and one more payload fit in it.
 const BUFFER_SIZE: usize = 1840;
 
-/// The bytes collected for a PES packet. They can be cleared at no cost.
+/// The bytes collected for a PES packet. Clearing them takes constant time.
 #[derive(Drop)]
 pub(crate) struct PartBytes {
     room: [u8; BUFFER_SIZE],
@@ -74,7 +74,7 @@ impl PartBytes {
     }
 }
 
-// Looks for a PES packet at the front of the bytes collected.
+// Examines whether the collected bytes begin with a PES packet.
 #[inline(always)]
 pub(crate) fn find_packet(bytes: &[u8]) -> Found
     ensures found { found_in bytes.now ≡ result }
@@ -86,7 +86,8 @@ pub(crate) fn find_packet(bytes: &[u8]) -> Found
     found_at_start(bytes)
 }
 
-// Looks for a PES packet at the front of the bytes, by the size in their first six bytes.
+// Examines whether the bytes begin with a PES packet, by the start code and length in their first
+// six bytes.
 #[tactic(auto, unfolding(crate::specs::Joining::found_in))]
 #[inline(always)]
 fn found_at_start(bytes: &[u8]) -> Found

@@ -1,4 +1,5 @@
-//! Skips bytes without copying them: packets of other PIDs, and bytes that belong to no packet.
+//! Skips transport packets of other PIDs, and bytes that belong to no transport packet, without
+//! copying them.
 ghost use Rattle.std.specs.Prelude.{◌≡◌, ◌+◌, ◌<◌, ◌≤◌, List, ℕ, [], ◌++◌, drop, take, length};
 ghost use Rattle.std.specs.Prelude.{false, true};
 ghost use Rattle.mpeg_ts.specs.GoodPackets.{loss_size};
@@ -18,11 +19,12 @@ pub(crate) fn packet_in(bytes: &[u8], place: usize) -> &[u8; PACKET]
     ahead.first_chunk().unwrap()
 }
 
-// Returns the offset after the transport packets of other PIDs from `from` on. At that offset is a
-// packet of the PID, a byte that is no sync byte, or fewer bytes than the distance of packets.
+// Returns the offset after all consecutive transport packets of other PIDs from offset `from` on.
+// There follows a packet of the PID, a byte that is no sync byte, or the end of the available
+// bytes.
 //
-// Not inlined: most of a multiplex is skipped here, and a separate loop keeps its variables in
-// registers.
+// Not inlined, for speed: most of a multiplex is skipped here, and the variables of a separate loop
+// stay in registers.
 #[inline(never)]
 #[tactic(auto, using(crate::proofs::StreamLemmas::others))]
 pub(crate) fn place_after_other_pids(
@@ -56,8 +58,8 @@ pub(crate) fn place_after_other_pids(
     at
 }
 
-// Returns whether a transport packet of the PID is at this offset, and all bytes up to the next
-// packet are available.
+// Returns whether a transport packet of the PID is at this offset, with all bytes up to the next
+// packet available.
 #[inline(always)]
 pub(crate) fn begins_unit(bytes: &[u8], place: usize, distance: usize, number: u16) -> bool
     requires within { place ≤ length bytes.now }
@@ -72,8 +74,9 @@ pub(crate) fn begins_unit(bytes: &[u8], place: usize, distance: usize, number: u
     packet[0] == SYNC_BYTE && pid_of(packet) == number
 }
 
-// Returns how many bytes precede the first sync byte; out of step no transport packet begins in
-// them. They must not include the byte that makes the skipped bytes a loss.
+// Returns the number of bytes before the first sync byte. When reading is out of step, no transport
+// packet begins in them. The caller must not pass the byte with which the skipped bytes become a
+// loss.
 #[tactic(auto, using(crate::proofs::StreamLemmas::junk))]
 pub(crate) fn junk_size(bytes: &[u8]) -> usize
     ensures within { result ≤ length bytes.now }

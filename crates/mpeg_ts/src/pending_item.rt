@@ -1,23 +1,23 @@
-//! Reassembled PES packets and gap markers that are ready to be returned.
+//! Reassembled PES packets and gap markers that are pending: they are ready to be returned.
 ghost use Rattle.std.specs.Prelude.{◌≡◌};
 ghost use Rattle.mpeg_ts.specs.Joining.{gap_marker_alone};
 
 use ttx_pes::PesFault;
 
-/// The items that are ready to be returned.
+/// The pending items, in order.
 #[derive(Clone, Copy)]
 pub(crate) enum PendingItem {
-    /// No item is ready.
+    /// No item.
     Nothing,
-    /// A gap marker is ready.
+    /// A gap marker.
     GapMarker,
-    /// The current PES packet is ready, with or without a gap marker before and after it.
+    /// The current PES packet, with or without a gap marker before it and after it.
     Packet {
         gap_marker_before: bool,
         size: usize,
         gap_marker_after: bool,
     },
-    /// Bytes with a wrong start code or length are ready, with or without a gap marker before them.
+    /// Bytes with a wrong start code or length, with or without a gap marker before them.
     Rest {
         gap_marker_before: bool,
         fault: PesFault,
@@ -27,17 +27,17 @@ pub(crate) enum PendingItem {
 /// The next item to be returned.
 #[derive(Clone, Copy)]
 pub enum Next {
-    /// No item is ready.
+    /// No item.
     Nothing,
     /// A gap marker.
     GapMarker,
-    /// A PES packet, with its size in bytes: the first of the bytes collected.
+    /// A PES packet at the front of the collected bytes, with its size in bytes.
     Packet(usize),
-    /// All bytes collected, whose start code or length is not that of a PES packet with Teletext.
+    /// All collected bytes. Their start code or length is not that of a Teletext PES packet.
     Rest(PesFault),
 }
 
-// Returns a gap marker as the item that is ready, or no item.
+// Returns a gap marker as the pending item if one is needed, or no item.
 pub(crate) fn gap_marker_alone(is_due: bool) -> PendingItem
     ensures { result ≡ gap_marker_alone is_due }
 {

@@ -1,12 +1,11 @@
-//! The PID of the transport packets to read.
+//! The PID by which transport packets are selected.
 ghost use Rattle.std.specs.Prelude.{◌≡◌, ◌≤◌, None, Some};
 
 use std::marker::Model;
 
-/// A PID whose transport packets may carry PES packets, 0 to 8190; 8191 is the PID of null packets
-/// (ISO/IEC 13818-1, PID).
+/// A PID, 0 to 8190. The PID 8191 is excluded, since it marks null packets (ISO/IEC 13818-1).
 ///
-/// The model of a PID is its number.
+/// Its model is its number.
 #[derive(Clone, Copy, Debug, PartialEq, Eq)]
 pub struct Pid {
     number: u16,

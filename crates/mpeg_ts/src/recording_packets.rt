@@ -1,7 +1,7 @@
 //! Reads the PES packets and gap markers of a PID from a recording.
 //!
-//! Transport packets are taken one by one. Taking all transport packets of a PES packet together
-//! saved 3 percent of the instructions for a multiplex, but took 1,400 lines.
+//! Transport packets are processed one by one. Processing all transport packets of a PES packet
+//! together saved 3 percent of the instructions for a multiplex, but needed 1,400 lines.
 ghost use Rattle.std.specs.Prelude.{◌≡◌, ◌≤◌, [], Some, false, is_ok, length, option_map, take};
 ghost use Rattle.std.specs.Prelude.{true};
 ghost use Rattle.sub_io.specs.Asking.{Requests};
@@ -25,20 +25,20 @@ use ttx_pes::{
     FailedAt, NumberedPesPackets, PesPackets, REST_BUFFER_SIZE, Received, TakePesPacket,
 };
 
-/// Reads the PES packets that the transport packets of one PID carry (ISO/IEC 13818-1). If data is
-/// missing between two PES packets, the reader returns a gap marker: 184 bytes that begin like a
+/// A reader of the PES packets that the transport packets of one PID carry (ISO/IEC 13818-1). If
+/// data is missing between two PES packets, it returns a gap marker: 184 bytes that begin like a
 /// PES packet and are FF from byte 6 on (own).
 ///
-/// The reader returns a PES packet before it reads any byte after the packet's last transport
-/// packet, except the first byte of the next transport packet if reading was out of step. It
-/// returns a gap marker as soon as the gap is known. It allocates no memory.
+/// The reader returns a PES packet before it reads any byte after the last transport packet of that
+/// PES packet, except the first byte of the next transport packet if reading was out of step. It
+/// returns a gap marker as soon as the gap is detected. It allocates no memory.
 ///
-/// Its model has the inner source, the state of reading, and whether `Rest` was returned.
+/// Its model has the inner source, the reading state, and whether `Rest` was returned.
 #[derive(Drop)]
 pub struct RecordingPesPackets<S> {
     inner: S,
     stream: Stream,
-    // Whether `Rest` was returned, so that the remaining bytes begin no PES packet.
+    // Whether `Rest` was returned: the remaining bytes do not begin with a PES packet.
     is_over: bool,
 }
 
@@ -54,13 +54,12 @@ impl<S> Model for RecordingPesPackets<S> {
 }
 
 impl<S: Source> RecordingPesPackets<S> {
-    /// Creates a reader of the transport packets of `pid`, at the start of a recording. The reader
-    /// reads at most 2^48 bytes.
+    /// Creates a reader of the transport packets of `pid` at the start of a recording. It reads at
+    /// most 2^48 bytes.
     #[tactic(auto, using(crate::proofs::CarriedLemmas::carried_known))]
     pub fn new(source: S, pid: Pid, packet_size: PacketSize) -> Self
         ensures start { result ≡ at_start source pid (bytes_of packet_size) }
-        // The reader returns the PES packets that the transport packets of the PID carry in the
-        // recording.
+        // The output of the reader is the PES packets that the transport packets of the PID carry.
         ensures carried { remaining_output result.stream (S.remaining result.device)
             ≡ option_map (carried pid (bytes_of packet_size)) (S.remaining source) }
     {
@@ -71,7 +70,7 @@ impl<S: Source> RecordingPesPackets<S> {
         }
     }
 
-    /// Returns the inner source. Drops items that are ready.
+    /// Returns the inner source. Discards pending items.
     pub fn into_inner(self) -> S
         ensures { result ≡ self.device }
     {
@@ -91,7 +90,8 @@ impl<S: Source> PesPackets for RecordingPesPackets<S> {
 
     ghost ready = { λ r. is_some_ready r.stream };
 
-    /// Lets `taker` process the next PES packet or gap marker, and reads on if no item is ready.
+    /// Lets `taker` process the next PES packet or gap marker. Reads more bytes if no item is
+    /// pending.
     ///
     /// # Errors
     ///
@@ -107,12 +107,12 @@ impl<S: Source> PesPackets for RecordingPesPackets<S> {
             T.is_take taker.old taker.new result }
         ensures rest { reports_rest result ≡ true → self.new.is_over ≡ true }
         ensures ready { is_some_ready self.old.stream ≡ true → is_ok result ≡ true }
-        // The bytes consumed from the recording contain what was returned, whatever bytes follow.
+        // The consumed bytes of the recording determine what was returned, whatever bytes follow.
         ensures gives { OutputsOn self.old.stream self.new.stream
             (S.remaining self.old.device) (S.remaining self.new.device) }
-        // If a read failed, the bytes consumed contain nothing more than what was returned.
+        // If a read failed, the consumed bytes give no more output than what was returned.
         ensures cut { is_ok result ≡ false → output_of self.new.stream [] ≡ [] }
-        // The reader reads no bytes after those that contain the next PES packet or gap marker.
+        // The reader reads only the bytes that it needs for the next PES packet or gap marker.
         ensures requests { (read : StreamValue) × Requests S.is_pull S.borrowed S.remaining
             (has_output self.old.stream) self.old.device (is_ok result)
             (has_output read) self.new.device }
@@ -133,7 +133,7 @@ impl<S: Source> PesPackets for RecordingPesPackets<S> {
         }
     }
 
-    /// Returns the remaining bytes, which begin no PES packet: all bytes collected.
+    /// Returns the remaining bytes, which do not begin with a PES packet: all collected bytes.
     #[tactic(auto, using(crate::proofs::RecordingLemmas::rests))]
     fn read_rest(&mut self, room: &mut [u8; REST_BUFFER_SIZE]) -> Result<usize, Failed> {
         let bytes = self.stream.bytes();
@@ -143,7 +143,7 @@ impl<S: Source> PesPackets for RecordingPesPackets<S> {
         Ok(count)
     }
 
-    /// Returns whether a PES packet or gap marker is ready.
+    /// Returns whether a PES packet or gap marker is pending.
     #[inline(always)]
     fn is_ready(&self) -> bool {
         !self.stream.is_idle()
@@ -155,7 +155,7 @@ impl<S: Source> NumberedPesPackets for RecordingPesPackets<S> {
 
     ghost skipped = { λ r. 0 };
 
-    /// Returns 0, since the first PES packet is the first of the recording.
+    /// Returns 0, the index of the first PES packet.
     fn find_first(&mut self) -> Result<u64, FailedAt> {
         Ok(0)
     }
@@ -170,7 +170,7 @@ fn put_in_front(room: &mut [u8; REST_BUFFER_SIZE], bytes: &[u8])
     prefix.copy_from_slice(bytes);
 }
 
-// Lets `taker` process a PES packet, and proves that the packet consists of bytes.
+// Lets `taker` process a PES packet. The contract states that the packet consists of bytes.
 #[inline(always)]
 fn take_by<T: TakePesPacket>(taker: &mut T, pes_packet: &[u8]) -> T::Answer
     requires { IsPesPacket pes_packet.now }

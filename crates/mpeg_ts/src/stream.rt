@@ -1,5 +1,5 @@
-//! Reads a recording for one PID: finds the transport packets in step, and reassembles their
-//! contents.
+//! Reads a recording for one PID: finds the transport packets, and reassembles the PES packets of
+//! the PID.
 ghost use Rattle.std.specs.Prelude.{◌≡◌, ◌+◌, ◌-◌, ◌^◌, ◌<◌, ◌≤◌, ◌↔◌, List, ℕ, [], drop};
 ghost use Rattle.std.specs.Prelude.{◌≢◌, take, length};
 ghost use Rattle.std.specs.Prelude.{Ok, false, is_ok, true};
@@ -23,7 +23,7 @@ use crate::{PacketSize, Pid};
 use std::marker::Model;
 use sub_io::{Failed, Source};
 
-// The maximum number of bytes of a recording that are read.
+// The maximum number of bytes that are read from a recording.
 const MOST_BYTES: u64 = 1 << 48;
 
 /// The state of reading a recording for one PID.
@@ -32,10 +32,10 @@ pub(crate) struct Stream {
     number: u16,
     distance: usize,
     window: Window,
-    // How many bytes are skipped before the next item.
+    // The number of bytes to skip before the next item.
     lead: usize,
     in_step: bool,
-    // How many bytes were skipped in a row.
+    // The number of consecutive bytes skipped so far.
     run: u64,
     joining: Joining,
 }
@@ -60,7 +60,7 @@ impl Model for Stream {
         s.distance s.lead s.run (length s.window.buffered + s.window.left) s.in_step };
 }
 
-// Returns how many bytes precede the first transport packet of a recording.
+// Returns the number of bytes before the first transport packet of a recording.
 fn lead_of(packet_size: PacketSize) -> usize
     ensures { result ≡ lead_size (bytes_of packet_size) }
 {
@@ -79,7 +79,7 @@ fn packet_at(window: &Window, place: usize) -> &[u8; PACKET]
 }
 
 impl Stream {
-    // Creates the state of reading at the start of a recording.
+    // Creates the reading state for the start of a recording.
     #[tactic(auto, unfolding(crate::specs::PacketsInStep::most_bytes))]
     pub(crate) fn new(pid: Pid, packet_size: PacketSize) -> Self
         ensures { result ≡ start_of_stream pid (bytes_of packet_size) }
@@ -95,8 +95,8 @@ impl Stream {
         }
     }
 
-    // Reads until the buffered bytes determine the next item, and returns whether they do; `false`
-    // only at the end of the recording.
+    // Reads until the buffered bytes determine the next item: a transport packet or a byte outside
+    // packets. Returns `false` if the recording ends before that.
     #[tactic(auto, using(crate::proofs::StreamLemmas::needing))]
     fn read_needed<S: Source>(&mut self, source: &mut S) -> Result<bool, Failed>
         requires count { CanFail (S.failure_count source.old) }
@@ -121,7 +121,7 @@ impl Stream {
         self.window.fill_to(source, count)
     }
 
-    // Returns how many bytes determine the next item.
+    // Returns the number of bytes that determine the next item.
     fn needed(&self) -> usize
         ensures { result ≡ bytes_needed self.now.distance self.now.in_step }
     {
@@ -174,7 +174,7 @@ impl Stream {
         self.lead = self.window.advance(count);
     }
 
-    // Takes the transport packet that is the next item.
+    // Processes the next item, a transport packet.
     #[tactic(auto, using(crate::proofs::StreamLemmas::packets))]
     fn take_packet(&mut self)
         requires there { self.old.lead + 188 ≤ length self.old.window.buffered }
@@ -192,7 +192,7 @@ impl Stream {
         self.advance(distance);
     }
 
-    // Passes the transport packet that is the next item to the reassembly, if it has the PID.
+    // Passes the next item, a transport packet, to the reassembly if it has the PID.
     fn join_packet(&mut self)
         requires there { self.old.lead + 188 ≤ length self.old.window.buffered }
         requires idle { self.old.joining.pending ≡ [] }
@@ -239,8 +239,7 @@ impl Stream {
         self.run += 1;
     }
 
-    // Returns whether the number of skipped bytes may reach that of a loss within the next `count`
-    // buffered bytes.
+    // Returns whether skipping the next `count` buffered bytes could count as a loss.
     fn may_end_loss(&self, count: usize) -> bool
         requires { count ≤ length self.now.window.buffered }
         ensures { result ≡ false → self.now.run < loss_size self.now.distance
@@ -250,8 +249,8 @@ impl Stream {
         self.run < loss && loss <= self.run + count as u64
     }
 
-    // Skips the buffered bytes up to the next sync byte. The byte that may make them a loss is left
-    // to `skip`.
+    // Skips the buffered bytes up to the next sync byte, without the byte with which they may
+    // become a loss; `skip` handles that byte.
     #[inline(never)]
     #[tactic(auto, using(crate::proofs::StreamLemmas::junk))]
     fn skip_on(&mut self)
@@ -269,7 +268,7 @@ impl Stream {
         self.run += count as u64;
     }
 
-    // Records a loss if the next skipped byte makes one.
+    // Records a loss if the skipped bytes become a loss with the next byte.
     fn join_skipped(&mut self)
         ensures { self.new ≡ record self.old {
           joining = after_skipped self.old.distance self.old.run self.old.joining;
@@ -280,7 +279,7 @@ impl Stream {
         }
     }
 
-    // Takes the next item. Returns `false` at the end of the recording.
+    // Processes the next item. Returns `false` at the end of the recording.
     #[inline(never)]
     #[tactic(auto, using(crate::proofs::StreamLemmas::steps))]
     fn step<S: Source>(&mut self, source: &mut S) -> Result<bool, Failed>
@@ -310,9 +309,9 @@ impl Stream {
         Ok(true)
     }
 
-    // Skips transport packets of other PIDs that the source lends, and takes the packet of the PID
-    // after them, if the source lends all bytes up to the next packet. The packets are read in the
-    // source's buffer, without a copy. Returns whether any packet was skipped or taken.
+    // Skips transport packets of other PIDs in the source's buffer, without a copy, and processes
+    // the packet of the PID after them if all bytes up to the next packet are in the buffer.
+    // Returns whether any packet was skipped or processed.
     #[inline(always)]
     #[tactic(auto, using(crate::proofs::StreamLemmas::skims))]
     fn take_borrowed<S: Source>(&mut self, source: &mut S) -> bool
@@ -351,7 +350,7 @@ impl Stream {
         true
     }
 
-    // Returns whether no item is ready, and more output may follow.
+    // Returns whether no item is pending and more output may follow.
     #[inline(always)]
     fn wants_more(&self) -> bool
         ensures wants { result ≡ true → (self.now.joining.pending ≡ [])
@@ -362,7 +361,7 @@ impl Stream {
         self.joining.is_idle() && !self.joining.has_ended()
     }
 
-    // Reads until an item is ready, or to the end of the recording.
+    // Reads until an item is pending or the recording ends.
     #[inline(always)]
     #[tactic(auto, using(crate::proofs::StreamLemmas::reads))]
     pub(crate) fn read_on<S: Source>(&mut self, source: &mut S) -> Result<(), Failed>
@@ -386,7 +385,7 @@ impl Stream {
         self.read_more(source)
     }
 
-    // Reads on from the source if no item is ready.
+    // Reads more bytes from the source if no item is pending.
     #[inline(always)]
     #[tactic(auto, using(crate::proofs::StreamLemmas::reads))]
     fn read_more<S: Source>(&mut self, source: &mut S) -> Result<(), Failed>
@@ -409,7 +408,7 @@ impl Stream {
         Ok(())
     }
 
-    // Returns whether no item is ready.
+    // Returns whether no item is pending.
     #[inline(always)]
     pub(crate) fn is_idle(&self) -> bool
         ensures { (result ≡ true) ↔ (self.now.joining.pending ≡ []) }
@@ -417,7 +416,7 @@ impl Stream {
         self.joining.is_idle()
     }
 
-    // Takes the next item that is ready. Bytes that are no PES packet stay.
+    // Takes the next pending item. Bytes that are no PES packet stay pending.
     #[inline(always)]
     pub(crate) fn take_next(&mut self) -> Next
         ensures next { TakesNext self.old.joining result self.new.joining }
@@ -435,14 +434,14 @@ impl Stream {
         self.joining.bytes()
     }
 
-    // Clears the bytes collected, since everything that was ready was returned.
+    // Clears the collected bytes, after all pending items were returned.
     pub(crate) fn deliver(&mut self)
         ensures { self.new ≡ record self.old { joining = emptied self.old.joining } }
     {
         self.joining.deliver();
     }
 
-    // Returns the bytes of an item that was taken.
+    // Returns the bytes of an item that `take_next` returned.
     #[inline(always)]
     pub(crate) fn taken(&self, next: Next) -> &[u8]
         requires { IsWithin next self.now.joining.bytes }

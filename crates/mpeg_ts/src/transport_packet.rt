@@ -17,7 +17,7 @@ pub fn pid_of(packet: &[u8; PACKET]) -> u16
     (packet[1] % 0x20) as u16 * 0x100 + packet[2] as u16
 }
 
-/// Returns payload_unit_start_indicator of a transport packet.
+/// Returns the bit payload_unit_start_indicator of a transport packet.
 #[inline(always)]
 pub fn begins(packet: &[u8; PACKET]) -> bool
     ensures { result ≡ begins packet.now }
@@ -25,7 +25,7 @@ pub fn begins(packet: &[u8; PACKET]) -> bool
     packet[1] / 0x40 % 2 == 1
 }
 
-/// Returns continuity_counter of a transport packet, 0 to 15.
+/// Returns the continuity_counter of a transport packet, 0 to 15.
 #[inline(always)]
 pub fn counter_of(packet: &[u8; PACKET]) -> u8
     ensures { result ≡ counter packet.now }
@@ -49,7 +49,8 @@ pub fn has_payload(packet: &[u8; PACKET]) -> bool
     packet[3] / 0x10 % 2 == 1
 }
 
-/// Returns whether discontinuity_indicator of a transport packet announces a jump of the counter.
+/// Returns whether the discontinuity_indicator of a transport packet is set: it announces a
+/// discontinuity of the continuity_counter.
 #[inline(always)]
 pub fn announces_jump(packet: &[u8; PACKET]) -> bool
     ensures { result ≡ announces_jump packet.now }
@@ -58,7 +59,7 @@ pub fn announces_jump(packet: &[u8; PACKET]) -> bool
 }
 
 /// Returns whether a transport packet is unusable: its transport_error_indicator is set, the packet
-/// is scrambled, or its adaptation field leaves no room for its payload.
+/// is scrambled, or its adaptation field leaves no space for the payload.
 #[inline(always)]
 pub fn is_wrong(packet: &[u8; PACKET]) -> bool
     ensures { result ≡ is_wrong packet.now }

@@ -1,4 +1,4 @@
-//! The buffer for the bytes of a recording that are examined next.
+//! The buffer for the next bytes of a recording.
 ghost use Rattle.std.specs.Prelude.{◌≡◌, ◌+◌, ◌-◌, ◌<◌, ◌≤◌, [], drop, length, Ok, IfOk, IsErr};
 ghost use Rattle.std.specs.Prelude.{false, is_ok, true};
 ghost use Rattle.std.specs.Io.KnownBytes.{IsAtEnd};
@@ -11,11 +11,11 @@ use arrayvec::ArrayVec;
 use std::marker::Model;
 use sub_io::{Failed, Source};
 
-/// The size of the buffer in bytes: room for the bytes before a packet and the packet; or for a
-/// packet and the first byte after it at the greatest distance.
+/// The size of the buffer in bytes: a transport packet fits in it with the bytes before it, or, at
+/// the greatest packet size, with the first byte after it.
 pub(crate) const WINDOW: usize = 205;
 
-/// The buffered bytes of a recording, and how many more bytes may be read.
+/// The buffered bytes of a recording, and the number of bytes that may still be read.
 #[derive(Drop)]
 pub(crate) struct Window {
     bytes: ArrayVec<u8, WINDOW>,
@@ -31,7 +31,7 @@ impl Model for Window {
 }
 
 impl Window {
-    // Creates an empty buffer, for a recording of which `left` bytes may be read.
+    // Creates an empty buffer for a recording. At most `left` bytes are read.
     pub(crate) fn new(left: u64) -> Self
         ensures { result ≡ record { buffered = []; left = left } }
     {
@@ -58,7 +58,7 @@ impl Window {
         self.bytes.len()
     }
 
-    // Returns how many bytes of the recording may still be read.
+    // Returns the number of bytes that may still be read from the recording.
     #[inline(always)]
     pub(crate) fn left(&self) -> u64
         ensures { result ≡ self.now.left }
@@ -66,7 +66,7 @@ impl Window {
         self.left
     }
 
-    // Counts bytes that were read and skipped without the buffer.
+    // Counts bytes that were skipped in the source's buffer.
     #[inline(always)]
     pub(crate) fn skip_bytes(&mut self, count: u64)
         requires { count ≤ self.old.left }
@@ -75,7 +75,7 @@ impl Window {
         self.left -= count;
     }
 
-    // Returns how many bytes may be pulled for the buffer to have `count` bytes.
+    // Returns the number of bytes that may be pulled to fill the buffer up to `count` bytes.
     fn free_space(&self, count: usize) -> usize
         requires few { length self.now.buffered < count }
         requires room { count ≤ window_size }
@@ -119,8 +119,7 @@ impl Window {
         Ok(n)
     }
 
-    // Reads until the buffer has `count` bytes, and returns whether it has; `false` only at the end
-    // of the recording.
+    // Reads until the buffer has `count` bytes. Returns `false` if the recording ends before that.
     #[tactic(auto, using(crate::proofs::WindowLemmas::filling))]
     pub(crate) fn fill_to<S: Source>(
         &mut self,
@@ -156,7 +155,8 @@ impl Window {
         Ok(true)
     }
 
-    // Removes `count` bytes from the front, and returns how many of them are not read yet.
+    // Removes up to `count` bytes from the front of the buffer. Returns the number of bytes still
+    // to be removed.
     pub(crate) fn advance(&mut self, count: usize) -> usize
         ensures buffered { self.new.buffered ≡ drop count self.old.buffered }
         ensures left { self.new.left ≡ self.old.left }

@@ -1,4 +1,4 @@
--- The law of a failed read is the lemma failed_read.
+-- Proves the law of a failed read.
 use Rattle.mpeg_ts.proofs.GivenLemmas.{failed_read}
 use Rattle.mpeg_ts.proofs.laws.law_of_failed_read.Goals as goal
 

@@ -1,4 +1,5 @@
--- The bytes of a part that is found complete begin with a PES packet, valid or not: packet_found.
+-- The bytes of a part that is found complete begin with a PES packet, whether its contents are
+-- valid or not.
 use Rattle.std.proofs.Common.{◌∙◌}
 use Rattle.mpeg_ts.proofs.ReadyLemmas.{packet_found, found_in_refused}
 use Rattle.mpeg_ts.proofs.part_bytes.find_packet.Goals as goal

@@ -1,4 +1,4 @@
--- In each iteration of `place_after_other_pids`, all packets so far have other PIDs.
+-- In each iteration, all transport packets so far have other PIDs.
 use Rattle.std.proofs.Common.{◌≡◌, ◌≤◌, ◌-◌, List, [], ◌++◌, ℕ, drop, length, take, true, false}
 use Rattle.mpeg_ts.specs.Joining.{JoiningValue, has_ended}
 use Rattle.mpeg_ts.specs.Stream.{stream_output}

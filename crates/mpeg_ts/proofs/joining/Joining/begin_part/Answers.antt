@@ -1,4 +1,4 @@
--- No item is ready when a new PES packet begins: none_pending.
+-- No item is pending when a new PES packet begins.
 use Rattle.std.proofs.Common.{◌∙◌, ap}
 use Rattle.mpeg_ts.specs.Joining.{JoiningValue}
 use Rattle.mpeg_ts.proofs.ReadyLemmas.{none_pending}

@@ -1,4 +1,4 @@
--- `take_first` takes a PES packet, the rest, or nothing: pes_packet_first.
+-- `take_first` takes a PES packet, the rest, or nothing.
 use Rattle.mpeg_ts.proofs.ReadyLemmas.{pes_packet_first}
 use Rattle.mpeg_ts.proofs.joining.Joining.take_first.Goals as goal
 

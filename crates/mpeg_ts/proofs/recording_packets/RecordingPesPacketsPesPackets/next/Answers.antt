@@ -1,5 +1,4 @@
--- `next` returns the next item, the bytes consumed contain that item, and no byte was read after
--- those that contain it: rest_received, pes_packet_received, next_gives.
+-- `next` returns the next item; the consumed bytes contain it, and no byte after it was read.
 use Rattle.std.proofs.Common.{[], refl}
 use Rattle.std.proofs.lemmas.Result.{err_from_is_err_and}
 use Rattle.mpeg_ts.specs.Stream.{remaining_output}

@@ -1,4 +1,4 @@
--- `read_rest` returns all remaining bytes, and no output follows: rest_taken.
+-- `read_rest` returns all remaining bytes, and no output follows.
 use Rattle.mpeg_ts.proofs.RecordingLemmas.{rest_taken}
 use Rattle.mpeg_ts.proofs.recording_packets.RecordingPesPacketsPesPackets.read_rest.Goals as goal
 

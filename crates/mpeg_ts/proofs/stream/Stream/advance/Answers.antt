@@ -1,4 +1,4 @@
--- Skipping `count` bytes drops them from the bytes from the next item on: ahead_moved.
+-- Skipping `count` bytes drops them from the front of the unprocessed bytes.
 use Rattle.mpeg_ts.specs.Stream.{StreamValue}
 use Rattle.mpeg_ts.specs.contracts.stream.Stream.{the_view}
 use Rattle.mpeg_ts.proofs.StreamLemmas.{ahead_moved}

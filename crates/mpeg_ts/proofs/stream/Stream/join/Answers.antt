@@ -1,4 +1,4 @@
--- A transport packet of another PID does not change the state of reading: other_pid.
+-- A transport packet of another PID does not change the reading state.
 use Rattle.std.proofs.Common.{◌∙◌}
 use Rattle.mpeg_ts.specs.contracts.stream.Stream.{the_view}
 use Rattle.mpeg_ts.proofs.StreamLemmas.{other_pid}

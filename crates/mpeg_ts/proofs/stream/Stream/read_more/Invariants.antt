@@ -1,4 +1,5 @@
--- In each iteration of `read_more`, the output still to come is the same, and no pull has failed.
+-- In each iteration of `read_more`, the output still to be returned is the same, and no pull has
+-- failed.
 use Rattle.std.proofs.Common.{◌≡◌, true}
 use Rattle.sub_io.specs.Asking.{Requests}
 use Rattle.mpeg_ts.specs.Stream.{bytes_at_most, output_of, has_output}

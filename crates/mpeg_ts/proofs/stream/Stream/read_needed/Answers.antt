@@ -1,5 +1,5 @@
--- If the next item is known, at least the bytes of a packet are buffered: needs_packet. No byte is
--- read after those that determine the item: need_requests.
+-- When the next item is known, at least a transport packet is buffered, and no byte beyond those
+-- that determine the item was read.
 use Rattle.std.proofs.Common.{◌≡◌, ◌≤◌, ◌+◌, ◌∙◌, [], ap, arith, is_ok, sym}
 use Rattle.mpeg_ts.specs.PacketsInStep.{bytes_needed}
 use Rattle.mpeg_ts.specs.Stream.{StreamValue}

@@ -1,4 +1,4 @@
--- Skipping a byte that belongs to no packet does not change the output still to come: byte_skipped.
+-- Skipping a byte that belongs to no packet does not change the output still to be returned.
 use Rattle.std.proofs.Common.{◌≡◌, ◌≤◌, ◌+◌, ℕ, drop, refl, ap, ◌∙◌, arith, false}
 use Rattle.mpeg_ts.specs.Stream.{StreamValue, after_skipped, bytes_ahead}
 use Rattle.mpeg_ts.proofs.StreamLemmas.{byte_skipped}

@@ -1,4 +1,4 @@
--- Skipping bytes that contain no packet does not change the output still to come: junk_given.
+-- Skipping bytes that contain no packet does not change the output still to be returned.
 use Rattle.std.proofs.Common.{◌≡◌, ◌≤◌, ◌+◌, ◌<◌, ◌++◌, ℕ, List, [], length, take, refl, ap, sym}
 use Rattle.std.proofs.Common.{◌∙◌, arith, false, rules, subst}
 use Rattle.mpeg_ts.specs.GoodPackets.{loss_size}

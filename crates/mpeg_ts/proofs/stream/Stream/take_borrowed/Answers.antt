@@ -1,5 +1,4 @@
--- Taking lent packets does not change the output still to come: others_given, packet_given,
--- borrowed_skipped.
+-- Processing packets in the source's buffer does not change the output still to be returned.
 use Rattle.std.proofs.Common.{◌≡◌, ◌+◌, ◌-◌, ◌≤◌, [], length, true, false}
 use Rattle.std.proofs.Common.{ap, sym, ◌∙◌, arith, length-take-le, refl, rules}
 use Rattle.std.proofs.lemmas.List.{nil_from_length}
