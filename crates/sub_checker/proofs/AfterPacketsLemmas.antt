@@ -1,5 +1,5 @@
--- The checker's state agrees with the frames after the packets of a frame (`state_after_packets`)
--- and at the end of the frame (`ending_steps`, `follows_then`).
+-- The checker's state agrees with the rules after the packets of a frame and at the end of the
+-- frame.
 use Rattle.std.proofs.lemmas.Bool.Decides.{nat_tests}
 use Rattle.std.proofs.Common.{◌≡◌, ℕ, zero, suc, ◌+◌, ◌<◌, Bool, ◌&&◌, ◌||◌, not, nat_le, nat_lt}
 use Rattle.std.proofs.Common.{cond, List, [], ◌∷◌, ◌++◌, length, map, take, refl, sym, ap, ◌∙◌}

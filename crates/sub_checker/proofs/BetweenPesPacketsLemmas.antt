@@ -1,8 +1,6 @@
--- Between two PES packets the checker's state agrees with the frames sent
--- (`BetweenPesPackets-closed`, `BetweenPesPackets-open`, `pending_none`, `pending_some`). The
--- checker decides correctly whether a PES packet continues the last frame (`continues_eq`), takes
--- the right steps (`arrived`, `next_eq`), and has the right state afterwards (`more_keeps`,
--- `next_keeps`).
+-- The checker's state agrees with the frames sent so far between two PES packets. The checker
+-- decides correctly whether a PES packet continues the last frame, and its steps and its state
+-- after the packet are those of the rules.
 use Rattle.std.proofs.lemmas.Bool.Decides.{nat_tests}
 use Rattle.std.proofs.Common.{◌≡◌, ℕ, suc, ◌+◌, ◌-◌, ◌<◌, ◌==◌, Bool, ◌&&◌}
 use Rattle.std.proofs.Common.{true, false, List, [], ◌∷◌, ◌++◌, length, refl, sym, ap}

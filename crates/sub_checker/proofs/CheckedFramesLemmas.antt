@@ -1,6 +1,5 @@
--- The checker's state agrees with the frames when it reaches the first frame (`arrives_first`),
--- each frame of the day before a later one (`gap_steps`, `gap_pending`, `gap_ended`), and a later
--- frame (`arrives_next`). More frames after these change nothing (`AfterEnd-prefix`).
+-- The checker's state agrees with the rules when it reaches the first frame, a frame without a PES
+-- packet, and a later frame. It does not depend on later frames.
 use Rattle.std.proofs.lemmas.Bool.Decides.{nat_tests}
 use Rattle.std.proofs.Common.{◌≡◌, ℕ, zero, suc, ◌+◌, ◌-◌, ◌<◌, ◌≤◌, Bool, false, nat_le, cond}
 use Rattle.std.proofs.Common.{List, [], ◌∷◌, ◌++◌, length, map, Option, None, refl, sym, ap, ◌∙◌}

@@ -1,5 +1,5 @@
--- If the page is correct at the end of a frame, no cell has an unexpected code (`none_unexpected`),
--- and a few comparisons show that no fault is active (`fault_free_has_none_active`).
+-- If the page is correct at the end of a frame, no cell is unexpected, and a few comparisons show
+-- that no fault is active.
 use Rattle.std.proofs.lemmas.Bool.Decides.{nat_tests}
 use Rattle.std.proofs.Common.{◌≡◌, ℕ, zero, suc, ap, ◌+◌, ◌<◌, Bool, true, false}
 use Rattle.std.proofs.Common.{not, Option, None, is_some, refl}

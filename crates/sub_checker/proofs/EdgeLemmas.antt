@@ -1,4 +1,5 @@
--- The expected page, and the checker's facts about it, stay the same until the next page change.
+-- The expected page, and what the checker stores about it, stay the same until the expected page
+-- changes.
 use Rattle.std.proofs.lemmas.Bool.Decides.{nat_tests}
 use Rattle.std.proofs.Common.{Option, Some, None, ◌≡◌, ℕ, zero, suc, ◌+◌, ◌-◌, ◌<◌, ◌≤◌, Bool, true}
 use Rattle.std.proofs.Common.{List, refl, ap, ◌∙◌, arith}
@@ -13,7 +14,6 @@ use Rattle.sub_plan.specs.Schedule.{due_in}
 use Rattle.sub_checker.specs.Checker.{CheckerValue, IsAtFrame, IsJudged, at_frame, is_before}
 use Rattle.sub_packets.specs.declared.listener.Listener.{Listener}
 
--- The expected page stays the same until its next change.
 due_until :
     (drawing : Drawing) (records : List SubtitleValue) (frame : ℕ) (edge : Option ℕ) (k : ℕ)
     → ReportsNextEdge records frame edge

@@ -1,5 +1,4 @@
--- If the first part of a list of events and then the second part are reported, the whole list is
--- (`reported_two`).
+-- If the two parts of a list of events are reported one after the other, the list is reported.
 use Rattle.std.proofs.Common.{◌≡◌, List, ◌++◌, sym, subst}
 use Rattle.sub_io.proofs.ReportingLemmas.{Reports-trans}
 use Rattle.sub_io.specs.Reporting.{Reports}

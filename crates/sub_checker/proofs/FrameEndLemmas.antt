@@ -1,7 +1,4 @@
--- The faults and steps that the checker computes at the end of a frame are those of the rules
--- (`steps_are`, `active_faults_are_at`, `first_unfinished_after_end`); so is the frame from which
--- on the page has been wrong (`gap_on`, `frame_on`). Ends without faults have their own lemmas
--- (`fault_free_once`, `fault_free_within`).
+-- The faults and steps that the checker computes at the end of a frame are those of the rules.
 use Rattle.std.proofs.lemmas.Bool.Decides.{nat_tests}
 use Rattle.std.proofs.Common.{◌≡◌, ℕ, zero, suc, ◌+◌, ◌-◌, ◌<◌, ◌≤◌, Bool, false, ◌||◌}
 use Rattle.std.proofs.Common.{cond, List, [], ◌∷◌, ◌++◌, map, Option, Some, None, refl, sym}
@@ -104,8 +101,7 @@ unfolding active_faults_before
 end_events_agree g frames zero n f old new last is at now = rw (is, now) (end_from_none _ _ _ _)
 end_events_agree g frames (suc i) n f old new last is at now = rw (is, now, at (omega arith)) refl
 
--- After the first PES packet, the maximum distance between PES packets counts from the latest
--- frame.
+-- After the first PES packet, the pace is counted from the latest frame.
 silent_at : (g : Criteria) (frames : Transmission) (n f : ℕ) → 0 < n
     → is_silent g frames n f ≡ silent_for g.pace (latest frames n) f
 unfolding is_silent

@@ -1,5 +1,4 @@
--- Every event that is reported to a guarded device reaches the device until it stops the check
--- (`unfused`), also if the device could not be flushed (`flush_stopped`).
+-- The device receives every event until it stops the check, even if reports could not be flushed.
 use Rattle.std.proofs.Common.{◌≡◌, ◌∙◌, Bool, true, false, List, [], ◌∷◌, refl, sym, subst}
 use Rattle.std.proofs.lemmas.Bool.{true≢false}
 use Rattle.sub_io.proofs.ReportingLemmas.{Reports-none, Reports-trans, ReportsPrefix-first}
@@ -12,8 +11,8 @@ use Rattle.sub_rules.specs.declared.event.Event.{Event}
 use Rattle.sub_checker.specs.declared.fused.FusedAudience.{FusedAudience}
 
 module _ {D : Type 0} {g : _} (IsReported : D → Event → D → Type 0) where
-  -- The events were reported to the device, or a prefix if the device stopped the check, or none if
-  -- it had stopped the check before.
+  -- The device received the events, or a prefix of them if it stopped the check, or none if it had
+  -- stopped before.
   pub record Receives (old new : FusedAudience D g) (es : List Event) : Type 0 where
     pub same : new.device.ghost_name ≡ old.device.ghost_name
     pub stays : old.stopped ≡ true → (new.device.now ≡ old.device.now) × (new.stopped ≡ true)

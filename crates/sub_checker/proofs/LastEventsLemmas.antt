@@ -1,6 +1,5 @@
--- The events after the last PES packet, computed from the checker's state, are those of the rules
--- (`closing_events_agree`, `relays_equal`, `closing_steps_agree`, `reports_closing`,
--- `closing_parts`).
+-- The events at the end of the file that the checker computes from its state are those of the
+-- rules.
 use Rattle.std.proofs.lemmas.Bool.Decides.{nat_tests}
 use Rattle.std.proofs.Common.{◌≡◌, ℕ, zero, suc, ◌<◌, Bool, true, false, ◌&&◌, ◌||◌, not}
 use Rattle.std.proofs.Common.{cond, is_some, List, [], ◌∷◌, ◌++◌, length, Option, Some, None, refl}
@@ -60,8 +59,8 @@ module _ (g : Criteria) (frames : Transmission) (n : ℕ) (last : List (List ℕ
     within_eq : g.within ≡ c.within
     within_eq = ap (λ (t : Criteria). t.within) follows.known.criteria_are
 
-    -- The page is wrong at frame e but might still become correct in a later frame, which the file
-    -- does not contain.
+    -- The page is wrong at frame e but not overdue, so it could have become correct in a later
+    -- frame.
     abbrev pends : ℕ → ℕ → ℕ → Bool
     pends w k e =
         is_some (unfinished_run_start g frames k e)
@@ -119,8 +118,8 @@ module _ (g : Criteria) (frames : Transmission) (n : ℕ) (last : List (List ℕ
         ∙ ap (λ (k : ℕ). active_faults_at g frames (suc n) (frame_at frames k)) (omega arith) in
         rw (active_faults_of, last_is, end_eq) refl
 
--- Two lists of events have the same effect on the tracker. They may differ only in the PES packet
--- that a fault names, since the tracker sets the number of the PES packet itself.
+-- The two lists of events have the same reports and the same effect on the trusted frames. They may
+-- differ in PES packet numbers, which the tracker replaces.
 pub record AreSameReports (es fs : List Event) : Type 0 where
   pub reports_none_eq : reports_none es ≡ reports_none fs
   pub reported_by_emits : (t : TrustTracker) → reported_by t (map Emits es) ≡ reported_by t
@@ -133,7 +132,7 @@ same_equal es fs is =
     rw is (record { reports_none_eq = refl; reported_by_emits = λ t. refl; kept_are = λ t. refl })
 
 module _ (k n : ℕ) (u : Unread) where
-  -- A list of events, followed by the fault of the unread rest at PES packet i.
+  -- The events of a list, followed by the fault of the unread bytes, which has PES packet number i.
   abbrev with_last : List Event → ℕ → List Event
   with_last es i = es ++ Reported (unread_fault i (Some u)) ∷ []
 
@@ -208,7 +207,7 @@ closing_events_agree g list pes last c given follows is = rw is (go (length list
         (endings_eq g list n last c all here)))
         (by n all here g.unread)
 
--- Events with the same effect on the tracker are relayed in the same way.
+-- Lists of events with the same reports are passed to the device in the same way.
 pub relays_equal : {D : Type 0} {d : _} {IsReported : D → Event → D → Type 0} {a b : Reporter D d}
     (es fs : List Event) → AreSameReports es fs
     → ReporterRelays IsReported a (map Emits fs) b
@@ -254,8 +253,8 @@ pub reports_closing : (pes : ℕ) (given : Option CheckFault) (c : CheckerValue)
     ≡ not (reports_none (closing_now pes given c))
 reports_closing pes given c = grind (arith, nat_tests, reports_none-two, reports_end)
 
--- Unread bytes follow the last frame if a fault ended reading, and then at least one more event is
--- reported.
+-- Unread bytes follow the last frame if and only if a fault ended reading; then at least one more
+-- event is reported.
 pub closing_steps_agree :
     (g : Criteria) (list : Transmission) (pes : ℕ) (last : List (List ℕ)) (c : CheckerValue)
     (given : Option CheckFault) (left more : Bool)

@@ -1,5 +1,5 @@
--- If a PES packet has more packets of the last frame, the checker takes the right steps
--- (`packet_steps_agree`) and has the right state afterwards (`opens_more`).
+-- If a PES packet continues the last frame, the checker's steps and its state afterwards are those
+-- of the rules.
 use Rattle.std.proofs.lemmas.Bool.Decides.{nat_tests}
 use Rattle.std.proofs.Common.{◌≡◌, ℕ, suc, ◌+◌, ◌-◌, ◌<◌, Bool, ◌&&◌, ◌||◌, nat_le}
 use Rattle.std.proofs.Common.{nat_lt, List, [], ◌∷◌, ◌++◌, length, map, take, refl, sym, ap, ◌∙◌}

@@ -1,5 +1,5 @@
--- After a PES packet was read, its packets are those of the last frame if it repeats the PES packet
--- before (`again_is`), and otherwise become those of the last frame (`last_is`).
+-- The Teletext packets of the last PES packet are known after each PES packet, whether it repeats
+-- the one before or not.
 use Rattle.std.proofs.Common.{◌≡◌, ◌∙◌, ℕ, Bool, true, false, List, Ok, Option, Result, Some, sym}
 use Rattle.std.proofs.Common.{ap, refl}
 use Rattle.std.proofs.lemmas.Bool.{true≢false}

@@ -1,5 +1,5 @@
--- Each exit of the loop over PES packets shows that the events reported are those of the whole
--- file, or a prefix (`step`, `reported_stop`, `reported_before`, `reported_whole`).
+-- Whenever the check of a PES file ends, the device has received the events of the entire file or a
+-- prefix of them.
 use Rattle.std.proofs.lemmas.Bool.Decides.{nat_tests}
 use Rattle.std.proofs.Common.{◌≡◌, ℕ, ◌+◌, ◌≤◌, Bool, true, false, List, [], ◌∷◌, ◌++◌, length}
 use Rattle.std.proofs.Common.{take, Option, Some, None, Ok, Result, Err, refl, sym, ap, subst, ◌∙◌}
@@ -173,8 +173,8 @@ module _ (g : Criteria) (all : List PesPacket) where
     some_reported,
   )
 
-  -- If the last events were reported, all events were, and the counts are correct; otherwise the
-  -- device stopped the check, and a prefix of the events was reported.
+  -- If the events at the end of the file were reported, all events were reported and the counts are
+  -- correct; otherwise the device stopped the check after a prefix of the events.
   reported_end : {D : Type 0} {IsReported : D → Event → D → Type 0} (clock : Clock) (bytes : List ℕ)
       (a b c : D) (r : Option Accepted) (p : Relay)
       → p ≡ relay_after initial_relay (each_steps g all)
@@ -281,8 +281,7 @@ module _ (judging : JudgedValue) {options : OptionsValue} {bytes : List ℕ}
         (ReportsPrefix-first a d _ _ (ReportsPrefix-second a b d _ _ reported
         (subst (λ (l : List CheckStep). ReportsPrefix IsReported b d (relayed q l)) (sym of) part)))
 
-    -- A device that stopped the check while PES packet `pes` was reported got a prefix of the
-    -- events.
+    -- A device that stopped the check at PES packet `pes` received a prefix of the events.
     pub reported_stop : {D : Type 0} {IsReported : D → Event → D → Type 0} (v : PesValue)
         (r : NextPesPacket)
         (a b d : D)
@@ -339,8 +338,8 @@ module _ (judging : JudgedValue) {options : OptionsValue} {bytes : List ℕ}
       read_some None counts = tt
       read_some (Some a) counts = counts_read a counts
 
-      -- After the last PES packet, all events were reported to the device, or a prefix of the
-      -- events if it stopped the check.
+      -- After the last PES packet, the device has received all events, or a prefix of them if it
+      -- stopped the check.
       pub reported_whole : {D : Type 0} {IsReported : D → Event → D → Type 0} (a b d : D)
           (r : Option Accepted)
           → Reports IsReported a b (events_of_pes_packets g done)

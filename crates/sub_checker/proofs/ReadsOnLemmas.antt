@@ -1,6 +1,5 @@
--- A PES file is read one PES packet at a time: at its start, after a valid packet and after a
--- skipped one (`reads_on_none`, `reads_on_sent`, `reads_on_skipped`). If the source fails, the PES
--- packets before the failure were consumed (`packets_taken`).
+-- A PES file is read one PES packet at a time. If the source fails, the packets before the failure
+-- were consumed.
 use Rattle.std.proofs.lemmas.Bool.Decides.{nat_tests}
 use Rattle.std.proofs.Common.{◌≡◌, ℕ, ◌+◌, ◌≤◌, List, [], ◌∷◌, ◌++◌, length, Option, Some, refl}
 use Rattle.std.proofs.Common.{sym, ap, subst, ◌∙◌, append_assoc, arith, length-append, Result, Err}
@@ -36,7 +35,7 @@ pub complete_units :
 complete_units [] h = tt
 complete_units (u ∷ units) h = (h.0.packet.size, complete_units units h.1)
 
--- The first PES packets of the file were read, and the others remain.
+-- The first PES packets of the file were read; the others are in the bytes left.
 pub record ReadsOn
     (options : OptionsValue) (bytes : List ℕ) (all : List PesPacket) (unread : Option Unread)
     (remaining : Option (List ℕ)) (pes : ℕ) (done : List PesPacket)

@@ -1,5 +1,5 @@
--- A reporter that relays a list of events one by one relays them all (`relays_all`), and steps may
--- be relayed in parts (`relays-trans`).
+-- If a reporter passes the events of a list to the device one by one, it passes the events of the
+-- entire list.
 use Rattle.std.proofs.lemmas.Bool.Decides.{nat_tests}
 use Rattle.std.proofs.Common.{arith}
 use Rattle.std.proofs.Common.{◌≡◌, List, [], ◌∷◌, ◌++◌, Bool, true, false, map}

@@ -1,5 +1,4 @@
--- A reporter relays steps in parts (`relays_two`), no steps (`relays_nothing`), steps without
--- events (`relays_step` and the like), and events (`relays_reported`).
+-- A list of steps can be passed to the reporter in parts.
 use Rattle.std.proofs.Common.{◌≡◌, List, [], ◌∷◌, ◌++◌, Bool, true, false, cond, map}
 use Rattle.std.proofs.Common.{refl, sym, subst}
 use Rattle.sub_io.specs.Reporting.{Reports}

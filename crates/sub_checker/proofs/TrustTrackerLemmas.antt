@@ -1,5 +1,4 @@
--- The trusted frames that the tracker reports for each step are those that the rules define
--- (`reported_eq`); lists of steps can be joined (`reported_by-append`, `tracker_after-append`).
+-- The trusted frames that the tracker computes step by step are those of the rules.
 use Rattle.std.proofs.lemmas.Bool.Decides.{nat_tests}
 use Rattle.std.proofs.Common.{◌≡◌, arith, List, [], ◌∷◌, ◌++◌, refl, sym, ap, ◌∙◌}
 use Rattle.std.proofs.Common.{append_assoc, is_some, not, true}

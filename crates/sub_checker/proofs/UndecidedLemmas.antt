@@ -1,6 +1,5 @@
--- Whether the expected page is known does not change between two page changes (`undecided_same`),
--- and the checker computes from which frame on it is known (`due_known_without_refusals`,
--- `due_unknown_after_day`, `due_known_up_to_last`, `known_never`).
+-- The expected page is known or unknown in all frames between two of its changes. So the checker
+-- can compute from which frame on it is known.
 use Rattle.std.proofs.lemmas.Bool.Decides.{nat_tests}
 use Rattle.std.proofs.Common.{◌≡◌, ℕ, zero, suc, ◌+◌, ◌-◌, ◌<◌, ◌≤◌, ◌⊎◌, Bool, true, false, ◌&&◌}
 use Rattle.std.proofs.Common.{List, [], ◌∷◌, Option, Some, None, refl, sym, ap, ◌∙◌, arith}

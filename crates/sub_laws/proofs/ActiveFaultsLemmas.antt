@@ -1,8 +1,6 @@
--- The active faults at the end of a frame are exactly the broken rules: the first wrong cell
--- (`first_wrong`, `none_wrong`), an exceeded repeat bound (`gap_decided`), an open page
--- (`incomplete_decided`), an unknown expected page (`due_known_before`, `known_without_refusals`,
--- `unexpected_eq`); whether any fault is active (`fault_free_parts`), and rule by rule
--- (`active_faults_exact`). Used for reports and trusted frames.
+-- The active faults at the end of a frame are exactly the broken rules: the first wrong cell, an
+-- exceeded repeat bound, an open page, an unknown expected page; whether any fault is active, and
+-- rule by rule.
 use Rattle.std.proofs.Common.{◌≡◌, ◌↔◌, ℕ, zero, suc, ◌+◌, ◌-◌, ◌<◌, ◌≤◌, Bool, true, false, []}
 use Rattle.std.proofs.Common.{length, take, Option, Some, None, refl, sym, subst, arith, not, ◌||◌}
 use Rattle.std.proofs.Common.{◌&&◌, ◌==◌, ◌∙◌, ap, get_or, is_some, option_map, inl, inr, ◌⊎◌}
@@ -207,7 +205,8 @@ module _ (g : Criteria) (frames : Transmission) (n f : ℕ) where
   unfolding is_gap
   gap_decided l = let near = near_decided n l in grind (arith, nat_tests)
 
-  -- One of the first m frames of the list is after f, or fewer than `pace` frames before it.
+  -- One of the first m frames of the transmission is after f, or fewer than `pace` frames before
+  -- it.
   abbrev IsNear : ℕ → ℕ → Type 0
   IsNear pace m = (j : ℕ) × (j < m) × (f < frame_at frames j + pace)
 

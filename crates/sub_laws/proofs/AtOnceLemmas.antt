@@ -1,7 +1,5 @@
 -- If `within` is 0 and every repeat must have C4 (erase page) set, a transmission is good, with
--- complete pages if these are required, exactly if it meets all requirements (`Good-from_holds`,
--- `Complete-from_holds`, `holds-from_good`). Used for `law_of_broken_places` and
--- `law_of_nothing_reported`.
+-- complete pages if these are required, if and only if it meets all requirements.
 use Rattle.std.proofs.lemmas.Bool.Decides.{nat_tests}
 use Rattle.std.proofs.Common.{◌≡◌, ℕ, ◌<◌, ◌≤◌, false, Option, None, length, refl, sym, ap}
 use Rattle.std.proofs.Common.{◌∙◌, subst, arith, IsTrue, IsFalse, ◌&&◌}

@@ -1,5 +1,4 @@
--- The tests of the checker decide each rule for a packet (`rule_decided`), and all rules together
--- (`clean_decided`). Used for reports and trusted frames.
+-- The tests of the checker decide each rule for a packet, and all rules together.
 use Rattle.std.proofs.Common.{◌≡◌, ℕ, zero, suc, ◌<◌, ◌≤◌, inl, inr, Bool, true, false, not}
 use Rattle.std.proofs.Common.{◌&&◌, List, [], ◌∷◌, Option, Some, None, option_map, refl, sym, ◌∙◌}
 use Rattle.std.proofs.Common.{◌↔◌, arith, length, get_or, subst, is_some, take, All, IsTrue, ◌++◌}
@@ -52,7 +51,7 @@ use Rattle.sub_rules.proofs.PacketLists.{Each-find, Each-join, Each-map, Each-no
 use Rattle.sub_rules.proofs.PacketLists.{no_row}
 use Rattle.sub_rules.proofs.CodeWordLemmas.{address_decided, header_decided}
 
--- The test b fails exactly if the property P holds.
+-- The test b fails if and only if the property P holds.
 abbrev pub Refutes : Bool → Type 0 → Type 0
 Refutes b P = Decides (not b) P
 
@@ -181,8 +180,8 @@ same_codes p q lp lq e =
     ∙ columns_zero 40 (codes_of p) (codes_of q) e k (omega (arith, one))
     ∙ get_or_default (codes_of q) k 0 d (omega (arith, one, other)))
 
--- The packets since the text began are a clean span of 42-byte packets whose address bytes are code
--- words.
+-- The packets since the page was erased are a clean span of 42-byte packets whose address bytes are
+-- code words.
 pub record IsSoundSpan (w : Watched) (packets : List (List ℕ)) : Type 0 where
   pub clean : IsCleanSpan w.page packets
   pub whole : AllByRecursion (λ q. IsPacket q × HasExactAddress q) packets

@@ -1,6 +1,5 @@
--- If each packet may follow those before it, the packets since the text began are a clean span
--- (`clean_cuts`), and the last packet of a clean span may follow those before it (`last_clean`).
--- Used for reports and trusted frames.
+-- If each packet may follow those before it, the packets since the page was erased are a clean
+-- span, and the last packet of a clean span may follow those before it.
 use Rattle.std.proofs.lemmas.Bool.Decides.{nat_tests}
 use Rattle.std.proofs.Common.{◌≡◌, ℕ, zero, suc, ◌<◌, inl, inr, Bool, true, false, not, ◌&&◌, cond}
 use Rattle.std.proofs.Common.{List, [], ◌∷◌, ◌++◌, length, take, slice_index_or, All, refl, sym, ap}
@@ -22,7 +21,7 @@ pub record MayFollow (page : PageIdValue) (packets : List (List ℕ)) (packet : 
   pub plain : IsEnhancement page packet → ⊥
 
 -- While the page is open, each packet other than a header that opens the page again or ends it may
--- follow the packets since the text began.
+-- follow the packets since the page was erased.
 abbrev pub EachMayFollow : Bool → PageIdValue → List (List ℕ) → Type 0
 EachMayFollow keeps page packets =
     (i : ℕ) (d : List ℕ)
@@ -102,8 +101,8 @@ pushed keeps page packets packet clean follows =
     go false true true e p q r = clean
     go false false t e p q r = clean
 
--- If each packet may follow those before it, every beginning of the list is clean, by induction on
--- its length.
+-- If each packet may follow those before it, every beginning of the transmission is clean, by
+-- induction on its length.
 pub clean_cuts :
     (keeps : Bool) (page : PageIdValue) (packets : List (List ℕ))
     → EachMayFollow keeps page packets

@@ -1,6 +1,5 @@
--- If a transmission is refused for its content, every receiver has the wrong cell that is reported
--- (`different_everywhere`); if every repeat must have C4 (erase page) set, every receiver shows its
--- wrong code (`wrong_everywhere`). Used for `check`.
+-- If a transmission is refused for its content, every receiver has the wrong cell that is reported;
+-- if every repeat must have C4 (erase page) set, every receiver shows its wrong code.
 use Rattle.std.proofs.lemmas.Bool.Decides.{nat_tests}
 use Rattle.std.proofs.Common.{List, [], subst, ◌≡◌, ℕ, ◌-◌, ◌<◌, ◌≤◌, inl, inr, Bool, true}
 use Rattle.std.proofs.Common.{false, Option, Some, None, length, take, drop, refl, sym, ap}

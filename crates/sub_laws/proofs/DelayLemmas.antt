@@ -1,7 +1,6 @@
--- Receivers that may forget the page recover in a range of frames of repeats
--- (`law_of_repeated_stretch`). If every repeat must have C4 (erase page) set and no frame may be
--- late, receivers that keep the page recover, too (`recovers_at_once`, `shown_at_once`,
--- `law_of_trust_without_delay`). Used for the main theorem, delays, schedules and trusted frames.
+-- Receivers that may erase the page at any header recover in a range of frames with allowed
+-- repeats. If every repeat must have C4 (erase page) set and no frame may be late, receivers that
+-- keep the page recover, too.
 use Rattle.std.proofs.lemmas.Bool.Decides.{nat_tests}
 use Rattle.std.proofs.Common.{◌≡◌, ℕ, ◌≤◌, inl, inr, Bool, true, false, List}
 use Rattle.std.proofs.Common.{Option, option_map, unwrap_or, ap, sym, ◌∙◌, subst, arith}

@@ -1,5 +1,4 @@
--- The bytes of a PES file carry the same frames with a greater `within` (`carries_longer`). Used
--- for `law_of_longer_delay_of_files`.
+-- The bytes of a PES file carry the same frames with a greater `within`.
 use Rattle.std.proofs.lemmas.Bool.Decides.{nat_tests}
 use Rattle.std.proofs.Common.{◌≡◌, ℕ, zero, suc, ◌^◌, ◌<◌, ◌≤◌, ◌==◌, false, List, [], ◌∷◌, Some}
 use Rattle.std.proofs.Common.{refl, sym, ap, ◌∙◌, subst, arith}

@@ -1,7 +1,5 @@
--- The checker's search decides whether a code was expected in a cell within the last frames
--- (`was_due_at`, `due_was`), which cell is the first with another code (`none_unexpected`,
--- `unexpected_none`, `unexpected_found`), and which subtitle ends at a frame (`ending_eq`,
--- `ending_at`). Used for `law_of_nothing_reported_repeats` and `law_of_trusted_repeats`.
+-- The checker's search decides whether a code was expected in a cell within the last frames, which
+-- cell is the first with another code, and which subtitle ends at a frame.
 use Rattle.std.proofs.lemmas.Bool.Decides.{nat_tests}
 use Rattle.std.proofs.Common.{◌≡◌, ◌≢◌, ℕ, zero, suc, ◌+◌, ◌-◌, ◌<◌, ◌≤◌, ◌⊎◌, inl, inr, Bool, true}
 use Rattle.std.proofs.Common.{false, not, ◌&&◌, ◌==◌, nat_le, List, Contains, get_or}

@@ -1,5 +1,5 @@
 -- If each PES packet of a file is sent, the events in the steps of the PES packets are the events
--- of the frames. Main lemma: `pes_packets_emitted`. Used for `law_of_nothing_reported`.
+-- of the frames.
 use Rattle.std.proofs.lemmas.Bool.Decides.{nat_tests}
 use Rattle.std.proofs.Common.{◌≡◌, ℕ, zero, suc, ◌+◌, ◌<◌, ◌≤◌, List}
 use Rattle.std.proofs.Common.{[], ◌∷◌, ◌++◌, length, map, refl, sym, ap, ap₂, ◌∙◌, subst, arith}
@@ -106,20 +106,20 @@ module _ (g : Criteria) where
   closing_all (Skipped u ∷ pes_packets) all = grind (arith, nat_tests, few_sent)
 
 module _ (g : Criteria) (frames : Transmission) where
-  -- The events of the first n frames of the list, and of frame n before its packets.
+  -- The events of the first n frames of the transmission, and of frame n before its packets.
   abbrev arrived : ℕ → List Event
   arrived n =
       events_of_first g frames n
       ++ (order_events g frames n ++ gap_events g frames n (gap_length frames n))
 
-  -- The events of the first n frames of the list, and of frame n with some of its packets.
+  -- The events of the first n frames of the transmission, and of frame n with some of its packets.
   abbrev begun : ℕ → List (List ℕ) → List Event
   begun n packets =
       arrived n
       ++ packet_events g.watched (frame_at frames n) (packets_before frames n) packets
       (length packets)
 
-  -- The events so far are those of the first n frames of the list.
+  -- The events so far are those of the first n frames of the transmission.
   abbrev Ended : ℕ → List Event → Type 0
   Ended n so_far = so_far ≡ events_of_first g frames n
 

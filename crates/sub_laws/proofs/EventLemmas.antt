@@ -1,5 +1,5 @@
--- A transmission has no events exactly if it meets all requirements, and otherwise its first event
--- is a fault (`all_reported`). Used for reports.
+-- A transmission has no events if and only if it meets all requirements, and otherwise its first
+-- event is a fault.
 use Rattle.std.proofs.Common.{◌≡◌, ℕ, zero, suc, ◌+◌, ◌-◌, ◌<◌, ◌≤◌, ◌⊎◌, inl, inr, Bool, true}
 use Rattle.std.proofs.Common.{false, not, List, [], ◌∷◌, length, Option, Some, None, refl, ◌↔◌, sym}
 use Rattle.std.proofs.Common.{ap, subst, arith, append_assoc, if◌then◌else◌, ◌∙◌, ◌||◌}
@@ -49,8 +49,8 @@ any_event event = Some event
 abbrev pub IsNamed : (CheckFault → Type 0) → Event → Type 0
 IsNamed Named event = (f : CheckFault) × (event ≡ Reported f) × Named f
 
--- The list of events is empty exactly if `Holds` is true, and otherwise begins with a fault that
--- has the property `Named`.
+-- The list of events is empty if and only if `Holds` is true, and otherwise begins with a fault
+-- that has the property `Named`.
 abbrev pub FirstOf : (CheckFault → Type 0) → Type 0 → List Event → Type 0
 FirstOf Named Holds reported = Finds any_event (IsNamed Named) Holds Holds reported
 

@@ -1,7 +1,5 @@
--- A frame is finished exactly if the test for unfinished ends fails (`finished_of`, `of_finished`),
--- and the checker computes the first frame of a run of unfinished ends (`first_unfinished_eq`,
--- `no_first_unfinished`, `first_unfinished_no`, `late_eq`). Used for
--- `law_of_nothing_reported_repeats` and `law_of_trusted_repeats`.
+-- A frame is finished if and only if the test for unfinished ends fails, and the checker computes
+-- the first frame of a run of unfinished ends.
 use Rattle.std.proofs.lemmas.Bool.Decides.{nat_tests}
 use Rattle.std.proofs.Common.{◌≡◌, ℕ, ◌+◌, ◌-◌, ◌<◌, ◌≤◌, Bool}
 use Rattle.std.proofs.Common.{false, not, ◌==◌, Option, None}

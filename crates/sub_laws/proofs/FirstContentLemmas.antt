@@ -1,5 +1,5 @@
 -- If a wrong cell is the first fault of a PES file, it is also the first fault of the frames before
--- the first skipped PES packet. Main lemma: `content_first`. Used for `check`.
+-- the first skipped PES packet.
 use Rattle.std.proofs.lemmas.Bool.Decides.{nat_tests}
 use Rattle.std.proofs.Common.{◌≡◌, ℕ, suc, ◌⊎◌, inl, inr, List, [], ◌∷◌, ◌++◌, length, Option, Some}
 use Rattle.std.proofs.Common.{None, refl, sym, ap, ◌∙◌, arith, append_assoc}
@@ -61,7 +61,8 @@ module _ (frame row column : ℕ) where
   rest_first : (xs ys : List Event) → first_reported xs ≡ None → IsFirst ys → IsFirst (xs ++ ys)
   rest_first xs ys none e = first_of_two xs ys ∙ rw (none, e) refl
 
-  -- The fault, moved to PES packet `pes`, is a wrong cell exactly if it was a wrong cell before.
+  -- The fault, moved to PES packet `pes`, is a wrong cell if and only if it was a wrong cell
+  -- before.
   cell_reported : (pes : ℕ) (f : CheckFault)
       → fault_at_pes pes f ≡ fault.Content frame row column
       → f ≡ fault.Content frame row column

@@ -1,7 +1,5 @@
--- Defines what the first event shows that a search finds in a list (`Finds`), for joined lists
--- (`Finds-append`), for growing lists (`found_so_far`), among the events of a packet
--- (`packet_found`), and among those at the end of a frame (`end_found`). Used for reports and
--- trusted frames.
+-- Defines what the first event shows that a search finds in a list, for joined lists, for growing
+-- lists, among the events of a packet, and among those at the end of a frame.
 use Rattle.std.proofs.lemmas.Bool.Decides.{nat_tests}
 use Rattle.std.proofs.Common.{◌≡◌, ℕ, zero, suc, ◌<◌, Bool, true, List, [], ◌∷◌, ◌++◌, map, filter}
 use Rattle.std.proofs.Common.{Option, Some, None, refl, arith, flat_map, get_or}

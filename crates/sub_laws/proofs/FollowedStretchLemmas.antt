@@ -1,6 +1,5 @@
--- A range of frames in which each packet may follow those before it has what recovery needs
--- (`law_of_followed_stretch`), and each of its frames has an end (`end_of`). Used for reports and
--- trusted frames.
+-- A range of frames in which each packet may follow those before it meets the conditions for
+-- recovery, and each of its frames has an end.
 use Rattle.std.proofs.lemmas.Bool.Decides.{nat_tests}
 use Rattle.std.proofs.Common.{◌≡◌, ℕ, ◌+◌, ◌-◌, ◌<◌, ◌≤◌, inl, inr, Bool, List, [], ◌++◌, length}
 use Rattle.std.proofs.Common.{take, slice_index_or, sym, ◌∙◌, subst, arith}

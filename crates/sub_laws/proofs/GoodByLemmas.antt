@@ -1,7 +1,6 @@
--- A transmission that is good by the options keeps its guarantees (`law_of_good_repeats`). If
--- `within` is 0 and every repeat must have C4 (erase page) set, it is good exactly if it is good by
--- the options (`law_of_no_delay`). A schedule is good by any options (`law_of_plan_repeats`). Used
--- for delays, schedules and reports.
+-- A transmission that is good under the options keeps its guarantees. If `within` is 0 and every
+-- repeat must have C4 (erase page) set, it is good if and only if it is good under the options. A
+-- schedule is good under the options.
 use Rattle.std.proofs.lemmas.Bool.Decides.{nat_tests}
 use Rattle.std.proofs.Common.{◌≡◌, ℕ, ◌-◌, ◌<◌, ◌≤◌, inl, inr, Bool, true, false}
 use Rattle.std.proofs.Common.{length, get_or, option_map, IsTrue, ap, subst, arith}
@@ -121,7 +120,7 @@ module _ (programme : ProgrammeValue) (transmission : Transmission) (options : O
           (last_frame transmission) f (complete asks) low high;
     }
 
-    -- A good transmission whose pages are complete, if required, is good by the options for any
+    -- A good transmission whose pages are complete, if required, is good under the options for any
     -- `within`.
     pub good_by : GoodBy false programme transmission options
     good_by = record {

@@ -1,6 +1,5 @@
--- A property of all packets of a transmission holds for each packet (`each_packet`), and headers in
--- frames of the list are headers in frames of the day (`any_passes`, `any_sent`, `sent_any`). Used
--- for delays, schedules, reports and trusted frames.
+-- A property of all packets of a transmission holds for each packet, and headers in frames of the
+-- transmission are headers in frames.
 use Rattle.std.proofs.Common.{◌≡◌, ℕ, zero, suc, ◌+◌, ◌-◌, ◌<◌, inl, inr, Bool, true, cond, ◌&&◌}
 use Rattle.std.proofs.Common.{nat_le, nat_lt, List, [], ◌∷◌, ◌++◌, length, get_or, All, refl, ap}
 use Rattle.std.proofs.Common.{arith, ◌⊎◌, ◌≤◌}

@@ -1,6 +1,6 @@
 -- The frames sent so far are a beginning of all frames of the PES packets: all frames have the same
--- frames, perhaps with more packets in the last one, and perhaps more frames (`grows`). So the
--- steps so far follow from all frames. Used for reports and trusted frames.
+-- frames, perhaps with more packets in the last one, and perhaps more frames. So the steps so far
+-- follow from all frames.
 use Rattle.std.proofs.Common.{◌≡◌, ℕ, suc, ◌+◌, ◌<◌, true, false, List, [], ◌∷◌, ◌++◌}
 use Rattle.std.proofs.Common.{length, refl, sym, ap, ◌∙◌, arith, append_assoc, append-nil}
 use Rattle.std.proofs.Common.{length-append, le_refl, ◌==◌, ◌≤◌}

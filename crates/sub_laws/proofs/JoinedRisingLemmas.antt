@@ -1,5 +1,4 @@
--- If frame numbers increase, PES packets are never merged, whatever `within` is (`joined-rising`).
--- Used for `check`.
+-- If frame numbers increase, PES packets are never merged, whatever `within` is.
 use Rattle.std.proofs.lemmas.Bool.Decides.{nat_tests}
 use Rattle.std.proofs.Common.{◌≡◌, ℕ, zero, suc, ◌-◌, ◌<◌, ◌==◌, ◌&&◌, Bool, false, not}
 use Rattle.std.proofs.Common.{[], ◌∷◌, ◌++◌, length, refl, sym, ap, ◌∙◌, subst, arith, append_assoc}

@@ -1,6 +1,6 @@
 -- If only a part of a subtitle file is requested, a transmission is compared with the same
--- subtitles as without the other blocks (`judged_parts`). The texts and times of refused subtitles
--- do not matter otherwise (`law_of_equal_reports`).
+-- subtitles as without the other blocks. The texts and times of rejected subtitles do not matter
+-- otherwise.
 use Rattle.std.proofs.Math.Path.{fun_ext}
 use Rattle.std.proofs.Common.{◌≡◌, ℕ, Bool, false, true, ◌&&◌, ◌++◌, Option, Some, None}
 use Rattle.std.proofs.Common.{option_map, refl, sym, ap, ◌∙◌}

@@ -1,6 +1,6 @@
 -- If every repeat must have C4 (erase page) set and no frame may be late, the sufficient conditions
--- for repeats are those for the main theorem (`sufficient_of`). So `law_of_unreported_stretch` is a
--- case of the law for repeats. Used for reports and trusted frames.
+-- for repeats are those for the main theorem. So `law_of_unreported_stretch` is a case of the law
+-- for repeats.
 use Rattle.std.proofs.lemmas.Bool.Decides.{nat_tests}
 use Rattle.std.proofs.Common.{◌≡◌, ℕ, Bool, false, Option, IsTrue, subst, arith, refl}
 use Rattle.stl_rows.specs.Programme.{ProgrammeValue}

@@ -1,5 +1,4 @@
--- The events of PES packets follow from those of their frames, which proves the laws. Used for
--- `law_of_broken_places`, `law_of_nothing_reported` and `law_of_nothing_reported_repeats`.
+-- The events of PES packets follow from those of their frames, which proves the laws.
 use Rattle.std.proofs.Common.{◌≡◌, List, [], ◌∷◌, map, refl, sym, ap, ◌∙◌, subst}
 use Rattle.ttx_packet.specs.PacketAddress.{IsPacket}
 use Rattle.sub_rules.specs.FrameRules.{Criteria, criteria_of}

@@ -1,5 +1,5 @@
--- If no header erases the page, the kept code of each cell stays (`kept-stays`); so a header that
--- erases the page is sent if text ends or changes (`law_of_old_text`).
+-- If no header erases the page, the kept code of each cell stays; so a header that erases the page
+-- is sent if text ends or changes.
 use Rattle.std.proofs.Common.{◌≡◌, ◌≢◌, ℕ, ◌+◌, ◌-◌, ◌<◌, ◌≤◌, inl, inr, Bool, true, false, cond}
 use Rattle.std.proofs.Common.{List, [], ◌∷◌, ◌++◌, find, Option, Some, None}
 use Rattle.std.proofs.Common.{option_map, unwrap_or, refl, sym, ap, ◌∙◌, subst, arith, append_assoc}
@@ -33,11 +33,11 @@ use Rattle.sub_laws.proofs.SoundStretchLemmas.{on_air-cut}
 use Rattle.sub_laws.proofs.TransmissionLemmas.{packets_between-split}
 
 module _ (keeps : Bool) (w : PageIdValue) where
-  -- The packets since the text of the page began.
+  -- The packets since the page was erased.
   abbrev spanned : List (List ℕ) → List (List ℕ)
   spanned packets = text_span keeps (kind w) packets
 
-  -- A packet that does not begin the text only extends the packets since the text began.
+  -- A packet that does not begin the text only extends the packets since the page was erased.
   span-one : (xs : List (List ℕ)) (p : List ℕ)
       → begins_text keeps (kind w p) ≡ false
       → (more : List (List ℕ)) × (spanned (xs ++ p ∷ []) ≡ spanned xs ++ more)
@@ -80,7 +80,7 @@ module _ (keeps : Bool) (w : PageIdValue) where
   abbrev code_in : ℕ → Option (List ℕ) → ℕ
   code_in column found = unwrap_or (option_map (λ p. code_of (text_byte p column)) found) space
 
-  -- If no header begins the text again, a code other than a space stays in its cell.
+  -- If no header erases the page again, a code other than a space stays in its cell.
   pub kept-stays : (xs ys : List (List ℕ)) (row column code : ℕ)
       → holds_beginning keeps (kind w) ys ≡ false
       → kept keeps w xs row column ≡ code

@@ -1,6 +1,5 @@
--- A PES file that carries frames is read packet by packet (`carried_is_read`); if `within` is 0,
--- each PES packet has exactly the PTS of its frame (`law_of_exact_frames`). Used for
--- `law_of_exact_frames`.
+-- A PES file that carries frames is read packet by packet; if `within` is 0, each PES packet has
+-- exactly the PTS of its frame.
 use Rattle.std.proofs.lemmas.Bool.Decides.{nat_tests}
 use Rattle.std.proofs.Common.{ℕ, ◌+◌, ◌≤◌, List, []}
 use Rattle.std.proofs.Common.{◌∷◌, ◌++◌, ◌↔◌, length, None}

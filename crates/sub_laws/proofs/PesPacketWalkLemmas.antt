@@ -1,7 +1,6 @@
 -- A relation T that holds for the steps of each frame and of each skipped PES packet holds for the
 -- steps of all PES packets, and for the end of the last frame. The state is any value X;
--- `reported_of` moves it to another PES packet. Main lemmas: `each_pes_packet`; `waits`. Used for
--- reports and trusted frames.
+-- `reported_of` moves it to another PES packet.
 use Rattle.std.proofs.lemmas.Bool.Decides.{nat_tests}
 use Rattle.std.proofs.Common.{◌≡◌, ℕ, suc, ◌-◌, ◌<◌, ◌⊎◌, inl, inr, Bool, true, false, ◌==◌}
 use Rattle.std.proofs.Common.{List, [], ◌∷◌, ◌++◌, length, map, Some, refl, sym, ap, ◌∙◌, subst}

@@ -1,8 +1,6 @@
--- A transmission keeps rules 1 to 6, and no fault is active at any end, exactly if it meets all
--- requirements (`Rules-from_holds`, `holds-from_rules`). If every repeat must have C4 (erase page)
--- set and `within` is 0, it is then good, with complete pages if these are required
--- (`Good-from_holds`, `Complete-from_holds`, `holds-from_good`). Used for reports and trusted
--- frames.
+-- A transmission keeps rules 1 to 6, and no fault is active at any end, if and only if it meets all
+-- requirements. If every repeat must have C4 (erase page) set and `within` is 0, it is then good,
+-- with complete pages if these are required.
 use Rattle.std.proofs.lemmas.Bool.Decides.{nat_tests}
 use Rattle.std.proofs.Common.{◌≡◌, ℕ, ◌+◌, ◌-◌, ◌<◌, ◌≤◌, inl, inr, true, false, List, [], ◌∷◌}
 use Rattle.std.proofs.Common.{◌++◌, Option, Some, None, length, take, get_or, refl, sym, ap, ◌∙◌}
@@ -53,7 +51,7 @@ use Rattle.sub_laws.proofs.CleanSpanLemmas.{MayFollow, clean_cuts, last_clean}
 use Rattle.sub_rules.specs.declared.packet_rule.PacketRule.TheVariants as rule
 
 -- While the page is open, a packet that is neither a header of the page nor ends the page belongs
--- to the packets since the text began.
+-- to the packets since the page was erased.
 span_open :
     (w : Watched) (heard : List (List ℕ)) (p : List ℕ)
     → is_this_page (kind w.page p) ≡ false

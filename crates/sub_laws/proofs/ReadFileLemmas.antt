@@ -1,6 +1,5 @@
 -- Whatever bytes are read, Teletext packets have 42 bytes, and no fault of the bytes is a failure
--- of a device. Main lemmas: `file_pes_packets_sound`, `sent_complete`, `file_sound`. Used for
--- `check`.
+-- of a device.
 use Rattle.std.proofs.lemmas.Bool.Decides.{nat_tests}
 use Rattle.std.proofs.Common.{◌≡◌, ℕ, zero, suc, ◌+◌, ◌-◌, ◌*◌, ◌/◌, ◌<◌, ◌≤◌, false}
 use Rattle.std.proofs.Common.{List, [], ◌∷◌, length, map, take, drop, slice_index, Option}

@@ -1,9 +1,7 @@
 -- A transmission whose repeats may have C4 (erase page) clear, and that keeps the rules, is a range
--- of frames of repeats (`repeated_stretch`). If each header erases the page, the transmission is
--- good whether or not repeats may have C4 (erase page) clear (`law_of_may_keep`,
--- `law_of_none_keeps`); if repeats must have C4 (erase page) set, the rules are those of `Good`
--- (`law_of_no_repeats`). A good transmission stays good with a greater `within`
--- (`law_of_longer_repeats`).
+-- of frames with allowed repeats. If each header erases the page, the transmission is good whether
+-- or not repeats may have C4 (erase page) clear; if repeats must have C4 (erase page) set, the
+-- rules are those of `Good`. A good transmission stays good with a greater `within`.
 use Rattle.std.proofs.lemmas.Bool.Decides.{nat_tests}
 use Rattle.std.proofs.Common.{◌≡◌, ℕ, zero, suc, ◌+◌, ◌≤◌, inl, inr, Bool, true, false}
 use Rattle.std.proofs.Common.{List, [], ◌∷◌, length, take, find, option_map, unwrap_or, All}
@@ -35,7 +33,7 @@ use Rattle.sub_rules.specs.Transmission.{on_air_until}
 use Rattle.sub_laws.specs.Repeats.{IsRepeatedStretch, LawOfKeptOnAir, LawOfLongerRepeats}
 use Rattle.sub_laws.proofs.TransmissionLemmas.{packets_between-each}
 
--- The packets since the text began have the kept codes if these packets are clean.
+-- The packets since the page was erased have the kept codes if these packets are clean.
 pub codes_of_clean : (keeps : Bool) (page : PageIdValue) (packets : List (List ℕ))
     → IsCleanSpan page (text_span keeps (kind page) packets)
     → All (HasCodes page (kept keeps page packets)) (text_span keeps (kind page) packets)

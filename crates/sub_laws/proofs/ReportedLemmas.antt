@@ -1,7 +1,5 @@
--- Each broken place of a transmission is reported (`broken_places`). Frames have no events exactly
--- if they meet all requirements (`nothing_reported`), and if `within` is 0 exactly if they are good
--- (`none_reported`). Used for `law_of_broken_places`, `law_of_nothing_reported` and
--- `law_of_nothing_reported_repeats`.
+-- Each broken place of a transmission is reported. Frames have no events if and only if they meet
+-- all requirements, and if `within` is 0 if and only if they are good.
 use Rattle.std.proofs.lemmas.Bool.Decides.{nat_tests}
 use Rattle.std.proofs.Common.{◌≡◌, ◌<◌, List, [], ◌∷◌, length, Option, None, refl, ◌↔◌, sym}
 use Rattle.std.proofs.Common.{subst, arith, false, IsFalse, IsTrue, map}

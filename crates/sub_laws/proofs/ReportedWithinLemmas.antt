@@ -1,5 +1,5 @@
--- A transmission has no events exactly if it is good by the options, whether or not repeats may
--- have C4 (erase page) clear (`none_reported_repeats`). Used for `law_of_nothing_reported_repeats`.
+-- A transmission has no events if and only if it is good under the options, whether or not repeats
+-- may have C4 (erase page) clear.
 use Rattle.std.proofs.lemmas.Bool.Decides.{nat_tests}
 use Rattle.std.proofs.Common.{◌≡◌, ℕ, ◌+◌, ◌-◌, ◌<◌, ◌≤◌, ◌⊎◌, inl, inr, Bool, true, false, ◌&&◌}
 use Rattle.std.proofs.Common.{◌||◌, ◌==◌, nat_le, nat_lt, Option, Some, None, is_some, length}
@@ -118,7 +118,7 @@ module _ (programme : ProgrammeValue) (options : OptionsValue) (unread : Option 
               end
               (none_eq _ (pending_parts is))
 
-  -- A transmission that meets all requirements is good by the options.
+  -- A transmission that meets all requirements is good under the options.
   pub Within-from_holds : EachPacket IsPacket t → GoodBy options.keeps programme t options
   Within-from_holds whole =
       let keeps = Rules-from_holds programme options unread t every h (sizes_of t whole) in
@@ -304,7 +304,7 @@ module _ (programme : ProgrammeValue) (options : OptionsValue) (t : Transmission
       finished in
       rw none refl
 
-  -- A transmission that is good by the options meets all requirements.
+  -- A transmission that is good under the options meets all requirements.
   pub holds-from_within : MeetsRequirements requested t
   holds-from_within = holds-from_rules programme options t good.rules still nothing_is_pending
 

@@ -1,5 +1,4 @@
--- The greatest of the first n frames is the last one, if frame numbers increase (`latest_at`). Used
--- for reports and trusted frames.
+-- The greatest of the first n frames is the last one, if frame numbers increase.
 use Rattle.std.proofs.lemmas.Bool.Decides.{nat_tests}
 use Rattle.std.proofs.Common.{◌≡◌, ℕ, zero, suc, ◌-◌, ◌<◌, arith}
 use Rattle.sub_rules.specs.Events.{latest}

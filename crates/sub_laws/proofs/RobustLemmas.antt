@@ -1,6 +1,5 @@
--- A good transmission is sound (`sound_stretch`) and has the sufficient parts of the rules
--- (`suffices`), so it keeps its guarantees: the laws of the main theorem. Used for the main theorem
--- and delays.
+-- A good transmission is sound and has the sufficient conditions, so it keeps its guarantees: the
+-- laws of the main theorem.
 use Rattle.std.proofs.Common.{arith, ℕ, ◌+◌, false, List, length, subst, le_refl}
 use Rattle.std.proofs.lemmas.Bool.Decides.{nat_tests}
 use Rattle.std.proofs.lemmas.List.{take_all}

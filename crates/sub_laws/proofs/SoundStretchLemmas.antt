@@ -1,8 +1,7 @@
--- Receivers that start and stop anywhere in a range of frames of repeats get a header in time, the
--- kept text and the end of the page (`window`, `heard_text`, `span_so_far`, `ended`), whatever the
--- text is, and have the right states (`forgetting`). A sound range of frames is a range of frames
--- of repeats in which every repeat must have C4 (erase page) set (`repeated`). Used for the main
--- theorem, delays, reports and trusted frames.
+-- Receivers that start and stop anywhere in a range of frames with allowed repeats get a header in
+-- time, the kept text and the end of the page, whatever the text is, and have the right states. A
+-- sound range of frames is a range of frames with allowed repeats in which every repeat must have
+-- C4 (erase page) set.
 use Rattle.std.proofs.lemmas.Bool.Decides.{nat_tests}
 use Rattle.std.proofs.Common.{◌≡◌, ℕ, ◌+◌, ◌≤◌, ◌&&◌, Bool, true, false, List, [], ◌∷◌}
 use Rattle.std.proofs.Common.{◌++◌}

@@ -1,6 +1,5 @@
 -- If a test fails for the steps of each frame and of each skipped PES packet, it fails for all
--- steps (`before_passes`), and then the events of these steps have no bad fault (`reported_fine`,
--- `first_fine`). Used for `law_of_all_trusted` and `law_of_nothing_reported`.
+-- steps, and then the events of these steps have no bad fault.
 use Rattle.std.proofs.lemmas.Bool.Decides.{nat_tests}
 use Rattle.std.proofs.Common.{◌≡◌, ℕ, zero, suc, ◌+◌, ◌==◌, Bool, true, false, List, [], ◌∷◌, ◌++◌}
 use Rattle.std.proofs.Common.{length, map, Option, None, Some, refl, ◌∙◌, arith, if◌then◌else◌}

@@ -1,7 +1,6 @@
--- A range of frames with the sufficient parts of the rules may be trusted (`law_of_stretch`); if
--- all frames may be trusted, the transmission keeps its guarantees (`law_of_whole_stretch`). A
--- transmission that is robust to lost rows, for the case that no packet is lost, is robust
--- (`law_of_all_kept`). Used for the main theorem, delays and trusted frames.
+-- A range of frames with the sufficient conditions may be trusted; if all frames may be trusted,
+-- the transmission keeps its guarantees. A transmission that is robust to lost rows, for the case
+-- that no packet is lost, is robust.
 use Rattle.std.proofs.Common.{ℕ, ◌≤◌, inr, Bool, false, List, sym, subst, arith, le_refl}
 use Rattle.std.proofs.Common.{le_trans}
 use Rattle.std.specs.Prelude.{All, IsTrue}

@@ -1,7 +1,6 @@
 -- If the requirements at the ends of frames are met, the text of these frames was expected, even if
--- frames may be late, and the frames are finished in time (`codes`, `again`, `subtitle`). So a
--- range of frames without reports that a receiver depends on is sufficient
--- (`law_of_unreported_repeats`). Used for `law_of_nothing_reported_repeats` and trusted frames.
+-- frames may be late, and the frames are finished in time. So a range of frames without faults that
+-- affect receivers is sufficient.
 use Rattle.std.proofs.lemmas.Bool.Decides.{nat_tests}
 use Rattle.std.proofs.Common.{◌≡◌, ℕ, ◌+◌, ◌-◌, ◌<◌, ◌≤◌, inr, Bool, true, false, ◌&&◌}
 use Rattle.std.proofs.Common.{◌||◌, ◌==◌, nat_le, nat_lt, None, Option, Some, get_or, length, refl}
@@ -35,7 +34,7 @@ use Rattle.sub_laws.proofs.ActiveFaultsLemmas.{always_late, due_known_at, none_w
 use Rattle.sub_laws.proofs.UnfinishedLemmas.{finished_from, first_unfinished_some, unfinished_at}
 
 -- In the frames a to b the content at each end is as required, and the expected page is known; the
--- frames of the list rise.
+-- frames of the transmission rise.
 pub record IsStill (g : Criteria) (t : Transmission) (a b : ℕ) : Type 0 where
   pub up : RiseTo t (length t)
   pub some : 0 < length t

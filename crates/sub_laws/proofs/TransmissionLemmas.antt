@@ -1,6 +1,5 @@
--- The packets of frames can be split and joined (`packets_between-split`), and the frames of a
--- range that pass a test are a rising transmission (`sent_at`, `sent_none`, `rises`). Used for the
--- main theorem, delays, schedules, reports and trusted frames.
+-- The packets of frames can be split and joined, and the frames of a range that pass a test are a
+-- rising transmission.
 use Rattle.std.proofs.Common.{◌≡◌, ℕ, zero, suc, ◌+◌, ◌<◌, ◌≤◌, inl, inr, Bool, true, false, ◌&&◌}
 use Rattle.std.proofs.Common.{nat_le, nat_lt, cond, List, [], ◌∷◌, ◌++◌, map, filter, flat_map}
 use Rattle.std.proofs.Common.{slice_index_or, All, refl, ap, ◌∙◌, arith, append_assoc, append-nil}

@@ -1,5 +1,5 @@
--- The first frame of a run of unfinished frames, for a sequence of tests (`IsFirstUnfinished`) and
--- for the ends of rising frames (`first_unfinished_end`). Used for reports and trusted frames.
+-- The first frame of a run of unfinished frames, for a sequence of tests and for the ends of rising
+-- frames.
 use Rattle.std.proofs.lemmas.Bool.Decides.{nat_tests}
 use Rattle.std.proofs.Common.{◌≡◌, ℕ, zero, suc, ◌+◌, ◌-◌, ◌<◌, ◌≤◌, ◌⊎◌, inl, inr, Bool, true}
 use Rattle.std.proofs.Common.{false, ◌&&◌, ◌||◌, Option, Some, None, is_some, length, refl, sym, ap}

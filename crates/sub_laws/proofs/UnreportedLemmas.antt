@@ -1,7 +1,6 @@
--- PES packets have no events exactly if each is sent and their frames have no events
--- (`pes_packets_unreported`), and no faults exactly if each is sent and their frames have no faults
--- (`pes_packets_unrefused`). Steps report no fault exactly if their events are no faults
--- (`first_none`, `each_sent`). Used for `law_of_all_trusted` and `law_of_nothing_reported`.
+-- PES packets have no events if and only if each is sent and their frames have no events, and no
+-- faults if and only if each is sent and their frames have no faults. Steps report no fault if and
+-- only if their events are no faults.
 use Rattle.std.proofs.lemmas.Bool.Decides.{nat_tests}
 use Rattle.std.proofs.Common.{◌≡◌, ◌↔◌, ℕ, suc, Bool, true, false, not, ◌||◌, List, [], ◌∷◌, ◌++◌}
 use Rattle.std.proofs.Common.{length}
@@ -203,8 +202,8 @@ module _ (g : Criteria) where
   emitted_sent pes_packets none =
       grind (arith, nat_tests, no_reports_append, emitted, emitted_parts, emitted-append, each_sent)
 
-  -- If no subtitle was refused, PES packets have no events exactly if each is sent and their frames
-  -- have no events.
+  -- If no subtitle was rejected, PES packets have no events if and only if each is sent and their
+  -- frames have no events.
   pub pes_packets_unreported : (pes_packets : List PesPacket) → g.any_refused ≡ false
       → (all_of_pes_packets g pes_packets ≡ [])
       ↔ ((length (frames_of pes_packets) ≡ length pes_packets) ×
@@ -213,7 +212,7 @@ module _ (g : Criteria) where
   pes_packets_unreported pes_packets alone =
       grind (arith, nat_tests, reported_none, announced_empty, emitted_sent, pes_packets_emitted)
 
-  -- PES packets have no fault exactly if each is sent and their frames have no fault.
+  -- PES packets have no fault if and only if each is sent and their frames have no fault.
   pub pes_packets_unrefused : (pes_packets : List PesPacket)
       → (first_reported (all_of_pes_packets g pes_packets) ≡ None)
       ↔ ((length (frames_of pes_packets) ≡ length pes_packets)

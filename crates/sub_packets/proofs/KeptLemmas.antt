@@ -1,7 +1,5 @@
--- If repeats may have C4 (erase page) clear, one more packet changes the last header of the page as
--- `last_header-push` and `last_header-append` say, the rows received since that header as
--- `has_row-push` says, and the first packet of each row since the text began as `first_of_row-push`
--- says. Each code other than a space came in a row (`row_of_code`).
+-- How one more packet changes the last header of the page and the rows received since, if repeats
+-- may have C4 (erase page) clear.
 use Rattle.std.proofs.Common.{◌≡◌, ℕ, Bool, true, false, not, ◌&&◌, ◌||◌, ◌==◌, cond, List, [], ◌∷◌}
 use Rattle.std.proofs.Common.{◌++◌, Some, None, find, option_map, unwrap_or, refl, ap}
 use Rattle.std.proofs.Common.{arith}
@@ -83,7 +81,7 @@ pub beginning-more : (w : Watched) (xs : List (List ℕ)) (x : List ℕ)
     ≡ (holds_beginning w.keeps (kind w.page) xs || begins_text w.keeps (kind w.page x))
 beginning-more w xs x = list_any-push (kind w.page) (λ y. begins_text w.keeps (kind w.page y)) xs x
 
--- Packets before the beginning of the text do not change the text.
+-- Packets before the header that erased the page do not change its text.
 from_begins : (keeps : Bool) (page : PageIdValue) (xs ys : List (List ℕ))
     → holds_beginning keeps (kind page) ys ≡ true
     → from_beginning keeps (kind page) (xs ++ ys) ≡ from_beginning keeps (kind page) ys
@@ -106,8 +104,8 @@ any_found test [] code e = grind (arith, nat_tests)
 any_found test (p ∷ ps) code e =
     let rest = any_found test ps code in grind (arith, nat_tests)
 
--- Each code other than a space came in a row since the last header, if repeats must have C4 (erase
--- page) set.
+-- If each header must have C4 (erase page) set, each code other than a space came in a row since
+-- the last header.
 pub row_of_code :
     (keeps : Bool) (page : PageIdValue) (heard : List (List ℕ)) (row column : ℕ)
     → keeps ≡ false

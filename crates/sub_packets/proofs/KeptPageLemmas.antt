@@ -1,6 +1,5 @@
--- The properties of the page that a listener stores agree with the packets received: its wrong and
--- unexpected cells, and whether it is incomplete (`wrong_heard`, `unexpected_heard`,
--- `incomplete_heard`).
+-- The wrong and unexpected cells of the stored page, and whether it is incomplete, agree with the
+-- packets received.
 use Rattle.std.proofs.lemmas.Bool.Decides.{nat_tests}
 use Rattle.std.proofs.Common.{◌≡◌, ℕ, ◌&&◌, List, Bool, arith, ap, refl}
 use Rattle.ttx_page.specs.Page.{Rows}

@@ -1,5 +1,4 @@
--- The listener's state agrees with the packets received after one more packet, for each kind of
--- packet (`knows_begins`, `knows_repeat`, `knows_still`, `knows_again`, `knows_row`).
+-- The listener's state still agrees with the packets received after one more packet of each kind.
 use Rattle.std.proofs.Common.{◌≡◌, ℕ, ◌-◌, ◌≤◌, Bool, true, false, not, ◌&&◌, ◌||◌, List, [], ◌∷◌}
 use Rattle.std.proofs.Common.{◌++◌, Option, Some, None, option_map, length, get_or, set}
 use Rattle.std.proofs.Common.{replicate, refl, sym, ap, arith, get_or-set_other}
@@ -58,7 +57,7 @@ module _ (heard : List (List ℕ)) (p : List ℕ) (s : Listener) (read : Option 
       rw (has_row-push s.watched.page heard p row, is)
       (get_or-replicate 24 (row - 1) false false (omega arith))
 
-  -- A header that begins the text opens the page, and clears the set of received rows.
+  -- A header that erases the page opens it and clears the set of received rows.
   pub knows_begins : (h : Header) → kind s.watched.page p ≡ ThisPage h
       → (c4 h || not s.watched.keeps) ≡ true
       → Knows (heard ++ p ∷ []) (record s {
@@ -83,7 +82,7 @@ module _ (heard : List (List ℕ)) (p : List ℕ) (s : Listener) (read : Option 
     again_is = no_repeated_header h is;
   }
 
-  -- A header that keeps the text opens the page, and the received rows are kept.
+  -- A header with C4 (erase page) clear opens the page and keeps the received rows.
   pub knows_repeat : (h : Header) → kind s.watched.page p ≡ ThisPage h
       → (c4 h || not s.watched.keeps) ≡ false
       → Knows (heard ++ p ∷ []) (record s {
@@ -111,8 +110,8 @@ module _ (heard : List (List ℕ)) (p : List ℕ) (s : Listener) (read : Option 
         let more = last_header-push s.watched.page heard p in
         grind (arith, nat_tests)
 
-    -- A packet that is neither a header of the page nor a row of the open page leaves the rows as
-    -- they are. The packet may close the page.
+    -- A packet that is neither a header of the page nor a row of the open page does not change the
+    -- rows. It may close the page.
     pub knows_still : (opened : Bool)
         → opened ≡ (s.is_open && not (ends_page (kind s.watched.page p)))
         → ((row : ℕ) → 1 ≤ row → row ≤ 24 → s.is_open ≡ true

@@ -1,6 +1,4 @@
--- A packet that need not be examined adds no event to those of its frame
--- (packets_reported-skipped), and packets that break no rule have no events
--- (packets_reported-none).
+-- A packet that can be skipped adds no event, and packets that break no rule have no events.
 use Rattle.std.proofs.lemmas.Bool.Decides.{nat_tests}
 use Rattle.std.proofs.Common.{◌≡◌, ℕ, zero, suc, ◌+◌, List, [], ◌++◌, map, take}
 use Rattle.std.proofs.Common.{◌∙◌, append-nil, arith, get_or, refl}

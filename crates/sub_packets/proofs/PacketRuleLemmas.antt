@@ -1,4 +1,4 @@
--- Shows which bits each kind of packet adds to the set of broken rules.
+-- Which rules a packet of each kind can break.
 use Rattle.std.proofs.lemmas.Bool.Decides.{nat_tests}
 use Rattle.std.proofs.lemmas.Bool.Decides.{same_from_decides}
 use Rattle.std.proofs.Common.{◌≡◌, ℕ, Bool, true, false, not, ◌&&◌, ◌==◌, cond}
@@ -68,8 +68,7 @@ other_text None codes = refl
 other_text (Some q) codes = refl
 
 module _ (w : Watched) (heard : List (List ℕ)) (p : List ℕ) where
-  -- A header of the page can break only the rule for its control bits, of the rules from `Control`
-  -- on.
+  -- Of the rules from `Control` on, a header of the page can break only `Control`.
   pub later_this : (h : Header) → kind w.page p ≡ ThisPage h
       → rule_set (λ r. breaks r w heard p) (drop 3 packet_rules)
       ≡ cond (not (is_subtitle_header w heard h)) 1 0
@@ -86,16 +85,15 @@ module _ (w : Watched) (heard : List (List ℕ)) (p : List ℕ) where
       let none = no_enhancement w p (λ e. let both = sym k ∙ e in cc) in
       rw (k, none) (grind (arith, nat_tests))
 
-  -- A packet that is neither a header nor a row breaks a rule from `Control` on only if the packet
-  -- is X/25 to X/28 of the open page's magazine.
+  -- Of the rules from `Control` on, a packet that is neither a header nor a row can break only
+  -- `Enhancement`.
   pub later_other : kind w.page p ≡ Other
       → rule_set (λ r. breaks r w heard p) (drop 3 packet_rules)
       ≡ 8 * cond (is_open_after (kind w.page) heard && is_of_enhancement w.page (address p)) 1 0
   unfolding breaks rule_set packet_rules
   later_other k = rw k (grind (arith, nat_tests))
 
-  -- A row of the open page breaks a rule from `Control` on if it has a byte with even parity, or
-  -- codes that differ from those received before.
+  -- Of the rules from `Control` on, a row of the open page can break `Parity` and `RowChanged`.
   pub later_row : (y : ℕ) (o : Option (List ℕ)) → kind w.page p ≡ Row y
       → o ≡ first_of_row w.page (text_span w.keeps (kind w.page) heard) y
       → rule_set (λ r. breaks r w heard p) (drop 3 packet_rules)

@@ -1,5 +1,4 @@
--- If a set of rules is empty, no rule passes its test (`no_rules`); otherwise its events begin with
--- those of the first remaining rule (`reported_next`).
+-- An empty set of rules has no events; otherwise the events begin with the first rule of the set.
 use Rattle.std.proofs.Common.{◌≡◌, ℕ, suc, ◌+◌, ◌*◌, ◌/◌, ◌%◌, ◌<◌, Bool, true, false, ◌==◌}
 use Rattle.std.proofs.Common.{List, [], ◌∷◌, ◌++◌, length, get_or, drop, map, refl, ◌∙◌, ap}
 use Rattle.std.proofs.Common.{arith, cond, drop-cons}
@@ -14,7 +13,7 @@ unfolding rule_set
 no_rules test [] e = refl
 no_rules test (r ∷ rules) e = grind (arith, nat_tests, no_rules test rules)
 
--- The lowest bit of a rule set is that of its first rule; half of the set is the set of the other
+-- The lowest bit of a rule set belongs to its first rule; half of the set is the set of the other
 -- rules.
 lowest_bit : (b : Bool) (n : ℕ)
     → (((cond b 1 0 + 2 * n) % 2 == 1) ≡ b) × ((cond b 1 0 + 2 * n) / 2 ≡ n)

@@ -1,5 +1,4 @@
--- Packets that are sent again break the same rules, and the listener's state stays the same
--- (`law_of_sent_again`, `received_again`, `kept_last`).
+-- Packets that are sent again break the same rules, and the listener's state stays the same.
 use Rattle.std.proofs.lemmas.Bool.Decides.{nat_tests}
 use Rattle.std.proofs.Common.{◌≡◌, ℕ, zero, suc, ◌<◌, Bool, true, not, ◌&&◌, ◌||◌, cond, List, []}
 use Rattle.std.proofs.Common.{◌∷◌}
@@ -62,7 +61,7 @@ same_first : (o : Option Header) (h : Header)
     → option_or o (Some h) ≡ option_or (option_or o (Some h)) (Some h)
 same_first o h = grind arith
 
--- Repeating a header does not change whether its C11 differs from that of the first header.
+-- A repeated header breaks the rule for C11 if and only if it did before.
 same_mode : (o : Option Header) (h : Header)
     → is_other_mode (option_map (λ (x : Header). c11 x) (option_or o (Some h))) (Some (c11 h))
     ≡ is_other_mode (option_map (λ (x : Header). c11 x) o) (Some (c11 h))
@@ -88,8 +87,8 @@ module _
     last_after xs more h e =
         let both = last_header-append w.page xs (first ∷ more) in grind (arith, nat_tests)
 
-    -- After a header that begins the text, the packets before it no longer matter, except for the
-    -- first page header, which has been received by then.
+    -- After a header that erases the page, earlier packets no longer matter, except for the first
+    -- page header.
     alike :
         (others more : List (List ℕ))
         → HaveSameContent w (heard ++ first ∷ more) ((heard ++ first ∷ others) ++ first ∷ more)
@@ -118,7 +117,7 @@ module _
               (text_span-begins w.keeps w.page (heard ++ first ∷ others) (first ∷ more) begun);
         }
 
-    -- A header that begins the text breaks the same rules when it is sent again.
+    -- A header that erases the page breaks the same rules when it is sent again.
     first_again :
         (others : List (List ℕ)) (r : PacketRule)
         → breaks r w (heard ++ first ∷ others) first ≡ breaks r w heard first
@@ -164,7 +163,7 @@ begun_by w ps begins =
     subst (λ (xs : List (List ℕ)). holds_beginning w.keeps (kind w.page) xs ≡ true)
     (sym begins.packets_are) (or_left _ _ begins.is_header)
 
--- If the last packets broke no rule and are received again, the state of the listener stays the
+-- If the packets of the last frame broke no rule and are sent again, the listener's state stays the
 -- same.
 pub received_again :
     (heard last ps : List (List ℕ)) (headers : ℕ) (s : Listener)
@@ -198,8 +197,8 @@ received_again heard last ps headers s known is same =
           (grind (arith, nat_tests))),
     )
 
--- After packets that begin the text and break no rule, the listener stores how many headers of the
--- page these packets have.
+-- After packets that begin with a header that erases the page and break no rule, the listener
+-- stores their number of headers of the page.
 pub kept_last :
     (w : Watched) (heard ps : List (List ℕ)) (headers from : ℕ) (before begun begins clean : Bool)
     (s : Listener)

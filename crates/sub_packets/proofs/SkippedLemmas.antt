@@ -1,5 +1,4 @@
--- Packets that need not be examined break no rule and leave the listener's state as it is
--- (`skipped_packet`, `skipped_header`).
+-- A packet that can be skipped breaks no rule and does not change the listener's state.
 use Rattle.std.proofs.Common.{◌≡◌, ◌≢◌, ℕ, ◌&&◌, ◌==◌, Bool, true, false, List}
 use Rattle.std.proofs.Common.{Option, Some, None, cond, drop, refl, sym, ◌∙◌, arith}
 use Rattle.std.proofs.Common.{nat_le}
@@ -95,7 +94,7 @@ module _
                 (λ row low high opened. grind (arith, nat_tests));
           }
 
-    -- Assume a header that has the C11 of the first header, is not of the page, and does not end
+    -- The header has the C11 of the first page header, is no header of the page, and does not end
     -- the page.
     module _ (none : a.packet_number ≡ 0) (coded : HasExactHeader p) (h : Header)
         (says : coded_header p ≡ Some h)

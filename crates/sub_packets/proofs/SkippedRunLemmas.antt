@@ -1,5 +1,4 @@
--- A run of packets that need not be examined changes neither the listener's state nor its counts
--- (`skipped_run`, `no_headers_skipped`, `no_beginning_skipped`).
+-- Several packets in a row that can be skipped change neither the listener's state nor its counts.
 use Rattle.std.proofs.lemmas.Bool.Decides.{nat_tests}
 use Rattle.std.proofs.lemmas.Bool.{cases_lt}
 use Rattle.std.proofs.lemmas.List.{take_more}
@@ -18,7 +17,7 @@ use Rattle.sub_rules.specs.PacketRules.{header_count}
 use Rattle.sub_rules.specs.declared.packet_rule.Watched.{Watched}
 use Rattle.sub_rules.proofs.PacketLists.{header_count-push}
 
--- Packets `start` to n - 1 of a frame added no event, and the listener's state agrees with the
+-- Packets `start` to n - 1 of a frame have no events, and the listener's state agrees with the
 -- first n packets of the frame, received after `heard`.
 pub record IsSkippedTo
     (w : Watched) (frame from : ℕ) (heard ps : List (List ℕ)) (s : Listener) (start n : ℕ) : Type 0

@@ -1,6 +1,6 @@
--- The expected page stays the same between two page changes (`due_same`), so all codes that were
--- expected within the last frames can be removed from the page (`left_first`, `left_more`,
--- `left_all`), and the first cell that is left is the first unexpected cell (`unexpected_eq`).
+-- The expected page stays the same between two of its changes. So all codes that were expected
+-- within the last frames can be removed from the page, and the first code left is the first
+-- unexpected one.
 use Rattle.std.proofs.lemmas.Bool.Decides.{nat_tests}
 use Rattle.std.proofs.lemmas.List.{get_or-replicate}
 use Rattle.std.proofs.Common.{◌≡◌, ℕ, zero, suc, ◌+◌, ◌-◌, ◌<◌, ◌≤◌}
@@ -48,8 +48,7 @@ module _ (page : ℕ → Rows) (first f : ℕ) where
   was_due-same n (suc m) row column code low same =
       grind (arith, nat_tests, was_due-one, (was_due-same n m row column code))
 
-  -- If the codes expected at frame f are replaced by spaces, no code remains that is expected at
-  -- frame f.
+  -- If the codes expected at frame f are removed, no code expected at f is left.
   pub left_first : (shown left : Rows)
       → ((row column : ℕ) → IsCell row column
       → cell left row column ≡ unless_due (cell (page f) row column) (cell shown row column))
@@ -58,9 +57,8 @@ module _ (page : ℕ → Rows) (first f : ℕ) where
   left_first shown left cells row column is =
       let none : f - f ≡ 0 = omega arith in rw none (cells row column is)
 
-  -- If the codes expected at an earlier frame are replaced by spaces as well, no code remains that
-  -- was expected from that frame on, provided that the expected page did not change between that
-  -- frame and the frame examined before.
+  -- If the codes expected at an earlier frame are removed as well, no code is left that was
+  -- expected from that frame on, because the expected page did not change in between.
   pub left_more : (at before : ℕ) (shown left new : Rows)
       → before < at
       → at ≤ f
@@ -84,7 +82,7 @@ module _ (page : ℕ → Rows) (first f : ℕ) where
       ∙ sym (same (f - j) (omega arith) (omega arith))) in
       rw next (grind (arith, nat_tests))
 
-  -- No code remains that was expected at frame f or at one of the n frames before it, if the
+  -- No code is left that was expected at frame f or at one of the n frames before, because the
   -- expected page did not change since the earliest of these frames.
   pub left_all : (at n : ℕ) (shown left : Rows)
       → at ≤ f

@@ -1,6 +1,5 @@
--- The page that a listener stores is the one that the packets show (`shown_is`), so its first wrong
--- cell is the first wrong cell by the rules (`wrong_eq`; if repeats may have C4 (erase page) clear,
--- `wrong_keeping`).
+-- The stored page is the one that the packets show, so its first wrong cell is the first wrong cell
+-- by the rules.
 use Rattle.std.proofs.lemmas.Bool.Decides.{nat_tests}
 use Rattle.std.proofs.Common.{◌≡◌, ℕ, ◌+◌, ◌-◌, ◌<◌, ◌≤◌, ◌⊎◌, ◌||◌, ◌==◌, Bool, true, false, not}
 use Rattle.std.proofs.Common.{List, [], Option, None, Some, MatchOption, option_map, unwrap_or}
@@ -183,8 +182,8 @@ differing_found :
     → FindsFirst test o
 differing_found test a b o is same = grind (arith, nat_tests)
 
--- If a test passes exactly the cells in which two pages differ, the first difference that was found
--- is the first cell that passes.
+-- If a test passes exactly the cells in which two pages differ, the first difference is the first
+-- cell that passes.
 pub first_difference :
     (test : ℕ → ℕ → Bool) (a b : Rows) (o : Option (ℕ × ℕ))
     → ((row column : ℕ)
@@ -218,12 +217,12 @@ earlier_found : (ta tb : ℕ → ℕ → Bool) (a b : Option (ℕ × ℕ))
 earlier_found ta tb a b na nb = grind (arith, nat_tests, first_alone, first_of)
 
 module _ (s : Listener) where
-  -- The stored cell has another code than the expected page.
+  -- The stored cell differs from the expected page.
   abbrev other : ℕ → ℕ → Bool
   other row column =
       not (cell s.comparison.page row column == cell s.comparison.due row column)
 
-  -- The cell has expected text, and its row did not come since the last header.
+  -- The expected page has text in the cell, but its row was not sent since the last header.
   abbrev lacks : ℕ → ℕ → Bool
   lacks row column =
       not (cell s.comparison.due row column == space || get_or s.again (row - 1) false)

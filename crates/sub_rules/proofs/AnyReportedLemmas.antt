@@ -1,6 +1,5 @@
--- If no event of a frame's end or of a packet passes a test, the other events of the frame decide
--- whether any event does: `any_frame`. So each event names its own PES packet, and no event reports
--- trusted frames: `own_frame`.
+-- Most events of a frame have no PES packet number. So a test for such numbers needs only the
+-- events about frame numbers, and each event has the number of its own PES packet.
 use Rattle.std.proofs.lemmas.Bool.Decides.{nat_tests}
 use Rattle.std.proofs.Common.{◌≡◌, ℕ, zero, suc, ◌+◌, ◌==◌, Bool, true, false, not, List, [], ◌∷◌}
 use Rattle.std.proofs.Common.{◌++◌, map, length, Option, refl, ◌∙◌, ap₂, arith}
@@ -57,7 +56,7 @@ module _ (test : Event → Bool)
           only_first _ _ (at_end _ _ _ _) ∙ only_first _ _ header
           ∙ only_first _ _ (no_packet _ _ _ _ _ _) ∙ only_first _ _ (no_gap i _)
 
--- The event names another PES packet than `pes`, or is `Trusted`.
+-- The event has a PES packet number other than `pes`, or reports trusted frames.
 abbrev pub is_foreign : ℕ → Event → Bool
 is_foreign pes (Reported (fault.Order index)) = not (index == pes)
 is_foreign pes (Reported (fault.Pes index f)) = not (index == pes)

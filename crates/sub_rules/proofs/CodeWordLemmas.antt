@@ -1,5 +1,4 @@
--- The tests for Hamming 8/4 code words decide whether the bytes of a packet are code words:
--- `address_decided` and `header_decided`.
+-- The tests for Hamming 8/4 code words decide whether the coded bytes of a packet are code words.
 use Rattle.std.proofs.lemmas.Bool.Decides.{Decides-below_and, Decides-below_or}
 use Rattle.std.proofs.lemmas.Bool.Decides.{Decides-eqb, Decides-like}
 use Rattle.std.proofs.Common.{◌≡◌, ℕ, ◌+◌, ◌-◌, ◌<◌, ◌==◌, List, slice_index, refl, arith, subst}

@@ -1,4 +1,4 @@
--- Two packets of code words and odd text bytes with the same contents are equal: `same_packet`.
+-- Packets without coding errors are equal if they have the same address and the same codes.
 use Rattle.std.proofs.lemmas.Bool.Decides.{nat_tests}
 use Rattle.std.proofs.Common.{◌≡◌, ℕ, zero, suc, ◌+◌, ◌*◌, ◌/◌, ◌%◌, ◌<◌, true, not, List}
 use Rattle.std.proofs.Common.{[], ◌∷◌, get_or, slice_index, drop, map, Some, sym, ◌∙◌}
@@ -70,8 +70,8 @@ pub code_of_column :
     (p : List ℕ) (k : ℕ) → get_or (codes_of p) k 0 ≡ code_of (get_or p (k + 2) 0)
 code_of_column p k = grind (arith, nat_tests, code_at, get_or-drop)
 
--- If two packets have the same address in code words, and the same text in bytes of odd parity, the
--- packets are equal. So a checker only needs to keep the codes of a row to know its packet.
+-- Rows with correct addresses and odd parity are equal if they have the same codes. So a checker
+-- need only store the codes of a row.
 pub same_packet :
     (p q : List ℕ)
     → IsPacket p

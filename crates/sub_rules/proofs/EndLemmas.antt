@@ -1,5 +1,5 @@
--- The active faults at the previous frame end, and the number of frames of the day between two
--- entries of a transmission.
+-- The active faults at the previous frame end, and the number of frames without a PES packet before
+-- a frame.
 use Rattle.std.proofs.lemmas.Bool.Decides.{nat_tests}
 use Rattle.std.proofs.Common.{◌≡◌, ℕ, ◌+◌, ◌-◌, ◌<◌, arith}
 use Rattle.sub_rules.specs.Events.{end_before, gap_length, latest, active_faults_at}

@@ -1,7 +1,5 @@
--- The table of the rules of a frame's end. A property of each rule in the table holds of any rule,
--- `each_end_rule`; no fault is active if and only if no rule is broken, `rules_none`,
--- `no_active_faults_eq`; if no event of a rule passes a test, no event at a frame's end does,
--- `end_any`.
+-- The rules that are checked at the end of a frame: no fault is active if and only if none of them
+-- is broken.
 use Rattle.std.proofs.lemmas.Bool.Decides.{nat_tests}
 use Rattle.std.proofs.Common.{◌≡◌, ℕ, Bool, true, false, List, [], ◌∷◌, Option, Some, None}
 use Rattle.std.proofs.Common.{is_some, not, refl, ◌∙◌, ap, arith, flat_map}

@@ -1,5 +1,4 @@
--- The events of a transmission, frame by frame, if each frame is one PES packet: an intermediate
--- step to the events of PES packets, which are defined by steps.
+-- The events of a transmission whose frames have one PES packet each.
 use Rattle.std.specs.Prelude.{ℕ, zero, suc, ◌+◌, List, [], ◌++◌, length}
 use Rattle.sub_rules.specs.Events.{closing_events, events_at_end, first_header_events, gap_length}
 use Rattle.sub_rules.specs.Events.{latest, order_events, packet_events}
@@ -7,14 +6,14 @@ use Rattle.sub_rules.specs.FrameRules.{Criteria, frame_at, packets_before, packe
 use Rattle.sub_rules.specs.Transmission.{Transmission}
 use Rattle.sub_rules.specs.declared.event.Event.{Event}
 
--- The events at the ends of n frames of the day without a PES packet.
+-- The events at the ends of n frames without a PES packet.
 unfoldable pub gap_events : Criteria → Transmission → ℕ → ℕ → List Event
 gap_events g frames i zero = []
 gap_events g frames i (suc n) =
     gap_events g frames i n ++ events_at_end g frames i i (latest frames i + suc n)
 
--- The events of entry i of the transmission: for its frame number, for the frames of the day before
--- it, for its packets, and at its end.
+-- The events of entry i of the transmission: for its frame number, for the frames before it, for
+-- its packets, and at its end.
 unfoldable pub frame_events : Criteria → Transmission → ℕ → List Event
 frame_events g frames i =
     order_events g frames i

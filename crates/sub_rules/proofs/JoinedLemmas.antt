@@ -1,7 +1,4 @@
--- Merging the PES packets of one frame. If `within` is 0, nothing is merged, `joined-none`; one
--- more PES packet, `sent_after-other`, `sent_after-same`; more packets of the last frame,
--- `with_packets-push`, `with_packets-frames`; PES packets in two parts, `joined_after-append`,
--- `steps_of_each-append`; the packets of a frame in two parts, `packets_reported-append`.
+-- Merges the PES packets of one frame. If `within` is 0, nothing is merged.
 use Rattle.std.proofs.lemmas.Bool.Decides.{nat_tests}
 use Rattle.std.proofs.Common.{◌≡◌, ℕ, zero, suc, ◌+◌, ◌<◌, ◌≤◌, true, false, List, [], ◌∷◌}
 use Rattle.std.proofs.Common.{◌++◌, length, map, take, refl, sym, ap, ◌∙◌, arith}
@@ -139,7 +136,7 @@ with_packets-all packets (s ∷ next ∷ frames) l =
     ∙ sym (append_assoc s.packets (packets_before (next ∷ frames) (length (next ∷ frames))) packets)
 
 module _ (P : List ℕ → Type 0) where
-  -- The property P holds of each packet of each frame of the transmission.
+  -- Each packet of the transmission has the property P.
   abbrev pub EachReadPacket : Transmission → Type 0
   EachReadPacket frames = AllByRecursion (λ (s : SentFrame). AllByRecursion P s.packets) frames
 

@@ -1,5 +1,4 @@
--- Properties of all packets of a list, and the first header of a list with more packets:
--- `first_header-push`, `first_header-append`.
+-- The first page header of a longer list, and properties of all packets of a list.
 use Rattle.std.proofs.lemmas.Bool.Decides.{nat_tests}
 use Rattle.std.proofs.Common.{◌≡◌, ℕ, Bool, true, false, ◌||◌, List, [], ◌∷◌, ◌++◌, refl, ap}
 use Rattle.std.proofs.Common.{◌∙◌, ◌+◌, arith, cond, find, nat_lt, Some, None, Option}

@@ -1,5 +1,5 @@
 -- If `within` is 0, the first fault of a PES file is the same whether reading continues after
--- skipped packets or stops at the first one. Main lemma: first_reported_is.
+-- skipped packets or stops at the first one.
 use Rattle.std.proofs.Common.{◌≡◌, ℕ, suc, ◌+◌, List, [], ◌∷◌, ◌++◌, length, map, Option, Some}
 use Rattle.std.proofs.Common.{None, refl, sym, ap, ◌∙◌, arith, append_assoc, length-append}
 use Rattle.std.proofs.Common.{flat_map}
@@ -37,7 +37,7 @@ use Rattle.sub_rules.specs.Trusted.{CheckStep, at_pes, current_pes, reported_aft
 use Rattle.sub_rules.proofs.FrameEvents.{events, events_of_first, frame_events}
 use Rattle.sub_rules.specs.declared.active_faults.ActiveFaults.{ActiveFaults}
 
--- Grouping runs of skipped packets doesn't change the first fault, if no packet was skipped before.
+-- Grouping runs of skipped packets does not change the first fault.
 pub announced_first : (es : List Event) → first_reported (all_announced no_run es) ≡ first_reported
     es
 unfolding all_announced announced joins skipped_run_after
@@ -61,8 +61,8 @@ first_of_all_announced reported = grind (
   announced_first,
 )
 
--- The events that end active faults report no fault, so after the last frame the first fault is
--- that of the unread bytes.
+-- The ends of active faults are no faults, so the first fault after the last frame is that of the
+-- unread bytes.
 endings_first : (last : ActiveFaults) (f : ℕ) → first_reported (endings last f) ≡ None
 unfolding end_events
 endings_first last f = go end_rules

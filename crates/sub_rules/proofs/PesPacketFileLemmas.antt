@@ -1,7 +1,4 @@
--- Reading a PES file one packet at a time. A PTS gives a frame of the day: `clock_in_day`. Each
--- result of reading a packet agrees with the value of the file: `reads_sent`, `reads_off`,
--- `reads_bad`, `pes_packets_end`. One step of a file that ends at its first skipped packet:
--- `file_at-next`.
+-- The PES packets of a file, read one at a time.
 use Rattle.std.proofs.lemmas.Bool.Decides.{nat_tests}
 use Rattle.std.proofs.Common.{◌≡◌, ℕ, zero, suc, ◌+◌, ◌<◌, ◌≤◌, true, false, List, []}
 use Rattle.std.proofs.Common.{◌∷◌, ◌++◌, length-append, Option, Some, None, Result, Ok, Err, refl}
@@ -36,7 +33,7 @@ use Rattle.sub_rules.specs.PesPackets.{pes_packets_at, read_until_skipped}
 use Rattle.sub_rules.specs.PesPackets.{until_first_skipped}
 use Rattle.sub_rules.specs.PesPackets.PesPacket.{Skipped, Sent}
 
--- A clock converts each PTS to a frame of the day, or to none.
+-- A clock converts each PTS to a frame, or to none.
 clock-below :
     (within origin pts frame : ℕ) → clock within origin pts ≡ Some frame → frame < day
 unfolding clock frame_with_tolerance
@@ -64,7 +61,7 @@ file_of-then : (clock : Clock) (answer : Result (Option PesValue) PesFault) (mor
     ≡ pes_packets_by clock answer (file_of_pes_packets clock more)
 file_of-then clock answer more = grind (arith, nat_tests)
 
--- The contents of a PES file are its first PES packet, followed by the contents of the rest.
+-- The contents of a PES file are its first PES packet and the contents of the remaining bytes.
 pub pes_packets_at-next : (clock : Clock) (given : ℕ) (bytes : List ℕ)
     (answer : Result (Option PesValue) PesFault)
     → given ≤ most_packets
@@ -76,7 +73,7 @@ pes_packets_at-next clock given bytes answer few is =
     ap (file_of_pes_packets clock) (pes_packets_after-next given bytes answer few is)
     ∙ file_of-then clock answer (pes_packets_after (given + 1) (rest_after_pes_packet bytes))
 
--- The reader's result determines the first PES packet in the bytes left.
+-- The reader's result determines the next PES packet of the bytes left.
 reads_pes_packet : (clock : Clock) (n : ℕ) (bytes : List ℕ) (pes_packets : List PesPacket)
     (unread : Option Unread) (pes_packet : PesPacket) (answer : Result (Option PesValue) PesFault)
     → n ≤ most_packets
@@ -87,7 +84,7 @@ reads_pes_packet : (clock : Clock) (n : ℕ) (bytes : List ℕ) (pes_packets : L
 reads_pes_packet clock n bytes pes_packets unread pes_packet answer few reads is by =
     grind (arith, nat_tests, pes_packets_at-next clock n bytes answer few is)
 
--- A valid PES packet whose PTS is that of a frame is sent.
+-- A valid PES packet is sent if its PTS belongs to a frame.
 pub reads_sent : (clock : Clock) (n : ℕ) (bytes : List ℕ) (pes_packets : List PesPacket)
     (unread : Option Unread) (v : PesValue) (frame : ℕ)
     → n ≤ most_packets
@@ -100,7 +97,7 @@ unfolding pes_packet_of
 reads_sent clock n bytes pes_packets unread v frame few reads is of =
     grind (arith, nat_tests, reads_pes_packet)
 
--- A valid PES packet whose PTS is that of no frame is skipped.
+-- A valid PES packet is skipped if its PTS belongs to no frame.
 pub reads_off : (clock : Clock) (n : ℕ) (bytes : List ℕ) (pes_packets : List PesPacket)
     (unread : Option Unread) (v : PesValue)
     → n ≤ most_packets
@@ -133,7 +130,7 @@ pub pes_packets_end : (clock : Clock) (n : ℕ) (bytes : List ℕ) (pes_packets 
 pes_packets_end clock n bytes pes_packets unread few reads is =
     grind (arith, nat_tests, pes_packets_at-next clock n bytes (Ok None) few is)
 
--- If the bytes left begin no PES packet, no PES packet is left, and `unread` has the fault.
+-- If the bytes left do not begin with a PES packet, no packet is left, and `unread` has the fault.
 pub pes_packets_stop : (clock : Clock) (n : ℕ) (bytes : List ℕ) (pes_packets : List PesPacket)
     (unread : Option Unread) (f : PesFault)
     → n ≤ most_packets
@@ -161,7 +158,8 @@ file_by clock (Ok None) rest = record { frames = []; unread = None }
 file_by clock (Ok (Some v)) rest =
     file_with (clock v.pts) (packets_of_units v.units) rest
 
--- Cutting a file at its first skipped packet commutes with putting a reader's result in front.
+-- A file that ends at its first skipped packet begins with the reader's result, like the entire
+-- file.
 until_by : (clock : Clock) (answer : Result (Option PesValue) PesFault) (rest : PesPacketFileValue)
     → until_first_skipped (pes_packets_by clock answer rest)
     ≡ file_by clock answer (until_first_skipped rest)
@@ -176,7 +174,7 @@ until_then clock answer more =
     ap until_first_skipped (file_of-then clock answer more)
     ∙ until_by clock answer (file_of_pes_packets clock more)
 
--- For a valid PES packet, both definitions of the bytes after the packet agree.
+-- For a valid PES packet, both definitions of the bytes after it agree.
 same_rest : (clock : Clock) (given : ℕ) (bytes : List ℕ)
     (answer : Result (Option PesValue) PesFault)
     → answer_at given bytes ≡ answer
@@ -184,8 +182,7 @@ same_rest : (clock : Clock) (given : ℕ) (bytes : List ℕ)
     ≡ file_by clock answer (file_at clock (given + 1) (rest_after bytes))
 same_rest clock given bytes answer is = grind (arith, nat_tests, rest_after_packet)
 
--- A file that ends at its first skipped packet is its first packet followed by the rest of the
--- file.
+-- A file that ends at its first skipped packet is its first packet, followed by such a file.
 pub file_at-next :
     (clock : Clock) (given : ℕ) (bytes : List ℕ)
     → given ≤ most_packets

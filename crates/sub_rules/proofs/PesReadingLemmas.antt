@@ -1,5 +1,4 @@
--- Reading one PES packet of a file that ends at its first skipped packet: `reads_next`,
--- `reads_unread`, `reads_end`; and put together, `reads_more`, `reads_ended`.
+-- The next PES packet of a file that ends at its first skipped packet.
 use Rattle.std.proofs.lemmas.Bool.Decides.{nat_tests}
 use Rattle.std.proofs.Common.{◌≡◌, ℕ, suc, ◌+◌, ◌<◌, ◌≤◌, List, [], ◌∷◌, length, drop, get_or}
 use Rattle.std.proofs.Common.{Option, Some, None, Result, Ok, Err, refl, ap, arith}

@@ -1,7 +1,4 @@
--- The events of a frame depend only on the frames up to it: `frame_events-prefix`. So do the first
--- frame of the run with an unfinished page, `unfinished_run_start-prefix`, whether an unfinished
--- page is a fault, `is_late-prefix`, the active faults, `active_faults_at-prefix`, and the steps of
--- a frame.
+-- The events, active faults and steps of a frame depend only on the frames up to it.
 use Rattle.std.proofs.lemmas.Bool.Decides.{nat_tests}
 use Rattle.std.proofs.Common.{◌≡◌, ℕ, zero, suc, ◌-◌, ◌<◌, ◌≤◌, ◌++◌}
 use Rattle.std.proofs.Common.{length, get_or, Option, refl, arith}

@@ -1,6 +1,4 @@
--- The events among the steps of a check, each with its PES packet number: `emitted_by`. They have
--- the same first fault, `steps_first`. If each PES packet is a frame, they are the events of the
--- frame, `emitted_sent`.
+-- The events in a list of steps have the same first fault as the reports of these steps.
 use Rattle.std.proofs.lemmas.Bool.Decides.{nat_tests}
 use Rattle.std.proofs.Common.{◌≡◌, ℕ, zero, suc, ◌+◌, ◌==◌, Bool, true, false, List, [], ◌∷◌}
 use Rattle.std.proofs.Common.{◌++◌, length, map, Option, None, Some, refl, sym, ap, ◌∙◌, subst}
@@ -38,7 +36,8 @@ first_of_two [] ys = refl
 first_of_two (Reported f ∷ xs) ys = refl
 first_of_two (e ∷ xs) ys = first_of_two xs ys
 
--- The events among the steps. Events before the first `AtPes` step belong to PES packet `pes`.
+-- The events in a list of steps, with PES packet numbers. Events before the first `AtPes` step have
+-- the number `pes`.
 abbrev pub emitted_by : ℕ → List CheckStep → List Event
 emitted_by pes [] = []
 emitted_by pes (AtPes next ∷ ms) = emitted_by next ms

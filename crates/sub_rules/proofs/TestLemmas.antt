@@ -1,5 +1,4 @@
--- Tests that compute, each followed by the property it decides, for truth values, numbers, lists,
--- packets and frames.
+-- Tests that decide properties of truth values, numbers, lists, packets and frames.
 use Rattle.std.proofs.Common.{◌≡◌, ℕ, zero, suc, ◌<◌, ◌≤◌, Bool, true, false, not, ◌&&◌}
 use Rattle.std.proofs.Common.{◌||◌, nat_le, List, Some, None, All, refl}
 use Rattle.std.proofs.Common.{arith}

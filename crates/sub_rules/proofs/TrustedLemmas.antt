@@ -1,5 +1,4 @@
--- The events of two lists of steps, one after the other, `reported_after-append`, and the steps
--- before each event, `past_after-append`.
+-- The reports of two lists of steps, one after the other.
 use Rattle.std.proofs.lemmas.Bool.Decides.{nat_tests}
 use Rattle.std.proofs.Common.{◌≡◌, ◌&&◌, List, [], ◌∷◌, ◌++◌, refl, sym, ap, ◌∙◌, append_assoc}
 use Rattle.std.proofs.Common.{arith}

@@ -1,6 +1,5 @@
--- The steps at the end of a frame within a range of frames that can stay (`ending_leads`), and at
--- the end of the file (`closing_reported`), report the frame range as trusted or keep it pending.
--- Used for `law_of_all_trusted`.
+-- The steps at the end of a frame within a range of frames with the guarantees, and at the end of
+-- the file, report the frame range as trusted or keep it pending.
 use Rattle.std.proofs.lemmas.Bool.Decides.{nat_tests}
 use Rattle.std.proofs.Common.{◌≡◌, ℕ, suc, ◌+◌, ◌-◌, ◌<◌, ◌≤◌, inl, inr, Bool, true, false}
 use Rattle.std.proofs.Common.{◌||◌, List, [], ◌∷◌, ◌++◌, length, map, Option, Some, None, is_some}

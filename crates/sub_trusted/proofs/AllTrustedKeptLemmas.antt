@@ -1,6 +1,5 @@
--- Within a range of frames that can stay, the state of the tracker has a run from the end of a
--- frame with a header on (`Follows`), which is reported once a frame is in doubt (`follows_emits`)
--- or at the end (`end_leads`). Used for `law_of_all_trusted`.
+-- Within a range of frames with the guarantees, the state of the tracker has a run from the end of
+-- a frame with a header on, which is reported once a frame is invalidated or at the end.
 use Rattle.std.proofs.lemmas.Bool.Decides.{nat_tests}
 use Rattle.std.proofs.Common.{◌≡◌, ℕ, ◌+◌, ◌-◌, ◌<◌, ◌≤◌, inl, inr, Bool, true, false, ◌==◌}
 use Rattle.std.proofs.Common.{List, map, Option, Some, None, is_some, refl, sym, ◌∙◌, arith}
@@ -61,7 +60,7 @@ module _ (g : Criteria) (frames : Transmission) (a b i : ℕ)
   abbrev pub top : ℕ
   top = frame_at frames i
 
-  -- The first n frames have ended, and so have all frames of the day before frame p.
+  -- The first n frames have ended, and so have all frames before frame p.
   pub record Follows (n p : ℕ) (t : List CheckStep) : Type 0 where
     pub rises : n ≤ i → has_risen t ≡ true
     pub run : i < n → (from : ℕ) × (from ≤ top) × (run_of t ≡ Some from)

@@ -1,6 +1,5 @@
--- Defines steps that report a range of frames as trusted, or leave a state that will report it
--- (`Leads`). A run is reported when a frame is in doubt (`emitted_reported`). Used for
--- `law_of_all_trusted`.
+-- Defines steps that report a range of frames as trusted, or leave a state that will report it. A
+-- run is reported when a frame is invalidated.
 use Rattle.std.proofs.lemmas.Bool.Decides.{nat_tests}
 use Rattle.std.proofs.Common.{◌≡◌, ℕ, ◌-◌, ◌<◌, ◌≤◌, ◌⊎◌, inl, inr, List, [], ◌∷◌, ◌++◌, map}
 use Rattle.std.proofs.Common.{Contains, Option, Some, None, refl, sym, subst, arith, ◌∙◌}

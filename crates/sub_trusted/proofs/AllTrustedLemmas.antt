@@ -1,5 +1,5 @@
 -- Each frame range that can stay is reported as trusted from a header of the page in the frame
--- range on (`law_of_all_trusted`).
+-- range on.
 use Rattle.std.proofs.lemmas.Bool.Decides.{nat_tests}
 use Rattle.std.proofs.Common.{◌≡◌, ◌≢◌, ℕ, ◌<◌, ◌≤◌, ◌⊎◌, inl, inr, Bool, true}
 use Rattle.std.proofs.Common.{false, ◌||◌, not, List, [], ◌∷◌, ◌++◌, Contains}

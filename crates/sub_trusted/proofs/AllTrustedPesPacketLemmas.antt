@@ -1,5 +1,5 @@
--- The steps of PES packets within a range of frames that can stay report the frame range as trusted
--- or keep it pending (`pes_packets_lead`). Used for `law_of_all_trusted`.
+-- The steps of PES packets within a range of frames with the guarantees report the frame range as
+-- trusted or keep it pending.
 use Rattle.std.proofs.Common.{◌≡◌, ℕ, ◌+◌, ◌-◌, ◌<◌, ◌≤◌, ◌⊎◌, inl, inr, List, [], ◌∷◌, ◌++◌}
 use Rattle.std.proofs.Common.{length, refl, sym, subst, arith, append-nil}
 use Rattle.sub_rules.specs.FrameRules.{Criteria, end_frame, frame_at, packets_of_frame}

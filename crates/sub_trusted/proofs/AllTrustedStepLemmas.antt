@@ -1,6 +1,6 @@
--- The steps of a frame within a range of frames that can stay report the frame range as trusted or
--- keep it pending: before the packets of the frame (`arrival_leads`), for its packets
--- (`more_leads`), and for a skipped PES packet (`skipped_leads`). Used for `law_of_all_trusted`.
+-- The steps of a frame within a range of frames with the guarantees report the frame range as
+-- trusted or keep it pending: before the packets of the frame, for its packets, and for a skipped
+-- PES packet.
 use Rattle.std.proofs.lemmas.Bool.Decides.{nat_tests}
 use Rattle.std.proofs.Common.{◌≡◌, ℕ, zero, suc, ◌+◌, ◌-◌, ◌<◌, ◌≤◌, ◌⊎◌, inl, inr, Bool, true}
 use Rattle.std.proofs.Common.{false, List, [], ◌∷◌, ◌++◌, length, map, take, get_or, Option, Some}
@@ -70,7 +70,7 @@ pub skipped_orders : (pes : ℕ) (u : Unread)
 unfolding is_order reports_order_fault
 skipped_orders pes u = grind (arith, nat_tests)
 
--- Rising frames have no report about their order, so no frame is in doubt for its order.
+-- Rising frames have no report about their order, so no frame is invalidated for its order.
 order_orders : (g : Criteria) (frames : Transmission) (n : ℕ)
     → (0 < n → frame_at frames (n - 1) < frame_at frames n)
     → list_any is_order (order_events g frames n) ≡ false
@@ -83,7 +83,7 @@ order_silent : (g : Criteria) (frames : Transmission) (n : ℕ) → 0 < n
 unfolding order_events
 order_silent g frames n some up = grind (arith, nat_tests)
 
--- A frame is clean as long as no frame is in doubt.
+-- A frame is clean as long as no frame is invalidated.
 pub clean_without_doubt : (clean : Bool) (d : Option ℕ) → clean ≡ true → d ≡ None
     → (clean && is_none d) ≡ true
 clean_without_doubt clean d is none = rw (is, none) refl
@@ -170,7 +170,7 @@ module _ (g : Criteria) (frames : Transmission) (a b i : ℕ)
           run_frames_rise n (latest frames n + suc k) (latest frames n + suc k) t arrives.keeps
           arrives.rises follows below
 
-  -- The first k frames of the day before frame n of the list have ended.
+  -- The first k frames before frame n of the transmission have ended.
   abbrev GapFramesEnding : ℕ → ℕ → List CheckStep → Type 0
   GapFramesEnding n k u = GapFramesEnded g frames 0 n k u × Follow n (latest frames n + suc k) u
 
@@ -186,7 +186,7 @@ module _ (g : Criteria) (frames : Transmission) (a b i : ℕ)
       (gaps_lead n k t there (omega arith) arriving)
       (λ u so. gap_leads n k u there (omega arith) so.0 so.1)
 
-  -- The first n frames of the list have ended.
+  -- The first n frames of the transmission have ended.
   abbrev pub FramesEnded : ℕ → List CheckStep → Type 0
   FramesEnded n u = Closed g frames 0 n u × Follow n (frame_at frames (n - 1) + 1) u
 
@@ -234,7 +234,7 @@ module _ (g : Criteria) (frames : Transmission) (a b i : ℕ)
                 )
           ]
 
-  -- Frame n of the list is being sent.
+  -- Frame n of the transmission is being sent.
   pub record Sending (n : ℕ) (t : List CheckStep) : Type 0 where
     pub follows : Follow n (frame_at frames n) t
     pub clean : i ≤ n → stays_fault_free t ≡ true

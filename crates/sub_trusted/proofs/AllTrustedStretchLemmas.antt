@@ -1,5 +1,4 @@
--- The frames of a range of frames of the rising part that can stay have the properties `Fits`
--- (`fits`). Used for `law_of_all_trusted`.
+-- The frames of a range of frames of the rising part that can stay have the properties `Fits`.
 use Rattle.std.proofs.lemmas.Bool.Decides.{nat_tests}
 use Rattle.std.proofs.Common.{◌≡◌, ℕ, suc, ◌+◌, ◌-◌, ◌<◌, ◌≤◌, true, false, List, [], ◌++◌, drop}
 use Rattle.std.proofs.Common.{length, take, get_or, Some, None, sym, ap, ◌∙◌, subst, arith}
@@ -66,7 +65,7 @@ module _ (frames : Transmission) where
         (subst (IsEnd (rising_part frames) (suc (n - 1))) at (own_in (n - 1) (omega arith)))
   ]
 
--- Frame i of the list is in a range of frames that can stay.
+-- Frame i of the transmission is in a range of frames with the guarantees.
 pub record Fits (g : Criteria) (frames : Transmission) (a b i : ℕ) : Type 0 where
   pub there : i < risen frames
   pub low : a ≤ frame_at frames i

@@ -1,6 +1,5 @@
--- The trusted frames that a list of steps reports have a property (`Goes`), also for steps with
--- events only (`Goes-emits`), and the state after these events is known (`emitted`). Used for
--- `law_of_trusted` and `law_of_trusted_repeats`.
+-- The trusted frames that a list of steps reports have a property, also for steps with events only,
+-- and the state after these events is known.
 use Rattle.std.proofs.lemmas.Bool.Decides.{nat_tests}
 use Rattle.std.proofs.Common.{◌≡◌, ℕ, ◌-◌, ◌<◌, ◌&&◌, Bool, false, not, List, [], ◌∷◌, ◌++◌}
 use Rattle.std.proofs.Common.{if◌then◌else◌, map, Option, Some, None, is_none, refl, sym}
@@ -24,7 +23,7 @@ use Rattle.sub_rules.specs.Trusted.{reported_at, trusted, trusted_up_to, first_c
 abbrev pub has_risen : List CheckStep → Bool
 has_risen t = not (list_any reports_order_fault t)
 
--- The first frame that is no longer trusted after one of the events casts doubt on a frame.
+-- The first frame that is no longer trusted after one of the events invalidates a frame.
 abbrev pub invalidation_of : List CheckStep → List Event → Option ℕ
 invalidation_of t es = first_found (invalidated_by t) es
 
@@ -42,7 +41,7 @@ pub back_to_after : (t : List CheckStep) (x b : ℕ) → b < x
     → b < back_to t x
 back_to_after t x b past h = grind (arith, nat_tests)
 
--- The run after an event: the run ends if a frame is in doubt.
+-- The run after an event: the run ends if a frame is invalidated.
 abbrev pub kept : Option ℕ → Option ℕ → Option ℕ
 kept run d = if is_none d then run else None
 
@@ -78,7 +77,7 @@ unfolding past_after run_of first_correct_of last_packet_frame first_unfinished_
 emitted t [] = grind (arith, nat_tests)
 emitted t (e ∷ es) = grind (arith, nat_tests, invalidation_after, (emitted (Emits e ∷ t) es))
 
--- If the run continues after an event, it existed before, and no frame is in doubt.
+-- If the run continues after an event, it existed before, and no frame is invalidated.
 pub run_was_there : (run d : Option ℕ) (from : ℕ) → kept run d ≡ Some from
     → (run ≡ Some from) × (d ≡ None)
 run_was_there run d from e = grind (arith, nat_tests)
@@ -111,8 +110,8 @@ module _ (P : ℕ → ℕ → Type 0) where
       → EachTrusted P (trusted run whole x)
   each_put run whole x h1 = grind (arith, nat_tests, ltb-true)
 
-  -- If the trusted frames of the events, and the frames of the run up to the frame in doubt, have
-  -- the property P, so have the trusted frames of the steps with these events.
+  -- If the trusted frames of the events, and the frames of the run up to the invalidated frame,
+  -- have the property P, so have the trusted frames of the steps with these events.
   each_emitted : (t : List CheckStep) (es : List Event) → EachTrusted P es
       → ((x from w : ℕ)
       → invalidation_of t es ≡ Some x

@@ -1,7 +1,6 @@
 -- If two sets of criteria agree whenever the first set knows the expected page, and it knew the
--- expected page at the last frames, an end is late for both sets or for neither (`late_same`), and
--- if no fault is active for the first set, no fault is active for the second (`equal_fault_free`).
--- Used for `law_of_equal_trust`.
+-- expected page at the last frames, an end is late for both sets or for neither, and if no fault is
+-- active for the first set, no fault is active for the second.
 use Rattle.std.proofs.lemmas.Bool.Decides.{nat_tests}
 use Rattle.std.proofs.Common.{◌≡◌, ℕ, ◌+◌, ◌-◌, ◌≤◌, inl, inr, Bool, true, false}
 use Rattle.std.proofs.Common.{◌&&◌, ◌||◌, ◌==◌, nat_le, Option, Some, None, length, refl, sym, ap}

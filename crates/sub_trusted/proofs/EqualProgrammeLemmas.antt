@@ -1,6 +1,6 @@
 -- A programme with additional subtitles has the same expected page at the frames at which these
--- subtitles are not expected (`equal_with`); so frames that are trusted without the additional
--- subtitles are trusted with them (`law_of_equal_trust`).
+-- subtitles are not expected; so frames that are trusted without the additional subtitles are
+-- trusted with them.
 use Rattle.std.proofs.lemmas.Bool.Decides.{nat_tests}
 use Rattle.std.proofs.Common.{◌≡◌, ℕ, ◌+◌, inl, inr, Bool, false}
 use Rattle.std.proofs.Common.{List, [], ◌∷◌, find, Option, option_map}

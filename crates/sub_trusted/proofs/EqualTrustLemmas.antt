@@ -1,6 +1,5 @@
--- Frames that are reported as trusted although subtitles were refused are reported by all criteria
--- that agree whenever the expected page is known (`reported_in_other`). Used for
--- `law_of_equal_trust`.
+-- Frames that are reported as trusted although subtitles were rejected are reported by all criteria
+-- that agree whenever the expected page is known.
 use Rattle.std.proofs.lemmas.Bool.Decides.{nat_tests}
 use Rattle.std.proofs.Common.{◌≡◌, ◌≢◌, ℕ, ◌-◌, ◌<◌, ◌≤◌, inl, inr, true}
 use Rattle.std.proofs.Common.{List, [], Contains, Option, Some, length, refl, ap, ◌∙◌}

@@ -1,6 +1,5 @@
--- A property of all frames that events report as trusted (`EachTrusted`) is kept when the ends of
--- runs of skipped PES packets are added (`each-announced`). Used for `law_of_trusted` and
--- `law_of_trusted_repeats`.
+-- A property of all frames that events report as trusted is kept when the ends of runs of skipped
+-- PES packets are added.
 use Rattle.std.proofs.lemmas.Bool.Decides.{nat_tests}
 use Rattle.std.proofs.Common.{◌≡◌, ℕ, Bool, true, false, List, [], ◌∷◌, ◌++◌, All, Contains}
 use Rattle.std.proofs.Common.{zero, suc, arith, cond}

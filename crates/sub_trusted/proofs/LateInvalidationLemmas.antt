@@ -1,7 +1,5 @@
--- Shows which frame is no longer trusted after the reports about a frame's packets
--- (`packets_invalidation`), its number (`order_at`), and its end, which may be late
--- (`end_invalidation`). The frame from which on an end is unfinished is not after that end
--- (`seen_unfinished_at_most`). Used for `law_of_trusted` and `law_of_trusted_repeats`.
+-- Shows which frame is no longer trusted after the reports about a frame's packets, its number, and
+-- its end, which may be late. The frame from which on an end is unfinished is not after that end.
 use Rattle.std.proofs.lemmas.Bool.Decides.{nat_tests}
 use Rattle.std.proofs.Common.{◌≡◌, ℕ, zero, suc, ◌+◌, ◌-◌, ◌<◌, ◌≤◌, Bool, true, false, cond, List}
 use Rattle.std.proofs.Common.{[], ◌∷◌, ◌++◌, map, take, get_or, length, max, Option, Some, None}
@@ -71,8 +69,8 @@ keeps_rules_append w before xs ys one two k l r needed = elim (cases_lt k (lengt
 module _ (t : List CheckStep) (w : Watched) (frame from : ℕ)
     (before packets : List (List ℕ))
   where
-    -- The frame of a packet is no longer trusted exactly if the packet breaks a rule that a
-    -- receiver depends on.
+    -- The frame of a packet is no longer trusted if and only if the packet breaks a rule that
+    -- affects receivers.
     rule_invalidation : (k : ℕ) (r : PacketRule)
         → invalidated_by t (Reported (packet_fault r frame k)) ≡ cond (is_needed r) (Some frame)
         None
@@ -92,8 +90,8 @@ module _ (t : List CheckStep) (w : Watched) (frame from : ℕ)
         (packet_found (invalidated_by t) (λ x. x ≡ frame) frame (from + k)
         (λ r x e. let is = rule_invalidation (from + k) r in grind (arith, nat_tests)) w _ _)
 
-    -- The reports of packets cast doubt on their frame exactly if a packet breaks a rule that a
-    -- receiver depends on.
+    -- The reports of packets invalidate their frame if and only if a packet breaks a rule that
+    -- affects receivers.
     pub packets_invalidation :
         Finds (invalidated_by t) (λ x. x ≡ frame) (KeepsAll w before packets)
         (KeepsAll w before packets)
@@ -154,14 +152,14 @@ pub order_rises : (g : Criteria) (frames : Transmission) (i : ℕ)
 unfolding order_events is_order reports_order_fault
 order_rises g frames i none some = grind (arith, nat_tests)
 
--- A skipped PES packet casts doubt on the frame of the PES packet before it.
+-- A skipped PES packet invalidates the frame of the PES packet before it.
 pub skipped_at : (t : List CheckStep) (pes : ℕ) (u : Unread)
     → first_found (invalidated_by t) (Reported (unread_fault pes (Some u)) ∷ []) ≡ Some
     (last_packet_frame t)
 unfolding invalidated_by
 skipped_at t pes u = grind (arith, nat_tests)
 
--- The report of a rule casts doubt on the frame of its end or, if the page is overdue, on the frame
+-- The report of a rule invalidates the frame of its end or, if the page is overdue, on the frame
 -- from which on it has been wrong.
 end_rule_invalidates : (t : List CheckStep) (rule : EndRule) (f : ℕ) (cell : ℕ × ℕ)
     → invalidated_by t (Reported (end_fault rule f cell)) ≡ Some (unwrap_or (late_of t) f)

@@ -1,7 +1,6 @@
 -- If the packets that were read are on air in a range of frames, and its first frame has a header
--- that begins the text of the page, the sufficient conditions hold for the packets on air, too
--- (`sufficient_in_other`), and the frames are finished in time (`finishes_in_other`). Used for
--- `law_of_trusted` and `law_of_trusted_repeats`.
+-- that erases the page, the sufficient conditions hold for the packets on air, too, and the frames
+-- are finished in time.
 use Rattle.std.proofs.lemmas.Bool.Decides.{nat_tests}
 use Rattle.std.proofs.Common.{◌≡◌, ℕ, zero, suc, ◌+◌, ◌-◌, ◌≤◌, Bool, true, List, []}
 use Rattle.std.proofs.Common.{◌∷◌, ◌++◌, drop, find, option_map, unwrap_or, refl, sym, ap, ap₂, ◌∙◌}
@@ -35,7 +34,7 @@ use Rattle.sub_trusted.specs.TrustedFrames.{IsAsRead}
 use Rattle.sub_laws.proofs.TransmissionLemmas.{packets_between-split, packets_between-void}
 
 module _ (keeps : Bool) (kind_of : List ℕ → PacketKind) where
-  -- The packets before the last header that begins the text do not change the text.
+  -- The packets before the last header that erases the page do not change the text.
   from-later : (before later : List (List ℕ))
       → holds_beginning keeps kind_of later ≡ true
       → from_beginning keeps kind_of (before ++ later) ≡ from_beginning keeps kind_of later

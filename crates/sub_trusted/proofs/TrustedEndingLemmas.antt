@@ -1,5 +1,5 @@
 -- The trusted frames that the steps at the end of a frame report have the property of trusted
--- frames (`ending`). Used for `law_of_trusted` and `law_of_trusted_repeats`.
+-- frames.
 use Rattle.std.proofs.lemmas.Bool.Decides.{nat_tests}
 use Rattle.std.proofs.Common.{◌≡◌, ℕ, suc, ◌-◌, ◌<◌, ◌≤◌, ◌⊎◌, inl, inr, Bool, true, false, ◌&&◌}
 use Rattle.std.proofs.Common.{List, [], ◌∷◌, ◌++◌, length, map, Option, Some, None, is_some, refl}

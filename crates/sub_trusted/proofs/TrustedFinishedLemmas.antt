@@ -1,5 +1,4 @@
--- If `within` is not 0, at least one of the trusted frames is finished (`finished_there`). Used for
--- `law_of_trusted_repeats`.
+-- If `within` is not 0, at least one of the trusted frames is finished.
 use Rattle.std.proofs.Common.{◌≡◌, ℕ, ◌-◌, ◌<◌, ◌≤◌, ◌==◌, inl, inr, false, None, length, drop}
 use Rattle.std.proofs.Common.{Bool, Option, sym, ap, ◌∙◌, arith}
 use Rattle.std.proofs.lemmas.Bool.{cases_lt}

@@ -1,6 +1,5 @@
--- The trusted frames of the rising part have no report that a receiver depends on (`unreported`),
--- the page is open at none of their ends (`closed`), and the first trusted frame has a header that
--- begins the text (`begins_with_header`). Used for `law_of_trusted` and `law_of_trusted_repeats`.
+-- The trusted frames of the rising part have no fault that affects receivers, the page is open at
+-- none of their ends, and the first trusted frame has a header that erases the page.
 use Rattle.std.proofs.lemmas.Bool.Decides.{nat_tests}
 use Rattle.std.specs.Bool.{Decides}
 use Rattle.std.proofs.Common.{◌≡◌, ℕ, zero, suc, ◌+◌, ◌-◌, ◌<◌, ◌≤◌, inl, inr, true, false, length}

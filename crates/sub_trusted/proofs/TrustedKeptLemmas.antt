@@ -1,8 +1,6 @@
--- The tracker's state for clean frames, whatever `within` is: after frames that have ended
--- (`Keeps`), before the next frame (`GapFramesEnded`), while it is sent (`Opens`), and at its end
--- (`Closed`). The frames that are reported as trusted are those of a run (`passes_before`); a run
--- continues with a frame (`run_more`) or begins with it (`run_new`). Used for `law_of_trusted` and
--- `law_of_trusted_repeats`.
+-- The tracker's state for clean frames, whatever `within` is: after frames that have ended, before
+-- the next frame, while it is sent, and at its end. The frames that are reported as trusted are
+-- those of a run; a run continues with a frame or begins with it.
 use Rattle.std.proofs.lemmas.Bool.Decides.{nat_tests}
 use Rattle.std.proofs.Common.{◌≡◌, ℕ, suc, ◌+◌, ◌-◌, ◌<◌, ◌≤◌, ◌⊎◌, inl, inr, Bool, true, false}
 use Rattle.std.proofs.Common.{◌&&◌, ◌==◌, ◌∷◌, nat_lt, List, length, Option, Some, None, is_some}
@@ -76,12 +74,12 @@ module _ (g : Criteria) (frames : Transmission) where
     pub high : w ≤ to
     pub whole : IsCorrectFrom from w
 
-  -- The frame `from` is after all of the first `base` frames of the list.
+  -- The frame `from` is after all of the first `base` frames of the transmission.
   abbrev pub IsAfterFrames : ℕ → ℕ → Type 0
   IsAfterFrames base from = (i : ℕ) → i < base → frame_at frames i < from
 
-  -- The frames `from` to `to` may stay; they are after the first `base` frames of the list, and if
-  -- all frame numbers increase they are before frame `late`.
+  -- The frames `from` to `to` may stay; they are after the first `base` frames of the transmission,
+  -- and if all frame numbers increase they are before frame `late`.
   pub record MayStayBetween (base late from to : ℕ) : Type 0 where
     pub may_stay_correct : MayStayCorrect from to
     pub above : IsAfterFrames base from
@@ -121,7 +119,7 @@ module _ (g : Criteria) (frames : Transmission) where
   calm t u es emitted from
       is = (run_was_there (run_of t) (invalidation_of t es) from (sym emitted.run_eq ∙ is)).1
 
-  -- An end up to which at most n frames were sent is before frame n of the list.
+  -- An end up to which at most n frames were sent is before frame n of the transmission.
   pub end_under : (n : ℕ) → RiseTo frames (suc n) → (m f : ℕ) → IsEnd frames m f → m ≤ n
       → f < frame_at frames n
   end_under n rises m f (some, within, inl is) l =
@@ -131,7 +129,7 @@ module _ (g : Criteria) (frames : Transmission) where
   end_under n rises m f (some, within, inr (there, high, low)) l =
       let up = rises_to frames (suc n) rises m n (omega arith) (omega arith) in omega arith
 
-  -- An end up to which fewer than n frames were sent is not after frame n - 1 of the list.
+  -- An end up to which fewer than n frames were sent is not after frame n - 1 of the transmission.
   pub end_few : (n : ℕ) → RiseTo frames n → (m f : ℕ) → IsEnd frames m f → m < n
       → f ≤ frame_at frames (n - 1)
   end_few n rises m f (some, within, inl is) l =
@@ -322,7 +320,7 @@ module _ (g : Criteria) (frames : Transmission) (base : ℕ) where
           let orders = orders_invalidated t es in
           grind (arith, nat_tests)
 
-  -- The first k frames of the day before frame n of the list have ended.
+  -- The first k frames before frame n of the transmission have ended.
   pub record GapFramesEnded (n k : ℕ) (t : List CheckStep) : Type 0 where
     pub keeps : Keeps n (latest frames n + suc k) t
     pub base_at_most : base ≤ n
@@ -377,7 +375,7 @@ module _ (g : Criteria) (frames : Transmission) (base : ℕ) where
           (subst (IsEnd frames n) at (gap_end g frames n k there (omega arith) h)) (le_refl n)
           (omega arith) (omega arith)
 
-  -- The first n frames of the list have ended, and no later frame of the day has.
+  -- The first n frames of the transmission have ended, and no later frame has.
   pub record Closed (n : ℕ) (t : List CheckStep) : Type 0 where
     pub keeps : Keeps n (frame_at frames (n - 1) + 1) t
     pub base_at_most : base ≤ n
@@ -392,8 +390,8 @@ module _ (g : Criteria) (frames : Transmission) (base : ℕ) where
         → back_of t ≡ Some r
         → (0 < n) × (r ≤ frame_at frames (n - 1))
 
-  -- The first n frames of the list have ended and frame n is being sent, with the given packets so
-  -- far.
+  -- The first n frames of the transmission have ended and frame n is being sent, with the given
+  -- packets so far.
   pub record Opens (n : ℕ) (packets : List (List ℕ)) (t : List CheckStep) : Type 0 where
     pub keeps : Keeps n (frame_at frames n) t
     pub base_at_most : base ≤ suc n

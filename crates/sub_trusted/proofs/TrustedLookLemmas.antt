@@ -1,7 +1,5 @@
--- The tracker's state for the steps at the end of a frame (`ChecksFrameEnd`, `WrongSince`); the
--- reports at an end may be taken as those after its step (`with_end`). Used for `law_of_trusted`
--- and
--- `law_of_trusted_repeats`.
+-- The tracker's state for the steps at the end of a frame; the reports at an end may be taken as
+-- those after its step.
 use Rattle.std.proofs.lemmas.Bool.Decides.{nat_tests}
 use Rattle.std.proofs.Common.{◌≡◌, ℕ, ◌≤◌, true, false, not}
 use Rattle.std.proofs.Common.{◌==◌, ◌&&◌, None, if◌then◌else◌, List, [], ◌∷◌}

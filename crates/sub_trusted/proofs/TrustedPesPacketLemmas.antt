@@ -1,6 +1,5 @@
--- Trusted frames of PES packets may stay on air, whatever `within` is (`all_stay_within`), by the
--- reports from each PES packet on (`each_passes`, `all_pass`). Used for `law_of_trusted` and
--- `law_of_trusted_repeats`.
+-- Trusted frames of PES packets may stay on air, whatever `within` is, by the reports from each PES
+-- packet on.
 use Rattle.std.proofs.lemmas.Bool.Decides.{nat_tests}
 use Rattle.std.proofs.Common.{◌≡◌, ℕ, suc, ◌+◌, ◌≤◌, Bool, true, false, not, ◌||◌}
 use Rattle.std.proofs.Common.{List, [], ◌∷◌, ◌++◌, length, map, Option, Some, is_some, refl, sym}

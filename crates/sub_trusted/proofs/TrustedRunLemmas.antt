@@ -1,5 +1,4 @@
--- The properties of a run of clean frames (`Run`), and of the frames of a run that may stay on air
--- (`Stays`). Used for `law_of_trusted` and `law_of_trusted_repeats`.
+-- The properties of a run of clean frames, and of the frames of a run that may stay on air.
 use Rattle.std.proofs.Common.{◌≡◌, ℕ, ◌+◌, ◌-◌, ◌<◌, ◌≤◌, ◌⊎◌, true, false, length}
 use Rattle.sub_rules.specs.Events.{active_faults_at}
 use Rattle.sub_rules.specs.FrameRules.{Criteria, end_frame, frame_at, packets_of_frame}
@@ -13,7 +12,7 @@ use Rattle.sub_trusted.specs.TrustedFrames.{BeginsText}
 
 module _ (g : Criteria) (frames : Transmission) where
   -- No fault is active at any end from frame `from` up to frame x, which is excluded, with at most
-  -- n frames of the list.
+  -- n frames of the transmission.
   abbrev pub EndsFaultFree : ℕ → ℕ → ℕ → Type 0
   EndsFaultFree n from x =
       (m f : ℕ)
@@ -23,7 +22,7 @@ module _ (g : Criteria) (frames : Transmission) where
       → f < x
       → has_no_active_faults (active_faults_at g frames m f) ≡ true
 
-  -- The frames j to n - 1 of the list break no rule that a receiver depends on.
+  -- The frames j to n - 1 of the transmission break no rule that a receiver depends on.
   abbrev pub PacketsFaultFree : ℕ → ℕ → Type 0
   PacketsFaultFree n j =
       (r : PacketRule) (i k : ℕ)
@@ -33,8 +32,8 @@ module _ (g : Criteria) (frames : Transmission) where
       → k < length (packets_of_frame frames i)
       → breaks r g.watched (before frames i k) (packet_at frames i k) ≡ false
 
-  -- A run of clean frames up to frame n - 1 of the list, which begins with a header that begins the
-  -- text, in frame `from`.
+  -- A run of clean frames up to frame n - 1 of the transmission, which begins with a header that
+  -- erases the page, in frame `from`.
   pub record Run (n from : ℕ) : Type 0 where
     pub j : ℕ
     pub below : j < n

@@ -1,6 +1,5 @@
 -- No skipped PES packet may have been sent in trusted frames: the frame of the PES packet before it
--- is no trusted frame, if frame numbers increase up to it (`skipped_outside`). Used for
--- `law_of_trusted` and `law_of_trusted_repeats`.
+-- is no trusted frame, if frame numbers increase up to it.
 use Rattle.std.proofs.lemmas.Bool.Decides.{nat_tests}
 use Rattle.std.proofs.Common.{◌≡◌, ℕ, suc, ◌+◌, ◌-◌, ◌<◌, ◌≤◌, ◌⊎◌, inl, inr, Bool, true, false}
 use Rattle.std.proofs.Common.{◌==◌}

@@ -1,5 +1,3 @@
--- At the end of the file, the trusted frames of the last run are reported, and then the last
--- events.
 use Rattle.std.proofs.Common.{◌++◌, [], ◌∷◌, length, ap, map, refl, sym}
 use Rattle.sub_rules.specs.PesPacketEvents.{closing_of_pes_packets}
 use Rattle.sub_rules.specs.Trusted.{CheckStep}

@@ -1,4 +1,3 @@
--- The last frame ends if its end is still open, and the events at the end of the file follow.
 use Rattle.std.proofs.Common.{refl}
 use Rattle.sub_io.proofs.ReportingLemmas.{ReportsSome-trans}
 use Rattle.sub_checker.proofs.ReporterLemmas.{relays_two}

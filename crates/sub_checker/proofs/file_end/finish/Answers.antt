@@ -1,4 +1,3 @@
--- The events at the end of the file are reported, and then the end of a run of skipped PES packets.
 use Rattle.std.proofs.Common.{◌∙◌, ◌++◌, ap, sym, List}
 use Rattle.sub_io.proofs.ReportingLemmas.{ReportsSome-trans}
 use Rattle.sub_rules.specs.PesPacketEvents.{ended_run}

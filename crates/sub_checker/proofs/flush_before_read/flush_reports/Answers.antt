@@ -1,5 +1,4 @@
--- Events stay reported, and the guarded device is stopped if the device could not be flushed:
--- keeps-reported, flush_stopped.
+-- Flushing reports no event again. If it fails, the check is stopped.
 use Rattle.std.proofs.Common.{◌∙◌, sym}
 use Rattle.sub_io.proofs.FlushingLemmas.{keeps-reported, not_ok}
 use Rattle.sub_checker.proofs.FusedAudienceLemmas.{flush_stopped}

@@ -1,4 +1,3 @@
--- The steps of a valid PES packet are reported with the Teletext packets that the reader lends.
 use Rattle.std.proofs.Common.{◌∙◌, ap, subst, sym}
 use Rattle.sub_rules.specs.PacketRules.{packets_of_units}
 use Rattle.sub_checker.specs.NextPesPackets.{IsRepeatSending}

@@ -1,4 +1,5 @@
--- Each exit of the loop over PES packets shows that the events reported are those of the file.
+-- Whenever the loop over PES packets ends, the device has received the events of the file or a
+-- prefix of them.
 use Rattle.std.proofs.Common.{◌≡◌, ◌∙◌, ◌∷◌, [], ap, refl, rules, sym, subst, arith, List}
 use Rattle.std.proofs.Common.{Ok, Option, Result, Some, ℕ, length, take}
 use Rattle.sub_checker.specs.LastEvents.{ending_fault}
@@ -141,8 +142,8 @@ returns-in_default-clause-exact g c = λ bytes reported pes_packets unread reads
     (c.finish-in_default.ensures.counts criteria (frames_sent criteria i.0) i.2 i.3.keeps) in
     search rules
 
--- If the audience stops the check while a PES packet is reported, a prefix of the events was
--- reported.
+-- If the device stops the check while a PES packet is checked, it has received a prefix of the
+-- events.
 pub returns-then-reporter-clause-exact : goal.returns-then-reporter-clause-exact
 returns-then-reporter-clause-exact g c = λ bytes reported pes_packets unread reads.
     let inv = c.pes_packets.invariant in
@@ -163,7 +164,7 @@ returns-then-reporter-clause-exact g c = λ bytes reported pes_packets unread re
     so_far received.cut in
     search rules
 
--- The events reported for a PES packet are a list of events, even if the file's bytes are unknown.
+-- The events reported for a PES packet form a list, even if the bytes of the file are unknown.
 pub returns-then-reporter-clause-some : goal.returns-then-reporter-clause-some
 returns-then-reporter-clause-some g c =
     let inv = c.pes_packets.invariant in
@@ -259,7 +260,8 @@ pes_packets-preserved g c =
           );
     }
 
--- If the audience stops the check before the next PES packet, a prefix of the events was reported.
+-- If the device stops the check before the next PES packet is read, it has received a prefix of the
+-- events.
 pub returns-then-is_err-clause-exact : goal.returns-then-is_err-clause-exact
 returns-then-is_err-clause-exact g c = λ bytes reported pes_packets unread reads.
     let i = c.pes_packets.invariant.reported pes_packets unread bytes reported reads in

@@ -1,4 +1,4 @@
--- After `pes` PES packets the checker's state agrees with these packets, and all their events were
+-- After `pes` PES packets, the checker's state agrees with them, and all their events were
 -- reported.
 use Rattle.std.proofs.Common.{◌≡◌, ◌≤◌, ◌-◌, ℕ, List, None, Option, Some, false}
 use Rattle.ttx_pes.specs.Reading.{most_packets}

@@ -1,4 +1,3 @@
--- The fault of a skipped PES packet is reported with the number of that packet.
 use Rattle.std.proofs.Common.{refl, [], ◌∷◌}
 use Rattle.sub_rules.specs.Trusted.CheckStep.{AtPes}
 use Rattle.sub_checker.proofs.ReporterLemmas.{relays_step, relays_two}

@@ -1,5 +1,3 @@
--- The changes of the first remaining rule are reported, and then those of the others:
--- reported_first.
 use Rattle.std.proofs.Common.{◌≡◌, ℕ, ◌+◌, ◌<◌, ◌++◌, List, arith, ap, drop, drop-cons}
 use Rattle.std.proofs.Common.{flat_map, get_or, length, suc, ◌∙◌}
 use Rattle.sub_io.proofs.ReportingLemmas.{Reports-none, Reports-trans}

@@ -1,5 +1,5 @@
--- `first_known_from` returns the right frame in each case: no subtitle was refused, or the expected
--- page is unknown now, was unknown before, or was always known.
+-- The result is correct in each case: no subtitle was rejected, or the expected page is unknown
+-- now, was unknown before, or was always known.
 use Rattle.std.proofs.Common.{◌∙◌, sym, arith}
 use Rattle.sub_checker.proofs.UndecidedLemmas.{due_known_up_to_last, known_never}
 use Rattle.sub_checker.proofs.UndecidedLemmas.{due_known_without_refusals, due_unknown_after_day}

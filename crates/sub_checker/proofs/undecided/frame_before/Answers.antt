@@ -1,4 +1,4 @@
--- Between two page changes, whether the expected page is known stays the same: undecided_same.
+-- The expected page is known or unknown in all frames between two of its changes.
 use Rattle.std.proofs.Common.{◌≡◌, ℕ, arith, subst, sym}
 use Rattle.stl_rows.specs.DuePage.{IsEdge}
 use Rattle.stl_rows.specs.Programme.{ProgrammeValue}

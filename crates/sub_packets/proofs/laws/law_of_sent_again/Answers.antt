@@ -1,4 +1,3 @@
--- Proves `law_of_sent_again` from SentAgainLemmas.
 use Rattle.sub_packets.proofs.SentAgainLemmas.{law_of_sent_again}
 use Rattle.sub_packets.proofs.laws.law_of_sent_again.Goals as goal
 

@@ -1,4 +1,3 @@
--- `has_wrong_address` decides whether both address bytes are code words: PacketRuleLemmas.
 use Rattle.sub_packets.proofs.PacketRuleLemmas.{wrong_address}
 use Rattle.sub_packets.proofs.packet_rules.has_wrong_address.Goals as goal
 

@@ -1,4 +1,3 @@
--- `has_wrong_word` decides whether all eight coded header bytes are code words: PacketRuleLemmas.
 use Rattle.sub_packets.proofs.PacketRuleLemmas.{wrong_header}
 use Rattle.sub_packets.proofs.packet_rules.has_wrong_word.Goals as goal
 

@@ -1,5 +1,3 @@
--- The comparison of subcodes agrees with the rule, with or without an earlier header:
--- PacketRuleLemmas.
 use Rattle.std.proofs.Common.{sym, ◌∙◌}
 use Rattle.sub_packets.proofs.PacketRuleLemmas.{same_none, same_some}
 use Rattle.sub_packets.proofs.packet_rules.is_same_subcode.Goals as goal

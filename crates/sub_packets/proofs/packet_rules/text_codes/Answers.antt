@@ -1,4 +1,3 @@
--- The loop of `text_codes` computes one more code of the row: CodesLemmas.
 use Rattle.std.proofs.lemmas.Bool.Decides.{nat_tests}
 use Rattle.std.proofs.Common.{arith}
 use Rattle.std.proofs.lemmas.List.{get_or-drop, length-drop}

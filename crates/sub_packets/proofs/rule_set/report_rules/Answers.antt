@@ -1,4 +1,3 @@
--- The loop of `report_rules` reports the first remaining rule if it is broken: RuleSetLemmas.
 use Rattle.std.proofs.Common.{◌≡◌, ap, sym, ◌∙◌, arith, eqb-true}
 use Rattle.sub_io.proofs.ReportingLemmas.{Reports-none, Reports-trans}
 use Rattle.sub_packets.proofs.RuleSetLemmas.{no_rules, reported_next}

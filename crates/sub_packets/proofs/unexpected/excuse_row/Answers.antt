@@ -1,4 +1,4 @@
--- A row of spaces does not change when expected codes are replaced by spaces: blank_row_stays.
+-- A row of spaces does not change when expected codes are replaced by spaces.
 use Rattle.std.proofs.Common.{arith}
 use Rattle.std.proofs.lemmas.Bool.Decides.{nat_tests}
 use Rattle.sub_packets.proofs.UnexpectedLemmas.{blank_row_stays}

@@ -1,4 +1,4 @@
--- Between two page changes the expected page stays the same: due_same.
+-- The expected page stays the same between two of its changes.
 use Rattle.std.proofs.Common.{arith}
 use Rattle.sub_packets.proofs.UnexpectedLemmas.{due_same}
 use Rattle.sub_packets.proofs.unexpected.frame_before.Goals as goal

@@ -1,4 +1,4 @@
--- The loop of `left_of` goes back from frame to frame: UnexpectedLemmas.
+-- The loop goes back to each earlier expected page.
 use Rattle.std.proofs.Common.{arith}
 use Rattle.sub_plan.specs.Schedule.{due_in}
 use Rattle.sub_packets.proofs.UnexpectedLemmas.{left_all, left_first, left_more}

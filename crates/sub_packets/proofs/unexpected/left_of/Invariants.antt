@@ -1,4 +1,4 @@
--- `left` is the remaining page for the frames from `at` to `frame`.
+-- No code of `left` was expected in its cell in the frames from `at` to `frame`.
 use Rattle.std.proofs.Common.{◌+◌, ◌-◌, ◌≤◌}
 use Rattle.sub_packets.specs.Unexpected.{IsLeft}
 use Rattle.sub_plan.specs.Schedule.{due_in}

@@ -1,5 +1,3 @@
--- The reader's result is the next PES packet, or says that no packet is left, by
--- PesPacketFileLemmas.
 use Rattle.std.proofs.Common.{◌≡◌, ◌∙◌, refl, sym, ap, true, false, Some, List, ℕ, arith}
 use Rattle.std.proofs.lemmas.Bool.Decides.{nat_tests}
 use Rattle.ttx_pes.specs.Fault.{is_of_pes_packet}

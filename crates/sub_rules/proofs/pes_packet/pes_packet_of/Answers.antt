@@ -1,4 +1,3 @@
--- The PTS of a PES packet gives a frame, or the packet is skipped.
 use Rattle.std.proofs.Common.{◌∙◌, refl, sym, ap, arith}
 use Rattle.std.proofs.lemmas.Bool.Decides.{nat_tests}
 use Rattle.sub_plan.specs.FrameTime.{clock_of}

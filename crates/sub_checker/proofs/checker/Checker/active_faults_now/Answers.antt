@@ -1,4 +1,4 @@
--- If `within` is 0, only the current frame decides whether the expected page is known: was-once.
+-- If `within` is 0, only the expected page of the current frame must be known.
 use Rattle.std.proofs.Common.{◌∙◌}
 use Rattle.sub_checker.specs.Checker.{is_undecided_by}
 use Rattle.sub_checker.proofs.UndecidedLemmas.{was-once}

@@ -1,5 +1,3 @@
--- The checker moves to the first frame, and reports a fault if a subtitle was expected before this
--- frame.
 use Rattle.std.proofs.Common.{sym, subst}
 use Rattle.sub_checker.specs.CheckedFrames.{AfterEnd, BeforePackets}
 use Rattle.sub_checker.proofs.CheckedFramesLemmas.{arrives_first, first_reaching}

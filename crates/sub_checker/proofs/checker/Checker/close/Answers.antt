@@ -1,4 +1,3 @@
--- After the last frame, the active faults end, and the last fault follows.
 use Rattle.sub_checker.proofs.LastEventsLemmas.{closing_parts}
 use Rattle.sub_checker.proofs.EventPartsLemmas.{reported_two}
 use Rattle.sub_checker.proofs.checker.Checker.close.Goals as goal

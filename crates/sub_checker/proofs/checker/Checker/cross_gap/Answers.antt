@@ -1,4 +1,3 @@
--- The loop of `cross_gap` ends one frame of the day after another.
 use Rattle.std.proofs.Common.{◌+◌, ◌-◌, ◌<◌, ◌∙◌, ap, sym, subst, arith, refl}
 use Rattle.sub_rules.specs.Events.{latest}
 use Rattle.sub_rules.specs.PesPacketEvents.{steps_of_gap}

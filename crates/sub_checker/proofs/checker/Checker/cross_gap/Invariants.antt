@@ -1,5 +1,4 @@
--- The reporter relayed the steps of all frame ends so far, and the checker's state agrees with
--- these ends.
+-- The steps of all frame ends so far were reported, and the checker's state agrees with them.
 use Rattle.std.proofs.Common.{◌≡◌, ℕ, ◌+◌, ◌-◌, ◌<◌, ◌≤◌, List}
 use Rattle.sub_rules.specs.Events.{latest}
 use Rattle.sub_rules.specs.PesPacketEvents.{steps_of_gap}

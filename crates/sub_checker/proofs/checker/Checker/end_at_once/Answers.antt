@@ -1,4 +1,3 @@
--- If `within` is 0, the end of a frame reports exactly the changes of the active faults.
 use Rattle.sub_checker.proofs.FrameEndLemmas.{once_steps}
 use Rattle.sub_checker.proofs.ReporterLemmas.{relays_reported}
 use Rattle.sub_checker.proofs.checker.Checker.end_at_once.Goals as goal

@@ -1,4 +1,3 @@
--- After `end_open`, no frame end is left to be checked.
 use Rattle.std.proofs.Common.{◌-◌, ◌<◌, ◌∙◌, length, arith, ap, false}
 use Rattle.sub_checker.specs.Checker.{CheckerValue}
 use Rattle.sub_checker.proofs.AfterPacketsLemmas.{header_more}

@@ -1,4 +1,3 @@
--- The end of the last frame is checked if it was still open.
 use Rattle.std.proofs.Common.{◌∙◌, ap, sym}
 use Rattle.sub_checker.specs.Checker.{CheckerValue}
 use Rattle.sub_checker.proofs.BetweenPesPacketsLemmas.{pending_none}

@@ -1,5 +1,3 @@
--- The end of a frame reports a missing header of the first frame, and the changes of the active
--- faults.
 use Rattle.std.proofs.Common.{◌∙◌, suc, ap, map, refl, sym, subst}
 use Rattle.sub_rules.specs.Trusted.{CheckStep}
 use Rattle.sub_rules.specs.Trusted.CheckStep.{Emits}

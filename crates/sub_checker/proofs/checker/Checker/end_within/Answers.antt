@@ -1,5 +1,3 @@
--- If `within` is not 0, the end of a frame consists of its GoesBack and AtEnd steps and the
--- changes of the active faults.
 use Rattle.std.proofs.Common.{ap, refl}
 use Rattle.sub_checker.specs.Checker.{back_steps}
 use Rattle.sub_checker.proofs.FrameEndLemmas.{within_steps}

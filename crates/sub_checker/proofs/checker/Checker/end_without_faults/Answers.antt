@@ -1,5 +1,4 @@
--- A frame without faults reports no event; if `within` is not 0, its end has GoesBack and AtEnd
--- steps.
+-- A frame without faults has no events; if `within` is not 0, its end still has steps.
 use Rattle.std.proofs.Common.{arith, refl}
 use Rattle.sub_checker.proofs.FrameEndLemmas.{fault_free_once, fault_free_within}
 use Rattle.sub_checker.proofs.ReporterLemmas.{relays_back, relays_nothing, relays_step, relays_two}

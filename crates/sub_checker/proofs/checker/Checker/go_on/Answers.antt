@@ -1,4 +1,3 @@
--- A PES packet continues the last frame, or begins another frame.
 use Rattle.std.proofs.Common.{◌∙◌, ◌++◌, [], ◌∷◌, length, refl, sym, subst}
 use Rattle.sub_rules.specs.PacketRules.{packets_of_units}
 use Rattle.sub_rules.specs.Transmission.{SentFrame, Transmission}

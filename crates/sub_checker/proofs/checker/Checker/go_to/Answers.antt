@@ -1,5 +1,3 @@
--- Before the frame of a later PES packet, the order of frames is checked and the frames of the day
--- before it end.
 use Rattle.std.proofs.Common.{◌∙◌, ap, map, refl, sym, subst}
 use Rattle.sub_rules.specs.Trusted.CheckStep.{Emits}
 use Rattle.sub_checker.specs.CheckedFrames.{AfterEnd, BeforePackets}

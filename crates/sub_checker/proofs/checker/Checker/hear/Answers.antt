@@ -1,4 +1,3 @@
--- The checker receives packets of the current frame, and counts the headers of the page.
 use Rattle.std.proofs.Common.{◌∙◌, length, map, ap, sym, subst}
 use Rattle.sub_packets.specs.Listener.{KnowsLast, begins_frame}
 use Rattle.sub_rules.specs.Events.{packets_reported}

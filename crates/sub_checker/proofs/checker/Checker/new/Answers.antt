@@ -1,4 +1,3 @@
--- The state of a new checker agrees with a file of which no packet has been received.
 use Rattle.std.proofs.Common.{refl, arith}
 use Rattle.sub_checker.proofs.CheckedFramesLemmas.{BetweenPesPackets-none}
 use Rattle.sub_checker.proofs.checker.Checker.new.Goals as goal

@@ -1,4 +1,3 @@
--- The checker moves to the frame of the first PES packet, or of a later one.
 use Rattle.std.proofs.Common.{◌≡◌, ◌∙◌, ◌<◌, ℕ, ap, arith, sym, subst}
 use Rattle.sub_checker.specs.CheckedFrames.{AfterEnd, BeforePackets, reaching_steps}
 use Rattle.sub_checker.specs.Relay.{ReporterRelays}

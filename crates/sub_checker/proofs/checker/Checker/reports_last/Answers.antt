@@ -1,4 +1,3 @@
--- `reports_last` decides whether any event follows the last frame.
 use Rattle.std.proofs.lemmas.Bool.Decides.{nat_tests}
 use Rattle.std.proofs.Common.{◌≡◌, ◌∙◌, ◌||◌, Bool, ap, arith, false, is_some, not, true}
 use Rattle.sub_rules.specs.Trusted.{has_no_active_faults}

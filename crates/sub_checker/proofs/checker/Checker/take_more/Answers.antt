@@ -1,4 +1,3 @@
--- The checker receives more packets of the last frame.
 use Rattle.std.proofs.Common.{◌≡◌, ◌∙◌, ◌+◌, ◌-◌, ℕ, length, suc, map, ap, arith, subst, sym}
 use Rattle.std.proofs.lemmas.List.{length-map}
 use Rattle.sub_rules.specs.Events.{packets_reported}

@@ -1,5 +1,3 @@
--- The checker reaches the frame of a PES packet, receives its packets, and ends the frame if
--- `within` is 0.
 use Rattle.std.proofs.Common.{◌∙◌, ◌+◌, ◌-◌, ℕ, nat_lt, true, ap, refl, sym, subst, arith}
 use Rattle.std.proofs.lemmas.List.{length-map}
 use Rattle.sub_rules.specs.FrameRules.{Criteria, packets_before}

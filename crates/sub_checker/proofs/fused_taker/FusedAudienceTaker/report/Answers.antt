@@ -1,4 +1,3 @@
--- The event reaches the device, unless the device has stopped the check.
 use Rattle.std.proofs.Common.{◌∙◌, sym, refl}
 use Rattle.std.proofs.lemmas.Bool.{true≢false}
 use Rattle.sub_io.proofs.ReportingLemmas.{Reports-one}

@@ -1,4 +1,3 @@
--- Closing the reporter relays the trusted frames of the last run.
 use Rattle.sub_rules.specs.Trusted.CheckStep.{Closes}
 use Rattle.sub_checker.proofs.RelayLemmas.{relay_one}
 use Rattle.sub_checker.proofs.reporter.Reporter.close.Goals as goal

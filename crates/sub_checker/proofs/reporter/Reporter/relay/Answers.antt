@@ -1,4 +1,3 @@
--- Relaying an event reports first the trusted frames that the event ends.
 use Rattle.std.proofs.Common.{[], ◌∷◌, ◌++◌, ◌∙◌, subst, sym}
 use Rattle.sub_io.proofs.ReportingLemmas.{Reports-trans}
 use Rattle.sub_io.specs.Reporting.{Reports, first_alone}

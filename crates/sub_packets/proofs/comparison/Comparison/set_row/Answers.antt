@@ -1,4 +1,4 @@
--- The number of differing cells changes by the difference of the changed row.
+-- The number of wrong cells changes by the difference of the changed row.
 use Rattle.std.proofs.Common.{arith}
 use Rattle.ttx_page.proofs.DifferingLemmas.{row_le, rows_le, rows-set}
 use Rattle.sub_packets.proofs.comparison.Comparison.set_row.Goals as goal

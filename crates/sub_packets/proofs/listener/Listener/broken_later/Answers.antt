@@ -1,4 +1,3 @@
--- The kind of the packet decides which of the later rules it may break: PacketRuleLemmas.
 use Rattle.std.proofs.Common.{refl, sym, ◌∙◌, arith}
 use Rattle.std.proofs.lemmas.Bool.Decides.{nat_tests}
 use Rattle.sub_packets.proofs.PacketRuleLemmas.{later_ends, later_other, later_row, later_this}

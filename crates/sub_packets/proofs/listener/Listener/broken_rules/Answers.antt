@@ -1,5 +1,3 @@
--- The set of broken rules begins with the rules for all packets, followed by those for the packet's
--- kind: PacketRuleLemmas.
 use Rattle.std.proofs.Common.{arith}
 use Rattle.sub_packets.proofs.PacketRuleLemmas.{rules_are}
 use Rattle.sub_packets.proofs.listener.Listener.broken_rules.Goals as goal

@@ -1,4 +1,3 @@
--- The first unexpected cell is the first cell that `left_of` leaves: UnexpectedLemmas.
 use Rattle.std.proofs.Common.{MatchOption, ◌≡◌, sym, ◌∙◌, ap, arith, subst}
 use Rattle.ttx_page.specs.Differing.{differing}
 use Rattle.ttx_page.specs.Page.{DiffersFirst, Rows, blank}

@@ -1,4 +1,3 @@
--- `first_wrong` returns the first wrong cell of the stored page: WrongCellLemmas.
 use Rattle.std.proofs.lemmas.Bool.Decides.{nat_tests}
 use Rattle.std.proofs.Common.{arith, ◌≡◌, ◌∙◌, MatchOption, subst}
 use Rattle.ttx_page.specs.Page.{DiffersFirst, Rows}

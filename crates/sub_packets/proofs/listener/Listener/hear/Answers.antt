@@ -1,4 +1,3 @@
--- The listener's state agrees with the packets received after one more packet: ListenerLemmas.
 use Rattle.std.proofs.Common.{◌≡◌, true, [], ◌∷◌, ◌++◌, sym, ap, ◌∙◌, subst, arith}
 use Rattle.std.proofs.lemmas.Bool.Decides.{nat_tests}
 use Rattle.ttx_page.specs.PacketKind.{is_this_page}

@@ -1,4 +1,3 @@
--- Packets that broke no rule break no rule when they are sent again: SentAgainLemmas.
 use Rattle.std.proofs.Common.{length}
 use Rattle.sub_io.proofs.ReportingLemmas.{Reports-none}
 use Rattle.sub_rules.specs.PacketRules.{packets_of_units}

@@ -1,4 +1,3 @@
--- If the count of differing cells is 0, no cell of the stored page is wrong: WrongCellLemmas.
 use Rattle.std.proofs.Common.{sym}
 use Rattle.std.proofs.lemmas.Bool.{not-true}
 use Rattle.sub_packets.proofs.WrongCellLemmas.{wrong_eq}

@@ -1,4 +1,4 @@
--- The address and the header show that the packet need not be examined: SkippedLemmas.
+-- The address, or the page header, shows that the packet can be skipped.
 use Rattle.std.proofs.lemmas.Bool.{not-true}
 use Rattle.sub_packets.proofs.SkippedLemmas.{no_header_skipped, no_header_plain, skipped_header}
 use Rattle.sub_packets.proofs.SkippedLemmas.{skipped_packet}

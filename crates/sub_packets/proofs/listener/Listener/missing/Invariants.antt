@@ -1,5 +1,5 @@
--- The page `missing` has spaces in the rows that came, of those examined so far, and the expected
--- codes in all other rows.
+-- In the rows examined so far, `missing` has spaces in the rows that were sent; the other rows have
+-- the expected codes.
 use Rattle.std.proofs.Common.{◌≡◌, ℕ, ◌-◌, ◌<◌, ◌≤◌, cond, false, get_or}
 use Rattle.ttx_page.specs.Page.{IsCell, cell, space}
 use Rattle.sub_packets.proofs.listener.Listener.missing.Given as goal

@@ -1,4 +1,3 @@
--- A new listener's state agrees with the empty list of packets.
 use Rattle.std.proofs.Common.{refl, arith}
 use Rattle.sub_packets.proofs.ListenerLemmas.{state_of_no_packets}
 use Rattle.sub_packets.proofs.listener.Listener.new.Goals as goal

@@ -1,4 +1,3 @@
--- All packets from `from` up to the first one that has to be examined are always skipped.
 use Rattle.std.proofs.Common.{◌≡◌, inl, inr, arith}
 use Rattle.std.proofs.lemmas.Bool.{cases_lt}
 use Rattle.sub_packets.proofs.listener.Listener.next_heard.Goals as goal

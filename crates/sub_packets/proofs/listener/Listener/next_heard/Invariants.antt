@@ -1,4 +1,4 @@
--- Each packet that the loop of `next_heard` has passed can be skipped.
+-- Each packet examined so far can be skipped.
 use Rattle.std.proofs.Common.{ℕ, ◌≤◌, ◌<◌, [], get_or}
 use Rattle.sub_packets.specs.Listener.{IsAlwaysSkipped}
 use Rattle.sub_rules.specs.PacketRules.{packets_of_units}
