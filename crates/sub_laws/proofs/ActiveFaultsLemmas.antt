@@ -1,6 +1,4 @@
--- The active faults at the end of a frame are exactly the broken rules: the first wrong cell, an
--- exceeded repeat bound, an open page, an unknown expected page; whether any fault is active, and
--- rule by rule.
+-- The active faults at the end of a frame are exactly the broken rules.
 use Rattle.std.proofs.Common.{◌≡◌, ◌↔◌, ℕ, zero, suc, ◌+◌, ◌-◌, ◌<◌, ◌≤◌, Bool, true, false, []}
 use Rattle.std.proofs.Common.{length, take, Option, Some, None, refl, sym, subst, arith, not, ◌||◌}
 use Rattle.std.proofs.Common.{◌&&◌, ◌==◌, ◌∙◌, ap, get_or, is_some, option_map, inl, inr, ◌⊎◌}
@@ -141,7 +139,7 @@ module _ (g : Criteria) (frames : Transmission) (n f : ℕ) where
   is_wrong row column =
       not (is_right g.watched.keeps g.watched.page (packets_before frames n) (g.due f) row column)
 
-  -- The first wrong cell, whether the expected page is known or not.
+  -- The first cell that differs from the expected page, whether or not that page is known.
   abbrev other_cell : Option (ℕ × ℕ)
   other_cell = wrong_after g.watched.keeps g.watched.page (packets_before frames n) (g.due f)
 
@@ -205,8 +203,8 @@ module _ (g : Criteria) (frames : Transmission) (n f : ℕ) where
   unfolding is_gap
   gap_decided l = let near = near_decided n l in grind (arith, nat_tests)
 
-  -- One of the first m frames of the transmission is after f, or fewer than `pace` frames before
-  -- it.
+  -- One of the first m frames of the transmission is less than `pace` frames before frame f, or
+  -- after it.
   abbrev IsNear : ℕ → ℕ → Type 0
   IsNear pace m = (j : ℕ) × (j < m) × (f < frame_at frames j + pace)
 
@@ -251,7 +249,7 @@ module _ (g : Criteria) (frames : Transmission) (n f : ℕ) where
             λ h. let near = near_latest pace (suc m) (h pace is) in grind (arith, nat_tests),
           )
 
-  -- If the expected page is known at the last m frames up to f, it is known at each of them.
+  -- If the expected page is known in the last m frames up to frame f, it is known in each of them.
   pub due_known_before : (first m : ℕ) → was_undecided g.undecided first f m ≡ false
       → (k : ℕ) → k ≤ f → f ≤ k + m → (first ≤ k) ⊎ (k ≡ f)
       → g.undecided k ≡ false

@@ -1,4 +1,4 @@
--- The tests of the checker decide each rule for a packet, and all rules together.
+-- The tests of the checker decide the rules for packets.
 use Rattle.std.proofs.Common.{◌≡◌, ℕ, zero, suc, ◌<◌, ◌≤◌, inl, inr, Bool, true, false, not}
 use Rattle.std.proofs.Common.{◌&&◌, List, [], ◌∷◌, Option, Some, None, option_map, refl, sym, ◌∙◌}
 use Rattle.std.proofs.Common.{◌↔◌, arith, length, get_or, subst, is_some, take, All, IsTrue, ◌++◌}
@@ -180,8 +180,8 @@ same_codes p q lp lq e =
     ∙ columns_zero 40 (codes_of p) (codes_of q) e k (omega (arith, one))
     ∙ get_or_default (codes_of q) k 0 d (omega (arith, one, other)))
 
--- The packets since the page was erased are a clean span of 42-byte packets whose address bytes are
--- code words.
+-- The packets since the page was erased are clean: rows of odd parity that do not change, with
+-- correct addresses.
 pub record IsSoundSpan (w : Watched) (packets : List (List ℕ)) : Type 0 where
   pub clean : IsCleanSpan w.page packets
   pub whole : AllByRecursion (λ q. IsPacket q × HasExactAddress q) packets

@@ -1,5 +1,5 @@
--- If each packet may follow those before it, the packets since the page was erased are a clean
--- span, and the last packet of a clean span may follow those before it.
+-- If each packet is allowed after the packets before it, the packets since the page was erased are
+-- clean, and conversely.
 use Rattle.std.proofs.lemmas.Bool.Decides.{nat_tests}
 use Rattle.std.proofs.Common.{◌≡◌, ℕ, zero, suc, ◌<◌, inl, inr, Bool, true, false, not, ◌&&◌, cond}
 use Rattle.std.proofs.Common.{List, [], ◌∷◌, ◌++◌, length, take, slice_index_or, All, refl, sym, ap}
@@ -20,8 +20,7 @@ pub record MayFollow (page : PageIdValue) (packets : List (List ℕ)) (packet : 
   pub same : All (λ earlier. IsSameRow page earlier packet) packets
   pub plain : IsEnhancement page packet → ⊥
 
--- While the page is open, each packet other than a header that opens the page again or ends it may
--- follow the packets since the page was erased.
+-- The packet is allowed after the packets since the page was erased, while the page is open.
 abbrev pub EachMayFollow : Bool → PageIdValue → List (List ℕ) → Type 0
 EachMayFollow keeps page packets =
     (i : ℕ) (d : List ℕ)
@@ -101,7 +100,7 @@ pushed keeps page packets packet clean follows =
     go false true true e p q r = clean
     go false false t e p q r = clean
 
--- If each packet may follow those before it, every beginning of the transmission is clean, by
+-- If each packet is allowed after the packets before it, each prefix of the list is clean, by
 -- induction on its length.
 pub clean_cuts :
     (keeps : Bool) (page : PageIdValue) (packets : List (List ℕ))

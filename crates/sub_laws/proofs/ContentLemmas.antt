@@ -1,5 +1,4 @@
--- If a transmission is refused for its content, every receiver has the wrong cell that is reported;
--- if every repeat must have C4 (erase page) set, every receiver shows its wrong code.
+-- If a transmission is rejected because of a wrong cell, every receiver has that wrong cell.
 use Rattle.std.proofs.lemmas.Bool.Decides.{nat_tests}
 use Rattle.std.proofs.Common.{List, [], subst, ◌≡◌, ℕ, ◌-◌, ◌<◌, ◌≤◌, inl, inr, Bool, true}
 use Rattle.std.proofs.Common.{false, Option, Some, None, length, take, drop, refl, sym, ap}
@@ -104,8 +103,8 @@ module _ (programme : ProgrammeValue) (options : OptionsValue) (unread : Option 
   abbrev code_at : ℕ → ℕ × ℕ → ℕ
   code_at n x = kept options.keeps options.page (packets_before frames n) x.0 x.1
 
-  -- The cell x is wrong at the end of frame f; and if that end is not late, the code of x was not
-  -- expected within the last frames.
+  -- The cell x is wrong at the end of frame f; and if the page is not overdue, the code of x was
+  -- not expected within the last `within` frames.
   record IsBroken (n f : ℕ) (x : ℕ × ℕ) : Type 0 where
     pub is_cell : IsCell x.0 x.1
     pub wrong : ShowsDue g frames n f x.0 x.1 → ⊥

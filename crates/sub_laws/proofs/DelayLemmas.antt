@@ -1,6 +1,4 @@
--- Receivers that may erase the page at any header recover in a range of frames with allowed
--- repeats. If every repeat must have C4 (erase page) set and no frame may be late, receivers that
--- keep the page recover, too.
+-- Receivers that may erase the page at any header recover if repeats send the same text as before.
 use Rattle.std.proofs.lemmas.Bool.Decides.{nat_tests}
 use Rattle.std.proofs.Common.{◌≡◌, ℕ, ◌≤◌, inl, inr, Bool, true, false, List}
 use Rattle.std.proofs.Common.{Option, option_map, unwrap_or, ap, sym, ◌∙◌, subst, arith}
@@ -213,7 +211,7 @@ module _ (programme : ProgrammeValue) (transmission : Transmission) (options : O
       (fresh_at (on_air transmission g j f) old.held holds) (whole f low is.listening.to)
       (ended_of_complete transmission options a b f complete low is.listening.to)
 
--- If `within` is 0, the guarantees of `MayBeTrustedBy` include those of `MayBeTrusted`.
+-- If `within` is 0, the guarantees for repeats include those of `MayBeTrusted`.
 pub law_of_trust_without_delay : LawOfTrustWithoutDelay
 law_of_trust_without_delay programme transmission options a b none trusted = record {
   recovers = λ class.

@@ -1,4 +1,4 @@
--- The bytes of a PES file carry the same frames with a greater `within`.
+-- A PES file carries the same frames with a greater `within`.
 use Rattle.std.proofs.lemmas.Bool.Decides.{nat_tests}
 use Rattle.std.proofs.Common.{◌≡◌, ℕ, zero, suc, ◌^◌, ◌<◌, ◌≤◌, ◌==◌, false, List, [], ◌∷◌, Some}
 use Rattle.std.proofs.Common.{refl, sym, ap, ◌∙◌, subst, arith}
@@ -14,7 +14,7 @@ use Rattle.sub_laws.specs.DelayOfFiles.{LawOfLongerDelayOfFiles}
 use Rattle.sub_laws.proofs.JoinedRisingLemmas.{joined-rising}
 use Rattle.sub_laws.proofs.RepeatLemmas.{law_of_longer_repeats}
 
--- A PTS gives the same frame with a greater `within`.
+-- A PTS belongs to the same frame with a greater `within`.
 clock_longer :
     (within more origin pts frame : ℕ)
     → origin < 2 ^ 33
@@ -48,7 +48,7 @@ read_longer within more origin low longer (v ∷ values) (s ∷ frames) each = (
   read_longer within more origin low longer values frames each.1,
 )
 
--- Any `within` other than 0 merges the PES packets of a frame.
+-- The PES packets of one frame are merged for any `within` other than 0.
 some_frames : (n : ℕ) → (suc n == 0) ≡ false
 some_frames n = grind (arith, nat_tests)
 
@@ -65,8 +65,8 @@ joined_equal within more sent (s ∷ frames) =
     joined_equal within more (sent_after (suc within) sent s) frames
     ∙ ap (λ (x : Transmission). joined_after (suc more) x frames) (sent_equal within more sent s)
 
--- Rising frames stay the same with a greater `within`, since no two PES packets have the same
--- frame.
+-- Frames in increasing order stay the same with a greater `within`, since no two PES packets have
+-- the same frame.
 joined_longer :
     (within more : ℕ) (sendings frames : Transmission)
     → within ≤ more

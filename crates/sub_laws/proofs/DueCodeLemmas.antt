@@ -1,5 +1,4 @@
--- The checker's search decides whether a code was expected in a cell within the last frames, which
--- cell is the first with another code, and which subtitle ends at a frame.
+-- The checker's search decides whether a code was expected in a cell within the last frames.
 use Rattle.std.proofs.lemmas.Bool.Decides.{nat_tests}
 use Rattle.std.proofs.Common.{◌≡◌, ◌≢◌, ℕ, zero, suc, ◌+◌, ◌-◌, ◌<◌, ◌≤◌, ◌⊎◌, inl, inr, Bool, true}
 use Rattle.std.proofs.Common.{false, not, ◌&&◌, ◌==◌, nat_le, List, Contains, get_or}
@@ -20,8 +19,8 @@ use Rattle.sub_rules.specs.Events.{unexpected_after, was_due}
 use Rattle.sub_laws.proofs.ActiveFaultsLemmas.{cell_found, cell_none, no_cell}
 
 module _ (due : ℕ → Rows) (first f row column code : ℕ) where
-  -- The code was expected in the cell at frame f, or at one of the n frames before f, but not
-  -- before `first`.
+  -- The code was expected in the cell at frame f or at one of the n frames before f. Frames before
+  -- `first` do not count.
   abbrev pub WasDue : ℕ → Type 0
   WasDue n =
       (e : ℕ)
@@ -66,12 +65,12 @@ module _ (keeps : Bool) (page : PageIdValue) (packets : List (List ℕ)) (due : 
   abbrev code_at : ℕ → ℕ → ℕ
   code_at row column = kept keeps page packets row column
 
-  -- The kept code of a cell is a space, or a code that was expected.
+  -- The code of the cell is a space, or was expected in it.
   abbrev pub MayShow : ℕ → ℕ → Type 0
   MayShow row column =
       (code_at row column ≡ space) ⊎ WasDue due first f row column (code_at row column) n
 
-  -- The kept code of a cell is neither a space nor a code that was expected.
+  -- The code of the cell is no space, and was not expected in it.
   abbrev is_unexpected : ℕ → ℕ → Bool
   is_unexpected row column =
       not (code_at row column == space)

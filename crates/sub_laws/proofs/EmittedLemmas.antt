@@ -1,5 +1,4 @@
--- If each PES packet of a file is sent, the events in the steps of the PES packets are the events
--- of the frames.
+-- If no PES packet of a file is skipped, the events of its steps are the events of its frames.
 use Rattle.std.proofs.lemmas.Bool.Decides.{nat_tests}
 use Rattle.std.proofs.Common.{◌≡◌, ℕ, zero, suc, ◌+◌, ◌<◌, ◌≤◌, List}
 use Rattle.std.proofs.Common.{[], ◌∷◌, ◌++◌, length, map, refl, sym, ap, ap₂, ◌∙◌, subst, arith}
@@ -106,13 +105,13 @@ module _ (g : Criteria) where
   closing_all (Skipped u ∷ pes_packets) all = grind (arith, nat_tests, few_sent)
 
 module _ (g : Criteria) (frames : Transmission) where
-  -- The events of the first n frames of the transmission, and of frame n before its packets.
+  -- The events of the first n frames of the transmission, and those of frame n before its packets.
   abbrev arrived : ℕ → List Event
   arrived n =
       events_of_first g frames n
       ++ (order_events g frames n ++ gap_events g frames n (gap_length frames n))
 
-  -- The events of the first n frames of the transmission, and of frame n with some of its packets.
+  -- The events of the first n frames of the transmission, and those of some packets of frame n.
   abbrev begun : ℕ → List (List ℕ) → List Event
   begun n packets =
       arrived n

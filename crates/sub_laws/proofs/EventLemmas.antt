@@ -1,5 +1,5 @@
--- A transmission has no events if and only if it meets all requirements, and otherwise its first
--- event is a fault.
+-- A transmission has no events if and only if it has no faults; otherwise its first event is a
+-- fault.
 use Rattle.std.proofs.Common.{◌≡◌, ℕ, zero, suc, ◌+◌, ◌-◌, ◌<◌, ◌≤◌, ◌⊎◌, inl, inr, Bool, true}
 use Rattle.std.proofs.Common.{false, not, List, [], ◌∷◌, length, Option, Some, None, refl, ◌↔◌, sym}
 use Rattle.std.proofs.Common.{ap, subst, arith, append_assoc, if◌then◌else◌, ◌∙◌, ◌||◌}
@@ -49,8 +49,8 @@ any_event event = Some event
 abbrev pub IsNamed : (CheckFault → Type 0) → Event → Type 0
 IsNamed Named event = (f : CheckFault) × (event ≡ Reported f) × Named f
 
--- The list of events is empty if and only if `Holds` is true, and otherwise begins with a fault
--- that has the property `Named`.
+-- The list of events is empty if and only if `Holds` is true; otherwise it begins with a fault that
+-- has the property `Named`.
 abbrev pub FirstOf : (CheckFault → Type 0) → Type 0 → List Event → Type 0
 FirstOf Named Holds reported = Finds any_event (IsNamed Named) Holds Holds reported
 
@@ -76,15 +76,15 @@ module _ {Named : CheckFault → Type 0} where
   reported_unless true f named decided = Finds-none (decided.0 refl)
   reported_unless false f named decided = rule_reported f named (λ a. let no = decided.1 a in cc)
 
--- The fault is neither a fault of a PES packet or the subtitle file nor a wrong cell.
+-- The fault is not about the subtitle file, a PES packet or a wrong cell.
 abbrev pub is_plain : CheckFault → Bool
 is_plain (fault.Subtitles f) = false
 is_plain (fault.Pes pes f) = false
 is_plain (fault.Content frame row column) = false
 is_plain f = true
 
--- Assume that plain faults, the fault of the unread rest, and wrong cells in frames that were read
--- have the property `Named`.
+-- These faults have the property `Named`: plain faults, the fault of the unread bytes, and wrong
+-- cells in frames that were read.
 module _ (g : Criteria) (frames : Transmission) (Named : CheckFault → Type 0)
     (plain : (f : CheckFault) → is_plain f ≡ true → Named f)
     (unread : (u : Unread) → g.unread ≡ Some u → Named (unread_fault (length frames) (Some u)))
@@ -354,7 +354,7 @@ module _ (g : Criteria) (frames : Transmission) (Named : CheckFault → Type 0)
         found_so_far (events_of_first g frames) (frame_events g frames) (FrameOk g frames) n refl
         (λ i. refl) (λ i below past. frame_reported i past (omega arith))
 
-  -- No subtitle is expected after the last frame, and the page is correct at its end.
+  -- No subtitle ends after the last frame, and the page is correct at its end.
   abbrev IsNothingDueAfterEnd : Type 0
   IsNothingDueAfterEnd =
       ((last : ℕ) → g.last_tco ≡ Some last → last ≤ end_frame frames)

@@ -1,5 +1,4 @@
--- A frame is finished if and only if the test for unfinished ends fails, and the checker computes
--- the first frame of a run of unfinished ends.
+-- A frame is finished if and only if the checker's test for an unfinished page fails.
 use Rattle.std.proofs.lemmas.Bool.Decides.{nat_tests}
 use Rattle.std.proofs.Common.{◌≡◌, ℕ, ◌+◌, ◌-◌, ◌<◌, ◌≤◌, Bool}
 use Rattle.std.proofs.Common.{false, not, ◌==◌, Option, None}
@@ -116,7 +115,7 @@ module _ (programme : ProgrammeValue) (options : OptionsValue) (unread : Option 
       ∙ ap un at
       ∙ first_unfinished_none un first (f - first) (sym (first_unfinished_eq n f end) ∙ e)
 
-  -- An end that is not overdue is late only if `within` is 0.
+  -- If the page is not overdue, an unfinished page is a fault only if `within` is 0.
   pub late_eq : (n f : ℕ) → is_overdue g first (unfinished_run_start g t n f) f ≡ false
       → is_late g t n f ≡ (options.within == 0)
   unfolding is_late

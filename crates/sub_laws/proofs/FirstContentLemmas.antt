@@ -61,8 +61,7 @@ module _ (frame row column : ℕ) where
   rest_first : (xs ys : List Event) → first_reported xs ≡ None → IsFirst ys → IsFirst (xs ++ ys)
   rest_first xs ys none e = first_of_two xs ys ∙ rw (none, e) refl
 
-  -- The fault, moved to PES packet `pes`, is a wrong cell if and only if it was a wrong cell
-  -- before.
+  -- The fault is a wrong cell, whatever PES packet number is set in it.
   cell_reported : (pes : ℕ) (f : CheckFault)
       → fault_at_pes pes f ≡ fault.Content frame row column
       → f ≡ fault.Content frame row column
@@ -129,8 +128,8 @@ module _ (frame row column : ℕ) where
           ∙ append_assoc own (emitted later) rest))
           ∙ e))
 
-    -- The fault of a skipped PES packet is no wrong cell. So all PES packets are sent, or the wrong
-    -- cell is reported before the first skipped one.
+    -- Either no PES packet is skipped, or the wrong cell is reported before the first skipped one,
+    -- since its fault is no wrong cell.
     prefix_reported : (sent : Transmission) (pes : ℕ) (pes_packets : List PesPacket)
         (rest : List Event)
         → IsFirst (emitted (steps_of_each g sent pes pes_packets) ++ rest)
@@ -155,8 +154,6 @@ module _ (frame row column : ℕ) where
         ≡ emitted (steps_of_each g [] 0 pes_packets) ++ events_of_each_pes_packet pes_packets
     emitted_all pes_packets = grind (arith, nat_tests, emitted-append, emitted, append_assoc)
 
-    -- If a wrong cell is the first fault of a PES file, it is the first fault of the frames up to
-    -- the first skipped PES packet.
     pub content_first : (pes_packets : List PesPacket) → IsFirst (all_of_pes_packets g pes_packets)
         → IsFirst (events g (joined g.within (read_until_skipped pes_packets g.unread).frames))
     unfolding all_of_pes_packets reported_of_pes_packets current_pes

@@ -1,5 +1,4 @@
--- Defines what the first event shows that a search finds in a list, for joined lists, for growing
--- lists, among the events of a packet, and among those at the end of a frame.
+-- What the first match of a search in a list of events shows.
 use Rattle.std.proofs.lemmas.Bool.Decides.{nat_tests}
 use Rattle.std.proofs.Common.{◌≡◌, ℕ, zero, suc, ◌<◌, Bool, true, List, [], ◌∷◌, ◌++◌, map, filter}
 use Rattle.std.proofs.Common.{Option, Some, None, refl, arith, flat_map, get_or}
@@ -19,7 +18,7 @@ use Rattle.sub_rules.specs.declared.active_faults.ActiveFaults.{ActiveFaults}
 use Rattle.sub_rules.proofs.EndRuleLemmas.{each_end_rule}
 
 module _ {X : Type 0} where
-  -- The first result of a search in a list of events.
+  -- The first match of a search in a list of events.
   abbrev pub first_found : (Event → Option X) → List Event → Option X
   first_found lookup [] = None
   first_found lookup (e ∷ es) = option_or (lookup e) (first_found lookup es)
@@ -29,8 +28,8 @@ module _ {X : Type 0} where
   found-append lookup [] ys = refl
   found-append lookup (x ∷ xs) ys = let rest = found-append lookup xs ys in grind arith
 
-  -- The first result of the search has the property `At`. If there is no result, `Holds` is true;
-  -- and if `Given` is true, there is no result.
+  -- The first match has the property `At`. If there is no match, `Holds` is true; and if `Given` is
+  -- true, there is no match.
   pub record Finds (lookup : Event → Option X) (At : X → Type 0) (Given Holds : Type 0)
       (es : List Event) : Type 0 where
     pub at : (x : X) → first_found lookup es ≡ Some x → At x
@@ -41,8 +40,8 @@ module _ {X : Type 0} {lookup : Event → Option X} {At : X → Type 0} where
   pub Finds-none : {A B : Type 0} → B → Finds lookup At A B []
   Finds-none b = record { at = λ x e. cc; fault_free = λ e. b; calm = λ h. refl }
 
-  -- If the search finds nothing in the first of two joined lists, this fact may be used for the
-  -- search of the second list.
+  -- A search in two joined lists: if the first list has no match, this fact may be used for the
+  -- second.
   pub Finds-append : {A B C D : Type 0} {xs ys : List Event} → Finds lookup At A B xs
       → (B → Finds lookup At C D ys) → (C → A) → Finds lookup At C D (xs ++ ys)
   Finds-append {xs = xs} {ys = ys} one next back =
@@ -77,7 +76,7 @@ of_each_rule P all = recursion_from_All P packet_rules (λ k d l. all (get_or pa
 module _ {X : Type 0} (lookup : Event → Option X) (At : X → Type 0) (frame k : ℕ)
     (at : (r : PacketRule) (x : X) → lookup (Reported (packet_fault r frame k)) ≡ Some x → At x)
   where
-    -- The search finds nothing in the events of the rules that pass the test.
+    -- None of the rules that pass the test has a match.
     abbrev NoRulePasses : (PacketRule → Bool) → List PacketRule → Type 0
     NoRulePasses test rs =
         AllByRecursion (λ r. test r ≡ true → lookup (Reported (packet_fault r frame k)) ≡ None) rs

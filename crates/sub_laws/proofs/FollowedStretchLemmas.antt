@@ -1,5 +1,5 @@
--- A range of frames in which each packet may follow those before it meets the conditions for
--- recovery, and each of its frames has an end.
+-- If each packet in a range of frames is allowed after the packets before it, receivers recover in
+-- that range.
 use Rattle.std.proofs.lemmas.Bool.Decides.{nat_tests}
 use Rattle.std.proofs.Common.{◌≡◌, ℕ, ◌+◌, ◌-◌, ◌<◌, ◌≤◌, inl, inr, Bool, List, [], ◌++◌, length}
 use Rattle.std.proofs.Common.{take, slice_index_or, sym, ◌∙◌, subst, arith}

@@ -1,4 +1,4 @@
--- The requirements of a transmission, one frame of the transmission at a time.
+-- The requirements of a transmission, frame by frame.
 use Rattle.std.proofs.Common.{◌≡◌, ℕ, ◌+◌, ◌-◌, ◌<◌, ◌≤◌, ◌⊎◌, length, Some, None, IsFalse}
 use Rattle.sub_rules.specs.Events.{is_pending, no_active_faults, active_faults_at}
 use Rattle.sub_rules.specs.FrameRules.{Criteria, HasHeader, end_frame, frame_at, packets_of_frame}
@@ -6,7 +6,7 @@ use Rattle.sub_rules.specs.PacketRules.{KeepsAllRules}
 use Rattle.sub_rules.specs.Transmission.{Transmission}
 use Rattle.sub_laws.proofs.PrefixLemmas.{IsInGap, before, packet_at}
 
--- No fault is active after n frames of the transmission, at the end of frame f.
+-- No fault is active at the end of frame f, after n frames of the transmission.
 abbrev pub IsFaultFree : Criteria → Transmission → ℕ → ℕ → Type 0
 IsFaultFree g frames n f = active_faults_at g frames n f ≡ no_active_faults
 
@@ -18,8 +18,8 @@ abbrev pub PacketsOk : Criteria → Transmission → ℕ → ℕ → Type 0
 PacketsOk g frames i k =
     (j : ℕ) → j < k → KeepsAllRules g.watched (before frames i j) (packet_at frames i j)
 
--- Frame i of the transmission meets all requirements: its number, the frames before it, its
--- packets, its header, and its end.
+-- Frame i of the transmission has no fault: in its number, the frames without packets before it,
+-- its packets, its header, and at its end.
 pub record FrameOk (g : Criteria) (frames : Transmission) (i : ℕ) : Type 0 where
   pub order : OrderOk g frames i
   pub gap : (f : ℕ) → IsInGap frames i f → IsFaultFree g frames i f
@@ -27,11 +27,11 @@ pub record FrameOk (g : Criteria) (frames : Transmission) (i : ℕ) : Type 0 whe
   pub header : i ≡ 0 → HasHeader g frames 0
   pub end : IsFaultFree g frames (i + 1) (frame_at frames i)
 
--- The first n frames of the transmission meet all requirements.
+-- The first n frames of the transmission have no fault.
 abbrev pub MeetRequirements : Criteria → Transmission → ℕ → Type 0
 MeetRequirements g frames n = (j : ℕ) → j < n → FrameOk g frames j
 
--- The transmission meets all requirements.
+-- The transmission has no fault.
 pub record MeetsRequirements (g : Criteria) (frames : Transmission) : Type 0 where
   pub each : MeetRequirements g frames (length frames)
   pub unread : g.unread ≡ None
@@ -39,8 +39,8 @@ pub record MeetsRequirements (g : Criteria) (frames : Transmission) : Type 0 whe
   pub late : (last : ℕ) → g.last_tco ≡ Some last → last ≤ end_frame frames
   pub whole : IsFalse (is_pending g frames)
 
--- The first n frames are read up to the end of frame f: they rise up to f, their packets keep all
--- rules, and the first frame has a header of the page.
+-- The first n frames of the transmission are those up to frame f. Their frame numbers increase,
+-- their packets keep all rules, and the first frame has a header of the page.
 pub record IsReadTo (g : Criteria) (frames : Transmission) (n f : ℕ) : Type 0 where
   pub some : 0 < n
   pub fits : n ≤ length frames

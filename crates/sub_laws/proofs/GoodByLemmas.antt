@@ -1,6 +1,4 @@
--- A transmission that is good under the options keeps its guarantees. If `within` is 0 and every
--- repeat must have C4 (erase page) set, it is good if and only if it is good under the options. A
--- schedule is good under the options.
+-- A transmission that is good under the options meets its guarantees.
 use Rattle.std.proofs.lemmas.Bool.Decides.{nat_tests}
 use Rattle.std.proofs.Common.{◌≡◌, ℕ, ◌-◌, ◌<◌, ◌≤◌, inl, inr, Bool, true, false}
 use Rattle.std.proofs.Common.{length, get_or, option_map, IsTrue, ap, subst, arith}
@@ -78,8 +76,6 @@ first_to_last transmission some rising =
           (length transmission - 1) (omega arith) (omega (arith, some)),
     )
 
--- A good transmission is sufficient in all its frames, and a good transmission of a programme keeps
--- its guarantees.
 pub law_of_good_repeats : LawOfGoodRepeats
 law_of_good_repeats keeps programme transmission options good =
     let law =
@@ -103,8 +99,8 @@ module _ (programme : ProgrammeValue) (transmission : Transmission) (options : O
   module _ (is : IsProgramme programme.drawing programme.records)
       (good : Good programme transmission options)
       (complete : IsTrue options.asks_complete → Complete transmission options) where
-    -- If `within` is 0, each frame of a good transmission is finished, with complete pages if these
-    -- are required.
+    -- If `within` is 0, each frame of a good transmission is finished, with a complete page if that
+    -- is required.
     finished :
         (f : ℕ)
         → first_frame transmission ≤ f
@@ -120,7 +116,7 @@ module _ (programme : ProgrammeValue) (transmission : Transmission) (options : O
           (last_frame transmission) f (complete asks) low high;
     }
 
-    -- A good transmission whose pages are complete, if required, is good under the options for any
+    -- A good transmission with complete pages, if required, is good under the options for any
     -- `within`.
     pub good_by : GoodBy false programme transmission options
     good_by = record {
@@ -153,7 +149,7 @@ module _ (programme : ProgrammeValue) (transmission : Transmission) (options : O
           (le_refl (last_frame transmission));
     }
 
-  -- If `within` is 0 and every repeat must have C4 (erase page) set, `GoodBy` implies `Good`.
+  -- If `within` is 0 and each header must have C4 (erase page) set, `GoodBy` implies `Good`.
   good_at_once :
       options.within ≡ 0
       → GoodBy false programme transmission options

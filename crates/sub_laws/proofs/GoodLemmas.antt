@@ -1,5 +1,4 @@
--- A property of all packets of a transmission holds for each packet, and headers in frames of the
--- transmission are headers in frames.
+-- A property of all packets of a transmission holds for each packet.
 use Rattle.std.proofs.Common.{◌≡◌, ℕ, zero, suc, ◌+◌, ◌-◌, ◌<◌, inl, inr, Bool, true, cond, ◌&&◌}
 use Rattle.std.proofs.Common.{nat_le, nat_lt, List, [], ◌∷◌, ◌++◌, length, get_or, All, refl, ap}
 use Rattle.std.proofs.Common.{arith, ◌⊎◌, ◌≤◌}
@@ -85,8 +84,8 @@ sent_any w (s ∷ ss) n e =
       | inr there ↦ let r = later there in (suc r.0, omega (arith, r.1), r.2, r.3)
     ]
 
--- If a header of the page is repeated within a bound, PES packets are no further apart than that
--- bound.
+-- If a header of the page is sent within the repeat bound, PES packets are no further apart than
+-- that bound.
 pub paced_of : (w : Watched) (every frames : ℕ) (t : Transmission) → 0 < length t → every ≤ frames
     → Repeats w.page every t
     → (f : ℕ) → first_frame t ≤ f → f ≤ last_frame t

@@ -1,6 +1,4 @@
--- The frames sent so far are a beginning of all frames of the PES packets: all frames have the same
--- frames, perhaps with more packets in the last one, and perhaps more frames. So the steps so far
--- follow from all frames.
+-- The frames sent so far are a prefix of all frames, except that the last one may get more packets.
 use Rattle.std.proofs.Common.{◌≡◌, ℕ, suc, ◌+◌, ◌<◌, true, false, List, [], ◌∷◌, ◌++◌}
 use Rattle.std.proofs.Common.{length, refl, sym, ap, ◌∙◌, arith, append_assoc, append-nil}
 use Rattle.std.proofs.Common.{length-append, le_refl, ◌==◌, ◌≤◌}
@@ -46,14 +44,13 @@ with_packets_append xs ys (s ∷ next ∷ frames) =
           (next ∷ frames)),
     )
 
--- All frames of the transmission are the frames sent so far, with more packets in the last frame
--- and with further frames.
+-- All frames are the frames sent so far, with more packets in the last one, and further frames.
 pub record Grows (sent frames : Transmission) : Type 0 where
   pub rest : List (List ℕ)
   pub more : Transmission
   pub whole : frames ≡ with_packets rest sent ++ more
 
--- Frames before the last frame sent do not change when more PES packets are sent.
+-- Further PES packets do not change the frames before the last one.
 pub grown : (sent : Transmission) (s : SentFrame) (frames : Transmission)
     → Grows (sent ++ s ∷ []) frames
     → (more : Transmission) × (frames ≡ sent ++ more)
@@ -92,7 +89,7 @@ grows within sent (s ∷ more) =
     grows_before within sent s (joined_after within (sent_after within sent s) more)
     (grows within (sent_after within sent s) more)
 
--- If each PES packet is a frame of its own, the frames sent so far do not change.
+-- If each PES packet is a frame, further PES packets do not change the frames sent so far.
 pub same_at_once : (within : ℕ) (sent more frames : Transmission) → (within == 0) ≡ true
     → joined_after within sent more ≡ frames
     → frames ≡ sent ++ more
@@ -103,7 +100,6 @@ pub continues_some : (within : ℕ) (sent : Transmission) (s : SentFrame)
     → ((within == 0) ≡ false) × (0 < length sent)
 continues_some within sent s h1 = grind (arith, nat_tests)
 
--- There are at most as many frames so far as in the entire transmission.
 pub grows_length : (sent frames : Transmission) → Grows sent frames
     → length sent ≤ length frames
 grows_length sent frames is = grind (arith, nat_tests, length-append, with_packets-length)

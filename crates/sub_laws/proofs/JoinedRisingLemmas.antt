@@ -1,4 +1,4 @@
--- If frame numbers increase, PES packets are never merged, whatever `within` is.
+-- If frame numbers increase, no PES packets are merged, whatever `within` is.
 use Rattle.std.proofs.lemmas.Bool.Decides.{nat_tests}
 use Rattle.std.proofs.Common.{◌≡◌, ℕ, zero, suc, ◌-◌, ◌<◌, ◌==◌, ◌&&◌, Bool, false, not}
 use Rattle.std.proofs.Common.{[], ◌∷◌, ◌++◌, length, refl, sym, ap, ◌∙◌, subst, arith, append_assoc}
@@ -21,7 +21,6 @@ pub frame_at-next : (xs : Transmission) (s : SentFrame) (ys : Transmission)
 frame_at-next [] s ys = refl
 frame_at-next (x ∷ xs) s ys = frame_at-next xs s ys
 
--- In rising frames no PES packet continues the frame before.
 another : (within : ℕ) (sent : Transmission) (s : SentFrame) (frames : Transmission)
     → IsRising (sent ++ s ∷ frames)
     → continues_with within sent s ≡ false

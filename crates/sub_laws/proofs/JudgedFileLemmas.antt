@@ -1,6 +1,5 @@
--- If only a part of a subtitle file is requested, a transmission is compared with the same
--- subtitles as without the other blocks. The texts and times of rejected subtitles do not matter
--- otherwise.
+-- If only a range of a subtitle file is requested, a transmission is compared with the same
+-- subtitles as without the other blocks.
 use Rattle.std.proofs.Math.Path.{fun_ext}
 use Rattle.std.proofs.Common.{◌≡◌, ℕ, Bool, false, true, ◌&&◌, ◌++◌, Option, Some, None}
 use Rattle.std.proofs.Common.{option_map, refl, sym, ap, ◌∙◌}
@@ -56,7 +55,7 @@ judged_unnumbered drawing last other (finds t block left) =
       judged_unnumbered drawing (Some t) true left,
     ) refl
 
--- The page of a subtitle does not depend on the requested part of the file.
+-- The page of a subtitle does not depend on the requested range of the file.
 drawn_of_day : (drawing : Drawing) (t : SubtitleValue)
     → drawn drawing t ≡ drawn (of_day drawing) t
 unfolding drawn
@@ -110,7 +109,7 @@ judged_parts law drawing gsi blocks size each read =
     let same = law drawing.scope gsi blocks size each read in
     (judged_same drawing part rest same, judges_same drawing part rest same)
 
--- The criteria are equal, since functions with equal values are equal.
+-- Functions with equal values are equal, so the criteria are equal.
 pub law_of_equal_reports : LawOfEqualReports
 law_of_equal_reports one other options unread pes_packets programme any_refused undecided =
     ap

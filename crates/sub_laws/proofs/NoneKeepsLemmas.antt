@@ -1,6 +1,5 @@
--- If every repeat must have C4 (erase page) set and no frame may be late, the sufficient conditions
--- for repeats are those for the main theorem. So `law_of_unreported_stretch` is a case of the law
--- for repeats.
+-- If each header must have C4 (erase page) set and `within` is 0, the sufficient conditions for
+-- repeats are those of the main theorem.
 use Rattle.std.proofs.lemmas.Bool.Decides.{nat_tests}
 use Rattle.std.proofs.Common.{◌≡◌, ℕ, Bool, false, Option, IsTrue, subst, arith, refl}
 use Rattle.stl_rows.specs.Programme.{ProgrammeValue}
@@ -36,7 +35,8 @@ sufficient_of programme transmission options a b none at_once enough =
           (of.whole at_once f low high row column named);
     }
 
--- If the page is open at no end in a clean range of frames, pages are complete in the frame range.
+-- If the page has ended at each frame end of a range of frames without faults, its pages are
+-- complete.
 pub complete_unreported :
     (programme : ProgrammeValue) (transmission : Transmission) (options : OptionsValue)
     → (unread : Option Unread) (any_refused : Bool) (undecided : ℕ → Bool) (a b : ℕ)

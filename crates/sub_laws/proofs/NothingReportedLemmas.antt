@@ -1,4 +1,4 @@
--- The events of PES packets follow from those of their frames, which proves the laws.
+-- The events of PES packets follow from those of their frames.
 use Rattle.std.proofs.Common.{◌≡◌, List, [], ◌∷◌, map, refl, sym, ap, ◌∙◌, subst}
 use Rattle.ttx_packet.specs.PacketAddress.{IsPacket}
 use Rattle.sub_rules.specs.FrameRules.{Criteria, criteria_of}

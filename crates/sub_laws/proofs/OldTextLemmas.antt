@@ -1,5 +1,5 @@
--- If no header erases the page, the kept code of each cell stays; so a header that erases the page
--- is sent if text ends or changes.
+-- If no header erases the page, the code in each cell stays. So a header that erases the page is
+-- sent when text ends or changes.
 use Rattle.std.proofs.Common.{◌≡◌, ◌≢◌, ℕ, ◌+◌, ◌-◌, ◌<◌, ◌≤◌, inl, inr, Bool, true, false, cond}
 use Rattle.std.proofs.Common.{List, [], ◌∷◌, ◌++◌, find, Option, Some, None}
 use Rattle.std.proofs.Common.{option_map, unwrap_or, refl, sym, ap, ◌∙◌, subst, arith, append_assoc}
@@ -37,7 +37,7 @@ module _ (keeps : Bool) (w : PageIdValue) where
   abbrev spanned : List (List ℕ) → List (List ℕ)
   spanned packets = text_span keeps (kind w) packets
 
-  -- A packet that does not begin the text only extends the packets since the page was erased.
+  -- A packet that does not erase the page only extends the packets since the page was erased.
   span-one : (xs : List (List ℕ)) (p : List ℕ)
       → begins_text keeps (kind w p) ≡ false
       → (more : List (List ℕ)) × (spanned (xs ++ p ∷ []) ≡ spanned xs ++ more)
@@ -80,7 +80,7 @@ module _ (keeps : Bool) (w : PageIdValue) where
   abbrev code_in : ℕ → Option (List ℕ) → ℕ
   code_in column found = unwrap_or (option_map (λ p. code_of (text_byte p column)) found) space
 
-  -- If no header erases the page again, a code other than a space stays in its cell.
+  -- Until a header erases the page, a code other than a space stays in its cell.
   pub kept-stays : (xs ys : List (List ℕ)) (row column code : ℕ)
       → holds_beginning keeps (kind w) ys ≡ false
       → kept keeps w xs row column ≡ code

@@ -1,4 +1,4 @@
--- A PES file that carries frames is read packet by packet; if `within` is 0, each PES packet has
+-- A PES file that carries frames is read packet by packet. If `within` is 0, each PES packet has
 -- exactly the PTS of its frame.
 use Rattle.std.proofs.lemmas.Bool.Decides.{nat_tests}
 use Rattle.std.proofs.Common.{ℕ, ◌+◌, ◌≤◌, List, []}

@@ -1,6 +1,5 @@
--- A relation T that holds for the steps of each frame and of each skipped PES packet holds for the
--- steps of all PES packets, and for the end of the last frame. The state is any value X;
--- `reported_of` moves it to another PES packet.
+-- Induction over the steps of a PES file: a relation T that holds for the steps of each frame and
+-- each skipped PES packet holds for all steps.
 use Rattle.std.proofs.lemmas.Bool.Decides.{nat_tests}
 use Rattle.std.proofs.Common.{◌≡◌, ℕ, suc, ◌-◌, ◌<◌, ◌⊎◌, inl, inr, Bool, true, false, ◌==◌}
 use Rattle.std.proofs.Common.{List, [], ◌∷◌, ◌++◌, length, map, Some, refl, sym, ap, ◌∙◌, subst}
@@ -49,9 +48,9 @@ module _ (X : Type 0) (reported_of : ℕ → X → X) (g : Criteria) (frames : T
     abbrev pub skipped_steps : ℕ → Unread → List CheckStep
     skipped_steps pes u = map Emits (Reported (unread_fault pes (Some u)) ∷ [])
 
-    -- T relates the state before and after steps: from a state C, in which n frames have ended, to
-    -- O, in which the next frame is sent and has some packets, and to the end of that frame; and at
-    -- skipped PES packets, after frames with the property Q.
+    -- T relates the states before and after a list of steps. In a state C, all frames so far have
+    -- ended; in a state O, the last frame may get more packets. Skipped PES packets come after
+    -- frames with the property Q.
     pub record Steps : Type 0 where
       pub at_ended : (n pes : ℕ) (t : X) → C n t → C n (reported_of pes t)
       pub at_open :
@@ -91,8 +90,7 @@ module _ (X : Type 0) (reported_of : ℕ → X → X) (g : Criteria) (frames : T
           → O n (packets_of_frame sent n) t
           → T (O n (packets_of_frame sent n)) t (skipped_steps pes u)
 
-    -- The possible states while frames are sent: all frames have ended, since each frame ends at
-    -- once or none was sent; or the last frame may continue.
+    -- The state after some frames: all frames have ended, or the last frame may continue.
     abbrev pub Sends : Transmission → X → Type 0
     Sends sent t =
         ((((g.within == 0) ≡ true) ⊎ (length sent ≡ 0)) × C (length sent) t)

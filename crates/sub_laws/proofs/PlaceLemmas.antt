@@ -1,6 +1,5 @@
--- A transmission keeps rules 1 to 6, and no fault is active at any end, if and only if it meets all
--- requirements. If every repeat must have C4 (erase page) set and `within` is 0, it is then good,
--- with complete pages if these are required.
+-- A transmission keeps rules 1 to 6, and no fault is active at any frame end, if and only if it has
+-- no faults.
 use Rattle.std.proofs.lemmas.Bool.Decides.{nat_tests}
 use Rattle.std.proofs.Common.{◌≡◌, ℕ, ◌+◌, ◌-◌, ◌<◌, ◌≤◌, inl, inr, true, false, List, [], ◌∷◌}
 use Rattle.std.proofs.Common.{◌++◌, Option, Some, None, length, take, get_or, refl, sym, ap, ◌∙◌}
@@ -50,8 +49,8 @@ use Rattle.sub_rules.proofs.FrameLists.{joined_more}
 use Rattle.sub_laws.proofs.CleanSpanLemmas.{MayFollow, clean_cuts, last_clean}
 use Rattle.sub_rules.specs.declared.packet_rule.PacketRule.TheVariants as rule
 
--- While the page is open, a packet that is neither a header of the page nor ends the page belongs
--- to the packets since the page was erased.
+-- While the page is open, a packet that is no header of the page and does not end the page is one
+-- of the packets since the page was erased.
 span_open :
     (w : Watched) (heard : List (List ℕ)) (p : List ℕ)
     → is_this_page (kind w.page p) ≡ false
@@ -83,7 +82,7 @@ clean_spans w packets each =
       plain = clean rule.Enhancement opened;
     }))
 
--- Each page header in the list has the C11 of the first page header.
+-- Each page header in the list has the same C11 as the first one.
 abbrev Agrees : List (List ℕ) → List ℕ → Type 0
 Agrees heard q = (b : Header) → header q ≡ Some b
     → (f : Header) × (first_header heard ≡ Some f) × ((c11 b) ≡ (c11 f))

@@ -1,4 +1,4 @@
--- A schedule is a good transmission, and its bytes are read to their end as this transmission.
+-- A schedule is a good transmission, and its PES file is read as this transmission.
 use Rattle.sub_plan.proofs.ScheduleBases.{range_split, last_sending, sending_in_gap, sends-first}
 use Rattle.sub_plan.proofs.ScheduleBases.{sends-last}
 use Rattle.std.proofs.lemmas.List.Elements.{filter-append, All-weaker, recursion_from_All}

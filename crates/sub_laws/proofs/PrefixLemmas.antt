@@ -1,5 +1,4 @@
--- Properties of all beginnings of a transmission's list of packets, and the place of a frame in the
--- list.
+-- Properties of all prefixes of a transmission's packets.
 use Rattle.std.proofs.lemmas.Bool.Decides.{nat_tests}
 use Rattle.std.proofs.Common.{◌≡◌, ℕ, zero, suc, ◌+◌, ◌-◌, ◌<◌, ◌≤◌, ◌⊎◌, inl, inr, ◌&&◌, nat_le}
 use Rattle.std.proofs.Common.{cond, List, [], ◌∷◌, ◌++◌, length, take, get_or, refl, sym, ap, ap₂}
@@ -37,8 +36,8 @@ before_all : (t : Transmission) (i : ℕ) → i < length t
     → before t i (length (packets_of_frame t i)) ≡ packets_before t (i + 1)
 before_all t i l = grind (arith, take_all, joined_more)
 
--- Assume a property of lists of packets that holds for the empty list and that each packet of the
--- first m frames preserves. It holds for each beginning of the transmission of their packets.
+-- A property of lists of packets that holds for the empty list and is preserved by each packet of
+-- the first m frames holds for each prefix of their packets.
 module _ (t : Transmission) (m : ℕ) (fits : m ≤ length t) (Q : List (List ℕ) → Type 0) (none : Q [])
     (more : (i k : ℕ) → i < m → k < length (packets_of_frame t i) → Q (before t i k)
     → Q (before t i k ++ packet_at t i k ∷ [])) where
@@ -96,7 +95,7 @@ pub each_from : (P : List ℕ → Type 0) (t : Transmission)
 each_from P t every i d l k e m =
     grind (arith, nat_tests, get_or-map, get_or_default (packets_of_frame t i) k)
 
--- The first n frames of the transmission rise.
+-- The frame numbers of the first n frames increase.
 abbrev pub RiseTo : Transmission → ℕ → Type 0
 RiseTo t n = (i : ℕ) → 0 < i → i < n → frame_at t (i - 1) < frame_at t i
 

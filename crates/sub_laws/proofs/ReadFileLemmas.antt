@@ -1,5 +1,5 @@
--- Whatever bytes are read, Teletext packets have 42 bytes, and no fault of the bytes is a failure
--- of a device.
+-- Teletext packets that were read have 42 bytes, and a fault of the bytes is never a failure of a
+-- device.
 use Rattle.std.proofs.lemmas.Bool.Decides.{nat_tests}
 use Rattle.std.proofs.Common.{◌≡◌, ℕ, zero, suc, ◌+◌, ◌-◌, ◌*◌, ◌/◌, ◌<◌, ◌≤◌, false}
 use Rattle.std.proofs.Common.{List, [], ◌∷◌, length, map, take, drop, slice_index, Option}
@@ -30,7 +30,7 @@ use Rattle.sub_rules.specs.PesPackets.PesPacket.{Skipped, Sent}
 use Rattle.sub_rules.specs.Transmission.{SentFrame}
 use Rattle.sub_rules.proofs.PacketLists.{Each-push}
 
--- The fault was caused by the bytes read, not by a source or sink that failed.
+-- The fault was caused by the bytes that were read, not by a failure of a device.
 pub record IsOfBytes (f : PesFault) : Type 0 where
   pub no_source : is_read f ≡ false
   pub no_sink : is_write f ≡ false
@@ -100,8 +100,8 @@ packets_complete : (units : List UnitValue) → AreCompleteUnits units
 packets_complete [] h = tt
 packets_complete (u ∷ units) h = (h.0, packets_complete units h.1)
 
--- A sent PES packet has 42-byte packets; a skipped PES packet is not skipped because a source or
--- sink failed.
+-- The Teletext packets of a PES packet that is sent have 42 bytes. A PES packet is never skipped
+-- because of a failure of a device.
 abbrev pub IsSoundPesPacket : PesPacket → Type 0
 IsSoundPesPacket (Sent s) = AllByRecursion IsPacket s.packets
 IsSoundPesPacket (Skipped (BadPacket f)) = IsOfBytes f

@@ -1,7 +1,5 @@
--- A transmission whose repeats may have C4 (erase page) clear, and that keeps the rules, is a range
--- of frames with allowed repeats. If each header erases the page, the transmission is good whether
--- or not repeats may have C4 (erase page) clear; if repeats must have C4 (erase page) set, the
--- rules are those of `Good`. A good transmission stays good with a greater `within`.
+-- A transmission that keeps the rules for repeats meets the conditions for recovery in all frames.
+-- It stays good with a greater `within`.
 use Rattle.std.proofs.lemmas.Bool.Decides.{nat_tests}
 use Rattle.std.proofs.Common.{◌≡◌, ℕ, zero, suc, ◌+◌, ◌≤◌, inl, inr, Bool, true, false}
 use Rattle.std.proofs.Common.{List, [], ◌∷◌, length, take, find, option_map, unwrap_or, All}
@@ -33,7 +31,7 @@ use Rattle.sub_rules.specs.Transmission.{on_air_until}
 use Rattle.sub_laws.specs.Repeats.{IsRepeatedStretch, LawOfKeptOnAir, LawOfLongerRepeats}
 use Rattle.sub_laws.proofs.TransmissionLemmas.{packets_between-each}
 
--- The packets since the page was erased have the kept codes if these packets are clean.
+-- If the packets since the page was erased are clean, they have the codes that the page shows.
 pub codes_of_clean : (keeps : Bool) (page : PageIdValue) (packets : List (List ℕ))
     → IsCleanSpan page (text_span keeps (kind page) packets)
     → All (HasCodes page (kept keeps page packets)) (text_span keeps (kind page) packets)
@@ -78,7 +76,7 @@ law_of_kept_on_air keeps programme transmission options f old new rules low high
     ((repeated_stretch keeps programme transmission options rules).sends f low high) hears fresh row
     column named
 
--- A header that erases the page begins its text.
+-- A header with C4 (erase page) set erases the page.
 erasing_header_begins : (keeps : Bool) (w : PageIdValue) (packet : List ℕ)
     → ErasesPage w packet
     → is_this_page (kind w packet) ≡ true

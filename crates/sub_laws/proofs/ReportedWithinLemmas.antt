@@ -1,5 +1,4 @@
--- A transmission has no events if and only if it is good under the options, whether or not repeats
--- may have C4 (erase page) clear.
+-- A transmission has no events if and only if it is good under the options.
 use Rattle.std.proofs.lemmas.Bool.Decides.{nat_tests}
 use Rattle.std.proofs.Common.{◌≡◌, ℕ, ◌+◌, ◌-◌, ◌<◌, ◌≤◌, ◌⊎◌, inl, inr, Bool, true, false, ◌&&◌}
 use Rattle.std.proofs.Common.{◌||◌, ◌==◌, nat_le, nat_lt, Option, Some, None, is_some, length}
@@ -118,7 +117,7 @@ module _ (programme : ProgrammeValue) (options : OptionsValue) (unread : Option 
               end
               (none_eq _ (pending_parts is))
 
-  -- A transmission that meets all requirements is good under the options.
+  -- A transmission without faults is good under the options.
   pub Within-from_holds : EachPacket IsPacket t → GoodBy options.keeps programme t options
   Within-from_holds whole =
       let keeps = Rules-from_holds programme options unread t every h (sizes_of t whole) in
@@ -143,7 +142,7 @@ module _ (programme : ProgrammeValue) (options : OptionsValue) (t : Transmission
   abbrev order : RiseTo t (length t)
   order = rises_each t good.rules.rising
 
-  -- Each finished frame is earlier than the frame from which on all ends are unfinished.
+  -- Each finished frame is before the current run of frames with an unfinished page.
   first_unfinished_later : (n f r e : ℕ) → IsEnd t n f → unfinished_run_start requested t n f ≡ Some
       r
       → from ≤ e
@@ -304,7 +303,7 @@ module _ (programme : ProgrammeValue) (options : OptionsValue) (t : Transmission
       finished in
       rw none refl
 
-  -- A transmission that is good under the options meets all requirements.
+  -- A transmission that is good under the options has no faults.
   pub holds-from_within : MeetsRequirements requested t
   holds-from_within = holds-from_rules programme options t good.rules still nothing_is_pending
 

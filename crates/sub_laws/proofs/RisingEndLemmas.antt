@@ -1,4 +1,4 @@
--- The greatest of the first n frames is the last one, if frame numbers increase.
+-- If frame numbers increase, the greatest of the first n frame numbers is the last one.
 use Rattle.std.proofs.lemmas.Bool.Decides.{nat_tests}
 use Rattle.std.proofs.Common.{◌≡◌, ℕ, zero, suc, ◌-◌, ◌<◌, arith}
 use Rattle.sub_rules.specs.Events.{latest}

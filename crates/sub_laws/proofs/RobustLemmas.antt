@@ -1,5 +1,4 @@
--- A good transmission is sound and has the sufficient conditions, so it keeps its guarantees: the
--- laws of the main theorem.
+-- A good transmission meets the sufficient conditions, so it meets its guarantees.
 use Rattle.std.proofs.Common.{arith, ℕ, ◌+◌, false, List, length, subst, le_refl}
 use Rattle.std.proofs.lemmas.Bool.Decides.{nat_tests}
 use Rattle.std.proofs.lemmas.List.{take_all}

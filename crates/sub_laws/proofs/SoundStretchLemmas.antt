@@ -1,7 +1,5 @@
--- Receivers that start and stop anywhere in a range of frames with allowed repeats get a header in
--- time, the kept text and the end of the page, whatever the text is, and have the right states. A
--- sound range of frames is a range of frames with allowed repeats in which every repeat must have
--- C4 (erase page) set.
+-- Receivers that start and stop anywhere in a range of frames get a header in time, and the text
+-- and state that the packets of the range determine.
 use Rattle.std.proofs.lemmas.Bool.Decides.{nat_tests}
 use Rattle.std.proofs.Common.{◌≡◌, ℕ, ◌+◌, ◌≤◌, ◌&&◌, Bool, true, false, List, [], ◌∷◌}
 use Rattle.std.proofs.Common.{◌++◌}

@@ -1,5 +1,5 @@
--- A range of frames without faults that affect receivers meets the conditions for recovery apart
--- from its text, whatever `within` is.
+-- A range of frames without faults that affect receivers meets the conditions for recovery, apart
+-- from the text.
 use Rattle.std.proofs.lemmas.Bool.Decides.{nat_tests}
 use Rattle.std.proofs.Common.{◌≡◌, ℕ, ◌+◌, ◌-◌, ◌<◌, ◌≤◌, ◌⊎◌, inl, inr, List, [], length}
 use Rattle.std.proofs.Common.{slice_index, slice_index_or, Option, refl, sym, ap, ◌∙◌}
@@ -47,8 +47,7 @@ module _ (programme : ProgrammeValue) (transmission : Transmission) (options : O
       (refuted _ (rule_decided g.watched _ _ r (λ e. absurd (other e)))).0
       (unreported.packets r needed i k l m low high)
 
-  -- While the page is open, a row has the codes of the first packet of this row since the page was
-  -- erased.
+  -- While the page is open, a row has the codes of its first packet since the page was erased.
   same_codes : AtPackets (λ heard p. IsTrue (is_open_after (kind options.page) heard)
       → (row : ℕ) (first : List ℕ)
       → kind options.page p ≡ Row row

@@ -1,5 +1,5 @@
 -- If a test fails for the steps of each frame and of each skipped PES packet, it fails for all
--- steps, and then the events of these steps have no bad fault.
+-- steps.
 use Rattle.std.proofs.lemmas.Bool.Decides.{nat_tests}
 use Rattle.std.proofs.Common.{◌≡◌, ℕ, zero, suc, ◌+◌, ◌==◌, Bool, true, false, List, [], ◌∷◌, ◌++◌}
 use Rattle.std.proofs.Common.{length, map, Option, None, Some, refl, ◌∙◌, arith, if◌then◌else◌}
@@ -63,7 +63,7 @@ module _ (test : CheckStep → Bool) where
   SkippedPass pes (Skipped u ∷ pes_packets) =
       (on (Reported (unread_fault pes (Some u))) ≡ false) × SkippedPass (suc pes) pes_packets
 
-  -- A test of steps fails for each step of a frame.
+  -- The test fails for each step of a frame.
   pub record FramesPass (g : Criteria) : Type 0 where
     pub at_pes : (n : ℕ) → test (AtPes n) ≡ false
     pub begins : (f : ℕ) → test (Begins f) ≡ false
@@ -171,10 +171,10 @@ module _ (test : CheckStep → Bool) where
         both_pass (each_passes [] 0 pes_packets (skipped 0))
         (pending_passes (sent_by_pes_packets g pes_packets))
 
--- Assume a test of faults whose result does not depend on the PES packet that the fault names.
+-- The result of this test of faults does not depend on PES packet numbers.
 module _ (bad : CheckFault → Bool)
     (anywhere : (pes : ℕ) (f : CheckFault) → bad f ≡ false → bad (fault_at_pes pes f) ≡ false) where
-  -- The event reports a fault for which the test `bad` succeeds.
+  -- The event is a fault that passes the test `bad`.
   abbrev pub reports_bad : Event → Bool
   reports_bad (Reported f) = bad f
   reports_bad e = false

@@ -1,6 +1,5 @@
--- A range of frames with the sufficient conditions may be trusted; if all frames may be trusted,
--- the transmission keeps its guarantees. A transmission that is robust to lost rows, for the case
--- that no packet is lost, is robust.
+-- If a range of frames meets the sufficient conditions, its guarantees hold. If they hold for all
+-- frames, they hold for the transmission.
 use Rattle.std.proofs.Common.{ℕ, ◌≤◌, inr, Bool, false, List, sym, subst, arith, le_refl}
 use Rattle.std.proofs.Common.{le_trans}
 use Rattle.std.specs.Prelude.{All, IsTrue}

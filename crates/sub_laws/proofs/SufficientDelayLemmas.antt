@@ -1,6 +1,5 @@
--- If the requirements at the ends of frames are met, the text of these frames was expected, even if
--- frames may be late, and the frames are finished in time. So a range of frames without faults that
--- affect receivers is sufficient.
+-- If no fault is active at the ends of a range of frames, its text was expected, and its frames are
+-- finished in time.
 use Rattle.std.proofs.lemmas.Bool.Decides.{nat_tests}
 use Rattle.std.proofs.Common.{◌≡◌, ℕ, ◌+◌, ◌-◌, ◌<◌, ◌≤◌, inr, Bool, true, false, ◌&&◌}
 use Rattle.std.proofs.Common.{◌||◌, ◌==◌, nat_le, nat_lt, None, Option, Some, get_or, length, refl}
@@ -33,8 +32,8 @@ use Rattle.sub_laws.proofs.SoundUnreportedLemmas.{repeated_unreported}
 use Rattle.sub_laws.proofs.ActiveFaultsLemmas.{always_late, due_known_at, none_wrong, unexpected_eq}
 use Rattle.sub_laws.proofs.UnfinishedLemmas.{finished_from, first_unfinished_some, unfinished_at}
 
--- In the frames a to b the content at each end is as required, and the expected page is known; the
--- frames of the transmission rise.
+-- In the frames from a to b, no cell is wrong at a frame end, and the expected page is known. Frame
+-- numbers increase.
 pub record IsStill (g : Criteria) (t : Transmission) (a b : ℕ) : Type 0 where
   pub up : RiseTo t (length t)
   pub some : 0 < length t
@@ -47,7 +46,8 @@ pub record IsStill (g : Criteria) (t : Transmission) (a b : ℕ) : Type 0 where
       → f ≤ b
       → (broken_cell g t n f ≡ None) × (undecided_within g t f ≡ false)
 
--- In the frames a to b the content and the end of the page are as required.
+-- In the frames from a to b, no cell is wrong at a frame end, and complete pages have ended if they
+-- are required.
 pub record HoldsAtEnds (g : Criteria) (t : Transmission) (a b : ℕ) : Type 0 where
   pub still : IsStill g t a b
   pub shut :
@@ -94,7 +94,7 @@ module _ (programme : ProgrammeValue) (options : OptionsValue) (unread : Option 
     codes_early n f end low high early row column named =
         grind (arith, nat_tests, unexpected_none, unexpected_eq, first-same)
 
-    -- At the end of each frame the kept code of a cell is a space or was expected within the last
+    -- At the end of each frame, each cell has a space, or a code that was expected within the last
     -- `within` frames.
     pub codes : KeepsDueCodes options.keeps programme t options a b
     codes f row column low high named =

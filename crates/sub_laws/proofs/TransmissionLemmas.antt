@@ -1,5 +1,4 @@
--- The packets of frames can be split and joined, and the frames of a range that pass a test are a
--- rising transmission.
+-- The packets of a range of frames, for a transmission made of the frames that pass a test.
 use Rattle.std.proofs.Common.{◌≡◌, ℕ, zero, suc, ◌+◌, ◌<◌, ◌≤◌, inl, inr, Bool, true, false, ◌&&◌}
 use Rattle.std.proofs.Common.{nat_le, nat_lt, cond, List, [], ◌∷◌, ◌++◌, map, filter, flat_map}
 use Rattle.std.proofs.Common.{slice_index_or, All, refl, ap, ◌∙◌, arith, append_assoc, append-nil}

@@ -1,5 +1,4 @@
--- The first frame of a run of unfinished frames, for a sequence of tests and for the ends of rising
--- frames.
+-- The first frame of a run of frames with an unfinished page.
 use Rattle.std.proofs.lemmas.Bool.Decides.{nat_tests}
 use Rattle.std.proofs.Common.{◌≡◌, ℕ, zero, suc, ◌+◌, ◌-◌, ◌<◌, ◌≤◌, ◌⊎◌, inl, inr, Bool, true}
 use Rattle.std.proofs.Common.{false, ◌&&◌, ◌||◌, Option, Some, None, is_some, length, refl, sym, ap}
@@ -20,14 +19,14 @@ use Rattle.sub_laws.proofs.PrefixLemmas.{RiseTo, end_is_on_air, rises_to}
 use Rattle.sub_laws.proofs.RisingEndLemmas.{latest_at}
 
 module _ (un : ℕ → Bool) (first : ℕ) where
-  -- The first frame of the run of unfinished frames that ends at first + k.
+  -- The first frame of the run of unfinished frames up to frame `first` + k.
   abbrev pub first_unfinished_at : ℕ → Option ℕ
   first_unfinished_at zero = unfinished_from None (un first) first
   first_unfinished_at (suc k) = unfinished_from (first_unfinished_at k) (un (first + suc k))
       (first + suc k)
 
-  -- Frame r is the first frame of the unfinished run that ends at first + k: all frames from r to
-  -- first + k are unfinished, and the frame before r, if any, is finished.
+  -- Frame r is the first of the run of unfinished frames up to frame `first` + k: all frames from r
+  -- on are unfinished, and the frame before r, if any, is finished.
   pub record IsFirstUnfinished (k r : ℕ) : Type 0 where
     pub low : first ≤ r
     pub high : r ≤ first + k
@@ -84,8 +83,8 @@ module _ (un : ℕ → Bool) (first : ℕ) where
             begins = earlier.begins;
           }
 
-  -- At least one frame from a to first + k is finished, unless the unfinished run begins at a or
-  -- earlier.
+  -- At least one frame from a to `first` + k is finished, unless the run of unfinished frames
+  -- begins at or before a.
   pub finished_from : (a k : ℕ) → first ≤ a → a ≤ first + k
       → ((r : ℕ) → first_unfinished_at k ≡ Some r → r ≤ a → ⊥)
       → (e : ℕ) × (a ≤ e) × (e ≤ first + k) × (un e ≡ false)
@@ -105,7 +104,7 @@ module _ (un : ℕ → Bool) (first : ℕ) where
             ]
           ]
 
-  -- If a frame is finished, the unfinished run begins after it.
+  -- A run of unfinished frames begins after each finished frame.
   pub first_unfinished_after : (k r e : ℕ) → first_unfinished_at k ≡ Some r → un e ≡ false → e ≤
       first + k → e < r
   first_unfinished_after k r e is finished high = elim (cases_lt e r) [
@@ -115,7 +114,7 @@ module _ (un : ℕ → Bool) (first : ℕ) where
   ]
 
 module _ (g : Criteria) (t : Transmission) (rises : RiseTo t (length t)) where
-  -- The end of frame f is unfinished, given the packets on air up to that end.
+  -- The page is unfinished at the end of frame f, given the packets on air up to that end.
   abbrev pub unfinished_at : ℕ → Bool
   unfinished_at f =
       is_some

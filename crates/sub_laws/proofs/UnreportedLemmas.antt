@@ -1,6 +1,5 @@
--- PES packets have no events if and only if each is sent and their frames have no events, and no
--- faults if and only if each is sent and their frames have no faults. Steps report no fault if and
--- only if their events are no faults.
+-- PES packets have no events if and only if none is skipped and their frames have no events; the
+-- same holds for faults.
 use Rattle.std.proofs.lemmas.Bool.Decides.{nat_tests}
 use Rattle.std.proofs.Common.{◌≡◌, ◌↔◌, ℕ, suc, Bool, true, false, not, ◌||◌, List, [], ◌∷◌, ◌++◌}
 use Rattle.std.proofs.Common.{length}
@@ -43,7 +42,7 @@ no_reports_append : (xs ys : List Event)
     → (first_reported (xs ++ ys) ≡ None) ↔ ((first_reported xs ≡ None) × (first_reported ys ≡ None))
 no_reports_append xs ys = grind (arith, nat_tests, first_of_two, both_none)
 
--- Naming a PES packet adds and removes no fault.
+-- Setting PES packet numbers adds and removes no fault.
 none_emitted : (pes : ℕ) (ms : List CheckStep)
     → (first_reported (emitted_by pes ms) ≡ None) ↔ (first_reported (emitted ms) ≡ None)
 unfolding at_pes
@@ -87,8 +86,8 @@ fault_free_so_far t (Emits x ∷ ms) reported still none = cc
 fault_free_so_far t (Closes are_left more ∷ ms) reported still none = cc
 fault_free_so_far t (m ∷ ms) reported still none = fault_free_so_far (m ∷ t) ms reported still none
 
--- If nothing was reported after a list of steps that does not close the file, nothing was reported
--- before it either.
+-- If nothing was reported by the end of a list of steps that does not close the file, nothing was
+-- reported before.
 pub silent : (t ms : List CheckStep) → list_any is_close ms ≡ false
     → list_any is_emitted (past_after t ms) ≡ false
     → (list_any is_emitted t ≡ false) × (reported_after t ms ≡ [])
@@ -202,8 +201,8 @@ module _ (g : Criteria) where
   emitted_sent pes_packets none =
       grind (arith, nat_tests, no_reports_append, emitted, emitted_parts, emitted-append, each_sent)
 
-  -- If no subtitle was rejected, PES packets have no events if and only if each is sent and their
-  -- frames have no events.
+  -- If no subtitle was rejected, PES packets have no events if and only if none is skipped and
+  -- their frames have no events.
   pub pes_packets_unreported : (pes_packets : List PesPacket) → g.any_refused ≡ false
       → (all_of_pes_packets g pes_packets ≡ [])
       ↔ ((length (frames_of pes_packets) ≡ length pes_packets) ×
@@ -212,7 +211,7 @@ module _ (g : Criteria) where
   pes_packets_unreported pes_packets alone =
       grind (arith, nat_tests, reported_none, announced_empty, emitted_sent, pes_packets_emitted)
 
-  -- PES packets have no fault if and only if each is sent and their frames have no fault.
+  -- PES packets have no fault if and only if none is skipped and their frames have no fault.
   pub pes_packets_unrefused : (pes_packets : List PesPacket)
       → (first_reported (all_of_pes_packets g pes_packets) ≡ None)
       ↔ ((length (frames_of pes_packets) ≡ length pes_packets)

@@ -1,5 +1,5 @@
--- The steps at the end of a frame within a range of frames with the guarantees, and at the end of
--- the file, report the frame range as trusted or keep it pending.
+-- The steps at the end of a frame and of the file report the range of frames as trusted, or leave a
+-- state that will report it.
 use Rattle.std.proofs.lemmas.Bool.Decides.{nat_tests}
 use Rattle.std.proofs.Common.{◌≡◌, ℕ, suc, ◌+◌, ◌-◌, ◌<◌, ◌≤◌, inl, inr, Bool, true, false}
 use Rattle.std.proofs.Common.{◌||◌, List, [], ◌∷◌, ◌++◌, length, map, Option, Some, None, is_some}
@@ -96,8 +96,7 @@ module _ (g : Criteria) (frames : Transmission) (a b i : ℕ)
   abbrev OpenHere : ℕ → List CheckStep → Type 0
   OpenHere n t = Open g frames a b i fits n (packets_of_frame frames n) t
 
-  -- The end of frame n was checked, and the tracker's state still has the run that will report the
-  -- frame range.
+  -- Frame n has ended, and the tracker still has the run that will report the range of frames.
   record Finishing (n : ℕ) (t : List CheckStep) : Type 0 where
     follows : Follow n (frame_at frames n + 1) t
     clean : i ≤ n → stays_fault_free t ≡ true

@@ -1,5 +1,4 @@
--- Within a range of frames with the guarantees, the state of the tracker has a run from the end of
--- a frame with a header on, which is reported once a frame is invalidated or at the end.
+-- From the first header of the range of frames on, the tracker has a run that will be reported.
 use Rattle.std.proofs.lemmas.Bool.Decides.{nat_tests}
 use Rattle.std.proofs.Common.{◌≡◌, ℕ, ◌+◌, ◌-◌, ◌<◌, ◌≤◌, inl, inr, Bool, true, false, ◌==◌}
 use Rattle.std.proofs.Common.{List, map, Option, Some, None, is_some, refl, sym, ◌∙◌, arith}
@@ -48,7 +47,7 @@ late_past : (late : Bool) (first_unfinished : Option ℕ) (f b : ℕ) → b < f
     → b < unwrap_or (if late then first_unfinished else None) f
 late_past late first_unfinished f b past h = grind (arith, nat_tests)
 
--- The reports at the end of a frame never are about the order of frames.
+-- No event at the end of a frame is about frame numbers that do not increase.
 pub end_orders : (old : ActiveFaults) (before : ℕ) (new : ActiveFaults) (f : ℕ)
     → list_any is_order (end_events old before new f) ≡ false
 unfolding is_order reports_order_fault
@@ -60,7 +59,7 @@ module _ (g : Criteria) (frames : Transmission) (a b i : ℕ)
   abbrev pub top : ℕ
   top = frame_at frames i
 
-  -- The first n frames have ended, and so have all frames before frame p.
+  -- The first n frames of the transmission have ended, and so have all frames before frame p.
   pub record Follows (n p : ℕ) (t : List CheckStep) : Type 0 where
     pub rises : n ≤ i → has_risen t ≡ true
     pub run : i < n → (from : ℕ) × (from ≤ top) × (run_of t ≡ Some from)
@@ -81,7 +80,7 @@ module _ (g : Criteria) (frames : Transmission) (a b i : ℕ)
       → Follows n p u
   follows_emitted n p t u es follows so orders none = grind (arith, nat_tests)
 
-  -- If a frame after the frame range is in doubt, the frame range is reported.
+  -- If a frame after the range is invalidated, the range is reported.
   pub invalidation_reported : (n p : ℕ) (t : List CheckStep) (es : List Event) (x : ℕ) → Follows n p
       t → i < n
       → invalidation_of t es ≡ Some x
@@ -113,8 +112,8 @@ module _ (g : Criteria) (frames : Transmission) (a b i : ℕ)
             (λ l. absurd (omega arith)))
       ]
 
-  -- If the page has been wrong up to the end before a frame after the frame range, it was first
-  -- wrong in a frame after the frame range.
+  -- If the page is unfinished at the end before a frame after the range, the unfinished run begins
+  -- after the range.
   pub back_after : (n f r : ℕ) (u : List CheckStep) → WrongSince g frames n f u → 0 < n
       → IsEnd (rising_part frames) n (f - 1)
       → b < f
@@ -167,7 +166,7 @@ module _ (g : Criteria) (frames : Transmission) (a b i : ℕ)
             | inr (none, here) ↦ omega arith
           ]
 
-  -- The reports at an end after the frame range cast doubt only on frames after the frame range.
+  -- The events at the end of a frame after the range invalidate only frames after the range.
   pub end_past : (n m f x : ℕ) (t u : List CheckStep) → ChecksFrameEnd g frames m f t u
       → WrongSince g frames n f u
       → 0 < n

@@ -1,5 +1,4 @@
--- Defines steps that report a range of frames as trusted, or leave a state that will report it. A
--- run is reported when a frame is invalidated.
+-- Steps that report a range of frames as trusted, or leave a state that will report it.
 use Rattle.std.proofs.lemmas.Bool.Decides.{nat_tests}
 use Rattle.std.proofs.Common.{◌≡◌, ℕ, ◌-◌, ◌<◌, ◌≤◌, ◌⊎◌, inl, inr, List, [], ◌∷◌, ◌++◌, map}
 use Rattle.std.proofs.Common.{Contains, Option, Some, None, refl, sym, subst, arith, ◌∙◌}
@@ -71,11 +70,11 @@ emitted_reported t (e ∷ es) x from w is run whole l =
         (or_some (invalidated_by t e) (invalidation_of t es) x y some is) run whole l))
 
 module _ (top b : ℕ) where
-  -- The frames `top` to b are reported as trusted, in one event that begins at `top` or earlier.
+  -- One event reports that the frames from `top` or earlier to b are trusted.
   abbrev pub IsReported : List Event → Type 0
   IsReported es = (from : ℕ) × (to : ℕ) × (from ≤ top) × (b ≤ to) × Contains es (Trusted from to)
 
-  -- The steps report the frames `top` to b as trusted, or the state afterwards has the property S.
+  -- The steps report the frames `top` to b as trusted, or leave a state with the property S.
   abbrev pub Leads : (List CheckStep → Type 0) → List CheckStep → List CheckStep → Type 0
   Leads S t ms = IsReported (reported_after t ms) ⊎ S (past_after t ms)
 

@@ -1,5 +1,4 @@
--- Each frame range that can stay is reported as trusted from a header of the page in the frame
--- range on.
+-- Each range of frames with the guarantees is reported as trusted from its first header on.
 use Rattle.std.proofs.lemmas.Bool.Decides.{nat_tests}
 use Rattle.std.proofs.Common.{◌≡◌, ◌≢◌, ℕ, ◌<◌, ◌≤◌, ◌⊎◌, inl, inr, Bool, true}
 use Rattle.std.proofs.Common.{false, ◌||◌, not, List, [], ◌∷◌, ◌++◌, Contains}
@@ -43,7 +42,7 @@ nothing_of : (reported : List Event) → reported ≡ []
 unfolding all_announced skipped_after_all
 nothing_of reported none = grind (arith, nat_tests)
 
--- The end of the file reports nothing if nothing was reported before and nothing follows.
+-- The end of the file reports nothing if nothing was reported before and no event follows.
 closing_silent : (g : Criteria) (frames : Transmission) (pes n : ℕ) (t : List CheckStep)
     → (list_any is_emitted t
     || (g.any_refused || not (reports_none (closing_of_pes_packets g frames pes n)))) ≡ false
@@ -94,7 +93,7 @@ module _ (g : Criteria) (pes_packets : List PesPacket) (a b i : ℕ)
       [] steps
   goes = pes_packets_lead g frames a b i fit pes_packets refl outside
 
-  -- Something is reported at the end of the file, or was reported before.
+  -- Any event is reported before or at the end of the file.
   abbrev reports : List CheckStep → Bool
   reports t =
       list_any is_emitted t

@@ -1,5 +1,5 @@
--- The steps of PES packets within a range of frames with the guarantees report the frame range as
--- trusted or keep it pending.
+-- The steps of PES packets report the range of frames as trusted, or leave a state that will report
+-- it.
 use Rattle.std.proofs.Common.{◌≡◌, ℕ, ◌+◌, ◌-◌, ◌<◌, ◌≤◌, ◌⊎◌, inl, inr, List, [], ◌∷◌, ◌++◌}
 use Rattle.std.proofs.Common.{length, refl, sym, subst, arith, append-nil}
 use Rattle.sub_rules.specs.FrameRules.{Criteria, end_frame, frame_at, packets_of_frame}
@@ -35,7 +35,7 @@ module _ (g : Criteria) (frames : Transmission) (a b i : ℕ)
   abbrev OpenAt : ℕ → List (List ℕ) → List CheckStep → Type 0
   OpenAt n packets t = Open g frames a b i fits n packets t
 
-  -- A skipped PES packet that follows the frames `sent` may not have been sent in the frame range.
+  -- A skipped PES packet that follows the frames `sent` cannot belong to the range of frames.
   abbrev pub Outside : Transmission → Type 0
   Outside sent =
       0 < length sent

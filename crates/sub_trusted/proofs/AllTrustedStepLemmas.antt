@@ -1,6 +1,4 @@
--- The steps of a frame within a range of frames with the guarantees report the frame range as
--- trusted or keep it pending: before the packets of the frame, for its packets, and for a skipped
--- PES packet.
+-- The steps of a frame report the range of frames as trusted, or leave a state that will report it.
 use Rattle.std.proofs.lemmas.Bool.Decides.{nat_tests}
 use Rattle.std.proofs.Common.{◌≡◌, ℕ, zero, suc, ◌+◌, ◌-◌, ◌<◌, ◌≤◌, ◌⊎◌, inl, inr, Bool, true}
 use Rattle.std.proofs.Common.{false, List, [], ◌∷◌, ◌++◌, length, map, take, get_or, Option, Some}
@@ -70,7 +68,7 @@ pub skipped_orders : (pes : ℕ) (u : Unread)
 unfolding is_order reports_order_fault
 skipped_orders pes u = grind (arith, nat_tests)
 
--- Rising frames have no report about their order, so no frame is invalidated for its order.
+-- If frame numbers increase, there is no event about their order.
 order_orders : (g : Criteria) (frames : Transmission) (n : ℕ)
     → (0 < n → frame_at frames (n - 1) < frame_at frames n)
     → list_any is_order (order_events g frames n) ≡ false
@@ -83,7 +81,7 @@ order_silent : (g : Criteria) (frames : Transmission) (n : ℕ) → 0 < n
 unfolding order_events
 order_silent g frames n some up = grind (arith, nat_tests)
 
--- A frame is clean as long as no frame is invalidated.
+-- A frame is fault-free as long as no frame is invalidated.
 pub clean_without_doubt : (clean : Bool) (d : Option ℕ) → clean ≡ true → d ≡ None
     → (clean && is_none d) ≡ true
 clean_without_doubt clean d is none = rw (is, none) refl
@@ -116,7 +114,7 @@ module _ (g : Criteria) (frames : Transmission) (a b i : ℕ)
   abbrev Lead : (List CheckStep → Type 0) → List CheckStep → List CheckStep → Type 0
   Lead S t ms = Leads (top g frames a b i fits) b S t ms
 
-  -- The frames of the run rise up to frame n.
+  -- The frame numbers of the run increase up to frame n.
   run_frames_rise : (n x p : ℕ) (t : List CheckStep) → Keeps g frames 0 n x t
       → (has_risen t ≡ true → RiseTo frames (suc n))
       → Follow n p t
@@ -170,7 +168,7 @@ module _ (g : Criteria) (frames : Transmission) (a b i : ℕ)
           run_frames_rise n (latest frames n + suc k) (latest frames n + suc k) t arrives.keeps
           arrives.rises follows below
 
-  -- The first k frames before frame n of the transmission have ended.
+  -- The first k frames without packets before frame n of the transmission have ended.
   abbrev GapFramesEnding : ℕ → ℕ → List CheckStep → Type 0
   GapFramesEnding n k u = GapFramesEnded g frames 0 n k u × Follow n (latest frames n + suc k) u
 
@@ -234,7 +232,7 @@ module _ (g : Criteria) (frames : Transmission) (a b i : ℕ)
                 )
           ]
 
-  -- Frame n of the transmission is being sent.
+  -- Frame n of the transmission has begun.
   pub record Sending (n : ℕ) (t : List CheckStep) : Type 0 where
     pub follows : Follow n (frame_at frames n) t
     pub clean : i ≤ n → stays_fault_free t ≡ true

@@ -1,4 +1,4 @@
--- The frames of a range of frames of the rising part that can stay have the properties `Fits`.
+-- The properties of a range of frames with the guarantees, as its trusted frames are reported.
 use Rattle.std.proofs.lemmas.Bool.Decides.{nat_tests}
 use Rattle.std.proofs.Common.{◌≡◌, ℕ, suc, ◌+◌, ◌-◌, ◌<◌, ◌≤◌, true, false, List, [], ◌++◌, drop}
 use Rattle.std.proofs.Common.{length, take, get_or, Some, None, sym, ap, ◌∙◌, subst, arith}
@@ -143,8 +143,8 @@ module _ (g : Criteria) (pes_packets : List PesPacket) (a b : ℕ) (can : CanSta
         sym (ap (λ (fs : Transmission). unfinished_run_start g fs n f) (take-append-drop m frames))
         ∙ unfinished_run_start-prefix g g.unread part (drop m frames) n f (omega arith)
 
-    -- If `within` is 0, the last frame of the frame range is finished, since no fault is active at
-    -- its end.
+    -- If `within` is 0, the last frame of the range is finished, since no fault is active at its
+    -- end.
     at_once_finished : (n f : ℕ) → (g.within == 0) ≡ true
         → active_faults_at g part n f ≡ no_active_faults
         → is_unfinished g part n f ≡ false

@@ -1,5 +1,4 @@
--- The trusted frames that a list of steps reports have a property, also for steps with events only,
--- and the state after these events is known.
+-- A property of all trusted frames that a list of steps reports.
 use Rattle.std.proofs.lemmas.Bool.Decides.{nat_tests}
 use Rattle.std.proofs.Common.{◌≡◌, ℕ, ◌-◌, ◌<◌, ◌&&◌, Bool, false, not, List, [], ◌∷◌, ◌++◌}
 use Rattle.std.proofs.Common.{if◌then◌else◌, map, Option, Some, None, is_none, refl, sym}
@@ -19,15 +18,15 @@ use Rattle.sub_rules.specs.Trusted.{current_pes, run_of, first_unfinished_of, st
 use Rattle.sub_rules.specs.Trusted.{reports_order_fault, reported_after}
 use Rattle.sub_rules.specs.Trusted.{reported_at, trusted, trusted_up_to, first_correct_of}
 
--- The frame numbers have increased in all steps so far.
+-- Frame numbers have increased in all steps so far.
 abbrev pub has_risen : List CheckStep → Bool
 has_risen t = not (list_any reports_order_fault t)
 
--- The first frame that is no longer trusted after one of the events invalidates a frame.
+-- The first frame that one of the events invalidates.
 abbrev pub invalidation_of : List CheckStep → List Event → Option ℕ
 invalidation_of t es = first_found (invalidated_by t) es
 
--- The first frame that is not reported as trusted when frame x is no longer trusted.
+-- The first frame that is not trusted when frame x is invalidated.
 abbrev pub back_to : List CheckStep → ℕ → ℕ
 back_to t x = unwrap_or (back_of t) x
 
@@ -41,11 +40,11 @@ pub back_to_after : (t : List CheckStep) (x b : ℕ) → b < x
     → b < back_to t x
 back_to_after t x b past h = grind (arith, nat_tests)
 
--- The run after an event: the run ends if a frame is invalidated.
+-- The run after events, which end it if they invalidate a frame.
 abbrev pub kept : Option ℕ → Option ℕ → Option ℕ
 kept run d = if is_none d then run else None
 
--- The event reports that frames are not in increasing order.
+-- The event reports that frame numbers do not increase.
 unfoldable pub is_order : Event → Bool
 is_order e = reports_order_fault (Emits e)
 
@@ -77,12 +76,12 @@ unfolding past_after run_of first_correct_of last_packet_frame first_unfinished_
 emitted t [] = grind (arith, nat_tests)
 emitted t (e ∷ es) = grind (arith, nat_tests, invalidation_after, (emitted (Emits e ∷ t) es))
 
--- If the run continues after an event, it existed before, and no frame is invalidated.
+-- If the run continues after an event, it existed before, and the event invalidates no frame.
 pub run_was_there : (run d : Option ℕ) (from : ℕ) → kept run d ≡ Some from
     → (run ≡ Some from) × (d ≡ None)
 run_was_there run d from e = grind (arith, nat_tests)
 
--- A report about the order of frames ends a run.
+-- An event about frame numbers that do not increase ends a run.
 order_invalidated : (t : List CheckStep) (e : Event) → invalidated_by t e ≡ None → is_order e ≡
     false
 unfolding is_order reports_order_fault invalidated_by
@@ -94,7 +93,7 @@ orders_invalidated t [] none = refl
 orders_invalidated t (e ∷ es) none = grind
     (arith, nat_tests, order_invalidated, (orders_invalidated t es))
 
--- The step that names PES packet `pes`, followed by the steps `t`.
+-- The step that sets PES packet number `pes`, before the steps `t`.
 abbrev pub reported_of : ℕ → List CheckStep → List CheckStep
 reported_of pes t = AtPes pes ∷ t
 
@@ -104,14 +103,14 @@ module _ (P : ℕ → ℕ → Type 0) where
   on_at pes (Trusted from to) p = p
   on_at pes e p = tt
 
-  -- The trusted frames of a run before frame x, if the run has any, have the property P.
+  -- The trusted frames of a run before frame x have the property P.
   pub each_put : (run whole : Option ℕ) (x : ℕ)
       → ((from w : ℕ) → run ≡ Some from → whole ≡ Some w → w < x → P from (x - 1))
       → EachTrusted P (trusted run whole x)
   each_put run whole x h1 = grind (arith, nat_tests, ltb-true)
 
-  -- If the trusted frames of the events, and the frames of the run up to the invalidated frame,
-  -- have the property P, so have the trusted frames of the steps with these events.
+  -- If the trusted frames in the events, and those of the run up to the invalidated frame, have the
+  -- property P, so do the trusted frames that the steps report.
   each_emitted : (t : List CheckStep) (es : List Event) → EachTrusted P es
       → ((x from w : ℕ)
       → invalidation_of t es ≡ Some x

@@ -1,6 +1,5 @@
--- If two sets of criteria agree whenever the first set knows the expected page, and it knew the
--- expected page at the last frames, an end is late for both sets or for neither, and if no fault is
--- active for the first set, no fault is active for the second.
+-- If two sets of criteria agree on all expected pages that the first set knows, a frame without
+-- faults for the first set has none for the second.
 use Rattle.std.proofs.lemmas.Bool.Decides.{nat_tests}
 use Rattle.std.proofs.Common.{◌≡◌, ℕ, ◌+◌, ◌-◌, ◌≤◌, inl, inr, Bool, true, false}
 use Rattle.std.proofs.Common.{◌&&◌, ◌||◌, ◌==◌, nat_le, Option, Some, None, length, refl, sym, ap}
@@ -26,8 +25,7 @@ use Rattle.sub_laws.proofs.UnfinishedLemmas.{first_unfinished_end, first_unfinis
 use Rattle.sub_laws.proofs.UnfinishedLemmas.{first_unfinished_some}
 use Rattle.sub_laws.proofs.UnfinishedLemmas.{unfinished_at}
 
--- The criteria that know the expected page at each frame: the expected pages, the TCI of the
--- subtitle whose TCO is a frame, the first TCI and the last TCO.
+-- The criteria with an expected page for each frame.
 abbrev pub criteria_known : Criteria → (ℕ → Rows) → (ℕ → Option ℕ) → Option ℕ → Option ℕ → Criteria
 criteria_known g due ending first_tci last_tco =
     record g {

@@ -1,6 +1,5 @@
--- A programme with additional subtitles has the same expected page at the frames at which these
--- subtitles are not expected; so frames that are trusted without the additional subtitles are
--- trusted with them.
+-- Additional subtitles do not change the expected pages of other frames, so frames that are trusted
+-- without them are trusted with them.
 use Rattle.std.proofs.lemmas.Bool.Decides.{nat_tests}
 use Rattle.std.proofs.Common.{◌≡◌, ℕ, ◌+◌, inl, inr, Bool, false}
 use Rattle.std.proofs.Common.{List, [], ◌∷◌, find, Option, option_map}
@@ -16,7 +15,7 @@ use Rattle.sub_trusted.proofs.EqualLateLemmas.{HasSameCriteria}
 use Rattle.sub_trusted.proofs.EqualTrustLemmas.{reported_in_other}
 
 module _ (undecided : ℕ → Bool) (f : ℕ) (known : undecided f ≡ false) where
-  -- A subtitle that is expected only at frames with an unknown expected page is not expected at
+  -- A subtitle that is expected only in frames with an unknown expected page is not expected in
   -- frame f and does not end after it.
   not_due : (t : SubtitleValue) → IsDueAmong undecided t → is_due f t ≡ false
   not_due t is = grind (arith, nat_tests)

@@ -1,5 +1,5 @@
--- Frames that are reported as trusted although subtitles were rejected are reported by all criteria
--- that agree whenever the expected page is known.
+-- Frames that are trusted although subtitles were rejected are trusted for all criteria that agree
+-- on the known expected pages.
 use Rattle.std.proofs.lemmas.Bool.Decides.{nat_tests}
 use Rattle.std.proofs.Common.{◌≡◌, ◌≢◌, ℕ, ◌-◌, ◌<◌, ◌≤◌, inl, inr, true}
 use Rattle.std.proofs.Common.{List, [], Contains, Option, Some, length, refl, ap, ◌∙◌}

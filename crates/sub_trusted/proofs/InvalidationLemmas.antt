@@ -1,5 +1,5 @@
--- A property of all frames that events report as trusted is kept when the ends of runs of skipped
--- PES packets are added.
+-- A property of all trusted frames in a list of events still holds if runs of skipped PES packets
+-- are grouped.
 use Rattle.std.proofs.lemmas.Bool.Decides.{nat_tests}
 use Rattle.std.proofs.Common.{◌≡◌, ℕ, Bool, true, false, List, [], ◌∷◌, ◌++◌, All, Contains}
 use Rattle.std.proofs.Common.{zero, suc, arith, cond}

@@ -1,5 +1,4 @@
--- Shows which frame is no longer trusted after the reports about a frame's packets, its number, and
--- its end, which may be late. The frame from which on an end is unfinished is not after that end.
+-- Which frame the events of a frame invalidate.
 use Rattle.std.proofs.lemmas.Bool.Decides.{nat_tests}
 use Rattle.std.proofs.Common.{◌≡◌, ℕ, zero, suc, ◌+◌, ◌-◌, ◌<◌, ◌≤◌, Bool, true, false, cond, List}
 use Rattle.std.proofs.Common.{[], ◌∷◌, ◌++◌, map, take, get_or, length, max, Option, Some, None}
@@ -36,7 +35,7 @@ use Rattle.sub_rules.specs.Trusted.{reports_order_fault}
 use Rattle.sub_rules.specs.declared.active_faults.ActiveFaults.{ActiveFaults}
 use Rattle.sub_trusted.proofs.EmittedStepLemmas.{is_order}
 
--- Packet k after the packets `before` breaks no rule that a receiver depends on.
+-- Packet k, sent after the packets `before`, breaks no rule that affects receivers.
 abbrev pub KeepsEachRule : Watched → List (List ℕ) → List (List ℕ) → ℕ → Type 0
 KeepsEachRule w before packets k =
     (r : PacketRule)
@@ -69,8 +68,8 @@ keeps_rules_append w before xs ys one two k l r needed = elim (cases_lt k (lengt
 module _ (t : List CheckStep) (w : Watched) (frame from : ℕ)
     (before packets : List (List ℕ))
   where
-    -- The frame of a packet is no longer trusted if and only if the packet breaks a rule that
-    -- affects receivers.
+    -- The events of a packet invalidate its frame if and only if it breaks a rule that affects
+    -- receivers.
     rule_invalidation : (k : ℕ) (r : PacketRule)
         → invalidated_by t (Reported (packet_fault r frame k)) ≡ cond (is_needed r) (Some frame)
         None
@@ -90,7 +89,7 @@ module _ (t : List CheckStep) (w : Watched) (frame from : ℕ)
         (packet_found (invalidated_by t) (λ x. x ≡ frame) frame (from + k)
         (λ r x e. let is = rule_invalidation (from + k) r in grind (arith, nat_tests)) w _ _)
 
-    -- The reports of packets invalidate their frame if and only if a packet breaks a rule that
+    -- The events of packets invalidate their frame if and only if one of them breaks a rule that
     -- affects receivers.
     pub packets_invalidation :
         Finds (invalidated_by t) (λ x. x ≡ frame) (KeepsAll w before packets)
@@ -144,7 +143,7 @@ module _ (t : List CheckStep) (g : Criteria) (frames : Transmission) where
   unfolding first_header_events invalidated_by
   header_none i = grind (arith, nat_tests)
 
--- A frame without a report about its order is after the frame before.
+-- A frame without an event about its number is after the frame before it.
 pub order_rises : (g : Criteria) (frames : Transmission) (i : ℕ)
     → list_any is_order (order_events g frames i) ≡ false
     → 0 < i
@@ -159,8 +158,8 @@ pub skipped_at : (t : List CheckStep) (pes : ℕ) (u : Unread)
 unfolding invalidated_by
 skipped_at t pes u = grind (arith, nat_tests)
 
--- The report of a rule invalidates the frame of its end or, if the page is overdue, on the frame
--- from which on it has been wrong.
+-- A broken rule invalidates the frame at whose end it is checked or, if the page is overdue, the
+-- first frame with the wrong page.
 end_rule_invalidates : (t : List CheckStep) (rule : EndRule) (f : ℕ) (cell : ℕ × ℕ)
     → invalidated_by t (Reported (end_fault rule f cell)) ≡ Some (unwrap_or (late_of t) f)
 unfolding invalidated_by
@@ -219,14 +218,14 @@ module _ (g : Criteria) (frames : Transmission) where
   in_frames zero r e = grind (arith, nat_tests, none-some)
   in_frames (suc i) r e = grind (arith, nat_tests, bound, in_gap, gap_bound, (in_frames i))
 
-  -- The first frame of the unfinished run at the end of frame f is not after f.
+  -- A run of unfinished frames at the end of frame f does not begin after f.
   first_unfinished_low : (n f r : ℕ) → unfinished_run_start g frames n f ≡ Some r → latest frames n
       ≤ f
       → r ≤ f
   unfolding unfinished_run_start
   first_unfinished_low n f r e l = grind (arith, nat_tests, in_gap, in_frames)
 
-  -- The first frame of the unfinished run at the end before frame f is before f.
+  -- A run of unfinished frames at the end before frame f begins before f.
   pub first_unfinished_before_at_most : (n f r : ℕ) → first_unfinished_before g frames n f ≡ Some r
       → (0 < n → latest frames n < f)
       → (0 < n) × (r ≤ f)
@@ -240,8 +239,7 @@ module _ (g : Criteria) (frames : Transmission) where
   before_eq zero f some = absurd (omega arith)
   before_eq (suc n) f some = refl
 
-  -- The first frame of the unfinished run, as the steps at the end of a frame name it; none if
-  -- `within` is 0.
+  -- The first frame of the current run of unfinished frames; `None` if `within` is 0.
   abbrev pub seen_unfinished : ℕ → ℕ → Option ℕ
   seen_unfinished n f = if g.within == 0 then None else unfinished_run_start g frames n f
 

@@ -1,6 +1,5 @@
--- If the packets that were read are on air in a range of frames, and its first frame has a header
--- that erases the page, the sufficient conditions hold for the packets on air, too, and the frames
--- are finished in time.
+-- If the packets that were read are on air in a range of frames that begins with a header that
+-- erases the page, the sufficient conditions hold for the packets on air, too.
 use Rattle.std.proofs.lemmas.Bool.Decides.{nat_tests}
 use Rattle.std.proofs.Common.{◌≡◌, ℕ, zero, suc, ◌+◌, ◌-◌, ◌≤◌, Bool, true, List, []}
 use Rattle.std.proofs.Common.{◌∷◌, ◌++◌, drop, find, option_map, unwrap_or, refl, sym, ap, ap₂, ◌∙◌}
@@ -34,7 +33,7 @@ use Rattle.sub_trusted.specs.TrustedFrames.{IsAsRead}
 use Rattle.sub_laws.proofs.TransmissionLemmas.{packets_between-split, packets_between-void}
 
 module _ (keeps : Bool) (kind_of : List ℕ → PacketKind) where
-  -- The packets before the last header that erases the page do not change the text.
+  -- The packets before the last header that erases the page do not change its text.
   from-later : (before later : List (List ℕ))
       → holds_beginning keeps kind_of later ≡ true
       → from_beginning keeps kind_of (before ++ later) ≡ from_beginning keeps kind_of later
@@ -42,7 +41,7 @@ module _ (keeps : Bool) (kind_of : List ℕ → PacketKind) where
   from-later (x ∷ before) later e =
       grind (arith, nat_tests, list_any-append, (from-later before later e))
 
--- The text of the first packet of a row in a list of packets.
+-- The text of a row's first packet in a list of packets.
 abbrev text_of : PageIdValue → List (List ℕ) → ℕ → ℕ → ℕ
 text_of page spanned row column =
     unwrap_or

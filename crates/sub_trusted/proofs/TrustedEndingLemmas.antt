@@ -1,5 +1,4 @@
--- The trusted frames that the steps at the end of a frame report have the property of trusted
--- frames.
+-- The guarantees hold for trusted frames that are reported at the end of a frame.
 use Rattle.std.proofs.lemmas.Bool.Decides.{nat_tests}
 use Rattle.std.proofs.Common.{◌≡◌, ℕ, suc, ◌-◌, ◌<◌, ◌≤◌, ◌⊎◌, inl, inr, Bool, true, false, ◌&&◌}
 use Rattle.std.proofs.Common.{List, [], ◌∷◌, ◌++◌, length, map, Option, Some, None, is_some, refl}
@@ -38,7 +37,7 @@ use Rattle.sub_rules.specs.Trusted.{has_no_active_faults, stays_fault_free, repo
 use Rattle.sub_rules.specs.Trusted.{reported_at, correct_at}
 use Rattle.sub_rules.specs.Trusted.{first_correct_of}
 
--- If a run has a frame at whose end the page was correct, that frame is the current one or was
+-- If the page was correct at the end of a frame of the run, that frame is the current one or was
 -- known before.
 correct_ended : (run whole first_unfinished : Option ℕ) (f w : ℕ)
     → option_or (if is_none run then None else whole) (correct_at f first_unfinished) ≡ Some w
@@ -46,7 +45,7 @@ correct_ended : (run whole first_unfinished : Option ℕ) (f w : ℕ)
 correct_ended run whole first_unfinished f w e = grind (arith, nat_tests)
 
 module _ (g : Criteria) (frames : Transmission) (base : ℕ) where
-  -- All packets of frame n were sent, and the end of the frame was checked.
+  -- All packets of frame n were sent, and its end was checked.
   record Ending (n : ℕ) (t : List CheckStep) : Type 0 where
     opens : Opens g frames base n (packets_of_frame frames n) t
     first_unfinished_eq : first_unfinished_of t ≡ seen_unfinished g frames (suc n)

@@ -1,5 +1,5 @@
--- The trusted frames of the rising part have no fault that affects receivers, the page is open at
--- none of their ends, and the first trusted frame has a header that erases the page.
+-- Trusted frames have no fault that affects receivers, and the first of them has a header that
+-- erases the page.
 use Rattle.std.proofs.lemmas.Bool.Decides.{nat_tests}
 use Rattle.std.specs.Bool.{Decides}
 use Rattle.std.proofs.Common.{◌≡◌, ℕ, zero, suc, ◌+◌, ◌-◌, ◌<◌, ◌≤◌, inl, inr, true, false, length}

@@ -1,6 +1,4 @@
--- The tracker's state for clean frames, whatever `within` is: after frames that have ended, before
--- the next frame, while it is sent, and at its end. The frames that are reported as trusted are
--- those of a run; a run continues with a frame or begins with it.
+-- The state of the tracker before, during and after a frame.
 use Rattle.std.proofs.lemmas.Bool.Decides.{nat_tests}
 use Rattle.std.proofs.Common.{◌≡◌, ℕ, suc, ◌+◌, ◌-◌, ◌<◌, ◌≤◌, ◌⊎◌, inl, inr, Bool, true, false}
 use Rattle.std.proofs.Common.{◌&&◌, ◌==◌, ◌∷◌, nat_lt, List, length, Option, Some, None, is_some}
@@ -46,8 +44,8 @@ pub correct_found : (whole first_unfinished : Option ℕ) (f w : ℕ)
     → (whole ≡ Some w) ⊎ ((first_unfinished ≡ None) × (f ≡ w))
 correct_found whole first_unfinished f w e = grind (arith, nat_tests)
 
--- No end is checked for lateness since `within` is 0: no frame is noted from which on the page has
--- been wrong, and in each run the page was correct.
+-- `within` is 0, so no frame end is checked for an overdue page, and the page was correct in each
+-- run.
 pub record ChecksNoLateness (t : List CheckStep) : Type 0 where
   pub first_unfinished : first_unfinished_of t ≡ None
   pub late : late_of t ≡ None
@@ -58,8 +56,7 @@ pub correct_some : (whole first_unfinished : Option ℕ) (f : ℕ) → first_unf
 correct_some whole first_unfinished f none = grind (arith, nat_tests)
 
 module _ (g : Criteria) (frames : Transmission) where
-  -- If `within` is not 0, the page was correct at the end of frame w, which is not before the first
-  -- frame of the run.
+  -- If `within` is not 0, the page was correct at the end of frame w of the run.
   pub record IsCorrectFrom (from w : ℕ) : Type 0 where
     pub low : from ≤ w
     pub n : ℕ
@@ -67,26 +64,27 @@ module _ (g : Criteria) (frames : Transmission) where
     pub rises : RiseTo frames n
     pub finished : seen_unfinished g frames n w ≡ None
 
-  -- The frames `from` to `to` may stay, and at the end of one of them the page was correct.
+  -- The guarantees hold for the frames `from` to `to`, and the page was correct at the end of one
+  -- of them.
   pub record MayStayCorrect (from to : ℕ) : Type 0 where
     pub stays : StaysTo g frames from to
     pub w : ℕ
     pub high : w ≤ to
     pub whole : IsCorrectFrom from w
 
-  -- The frame `from` is after all of the first `base` frames of the transmission.
+  -- The frame `from` is after the first `base` frames of the transmission.
   abbrev pub IsAfterFrames : ℕ → ℕ → Type 0
   IsAfterFrames base from = (i : ℕ) → i < base → frame_at frames i < from
 
-  -- The frames `from` to `to` may stay; they are after the first `base` frames of the transmission,
-  -- and if all frame numbers increase they are before frame `late`.
+  -- The guarantees hold for the frames `from` to `to`. They are after the first `base` frames of
+  -- the transmission and, if all frame numbers increase, before frame `late`.
   pub record MayStayBetween (base late from to : ℕ) : Type 0 where
     pub may_stay_correct : MayStayCorrect from to
     pub above : IsAfterFrames base from
     pub early : RiseTo frames (length frames) → to < late
 
-  -- A run may be trusted up to the frame before y; if all frame numbers increase, up to the frame
-  -- before `late`.
+  -- The frames of a run before y may be trusted; if all frame numbers increase, y is at most
+  -- `late`.
   pub record MayEnd (late n x y : ℕ) : Type 0 where
     pub within : n ≤ length frames
     pub low : y ≤ x
@@ -119,7 +117,7 @@ module _ (g : Criteria) (frames : Transmission) where
   calm t u es emitted from
       is = (run_was_there (run_of t) (invalidation_of t es) from (sym emitted.run_eq ∙ is)).1
 
-  -- An end up to which at most n frames were sent is before frame n of the transmission.
+  -- A frame end with at most n frames sent is before frame n of the transmission.
   pub end_under : (n : ℕ) → RiseTo frames (suc n) → (m f : ℕ) → IsEnd frames m f → m ≤ n
       → f < frame_at frames n
   end_under n rises m f (some, within, inl is) l =
@@ -129,7 +127,7 @@ module _ (g : Criteria) (frames : Transmission) where
   end_under n rises m f (some, within, inr (there, high, low)) l =
       let up = rises_to frames (suc n) rises m n (omega arith) (omega arith) in omega arith
 
-  -- An end up to which fewer than n frames were sent is not after frame n - 1 of the transmission.
+  -- A frame end with fewer than n frames sent is not after frame n - 1 of the transmission.
   pub end_few : (n : ℕ) → RiseTo frames n → (m f : ℕ) → IsEnd frames m f → m < n
       → f ≤ frame_at frames (n - 1)
   end_few n rises m f (some, within, inl is) l =
@@ -137,8 +135,7 @@ module _ (g : Criteria) (frames : Transmission) where
   end_few n rises m f (some, within, inr (there, high, low)) l =
       let up = rises_to frames n rises m (n - 1) (omega arith) (omega arith) in omega arith
 
-  -- If a run continues, the frame numbers increase up to frame n, and frame n - 1 is the latest
-  -- one.
+  -- If a run continues, frame numbers increase up to frame n, and frame n - 1 is the latest.
   pub record RunFacts (n : ℕ) : Type 0 where
     pub some : 0 < n
     pub last : latest frames n ≡ frame_at frames (n - 1)
@@ -229,8 +226,8 @@ module _ (g : Criteria) (frames : Transmission) where
   }
 
 module _ (g : Criteria) (frames : Transmission) (base : ℕ) where
-  -- The current run is within the first n frames, after the first `base` frames; no fault is active
-  -- at any of its ends before frame x.
+  -- The current run has frames among the first n, after the first `base` frames, and no fault is
+  -- active at any of its ends before frame x.
   pub record Keeps (n x : ℕ) (t : List CheckStep) : Type 0 where
     pub run : (from : ℕ) → run_of t ≡ Some from → Run g frames n from
     pub ends : (from : ℕ) → run_of t ≡ Some from → EndsFaultFree g frames n from x
@@ -320,7 +317,7 @@ module _ (g : Criteria) (frames : Transmission) (base : ℕ) where
           let orders = orders_invalidated t es in
           grind (arith, nat_tests)
 
-  -- The first k frames before frame n of the transmission have ended.
+  -- The first k frames without packets before frame n of the transmission have ended.
   pub record GapFramesEnded (n k : ℕ) (t : List CheckStep) : Type 0 where
     pub keeps : Keeps n (latest frames n + suc k) t
     pub base_at_most : base ≤ n
@@ -375,7 +372,7 @@ module _ (g : Criteria) (frames : Transmission) (base : ℕ) where
           (subst (IsEnd frames n) at (gap_end g frames n k there (omega arith) h)) (le_refl n)
           (omega arith) (omega arith)
 
-  -- The first n frames of the transmission have ended, and no later frame has.
+  -- The first n frames of the transmission have ended, and no later frame.
   pub record Closed (n : ℕ) (t : List CheckStep) : Type 0 where
     pub keeps : Keeps n (frame_at frames (n - 1) + 1) t
     pub base_at_most : base ≤ n
@@ -390,8 +387,7 @@ module _ (g : Criteria) (frames : Transmission) (base : ℕ) where
         → back_of t ≡ Some r
         → (0 < n) × (r ≤ frame_at frames (n - 1))
 
-  -- The first n frames of the transmission have ended and frame n is being sent, with the given
-  -- packets so far.
+  -- The first n frames of the transmission have ended, and frame n has begun with these packets.
   pub record Opens (n : ℕ) (packets : List (List ℕ)) (t : List CheckStep) : Type 0 where
     pub keeps : Keeps n (frame_at frames n) t
     pub base_at_most : base ≤ suc n

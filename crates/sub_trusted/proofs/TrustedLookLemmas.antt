@@ -1,5 +1,4 @@
--- The tracker's state for the steps at the end of a frame; the reports at an end may be taken as
--- those after its step.
+-- The state of the tracker after the first step at the end of a frame.
 use Rattle.std.proofs.lemmas.Bool.Decides.{nat_tests}
 use Rattle.std.proofs.Common.{◌≡◌, ℕ, ◌≤◌, true, false, not}
 use Rattle.std.proofs.Common.{◌==◌, ◌&&◌, None, if◌then◌else◌, List, [], ◌∷◌}
@@ -24,7 +23,7 @@ use Rattle.sub_rules.specs.Trusted.{stays_fault_free, reports_order_fault, repor
 use Rattle.sub_rules.specs.Trusted.{first_correct_of}
 
 module _ (g : Criteria) (frames : Transmission) where
-  -- The end of frame f was checked, with the packets of n frames.
+  -- The end of frame f is checked, after n frames of the transmission.
   pub record ChecksFrameEnd (n f : ℕ) (t u : List CheckStep) : Type 0 where
     pub run_eq : run_of u ≡ run_of t
     pub first_correct_eq :
@@ -41,13 +40,12 @@ module _ (g : Criteria) (frames : Transmission) where
         else None)
     pub plain : goes_back g ≡ false → back_of u ≡ back_of t
 
-  -- The tracker's state has the frame from which on the page has been wrong up to the end before
-  -- frame f, as the rules define it.
+  -- The tracker has the first frame of the run of unfinished frames up to the end before frame f.
   abbrev pub WrongSince : ℕ → ℕ → List CheckStep → Type 0
   WrongSince i f u = (r : ℕ) → back_of u ≡ Some r → first_unfinished_before g frames i f ≡ Some r
 
-  -- If `within` is not 0 an end has a step of its own; otherwise such a step would change nothing.
-  -- So the reports may be taken as those after the step.
+  -- If `within` is not 0, a frame end has a step of its own; otherwise that step would change
+  -- nothing. So only the events after this step matter.
   pub with_end : (T : List CheckStep → List CheckStep → Type 0) (i n f : ℕ) (t : List CheckStep)
       → ((g.within == 0) ≡ true → ChecksNoLateness t)
       → (goes_back g ≡ false → back_of t ≡ None)
@@ -65,6 +63,7 @@ module _ (g : Criteria) (frames : Transmission) where
       stays_fault_free reports_order_fault
   with_end T i n f t none plain cons so = grind (arith, nat_tests, none-some)
 
-  -- Frame f has an end with the packets of m frames, which rise, and is not before `from`.
+  -- Frame f ends after m frames of the transmission, whose numbers increase, and is not before
+  -- `from`.
   abbrev pub HasEnd : ℕ → ℕ → ℕ → Type 0
   HasEnd m f from = (from ≤ f) × IsEnd frames m f × RiseTo frames m

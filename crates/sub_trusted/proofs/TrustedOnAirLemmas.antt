@@ -1,6 +1,4 @@
--- Trusted frames may stay on air whatever is on air elsewhere (`law_of_trusted_repeats`; without
--- repeats that keep the page and without late frames, `law_of_trusted`). The expected page was
--- known at these frames.
+-- The guarantees hold for trusted frames, whatever is on air before and after them.
 use Rattle.std.proofs.lemmas.Bool.Decides.{nat_tests}
 use Rattle.std.proofs.Common.{◌≡◌, ◌==◌, ℕ, ◌+◌, ◌<◌, ◌≤◌, inl, inr, Bool, true, false, List}
 use Rattle.std.proofs.Common.{Contains, Option, refl, arith, le_refl}

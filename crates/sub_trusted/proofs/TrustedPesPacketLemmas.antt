@@ -1,5 +1,4 @@
--- Trusted frames of PES packets may stay on air, whatever `within` is, by the reports from each PES
--- packet on.
+-- The guarantees hold for the trusted frames of a list of PES packets.
 use Rattle.std.proofs.lemmas.Bool.Decides.{nat_tests}
 use Rattle.std.proofs.Common.{◌≡◌, ℕ, suc, ◌+◌, ◌≤◌, Bool, true, false, not, ◌||◌}
 use Rattle.std.proofs.Common.{List, [], ◌∷◌, ◌++◌, length, map, Option, Some, is_some, refl, sym}
@@ -41,7 +40,7 @@ use Rattle.sub_rules.specs.Trusted.{reports_order_fault, reports_none}
 use Rattle.sub_rules.specs.Trusted.{reported_after, reported_at, trusted, first_correct_of}
 use Rattle.std.specs.List.{list_any}
 
--- The first frame that is not trusted at the end of a file: the last frame if unread bytes follow,
+-- The first frame that is not trusted at the end of a file: the last frame, if unread bytes follow,
 -- or the frame after it.
 abbrev pub last_late : Criteria → Transmission → ℕ
 last_late g frames =
@@ -80,7 +79,7 @@ module _ (g : Criteria) (frames : Transmission) (base : ℕ) where
       pes_packets
   none_requested sent (Skipped u ∷ pes_packets) = (tt, none_requested sent pes_packets)
 
-  -- The state of the tracker after the frames `sent` were sent.
+  -- The state of the tracker after the frames `sent`.
   abbrev pub SendsOn : Transmission → List CheckStep → Type 0
   SendsOn sent t =
       Sends (List CheckStep) reported_of g frames (Goes P) (Closed g frames base)

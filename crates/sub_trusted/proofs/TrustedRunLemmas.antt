@@ -1,4 +1,4 @@
--- The properties of a run of clean frames, and of the frames of a run that may stay on air.
+-- Runs of fault-free frames.
 use Rattle.std.proofs.Common.{◌≡◌, ℕ, ◌+◌, ◌-◌, ◌<◌, ◌≤◌, ◌⊎◌, true, false, length}
 use Rattle.sub_rules.specs.Events.{active_faults_at}
 use Rattle.sub_rules.specs.FrameRules.{Criteria, end_frame, frame_at, packets_of_frame}
@@ -11,8 +11,8 @@ use Rattle.sub_rules.specs.Trusted.{has_no_active_faults}
 use Rattle.sub_trusted.specs.TrustedFrames.{BeginsText}
 
 module _ (g : Criteria) (frames : Transmission) where
-  -- No fault is active at any end from frame `from` up to frame x, which is excluded, with at most
-  -- n frames of the transmission.
+  -- No fault is active at any frame end from frame `from` up to, but not including, frame x, after
+  -- at most n frames of the transmission.
   abbrev pub EndsFaultFree : ℕ → ℕ → ℕ → Type 0
   EndsFaultFree n from x =
       (m f : ℕ)
@@ -22,7 +22,7 @@ module _ (g : Criteria) (frames : Transmission) where
       → f < x
       → has_no_active_faults (active_faults_at g frames m f) ≡ true
 
-  -- The frames j to n - 1 of the transmission break no rule that a receiver depends on.
+  -- Frames j to n - 1 of the transmission break no rule that affects receivers.
   abbrev pub PacketsFaultFree : ℕ → ℕ → Type 0
   PacketsFaultFree n j =
       (r : PacketRule) (i k : ℕ)
@@ -32,8 +32,8 @@ module _ (g : Criteria) (frames : Transmission) where
       → k < length (packets_of_frame frames i)
       → breaks r g.watched (before frames i k) (packet_at frames i k) ≡ false
 
-  -- A run of clean frames up to frame n - 1 of the transmission, which begins with a header that
-  -- erases the page, in frame `from`.
+  -- A run of fault-free frames up to frame n - 1 of the transmission. Its first frame, `from`, has
+  -- a header that erases the page.
   pub record Run (n from : ℕ) : Type 0 where
     pub j : ℕ
     pub below : j < n
@@ -43,7 +43,7 @@ module _ (g : Criteria) (frames : Transmission) where
     pub packets : PacketsFaultFree n j
     pub ends : EndsFaultFree n from (frame_at frames (n - 1) + 1)
 
-  -- The frames from `from` up to x, which is excluded, are those of a run.
+  -- The frames from `from` up to, but not including, x belong to a run.
   pub record Stays (from x : ℕ) : Type 0 where
     pub n : ℕ
     pub within : n ≤ length frames

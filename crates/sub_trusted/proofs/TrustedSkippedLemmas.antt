@@ -1,5 +1,4 @@
--- No skipped PES packet may have been sent in trusted frames: the frame of the PES packet before it
--- is no trusted frame, if frame numbers increase up to it.
+-- A skipped PES packet invalidates the frame before it, so it was not sent in trusted frames.
 use Rattle.std.proofs.lemmas.Bool.Decides.{nat_tests}
 use Rattle.std.proofs.Common.{◌≡◌, ℕ, suc, ◌+◌, ◌-◌, ◌<◌, ◌≤◌, ◌⊎◌, inl, inr, Bool, true, false}
 use Rattle.std.proofs.Common.{◌==◌}

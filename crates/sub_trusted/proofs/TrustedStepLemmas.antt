@@ -1,5 +1,4 @@
--- The trusted frames that the steps of a frame report have the property of trusted frames: before
--- its packets, for its packets, for a skipped PES packet, and at an end.
+-- The guarantees hold for trusted frames that the steps of a frame report.
 use Rattle.std.proofs.lemmas.Bool.Decides.{nat_tests}
 use Rattle.std.proofs.Common.{◌≡◌, ℕ, zero, suc, ◌+◌, ◌-◌, ◌<◌, ◌≤◌, inl, inr, true, false, not}
 use Rattle.std.proofs.Common.{◌==◌, ◌&&◌, Bool, None, if◌then◌else◌, List, [], ◌∷◌, ◌++◌}
@@ -55,8 +54,8 @@ use Rattle.sub_rules.specs.Trusted.{has_no_active_faults, stays_fault_free, repo
 use Rattle.sub_rules.specs.Trusted.{reported_at, first_correct_of}
 
 module _ (g : Criteria) (frames : Transmission) (base : ℕ) where
-  -- Trusted frames may stay: from frame `base` of the transmission on and, if all frame numbers
-  -- increase, before the last frame.
+  -- The guarantees hold for trusted frames after the first `base` frames of the transmission and,
+  -- if all frame numbers increase, before the last frame.
   abbrev pub Passes : ℕ → ℕ → Type 0
   Passes = MayStayBetween g frames base (end_frame frames)
 
@@ -108,7 +107,7 @@ module _ (g : Criteria) (frames : Transmission) (base : ℕ) where
       was : (from : ℕ) → run_of u ≡ Some from → run_of t ≡ Some from
       was from is = sym looks.run_eq ∙ is
 
-  -- The reports at the end of frame f invalidate no later frame.
+  -- The events at the end of frame f invalidate no later frame.
   pub end_reports : (n m f : ℕ) (t : List CheckStep) (S : List CheckStep → Type 0)
       → ((from : ℕ) → run_of t ≡ Some from → latest frames m ≤ f)
       → Keeps g frames base n f t
