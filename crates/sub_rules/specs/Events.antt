@@ -1,7 +1,8 @@
--- All events of a transmission, in order (own). Each broken rule is an event with its place. Some
--- rules are checked at the end of each frame and may stay broken over several frames; for these
--- rules, the events give the first and the last frame at which the rule is broken. The events are
--- in the order of the checks, so the first event is the reason for rejecting the file.
+-- All events of a transmission, in order (not defined by a standard). Each broken rule is an event
+-- with its place. Some rules are checked at the end of each frame and may stay broken over several
+-- frames; for these rules, the events give the first and the last frame at which the rule is
+-- broken. The events are in the order of the checks, so the first event is the reason for rejecting
+-- the file.
 --
 -- A fault's beginning and end are separate events, because a wrong page stays on air until
 -- something else is sent: a single event with both frames would be reported only then.

@@ -1,5 +1,5 @@
--- The table of faults of a subtitle file and a PES file (own): the number and name of each fault,
--- its place, and its consequences.
+-- The table of faults of a subtitle file and a PES file (not defined by a standard): the number and
+-- name of each fault, its place, and its consequences.
 use Rattle.std.specs.Prelude.{ℕ, List, Bool, true, false, Option, Some, None}
 use Rattle.std.specs.Prelude.{codes, unwrap_or}
 use Rattle.sub_io.specs.FaultCode.{FaultCodeValue, fault_code}

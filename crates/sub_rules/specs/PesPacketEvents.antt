@@ -1,6 +1,6 @@
--- The events of a PES file if reading continues after skipped PES packets (own): the events of the
--- transmission, and the fault of each skipped packet. For consecutive skipped packets with the same
--- fault, only the first and the last are reported.
+-- The events of a PES file if reading continues after skipped PES packets (not defined by a
+-- standard): the events of the transmission, and the fault of each skipped packet. For consecutive
+-- skipped packets with the same fault, only the first and the last are reported.
 --
 -- A checker cannot look ahead, so its steps for a PES packet depend only on the frames before it.
 -- If `within` is not 0, consecutive PES packets of one frame are merged, so a frame ends only when

@@ -1,5 +1,6 @@
--- A PES file as a list of PES packets (own). A PES packet is sent if it carries a frame of the day.
--- It is skipped if it is not valid or its PTS belongs to no frame of the day.
+-- A PES file as a list of PES packets (not defined by a standard). A PES packet is sent if it
+-- carries a frame of the day. It is skipped if it is not valid or its PTS belongs to no frame of
+-- the day.
 use Rattle.std.specs.Prelude.{◌≡◌, ℕ, ◌+◌, ◌==◌, ◌&&◌, Bool, false, not, if◌then◌else◌, List, []}
 use Rattle.std.specs.Prelude.{◌∷◌, ◌++◌, length, map, Option, Some, None, Result, Ok, Err, IfOk}
 use Rattle.std.specs.Prelude.{IsSome}

@@ -4,7 +4,7 @@ use Rattle.std.specs.Prelude.{ℕ, ◌+◌, ◌<◌, ◌&&◌, List, [], ◌∷�
 use Rattle.std.specs.Prelude.{drop, flat_map, All, AllPairs}
 
 -- A frame with Teletext: its number, and its packets of 42 bytes in the order of transmission.
--- Frames last 1/25 of a second and are counted from midnight (own).
+-- Frames last 1/25 of a second and are counted from midnight (not defined by a standard).
 pub record SentFrame : Type 0 where
   pub frame : ℕ
   pub packets : List (List ℕ)

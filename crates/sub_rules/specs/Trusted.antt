@@ -1,5 +1,5 @@
--- Trusted frames (own): the frames that can be broadcast again unchanged, whatever is wrong
--- elsewhere in the file. The checker reports them in addition to the faults.
+-- Trusted frames (not defined by a standard): the frames that can be broadcast again unchanged,
+-- whatever is wrong elsewhere in the file. The checker reports them in addition to the faults.
 --
 -- Checking a file produces a list of steps: events, and the starts and ends of PES packets and
 -- frames. In the definitions, `past` is the list of the steps so far, the latest first.

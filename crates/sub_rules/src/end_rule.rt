@@ -21,7 +21,7 @@ pub enum EndRule {
 impl EndRule {
     ghost use Rattle.sub_rules.specs.Fault.{rule_code};
 
-    /// Returns the number and name of the fault for a broken rule (own).
+    /// Returns the number and name of the fault for a broken rule (not defined by a standard).
     pub fn code(self) -> FaultCode
         ensures { result ≡ rule_code self }
     {

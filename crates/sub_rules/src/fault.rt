@@ -187,7 +187,7 @@ impl CheckFault {
         }
     }
 
-    /// Returns the number and name of the fault (own).
+    /// Returns the number and name of the fault (not defined by a standard).
     pub fn code(self) -> FaultCode
         ensures { result ≡ check_code self }
     {
