@@ -134,7 +134,7 @@ fault_of_further : (scope : Scope) (o : StartedSubtitle) (b : List ℕ) (f : Stl
 unfolding block_step_at
 fault_of_further scope o b f e = grind (arith, nat_tests)
 
--- If the first block of a list is kept, the list without the removed blocks begins with the same
+-- If the first block of a list is not removed, the list without the removed blocks begins with that
 -- block.
 blocks_keep : (scope : Scope) (within : Option Bool) (b : List ℕ) (bs : List (List ℕ))
     → is_skipped_block b ≡ false

@@ -96,8 +96,8 @@ abbrev pub Represents : Scope → Option StartedSubtitle → List (List ℕ) →
 Represents scope None kept = kept ≡ []
 Represents scope (Some o) kept = IsOpen scope o kept
 
--- The effect of a step agrees with the blocks read. After `More None` there are no blocks, or they
--- are those of a subtitle outside the scope.
+-- The effect of a step agrees with the blocks read. After `More None` there are no blocks, or only
+-- blocks of a subtitle outside the scope.
 abbrev pub Reaches : Scope → List (List ℕ) → BlockStep → Type 0
 Reaches scope kept (More None) = (kept ≡ []) ⊎ AreOutside scope kept
 Reaches scope kept (More (Some o)) = IsOpen scope o kept

@@ -42,6 +42,6 @@ linked_text sgn_is sn_is (b ∷ []) c = grind (arith, nat_tests, text_short, app
 linked_text sgn_is sn_is (b ∷ x ∷ g) c =
     grind (arith, nat_tests, text_short, length-append, linked_text sgn_is sn_is (x ∷ g) c.2)
 
--- If blocks in a file are those of a subtitle, the subtitle's values are valid.
+-- If blocks in a file belong to a subtitle, the values of the subtitle are valid.
 pub blocks_subtitle : (s : SubtitleValue) (g : List (List ℕ)) → AreBlocksOf s g → IsSubtitle s
 blocks_subtitle s g h = grind (arith, nat_tests, linked_text, in_day, has_no_unused-texts)

@@ -17,8 +17,8 @@ abbrev pub normal_counts : Judged → Result Counts NormalFault
 normal_counts (Ok ts) = Ok (record { tnb = length (all_blocks ts); tns = length ts })
 normal_counts (Err f) = Err f
 
--- All subtitles from the next call of the reader on, given the call's result, the block of that
--- result and the subtitles of later calls.
+-- The subtitles of the next call of the reader and of all later calls, given the result of the next
+-- call, its block number and the subtitles of the later calls.
 abbrev pub judged_on : Result Bool StlFault → SubtitleValue → ℕ → Judged → Judged
 judged_on (Ok true) s block left = cons_judged s left
 judged_on (Ok false) s block left = Ok []

@@ -71,8 +71,8 @@ closed n begun =
     if n == last_block then (if begun.is_skipped then More None else Yield begun.subtitle)
     else More (Some begun)
 
--- A skipped subtitle that starts with the block b. The later blocks must have the same SGN and SN,
--- and the subtitle at most 9 blocks.
+-- A skipped subtitle that starts with the block b. Its later blocks must have the same SGN and SN,
+-- and it must have at most 9 blocks.
 abbrev pub started_skipped : List ℕ → StartedSubtitle
 started_skipped b = record {
   subtitle = record empty_subtitle { sgn = sgn b; sn = sn b };

@@ -27,8 +27,8 @@ pub record BelongsTo (sgn_is sn_is : ℕ) (b : List ℕ) : Type 0 where
   pub same_sgn : sgn b ≡ sgn_is
   pub same_sn : sn b ≡ sn_is
 
--- The blocks are those of one subtitle: all have the same SGN and SN; EBN is FF in the last block,
--- and 00 to EF in the others. The order of extension block numbers is not checked.
+-- The blocks belong to one subtitle: all have the same SGN and SN; EBN is FF in the last block, and
+-- 00 to EF in the others. The order of extension block numbers is not checked.
 abbrev pub AreLinked : ℕ → ℕ → List (List ℕ) → Type 0
 AreLinked sgn_is sn_is [] = ⊥
 AreLinked sgn_is sn_is (b ∷ []) = BelongsTo sgn_is sn_is b × (ebn b ≡ last_block)

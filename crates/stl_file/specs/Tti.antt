@@ -53,7 +53,7 @@ no_comment = 0x00
 abbrev pub is_comment : ℕ
 is_comment = 0x01
 
--- The byte of a text field that means unused space: the text ends before the first such byte.
+-- The byte of a text field that means unused space: the text ends before the first of these bytes.
 abbrev pub unused_space : ℕ
 unused_space = 0x8F
 

@@ -35,7 +35,8 @@ pub enum StlFault {
     Time,
     /// Fault code 21: TCI of a subtitle's first block is not before its TCO.
     EmptyTime,
-    /// Fault code 22: SGN or SN of a later block differs from that of the subtitle's first block.
+    /// Fault code 22: SGN or SN of a later block differs from SGN or SN of the subtitle's first
+    /// block.
     Sequence,
     /// Fault code 23: a subtitle has more than nine blocks.
     TooLong,

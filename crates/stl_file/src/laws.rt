@@ -38,8 +38,8 @@ pub fn law_of_one_reading()
         → (g ≡ h) × (ts ≡ us) }
 {}
 
-/// The normal form of a file is a file with the same subtitles. Its GSI block differs from that of
-/// the file only in TNB and TNS.
+/// The normal form of a file is a file with the same subtitles. Its GSI block differs from the GSI
+/// block of the file only in TNB and TNS.
 pub fn law_of_normal_form()
     ensures { (s g : List ℕ)
         → (ts : List SubtitleValue)

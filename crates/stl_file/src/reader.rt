@@ -111,8 +111,8 @@ impl StlReader {
     /// Returns the number of the last TTI block that was read or begun, counted from 1; 0 before
     /// the first block.
     ///
-    /// After `Unfinished` the number is that of the last complete block, after `Read` that of the
-    /// block with the byte that could not be read.
+    /// After `Unfinished` it is the number of the last complete block, after `Read` the number of
+    /// the block with the byte that could not be read.
     pub fn block(&self) -> u32
         ensures value { result ≡ self.now.block }
         ensures place { HasPlace self.now.progress self.now.block }
@@ -332,8 +332,8 @@ pub(crate) fn read_blocks<S: Source>(
     }
 }
 
-// Continues a subtitle whose first block was rejected, if there is one. Returns the number of its
-// blocks that were read.
+// Continues a rejected subtitle whose first block is `refused`, if any. Returns the state of
+// reading the blocks of the current subtitle.
 fn resume(subtitle: &mut Subtitle, refused: &Option<Tti>) -> BlocksRead
     ensures { started_in subtitle.new result ≡ option_map started_skipped refused.now }
 {

@@ -111,8 +111,8 @@ impl ResumingReader {
     /// Returns the number of the last TTI block that was read or begun, counted from 1; 0 before
     /// the first block.
     ///
-    /// After `Unfinished` the number is that of the last complete block, after `Read` that of the
-    /// block with the byte that could not be read.
+    /// After `Unfinished` it is the number of the last complete block, after `Read` the number of
+    /// the block with the byte that could not be read.
     pub fn block(&self) -> u32
         ensures value { result ≡ self.now.block }
         ensures place { HasPlace self.now.progress self.now.block }

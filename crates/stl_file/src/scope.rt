@@ -10,7 +10,7 @@ use crate::tti::Tti;
 ///
 /// If the TCI of a subtitle is a time code outside the range, the subtitle is skipped like a
 /// comment, and the other fields of its first block are not checked. The blocks of a skipped
-/// subtitle are counted, and must be linked like those of any subtitle.
+/// subtitle are counted, and must be linked like the blocks of any other subtitle.
 #[derive(Clone, Copy, Debug, PartialEq, Eq)]
 pub struct Scope {
     /// Whether open subtitles and files of an unspecified display are accepted: DSC `0` or a space,

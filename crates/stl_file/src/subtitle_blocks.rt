@@ -20,8 +20,8 @@ pub(crate) struct BlocksRead {
     pub(crate) is_skipped: bool,
 }
 
-/// Takes the next TTI block of a file. Returns `true` if the block is the last one of a subtitle
-/// that is not skipped.
+/// Applies the next TTI block of a file. Returns `true` if it is the last block of a subtitle that
+/// is not skipped.
 ///
 /// The subtitle is modified in place, since moving it would copy a kilobyte.
 ///
@@ -60,7 +60,7 @@ pub(crate) fn take_block(
     take_kept(scope, subtitle, read, block)
 }
 
-// Takes a block that is neither user data nor a comment.
+// Applies a block that is neither user data nor a comment.
 fn take_kept(
     scope: Scope,
     subtitle: &mut Subtitle,
@@ -80,7 +80,7 @@ fn take_kept(
     }
 }
 
-// Takes the first block of a subtitle.
+// Applies the first block of a subtitle.
 #[tactic(auto, unfolding(crate::specs::Reading::block_step_at))]
 fn take_first(
     scope: Scope,
@@ -105,7 +105,7 @@ fn take_first(
     Ok(is_last)
 }
 
-// Takes a later block of a subtitle.
+// Applies a later block of a subtitle.
 #[tactic(auto, unfolding(crate::specs::Reading::block_step_at))]
 fn take_further(
     scope: Scope,

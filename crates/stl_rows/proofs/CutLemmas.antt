@@ -64,7 +64,7 @@ first_fault : (faults more : List RowFault) (page : Rows) (fault : RowFault)
 first_fault [] more page fault e = cc
 first_fault (f ∷ faults) more page fault e = cc
 
--- If a byte of the text is rejected, the fault of the first such byte is the result of drawing.
+-- If a byte of the text is rejected, the fault of the first rejected byte is the result of drawing.
 pub drawn_by-refused : (n : National) (items : LayoutItems) (t : SubtitleValue) (fault : RowFault)
     → first_of (refused_codes (codes_by n items t.text)) ≡ Some fault
     → Err fault ≡ drawn_by n items t

@@ -1,5 +1,5 @@
--- The subtitles kept so far, followed by the reliable subtitles of the rest, are the reliable
--- subtitles of the file.
+-- The subtitles kept so far, followed by the reliable subtitles of the rest of the file, are all
+-- reliable subtitles of the file.
 use Rattle.std.proofs.Common.{◌≡◌, ℕ, zero, suc, ◌+◌, ◌-◌, ◌<◌, ◌≤◌, Bool, false, true, List, []}
 use Rattle.std.proofs.Common.{◌∷◌, ◌++◌, length, take, drop, map, replicate, Option, Some, None}
 use Rattle.std.proofs.Common.{refl, sym}

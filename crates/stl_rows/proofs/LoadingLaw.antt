@@ -30,8 +30,8 @@ use Rattle.stl_rows.specs.Programme.{order_faults, row_faults, times_before, tim
 use Rattle.stl_rows.proofs.FaultlessLemmas.{empty_parts, map_empty}
 use Rattle.stl_rows.proofs.ProgrammeLemmas.{IsProgramme-none, IsProgramme-push, last_of-push}
 
--- If no fault is left in the file, the reader returns all remaining subtitles, and together with
--- the earlier ones they are a programme.
+-- If no fault is left in the file, the reader returns all remaining subtitles, and all subtitles
+-- together are a programme.
 record IsFaultless (n : Drawing) (records : List SubtitleValue) (left : Findings) : Type 0 where
   all : subtitles_of (stopped left) ≡ Ok (records_of left)
   programme : IsProgramme n records

@@ -20,7 +20,8 @@ drawn_or_blank drawing None = blank
 drawn_or_blank drawing (Some t) = result_unwrap_or (drawn drawing t) blank
 
 -- The expected page at a frame: the drawn page of the subtitle that is due at the frame, or blank
--- if none is. If subtitles do not overlap (`AreInOrder`), at most one is due at each frame.
+-- if no subtitle is due. If subtitles do not overlap (`AreInOrder`), at most one is due at each
+-- frame.
 unfoldable pub due : Drawing → List SubtitleValue → ℕ → Rows
 due drawing records frame = drawn_or_blank drawing (find (is_due frame) records)
 
@@ -28,8 +29,8 @@ due drawing records frame = drawn_or_blank drawing (find (is_due frame) records)
 abbrev pub ends_at : ℕ → SubtitleValue → Bool
 ends_at frame t = t.tco == frame
 
--- The TCI of the subtitle whose TCO is the frame; `None` if there is no such subtitle. If subtitles
--- do not overlap (`AreInOrder`), at most one ends at each frame.
+-- The TCI of the subtitle whose TCO is the frame; `None` if no subtitle ends at the frame. If
+-- subtitles do not overlap (`AreInOrder`), at most one subtitle ends at each frame.
 unfoldable pub tci_of_ending : List SubtitleValue → ℕ → Option ℕ
 tci_of_ending records frame = option_map (λ t. t.tci) (find (ends_at frame) records)
 
@@ -71,8 +72,8 @@ LawOfDueSubtitles =
     → frame < t.tco
     → due drawing records frame ≡ drawn_or_blank drawing (Some t)
 
--- If each subtitle starts after the frame or has ended by then, the expected page at the frame is
--- blank.
+-- If each subtitle starts after the frame or ends at or before it, the expected page at the frame
+-- is blank.
 abbrev pub LawOfBlankPages : Type 0
 LawOfBlankPages =
     (drawing : Drawing) (records : List SubtitleValue) (frame : ℕ)

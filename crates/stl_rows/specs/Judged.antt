@@ -3,7 +3,7 @@
 --
 -- A subtitle is reliable if it has no fault and the next subtitle is in order with it. The times of
 -- all other subtitles are not used: between the last reliable subtitle before them and the next
--- reliable one, any page may be expected.
+-- reliable subtitle, any page may be expected.
 use Rattle.std.specs.Prelude.{◌≡◌, ℕ, Bool, false, true, ◌&&◌, ◌||◌, nat_le, nat_lt, List, [], ◌∷◌}
 use Rattle.std.specs.Prelude.{if◌then◌else◌, is_none, map, Option, Some, None, All, IsOk, Ok, ◌⊎◌}
 use Rattle.std.specs.List.{list_any}
@@ -38,7 +38,7 @@ is_followed_in_order times (refuses fault block more) = is_followed_in_order tim
 is_followed_in_order times (finds t block more) =
     is_none (first_of (order_faults (Some times) (times_of t)))
 
--- Puts a reliable subtitle in front of the others.
+-- Puts a reliable subtitle in front of the other reliable subtitles.
 abbrev pub judged_before : JudgedSubtitle → AllJudged → AllJudged
 judged_before j all =
     record { judged = j ∷ all.judged; is_before_other = all.is_before_other }
@@ -70,7 +70,7 @@ abbrev pub start_from : ℕ → List JudgedSubtitle → Bool
 start_from frame [] = true
 start_from frame (j ∷ js) = nat_le frame j.subtitle.tci && start_from frame js
 
--- No subtitle in the list starts before the TCO of an earlier one.
+-- No subtitle in the list starts before the TCO of an earlier subtitle.
 abbrev pub are_in_order : List JudgedSubtitle → Bool
 are_in_order [] = true
 are_in_order (j ∷ js) = start_from j.subtitle.tco js && are_in_order js
@@ -90,9 +90,9 @@ can_judge drawing file =
 
 -- ---- frames with an unknown expected page
 
--- The frame is in a gap between two reliable subtitles that contains an unreliable one. `start` is
--- the TCO of the subtitle before the list; after the last subtitle, the gap lasts to the end of the
--- day.
+-- The frame is in a gap between two reliable subtitles that contains an unreliable subtitle.
+-- `start` is the TCO of the subtitle before the list; after the last subtitle, the gap lasts to the
+-- end of the day.
 abbrev pub is_undecided_from : ℕ → List JudgedSubtitle → Bool → ℕ → Bool
 is_undecided_from start [] other frame = nat_le start frame && other
 is_undecided_from start (j ∷ js) other frame =

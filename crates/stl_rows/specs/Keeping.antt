@@ -13,7 +13,7 @@ use Rattle.stl_rows.specs.Judged.{can_judge, with_bits}
 
 -- The state of loading: the kept subtitles; for each, whether an unreliable subtitle directly
 -- precedes it (a missing bit means false); whether an unreliable subtitle follows the last; and
--- whether the times of the next subtitle are compared with those of the last kept one.
+-- whether the times of the next subtitle are compared with the times of the last kept subtitle.
 pub record KeptRecords : Type 0 where
   pub records : List SubtitleValue
   pub after_other : List Bool
@@ -54,8 +54,8 @@ with_kept t k = record {
   is_latest = true;
 }
 
--- The state after a rejected subtitle. The times of the next subtitle are not compared with those
--- of a rejected one.
+-- The state after a rejected subtitle. The times of the next subtitle are not compared with the
+-- times of a rejected subtitle.
 abbrev pub with_rejected : KeptRecords → KeptRecords
 with_rejected k = record k { is_before_other = true }
 
@@ -81,7 +81,7 @@ records_after in_order clean t k =
 
 -- ---- the kept subtitles at the end of the file
 
--- The list has no bits, so no kept subtitle has an unreliable one before it.
+-- The list has no bits, so no kept subtitle directly follows an unreliable subtitle.
 abbrev pub are_none : List Bool → Bool
 are_none [] = true
 are_none (bit ∷ bits) = false

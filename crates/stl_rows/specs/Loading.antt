@@ -98,8 +98,8 @@ of_day drawing = record drawing { scope = all_day drawing.scope }
 abbrev pub kinds_of : List LoadFault → List LoadFaultKind
 kinds_of faults = map (λ (fault : LoadFault). fault.kind) faults
 
--- If no fault ends reading, the faults and subtitles of a part of a file are those of the file from
--- which the blocks of all other subtitles were removed, apart from block numbers.
+-- If no fault ends reading, the faults and subtitles of a part of a file are the faults and
+-- subtitles of the file without the blocks of all other subtitles, apart from block numbers.
 abbrev pub LawOfParts : Type 0
 LawOfParts =
     (drawing : Drawing) (gsi : List ℕ) (blocks : List (List ℕ))

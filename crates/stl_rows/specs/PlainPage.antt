@@ -36,7 +36,7 @@ line_fault_kinds row is_under_double line =
     ++ when (is_double line && (row == last_row)) DoubleRow
     ++ when (has_cells line && is_under_double) Hidden
 
--- The faults of all lines. The first line has this number and row, and each next line is one row
+-- The faults of all lines. The first line has this number and row, and each further line is one row
 -- lower.
 abbrev pub line_faults : ℕ → ℕ → Bool → List (List ℕ) → List RowFault
 line_faults number row is_under_double [] = []

@@ -45,13 +45,13 @@ printing_codes lines = flat_map (filter prints) lines
 -- The page has the printable characters of the text.
 pub record HasPrintingCodes (national : National) (layout : Layout) (text : List ℕ) (page : Rows)
     : Type 0 where
-  -- From top to bottom and from left to right, the printable cells of the page are those of the
-  -- bytes of the text in order, whatever the layout.
+  -- From top to bottom and from left to right, the printable cells of the page are the cells of the
+  -- bytes of the text in order, for every layout.
   pub printing_codes : printing_codes page ≡ printing_codes
       (lines_of_codes (text_codes national 0 text))
   -- Two printable characters are in the same row if and only if no new line is between their bytes.
   -- Between two characters in the same row are the cells that the text has between them, without
-  -- those of bytes that `strip` names.
+  -- the cells of bytes that `strip` names.
   pub lines :
       printed_lines page
       ≡ printed_lines (lines_of_codes (codes_by national (items_of_layout layout) text))

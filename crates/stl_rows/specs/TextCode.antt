@@ -89,7 +89,7 @@ first_of [] = None
 first_of (x ∷ xs) = Some x
 
 -- The text code that begins with `byte`, and the number of further bytes that belong to the code: 1
--- if the byte and the next one are a pair with one cell, otherwise 0.
+-- if the byte and the next byte are a pair with one cell, otherwise 0.
 abbrev pub code_before : National → ℕ → List ℕ → TextCode × ℕ
 code_before national byte bytes =
     unwrap_or
@@ -122,7 +122,7 @@ refused_code place _ = None
 abbrev pub refused_codes : List (ℕ × TextCode) → List RowFault
 refused_codes codes = filter_map (λ (c : ℕ × TextCode). refused_code c.0 c.1) codes
 
--- The cell of the text code, if there is one, has 7 bits.
+-- If the text code has a cell, the code of the cell has 7 bits.
 abbrev pub HasSevenBits : TextCode → Type 0
 HasSevenBits (Cell code) = IsCode code
 HasSevenBits _ = ⊤

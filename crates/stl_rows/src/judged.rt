@@ -126,7 +126,7 @@ impl<'a> Judging<'a> {
     }
 
     /// Returns whether the expected page is unknown at a frame: the frame is in a gap between
-    /// reliable subtitles that contains an unreliable one.
+    /// reliable subtitles that contains an unreliable subtitle.
     ///
     /// Uses binary search.
     pub fn is_undecided(&self, frame: u32) -> bool

@@ -56,7 +56,7 @@ fn push_bit<A: Allocator + Copy>(bits: &mut Vec<bool, A>, at: usize) -> Result<(
     }
 }
 
-// Returns whether no subtitle starts before the TCO of an earlier one.
+// Returns whether no subtitle starts before the TCO of an earlier subtitle.
 fn are_in_order<A: Allocator + Copy>(subtitles: &Cues<A>) -> bool
     ensures { result ≡ are_in_order (with_bits subtitles.now []) }
 {

@@ -112,8 +112,8 @@ pub fn law_of_loading()
     law_of_files();
 }
 
-/// The faults and subtitles of a part of a file are those of the file from which the blocks of all
-/// other subtitles were removed, apart from block numbers.
+/// The faults and subtitles of a part of a file are the faults and subtitles of the file without
+/// the blocks of all other subtitles, apart from block numbers.
 pub fn law_of_parts()
     ensures { LawOfParts }
 {

@@ -389,7 +389,7 @@ pub fn law_of_due_subtitles()
     ensures { LawOfDueSubtitles }
 {}
 
-/// If each subtitle starts after the frame or has ended by then, the expected page is blank.
+/// If each subtitle starts after the frame or ends at or before it, the expected page is blank.
 #[tactic(auto, using(crate::proofs::DuePageLemmas::none_is_blank))]
 pub fn law_of_blank_pages()
     ensures { LawOfBlankPages }

@@ -2,9 +2,9 @@
 //!
 //! `Request` has a variant for each command, with the values of its arguments. It names the files
 //! that are read and written, each by a type that only this crate creates. The options of a
-//! schedule are those of `sub_plan`, national options and layouts those of `stl_rows`; `mpeg_ts`
-//! and `ttx_pes` define which PES packets are read. `sub_words` parses requests, `sub_listen` runs
-//! the receiver of a `Listening`, and `sub_answer` carries out requests.
+//! schedule come from `sub_plan`, national options and layouts from `stl_rows`; `mpeg_ts` and
+//! `ttx_pes` define which PES packets are read. `sub_words` parses requests, `sub_listen` runs the
+//! receiver of a `Listening`, and `sub_answer` carries out requests.
 //!
 //! ```text
 //! let request = Request::Show { stl: "film.stl" };

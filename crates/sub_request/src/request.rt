@@ -16,7 +16,7 @@ use thiserror::Error;
 /// The program does not print the texts below, but the lines of `say`.
 #[derive(Debug, Drop, Error)]
 pub enum UsageFault {
-    /// Fault code 0: the arguments are not those of a command.
+    /// Fault code 0: the arguments are no valid command line.
     #[error("the words are not those of a command")]
     Words,
     /// Fault code 2: HEX is not 84 hexadecimal digits.
@@ -136,18 +136,19 @@ pub enum Request<'a> {
     Normal {
         /// The name of the subtitle file to normalize.
         input: &'a str,
-        /// The name of the file to write, different from that of the subtitle file.
+        /// The name of the file to write, different from the name of the subtitle file.
         output: &'a str,
     },
     /// `schedule STL PES`: writes a schedule of a subtitle file.
     Schedule {
         /// The name of the subtitle file.
         stl: &'a str,
-        /// The name of the file of PES packets to write, different from that of the subtitle file.
+        /// The name of the file of PES packets to write, different from the name of the subtitle
+        /// file.
         pes: &'a str,
         /// The options of the schedule: the page, the repeat bound and the PTS of frame 0.
         options: Options,
-        /// Whether the page headers are those of serial mode (C11 is set).
+        /// Whether the page headers are in serial mode (C11 is set).
         serial: bool,
         /// The national option of the subtitles' text.
         national: National,
@@ -186,7 +187,7 @@ pub enum Request<'a> {
     Extract {
         /// The name of the transport stream.
         recording: &'a str,
-        /// The name of the file of PES packets to write, different from that of the transport
+        /// The name of the file of PES packets to write, different from the name of the transport
         /// stream.
         pes: &'a str,
         /// The PID and the packet size of the transport packets to read.

@@ -12,7 +12,7 @@ is_help_flag word = bytes_eq word (codes "--help") || bytes_eq word (codes "-h")
 abbrev pub is_help_word : Text → Bool
 is_help_word word = bytes_eq word (codes "help") || is_help_flag word
 
--- One of the two words requests help, and the other is the name of a command. `help` must come
+-- One of the two words requests help, and the other word is the name of a command. `help` must come
 -- first: after a command it is the name of a file.
 abbrev pub is_help_of : Text → Text → Bool
 is_help_of first second =

@@ -202,7 +202,7 @@ abbrev pub request_by_command : List Text → Option (Result Requested UsageFaul
 request_by_command arguments = option_map (λ command. requested_in command.0 command.1)
     (command_in arguments)
 
--- `clap` accepts the arguments, and the request is that of the command that they name.
+-- `clap` accepts the arguments, and the request is the request of the command that they name.
 pub record IsRequestOfCommand (arguments : List Text) (request : Request) : Type 0 where
   pub taken : clap_refusals arguments ≡ []
   pub requested : request_by_command arguments ≡ Some (Ok (requested_by request))

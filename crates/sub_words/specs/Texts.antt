@@ -32,7 +32,7 @@ abbrev pub colon : ℕ
 colon = 0x3A
 
 -- The items so far, followed by the items of more texts. `None` if a text is no item, or if an item
--- is the same, by the test `same`, as an earlier one.
+-- equals an earlier item by the test `same`.
 abbrev pub items_after :
     {A : Type 0} → (List ℕ → Option A) → (A → A → Bool) → List A → List (List ℕ)
     → Option (List A)

@@ -22,7 +22,7 @@ pub fn requests_help(arguments: &[&str]) -> bool
     }
 }
 
-// Returns whether one of the two words requests help, and the other is the name of a command.
+// Returns whether one of the two words requests help, and the other word is the name of a command.
 fn is_help_of(first: &str, second: &str) -> bool
     ensures { result ≡ specs.is_help_of first.now second.now }
 {

@@ -56,8 +56,8 @@ fn texts_of<A: Allocator>(alloc: A, text: &str) -> Result<Vec<&str, A>, AllocErr
     text.split(',').collect(alloc)
 }
 
-// Returns the items of the texts, or `None` if a text is no item, or an item is the same as an
-// earlier one.
+// Returns the items of the texts, or `None` if a text is no item, or an item equals an earlier
+// item.
 fn items_of<A: Allocator + Drop, T: Item + Drop>(
     alloc: A,
     texts: &[&str],
@@ -71,7 +71,7 @@ fn items_of<A: Allocator + Drop, T: Item + Drop>(
 }
 
 // Appends the items of the texts to a list, up to the first text that is no item or repeats an
-// earlier one. Returns whether all items were added.
+// earlier item. Returns whether all items were added.
 fn add_items<A: Allocator, T: Item>(
     list: &mut Vec<T, A>,
     texts: &[&str],
@@ -89,7 +89,7 @@ fn add_items<A: Allocator, T: Item>(
 }
 
 // Appends the item of a text to a list. Returns `false` if the text is no item or repeats an
-// earlier one.
+// earlier item.
 fn add_item<A: Allocator, T: Item>(list: &mut Vec<T, A>, text: &str) -> Result<bool, AllocError>
     ensures { IfOk result (λ added. (more : List (List ℕ))
         → items_after T.parsed T.same list.old.items (text.now ∷ more)
@@ -105,7 +105,7 @@ fn add_item<A: Allocator, T: Item>(list: &mut Vec<T, A>, text: &str) -> Result<b
     Ok(true)
 }
 
-// Returns whether a list contains an item that is the same as `item`.
+// Returns whether a list contains an item equal to `item`.
 fn is_listed<T: Item>(item: &T, list: &[T]) -> bool
     ensures { result ≡ list_any (T.same item.now) list.now }
 {

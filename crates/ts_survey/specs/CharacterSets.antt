@@ -57,7 +57,7 @@ triplet first second third = carried_bits (first + second * 0x100 + third * 0x1_
 -- ---- the contents of a packet (EN 300 706, X/28 and M/29, designations 0 and 4, triplet 1)
 
 -- The character set in bits 8 to 14 of triplet 1. A packet X/28 has a set only if bits 1 to 4, the
--- page function, are those of a page that is shown.
+-- page function, have the value for a page that is shown.
 abbrev pub set_in : ℕ → Option ℕ → Option (Option ℕ)
 set_in number None = Some None
 set_in number (Some bits) =

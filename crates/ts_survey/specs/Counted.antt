@@ -62,7 +62,7 @@ pub record ReadsStream (received buffered : List ℕ) (is_end : Bool) (packets :
   pub left : buffered ≡ drop used (drop passed received)
 
 -- How far a recording was read: a stream, up to the buffered bytes; while the kind of the recording
--- is unknown, all bytes after the skipped ones are buffered.
+-- is unknown, all bytes after the skipped bytes are buffered.
 abbrev pub IsAtPlace : Kind → ℕ → List ℕ → List ℕ → Bool → Type 0
 IsAtPlace Unknown skipped received buffered is_end = (skipped ≤ length received) ×
     (buffered ≡ drop skipped received)

@@ -5,7 +5,7 @@ use Rattle.std.specs.Prelude.{List, length, drop, Option, Some, None}
 use Rattle.ttx_pes.specs.Reading.{is_start, stated_size}
 use Rattle.ts_survey.specs.InStep.{counted_on}
 
--- The bytes begin with another start code than that of a PES packet with private data.
+-- The bytes begin with a start code other than the start code of a PES packet with private data.
 abbrev pub has_other_start_code : List ℕ → Bool
 has_other_start_code bytes = nat_le 6 (length bytes) && not (is_start bytes)
 

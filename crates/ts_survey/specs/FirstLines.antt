@@ -35,7 +35,7 @@ size_line size = codes "size" ∷ number_word size ∷ line_end ∷ []
 abbrev pub teletext_line : ℕ → List (List ℕ)
 teletext_line pid = codes "teletext" ∷ number_word pid ∷ line_end ∷ []
 
--- The line of the requested PID, which is followed from the first packet on. Empty if no PID is
+-- The line of the requested PID, which is followed from the first packet; no line if no PID is
 -- requested.
 abbrev pub requested_texts : Option ℕ → List (List ℕ)
 requested_texts None = []
@@ -53,8 +53,8 @@ kind_texts Nothing = codes "nothing\n" ∷ []
 -- ---- when the first lines are printed
 
 -- The recording begins like a file of PES packets: with packet_start_code_prefix and the stream_id
--- of private_stream_1 (EN 300 472). A time stamp before the first transport packet may look the
--- same, but the sync byte follows it.
+-- of private_stream_1 (EN 300 472). A time stamp before the first transport packet may have the
+-- same bytes, but then the sync byte follows.
 abbrev pub begins_pes : List ℕ → Bool
 begins_pes head =
     nat_le 4 (length head) && (slice_index head 0 == 0) && (slice_index head 1 == 0)

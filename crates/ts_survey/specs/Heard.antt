@@ -9,8 +9,8 @@ use Rattle.ttx_packet.specs.BitOrder.{mirror}
 abbrev pub first_place : List ℕ → ℕ
 first_place pes = if nat_lt 9 (length pes) then 10 + slice_index pes 8 else length pes
 
--- The data unit carries a Teletext packet: data_unit_id says that it is Teletext, and
--- data_unit_length is that of a packet.
+-- The data unit carries a Teletext packet: data_unit_id is an id for Teletext, and data_unit_length
+-- is the length for a packet.
 abbrev pub is_teletext_unit : List ℕ → Bool
 is_teletext_unit unit =
     (slice_index unit 1 == 0x2C) && ((slice_index unit 0 == 2) || (slice_index unit 0 == 3))

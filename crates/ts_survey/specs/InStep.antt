@@ -36,9 +36,9 @@ skipped_after run (Packet p ∷ more) = skipped_after 0 more
 skipped_after run (Skipped ∷ more) = skipped_after (counted_on run 1) more
 
 -- Missing packets are reported at the last byte of a gap, as []. In a gap of the size of 15
--- packets, packets of a PID may be missing unseen. A shorter loss shows in the next
--- continuity_counter (4 bits; ISO/IEC 13818-1, 2.4.3.3): it is neither the last counter, as in a
--- repeat, nor the one after it.
+-- packets, packets of a PID may be missing without a break of the counter. After a shorter loss,
+-- the next continuity_counter (4 bits; ISO/IEC 13818-1, 2.4.3.3) is neither the last counter, as in
+-- a repeat, nor the counter after it.
 abbrev pub loss_reported : ℕ → ℕ → List (List ℕ)
 loss_reported distance run = if run == loss_size distance then [] ∷ [] else []
 
@@ -77,7 +77,7 @@ pub record ItemsFound
   pub size : new.size ≡ old.size
 
 -- The packets in the bytes were processed, and `used` bytes are no longer needed. Too few bytes are
--- left to decide what comes next; at the end no packet is left.
+-- left to find the next item; at the end no packet is left.
 pub record TakesAll
     {T : Type 0} (IsTaken : T → List ℕ → T → Type 0) (old : PacketsInStep) (before : T)
     (bytes : List ℕ) (is_end : Bool) (used : ℕ) (new : PacketsInStep) (after : T)
@@ -91,8 +91,9 @@ pub record TakesAll
       is_end ≡ true
       → items_from (bytes_of new.size) new.in_step (drop (used + new.lead) bytes) ≡ []
 
--- Bytes that arrive in two calls are processed as in one call, if the rest of the first bytes is
--- put before the others. So the output is the same, whatever parts a recording arrives in.
+-- Bytes that arrive in two calls are processed as in one call, if the unprocessed rest of the first
+-- part is put before the second part. So the output does not depend on the parts in which a
+-- recording arrives.
 abbrev pub LawOfTwoCalls : {T : Type 0} → (T → List ℕ → T → Type 0) → Type 0
 LawOfTwoCalls {T} IsTaken =
     (old mid new : PacketsInStep) (before reported after : T) (bytes more : List ℕ) (is_end : Bool)

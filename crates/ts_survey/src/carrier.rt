@@ -41,8 +41,8 @@ pub struct Carrier {
     packets: u64,
     scrambled: u64,
     header: PesHeader,
-    // The PTS of the last PES packet that began, of the last one that was compared with the clock,
-    // and of the last one that began before the last PCR.
+    // The PTS of the last PES packet that began, of the last PES packet that was compared with the
+    // clock, and of the last PES packet that began before the last PCR.
     begun: Option<u64>,
     sampled: Option<u64>,
     before_pcr: Option<u64>,
@@ -316,7 +316,7 @@ fn report_ahead(pid: u16, pts: u64, pcr: u64, text: &mut Text) {
     text.put(b"\n");
 }
 
-// Prints an irregular PCR, with what the counters of other PIDs show about it.
+// Prints an irregular PCR, and whether the counters of other PIDs broke.
 fn report_clock(pid: u16, one: &Pending, reported: &[u8], text: &mut Text) {
     text.put(b"clock");
     text.number(pid as u64);

@@ -7,7 +7,7 @@ use crate::text::Text;
 use ttx_packet::{Packet, unham};
 
 /// The number of possible lines, each of which is printed once: packet 28 or 29, designation 0 or
-/// 4, 128 character sets or one that cannot be read.
+/// 4, 128 character sets or an unreadable one.
 const LINES: usize = 1024;
 
 /// The lines of character sets that were printed.
@@ -85,8 +85,8 @@ fn data_bits(word: u32) -> u32
     word / 4 % 2 + word / 0x10 % 8 * 2 + word / 0x100 % 0x80 * 0x10 + word / 0x1_0000 % 0x80 * 0x800
 }
 
-// Returns the character set in the bits of triplet 1. Returns `None` if the bits belong to a page
-// function other than that of pages that are shown.
+// Returns the character set in the bits of triplet 1. Returns `None` if the page function in the
+// bits is not the function of pages that are shown.
 fn set_in(number: u8, bits: Option<u32>) -> Option<Option<u32>>
     ensures { result ≡ specs.set_in number bits }
 {

@@ -1,5 +1,5 @@
-//! Receives what the transport packets of a PID carry: PES packets, gap markers, and bytes that are
-//! neither.
+//! Receives the data in the transport packets of a PID: PES packets, gap markers, and bytes that
+//! are neither.
 
 use crate::pes_lines::PesLines;
 use crate::pid_packets::TakesPesPackets;

@@ -6,7 +6,7 @@ use crate::text::{Text, upper_digit};
 use arrayvec::ArrayVec;
 use ttx_packet::unham;
 
-/// The events of a PES packet, which are compared with those of the PES packet before.
+/// The events of a PES packet, which are compared with the events of the previous PES packet.
 #[derive(Drop)]
 pub struct Heard {
     /// The characters of the events: for each packet, `h` (a header of the page), `e` (C4, erase
@@ -77,7 +77,7 @@ impl Heard {
         self.units = self.units.saturating_add(1);
     }
 
-    /// Begins the numbers of a header of the page, after those of another header.
+    /// Begins the numbers of a header of the page, after the numbers of the previous header.
     pub fn begin_header(&mut self) {
         if !self.control.is_empty() {
             let _ = self.control.try_push(b'+');

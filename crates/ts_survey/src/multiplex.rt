@@ -121,7 +121,7 @@ impl Multiplex {
         }
     }
 
-    // Follows a PID with Teletext from now on. Returns `None` if memory runs out.
+    // Starts to follow a PID with Teletext. Returns `None` if memory runs out.
     fn add_carrier(&mut self, pid: u16, text: &mut Text) -> Option<()>
         requires { length self.old.carriers.items < 64 }
         ensures requested { is_requested self.old.requested pid ≡ true → KeepsRequested self.old
@@ -491,8 +491,8 @@ impl Multiplex {
         }
     }
 
-    /// Prints what is known at the end of the recording: the pictures, each PID with Teletext, and
-    /// the clocks. No irregular PCR is waiting afterwards.
+    /// Prints the final lines of the recording: the pictures, each PID with Teletext, and the
+    /// clocks. No irregular PCR is pending afterwards.
     pub fn end(&mut self, text: &mut Text)
         ensures requested { KeepsRequested self.old self.new }
     {
@@ -508,7 +508,7 @@ impl Multiplex {
         }
     }
 
-    // Prints what is known about the followed PIDs, one after another.
+    // Prints the final lines of the followed PIDs, one PID after another.
     fn end_pids(&self, text: &mut Text) {
         for pid in 0..NULL_PID {
             self.end_pid(pid, text);
@@ -564,7 +564,7 @@ impl TakesPackets for Multiplex {
     }
 }
 
-// Passes a PCR to a followed PID, if the PCR_PID is that of the PID's programme.
+// Passes a PCR to a followed PID, if it is a PCR of the PID's programme.
 fn note_pcr_of(
     carrier: &mut Carrier,
     pids: &Pids,

@@ -27,7 +27,7 @@ fn is_at(bytes: &[u8], place: usize, distance: usize, is_end: bool) -> bool {
     true
 }
 
-// Returns the packet size of the transport packets from an offset on, or `None` if no packets begin
+// Returns the size of the transport packets that begin at an offset, or `None` if no packets begin
 // there.
 fn size_at(bytes: &[u8], place: usize, is_end: bool) -> Option<PacketSize> {
     if !may_be_packet_at(bytes, place, is_end) {

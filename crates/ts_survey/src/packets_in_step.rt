@@ -3,7 +3,7 @@
 //!
 //! `Stream` of `mpeg_ts` finds the packets of one PID by a search of its own. A common search would
 //! look at the byte after a packet without consuming it, and would break the clause that the bytes
-//! which `extract` consumed contain what it returned.
+//! consumed by `extract` contain the bytes that it returned.
 ghost use Rattle.std.specs.Prelude.{◌≡◌, ◌≤◌, ◌<◌, ◌+◌, ◌-◌, List, [], ◌++◌, ℕ, length};
 ghost use Rattle.std.specs.Prelude.{IfNone, IfSome, drop, false, replicate, take, true};
 ghost use Rattle.mpeg_ts.specs.PacketSize.{bytes_of};
@@ -27,7 +27,7 @@ pub trait TakesPackets {
     // packets, and its state afterwards.
     ghost is_taken: { Self → List ℕ → Self → Type 0 } = { any_pes_packet };
 
-    /// Processes transport packet number `number`, and prints what is to be reported.
+    /// Processes transport packet number `number`, and prints its lines.
     fn take(&mut self, number: u64, packet: &[u8; PACKET], text: &mut Text)
         ensures { is_taken self.old packet.now self.new };
 

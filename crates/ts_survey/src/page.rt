@@ -1,4 +1,4 @@
-//! Passes PES packets to a receiver of the page, and prints what the receiver decodes.
+//! Passes PES packets to a receiver of the page, and prints the decoded page.
 
 use crate::heard::Heard;
 use crate::notes::Notes;

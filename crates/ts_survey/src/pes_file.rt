@@ -28,8 +28,8 @@ fn is_start(bytes: &[u8]) -> bool
     bytes[0] == 0 && bytes[1] == 0 && bytes[2] == 1 && bytes[3] == 0xBD
 }
 
-// Returns whether the bytes begin with another start code than that of a PES packet with private
-// data.
+// Returns whether the bytes begin with a start code other than the start code of a PES packet with
+// private data.
 fn has_other_start_code(bytes: &[u8]) -> bool
     ensures { result ≡ pes_packets.has_other_start_code bytes.now }
 {

@@ -339,7 +339,7 @@ fn is_after_loss(packet: &[u8; PACKET], link: PacketLink) -> bool {
     }
 }
 
-// Returns whether stream_id is that of a video stream: E0 to EF.
+// Returns whether stream_id belongs to a video stream: E0 to EF.
 fn is_video(stream_id: Option<u8>) -> bool {
     match stream_id {
         Some(id) => id / 0x10 == 0xE,

@@ -17,9 +17,8 @@ pub trait TakesPesPackets {
     // afterwards.
     ghost is_taken: { Self → List ℕ → Self → Type 0 } = { any_pes_packet };
 
-    /// Processes a PES packet, a gap marker or other bytes, and prints what is to be reported.
-    /// `is_missing`: the gap marker replaces missing packets, and is not one that the PID itself
-    /// carries.
+    /// Processes a PES packet, a gap marker or other bytes, and prints its lines. `is_missing`: the
+    /// gap marker replaces missing packets, and was not carried by the PID.
     fn take(&mut self, pes_packet: &[u8], is_missing: bool, text: &mut Text)
         ensures { is_taken self.old pes_packet.now self.new };
 }
@@ -88,7 +87,7 @@ impl<T: TakesPesPackets> PidPackets<T> {
     }
 }
 
-// Passes everything that is ready on to the receiver.
+// Passes all ready data on to the receiver.
 #[tactic(auto, using(crate::proofs::FollowingLemmas::fewer_ready))]
 fn give_ready<T: TakesPesPackets>(joining: &mut Joining, to: &mut T, text: &mut Text)
     ensures joining { joining.new ≡ delivered joining.old }
@@ -99,7 +98,7 @@ fn give_ready<T: TakesPesPackets>(joining: &mut Joining, to: &mut T, text: &mut 
     }
 }
 
-// Passes the next part of what is ready on to the receiver.
+// Passes the next part of the ready data on to the receiver.
 fn give_next<T: TakesPesPackets>(joining: &mut Joining, to: &mut T, text: &mut Text)
     ensures { GivesNext T.is_taken joining.old to.old joining.new to.new }
 {

@@ -36,7 +36,7 @@ pub struct PidState {
     /// packet before it.
     pub counter: u8,
     pub before: u8,
-    /// The numbers of the first and the last packet with a payload; 0 if no such packet came.
+    /// The numbers of the first and the last packet with a payload; 0 if no packet had a payload.
     pub first: u64,
     pub last: u64,
     /// The PCR_PID of the programme whose PMT named this PID last, and the stream_type in that PMT;

@@ -84,9 +84,8 @@ impl Recording {
             }
     }
 
-    /// Processes bytes: those that are still needed, and those that have arrived. Returns how many
-    /// of them are no longer needed. The first lines of a survey go to the text `first`, since they
-    /// are written before the others.
+    /// Processes the buffered bytes, and returns how many of them are no longer needed. The first
+    /// lines of a survey go to the text `first`, since they are written before the other lines.
     #[tactic(auto, using(crate::proofs::ListedLemmas::takes_as_requested))]
     pub fn take(&mut self, bytes: &[u8], is_end: bool, first: &mut Text, text: &mut Text) -> usize
         ensures within { result ≤ length bytes.now }
@@ -424,7 +423,7 @@ fn number_of(pid: Option<Pid>) -> Option<u16>
 }
 
 // Returns whether a recording is a file of PES packets, from its first bytes. A time stamp before
-// the first transport packet may look the same, but the sync byte follows it.
+// the first transport packet may have the same bytes, but then the sync byte follows.
 fn is_pes_file(head: &[u8]) -> bool
     ensures { result ≡ begins_pes head.now }
 {

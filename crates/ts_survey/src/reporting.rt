@@ -82,7 +82,7 @@ pub fn survey<S: Source, K: Flush>(
     Err(SurveyFault::Memory)
 }
 
-// Writes all lines, the first lines before the others, and flushes them.
+// Writes all lines, the first lines before the other lines, and flushes them.
 #[tactic(auto, using(crate::proofs::SurveyLemmas::growing))]
 fn flush_pending<K: Flush>(
     first: &mut Text,

@@ -1,5 +1,5 @@
--- In each iteration and at each return of `load_all_in`, the reported faults are those of the
--- blocks that were read.
+-- In each iteration and at each return of `load_all_in`, exactly the faults of the blocks that were
+-- read are reported.
 use Rattle.std.proofs.Common.{◌∙◌, ◌++◌, ◌<◌, refl, rules, sym, [], ◌∷◌, map, arith}
 use Rattle.std.proofs.Common.{drop, inl, inr}
 use Rattle.std.proofs.lemmas.Bool.Decides.{nat_tests}

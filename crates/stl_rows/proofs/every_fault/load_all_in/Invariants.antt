@@ -1,6 +1,6 @@
--- Loop invariant of `load_all_in`: the faults reported so far, followed by the faults of the rest,
--- are all faults of the file. Likewise the kept subtitles, followed by the reliable ones of the
--- rest, are all reliable subtitles.
+-- Loop invariant of `load_all_in`: the faults reported so far, followed by the faults of the rest
+-- of the file, are all its faults. The kept subtitles, followed by the reliable subtitles of the
+-- rest, are all its reliable subtitles.
 use Rattle.std.proofs.Common.{◌≡◌, ◌-◌, ℕ, false, List, Some}
 use Rattle.std.specs.List.{All}
 use Rattle.sub_io.specs.Reporting.{Reports}

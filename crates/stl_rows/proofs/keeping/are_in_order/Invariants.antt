@@ -1,5 +1,5 @@
 -- Loop invariant of `are_in_order`: the subtitles so far do not overlap, so the result depends only
--- on the rest.
+-- on the remaining subtitles.
 use Rattle.std.proofs.Common.{◌≡◌, ◌-◌, ◌≤◌, drop, length}
 use Rattle.stl_rows.proofs.KeepingLemmas.{InOrderFrom}
 use Rattle.stl_rows.proofs.keeping.are_in_order.Given as goal

@@ -1,5 +1,5 @@
--- Loop invariant of `unstripped`: the bytes so far, followed by those of the rest of the text, are
--- the whole text with the stripped bytes replaced.
+-- Loop invariant of `unstripped`: the bytes so far, followed by the bytes of the rest of the text,
+-- are the whole text with the stripped bytes replaced.
 use Rattle.std.proofs.Common.{◌≡◌, ◌++◌, length, drop}
 use Rattle.stl_rows.specs.DrawnPage.{unstripped}
 use Rattle.stl_rows.proofs.laid_out.unstripped.Given as goal

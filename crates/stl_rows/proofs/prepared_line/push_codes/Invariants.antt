@@ -1,4 +1,4 @@
--- Loop invariant of `push_codes`: the codes added so far, followed by the remaining ones, are all
+-- Loop invariant of `push_codes`: the codes added so far, followed by the remaining codes, are all
 -- codes of the list.
 use Rattle.std.proofs.Common.{◌≡◌, ◌+◌, ◌≤◌, ◌++◌, length, drop}
 use Rattle.stl_rows.specs.Layout.{codes_of_places}

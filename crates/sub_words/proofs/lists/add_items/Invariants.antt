@@ -1,5 +1,5 @@
--- Loop invariant of `add_items`: the items so far, followed by those of the remaining texts, are
--- the items of all texts.
+-- Loop invariant of `add_items`: the items so far, followed by the items of the remaining texts,
+-- are the items of all texts.
 use Rattle.std.proofs.Common.{◌≡◌, drop, map}
 use Rattle.sub_words.specs.Texts.{items_after}
 use Rattle.sub_words.proofs.lists.add_items.Given as goal

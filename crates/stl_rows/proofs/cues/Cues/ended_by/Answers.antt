@@ -1,4 +1,5 @@
--- A binary search among the cues finds the same index as one among the subtitles.
+-- A binary search in the list of cues finds the same index as a binary search in the list of
+-- subtitles.
 use Rattle.std.proofs.Common.{leb, arith, rules, sym}
 use Rattle.std.proofs.lemmas.List.Sorted.{IsPartitionPoint-from_clause, IsPartitionedBy-leb}
 use Rattle.std.proofs.lemmas.List.{length-map}

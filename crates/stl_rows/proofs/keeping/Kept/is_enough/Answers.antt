@@ -1,5 +1,5 @@
 -- After a fault was reported, a transmission can be checked only if at least one subtitle is kept
--- and the kept ones do not overlap.
+-- and the kept subtitles do not overlap.
 use Rattle.std.proofs.Common.{ap, arith, refl, sym, ◌∙◌, ◌≡◌, ◌<◌, length, false}
 use Rattle.std.proofs.lemmas.Bool.Decides.{nat_tests}
 use Rattle.stl_rows.specs.Keeping.{are_all_kept}
