@@ -119,9 +119,9 @@ pub record TakesSkipped (from to : ℕ) (old new : Option (List ℕ)) : Type 0 w
   pub consumed : Consumes old new (concat blocks)
   pub ended : IsAtEnd new
 
--- The bytes consumed after `from` TTI blocks, where a subtitle may begin, are not in any subtitle
--- file: no file continues with them. For faults of a truncated file, no file continues with these
--- bytes and ends there. `to` is the block of the last byte consumed.
+-- No subtitle file continues with the bytes consumed after `from` TTI blocks, where a subtitle may
+-- begin. For faults of a truncated file, no file ends with these bytes at this position. `to` is
+-- the block of the last byte consumed.
 pub record Refuses (from to : ℕ) (old new : Option (List ℕ)) (f : StlFault) : Type 0 where
   pub bytes : List ℕ
   pub consumed : Consumes old new bytes

@@ -22,8 +22,8 @@ pub fn law_of_files()
 {}
 
 /// Reading a file with a scope gives the same results as reading, for the whole day, the file
-/// without the blocks of subtitles outside the scope, apart from block numbers. In the scope of the
-/// whole day, no subtitle is outside.
+/// without the blocks of subtitles outside the scope, apart from block numbers. No subtitle is
+/// outside the scope of the whole day.
 pub fn law_of_scope()
     ensures part { LawOfScope }
     ensures day { LawOfWholeDay }

@@ -226,8 +226,8 @@ module _ (n : Drawing) (ts : List SubtitleValue) (f at : ℕ) (ok : IsProgramme 
           λ l. let following = after edge.0 edge.1 l edge.2 in grind arith in
           grind (arith, nat_tests, cases_lt)
 
--- If no cue is between two frames, both frames have the same expected page. A checker that goes
--- back from a frame needs this.
+-- If no cue is between two frames, both frames have the same expected page. A checker that looks at
+-- earlier frames needs this.
 pub due_back : (n : Drawing) (ts : List SubtitleValue) (f j : ℕ)
     → j ≤ f
     → ((e : ℕ) → IsEdge ts e → f < e + j → e ≤ f → ⊥)

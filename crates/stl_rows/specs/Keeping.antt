@@ -71,7 +71,7 @@ without_last k = record k {
 }
 
 -- The state after the next subtitle. `clean`: the subtitle has no fault. `in_order`: its times are
--- in order with those of the previous subtitle; if they are not, the previous subtitle is not
+-- in order with the times of the previous subtitle; if they are not, the previous subtitle is not
 -- reliable either.
 abbrev pub records_after : Bool → Bool → SubtitleValue → KeptRecords → KeptRecords
 records_after in_order clean t k =

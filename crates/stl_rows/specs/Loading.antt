@@ -54,16 +54,15 @@ abbrev pub EndsRecord : Drawing → List ℕ → ℕ → Type 0
 EndsRecord drawing file at = EndsAfterTimes drawing None at (findings_for drawing.scope file)
 
 -- The meaning of an error of `load`. `Memory`: a subtitle ends at the block, and no fault comes up
--- to there. `Read`: the source failed, which says nothing about the file. Any other error is the
+-- to that block. `Read`: the source failed, which is no fault of the file. Any other error is the
 -- first fault of the file.
 abbrev pub ReportsFault : Drawing → List ℕ → ℕ → LoadFaultKind → Type 0
 ReportsFault drawing file block (File Read) = ⊤
 ReportsFault drawing file block Memory = EndsRecord drawing file block
 ReportsFault drawing file block kind = loaded drawing file ≡ Err (load_fault block kind)
 
--- No fault of the file comes before this block. A file that ends within a subtitle is the
--- exception: the fault names the last complete block, but is found only when the next block is
--- read.
+-- No fault of the file comes before this block. If a file ends within a subtitle, the fault has the
+-- number of the last complete block, but is found only when the next block is read.
 abbrev pub NoFaultBefore : Drawing → List ℕ → ℕ → Type 0
 NoFaultBefore drawing file block =
     (fault : LoadFault)

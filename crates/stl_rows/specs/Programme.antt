@@ -51,8 +51,8 @@ times_of t = record { tci = t.tci; tco = t.tco }
 abbrev pub times_before : List SubtitleValue → Option Times
 times_before records = option_map times_of (last_of records)
 
--- The fault of a subtitle's times, compared with those of the previous subtitle: `OutOfOrder` if
--- the TCI is before the previous TCI, otherwise `Overlap` if the TCI is before the previous TCO.
+-- The fault of a subtitle's times, compared with the times of the previous subtitle: `OutOfOrder`
+-- if the TCI is before the previous TCI, otherwise `Overlap` if the TCI is before the previous TCO.
 abbrev pub order_faults : Option Times → Times → List LoadFaultKind
 order_faults None t = []
 order_faults (Some before) t =

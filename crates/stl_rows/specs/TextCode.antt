@@ -133,8 +133,8 @@ with_code (Cell code) lines = onto_first code lines
 with_code NewLine lines = [] ∷ lines
 with_code _ lines = lines
 
--- The lines of cells of text codes. New lines separate them, so there is one line more than new
--- lines.
+-- The lines of cells of text codes. New lines separate them, so the number of lines is one more
+-- than the number of new lines.
 abbrev pub lines_of_codes : List (ℕ × TextCode) → List (List ℕ)
 lines_of_codes [] = [] ∷ []
 lines_of_codes (c ∷ codes) = with_code c.1 (lines_of_codes codes)

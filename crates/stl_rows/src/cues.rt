@@ -36,7 +36,7 @@ pub(crate) struct Cue {
 #[derive(Drop)]
 pub struct Cues<A: Allocator + Copy> {
     cues: Vec<Cue, A>,
-    // The texts of all subtitles, including those of removed subtitles.
+    // The texts of all subtitles, including removed subtitles.
     texts: Vec<u8, A>,
 }
 
@@ -157,7 +157,7 @@ impl<A: Allocator + Copy> Cues<A> {
         Ok(())
     }
 
-    /// Keeps the first `n` subtitles, and removes the others.
+    /// Keeps the first `n` subtitles, and removes the other subtitles.
     pub(crate) fn truncate(&mut self, n: usize)
         ensures { self.new ≡ take n self.old }
     {

@@ -25,7 +25,7 @@ pub struct Kept<A: Allocator + Copy> {
     pub(crate) after_other: Vec<bool, A>,
     // Whether an unreliable subtitle follows the last kept subtitle.
     pub(crate) is_before_other: bool,
-    // Whether the times of the next subtitle are compared with those of the last kept subtitle.
+    // Whether the times of the next subtitle are compared with the times of the last kept subtitle.
     pub(crate) is_latest: bool,
 }
 
@@ -119,8 +119,8 @@ impl<A: Allocator + Copy> Kept<A> {
     }
 
     // Processes the next subtitle of the file. `clean`: the subtitle has no fault. `in_order`: its
-    // times are in order with those of the previous subtitle; if they are not, neither of the two
-    // is kept.
+    // times are in order with the times of the previous subtitle; if they are not, neither of the
+    // two subtitles is kept.
     pub(crate) fn put(
         &mut self,
         in_order: bool,

@@ -175,7 +175,7 @@ impl Place {
         None
     }
 
-    // Moves the position to that of the next line.
+    // Moves the position to the next line.
     #[tactic(auto, unfolding(crate::specs::LineByLayout::place_after))]
     fn skip_line(&mut self, items: &LayoutItems, line: &[u8])
         requires number { self.old.number ≤ 1008 }

@@ -299,7 +299,7 @@ impl Programme {
     }
 
     /// Draws the expected page at a frame: the page of the subtitle whose TCI is at or before the
-    /// frame and whose TCO is after it; blank if no such subtitle exists.
+    /// frame and whose TCO is after it; blank if no subtitle is due.
     ///
     /// Finds the subtitle by binary search. Each call draws the page, so call `due_page` at cues
     /// (`next_edge`) and keep the page in between.
@@ -315,8 +315,8 @@ impl Programme {
     /// Draws the expected page at a frame over the contents of `page`. Returns the next cue
     /// (`next_edge`) and the `guess` for the next call.
     ///
-    /// Any `guess` is valid; start with 0. If the frame is shortly after that of the previous call,
-    /// the returned `guess` saves the binary search.
+    /// Any `guess` is valid; start with 0. If the frame is shortly after the frame of the previous
+    /// call, the returned `guess` saves the binary search.
     pub fn draw_due(&self, frame: u32, guess: usize, page: &mut Page) -> (Option<u32>, usize)
         ensures page { page.new ≡ due self.now.drawing self.now.records frame }
         ensures edge { ReportsNextEdge self.now.records frame result.0 }

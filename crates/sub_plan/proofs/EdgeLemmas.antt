@@ -6,7 +6,7 @@ use Rattle.stl_file.specs.Subtitle.{SubtitleValue}
 use Rattle.stl_rows.specs.DuePage.{IsEdge}
 use Rattle.sub_plan.proofs.ScheduleBases.{stays}
 
--- At each frame that is not a cue, the expected page is that of the previous frame.
+-- At each frame that is not a cue, the expected page is the same as at the previous frame.
 abbrev pub StaysBetweenEdges : (ℕ → Rows) → List SubtitleValue → Type 0
 StaysBetweenEdges due records = (f : ℕ) → 1 ≤ f → (IsEdge records f → ⊥) → due f ≡ due (f - 1)
 

@@ -176,7 +176,7 @@ module _ (w : PageIdValue) (national : National) (serial : Bool) (page : Rows) (
       ap (before_end (kind w)) (after_sending before)
       ∙ rw (take_all n rest (omega arith), take_all n rows (omega arith)) at (rows_before_end n)
 
-  -- Whatever was sent before a page transmission, each cell shown after it is that of the
+  -- Whatever was sent before a page transmission, each cell shown after it is the cell of the
   -- transmitted page.
   pub shown_after : (before : List (List ℕ)) (row column : ℕ) → IsCell row column
       → shown w (before ++ sending w national serial page) row column ≡ cell page row column

@@ -26,7 +26,7 @@ use Rattle.sub_plan.specs.Sending.{sending, watched_header}
 -- ---- laws of one page transmission
 
 -- Whatever was sent before, a page transmission shows the page from which it was made. So a
--- receiver that gets the complete transmission shows the expected page.
+-- receiver of the complete transmission shows the expected page.
 abbrev pub LawOfSending : Type 0
 LawOfSending =
     (w : PageIdValue) (national : National) (serial : Bool) (page : Rows) (before : List (List ℕ))
@@ -97,7 +97,7 @@ LawOfCutSendings =
 -- ---- laws of the frames with a page transmission
 
 -- The frame b is a base: it is the first frame of the schedule, or its expected page differs from
--- that of the previous frame.
+-- the expected page of the previous frame.
 abbrev pub IsBase : (ℕ → Rows) → ℕ → ℕ → Type 0
 IsBase due first b = (b ≡ first) ⊎ (due b ≢ due (b - 1))
 
@@ -150,9 +150,8 @@ pub record IsLastSending (due : ℕ → Rows) (every first last f g : ℕ) : Typ
   pub none_after : (k : ℕ) → g < k → k ≤ f → IsFalse (is_sending due every first last k)
   pub same : due g ≡ due f
 
--- From the first frame on, a page transmission comes at or before each frame, and the last such
--- transmission shows the page expected at that frame. So the last transmission is never out of
--- date.
+-- From the first frame on, each frame has a page transmission at or before it, and the last of
+-- these shows the page expected at the frame. So the last transmission is never out of date.
 abbrev pub LawOfLastSending : Type 0
 LawOfLastSending =
     (due : ℕ → Rows) (every first last f : ℕ)

@@ -22,7 +22,7 @@ abbrev pub is_same_page : Rows → Rows → Bool
 is_same_page a b = pointwise (pointwise nat_eq) a b
 
 -- The frame f is a base: it is the first frame of the schedule, or its expected page differs from
--- that of the previous frame.
+-- the expected page of the previous frame.
 unfoldable pub is_base : (ℕ → Rows) → ℕ → ℕ → Bool
 is_base due first f = (f == first) || not (is_same_page (due f) (due (f - 1)))
 

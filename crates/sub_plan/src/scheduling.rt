@@ -164,9 +164,9 @@ fn send_all<K: Sink>(
 ///
 /// Each page transmission is one PES packet (EN 300 472): the header of the page, its rows and the
 /// closing header. The frames with a page transmission are the first frame, each frame at which the
-/// expected page changes, every `every` frames after such a frame up to the next, and the last
-/// frame. `serial` sets C11, magazine serial, in all headers. The expected page is drawn only at
-/// cues, and nothing is kept in memory.
+/// expected page changes, every `every` frames between two of these frames, and the last frame.
+/// `serial` sets C11, magazine serial, in all headers. The expected page is drawn only at cues, and
+/// nothing is kept in memory.
 ///
 /// # Errors
 ///

@@ -1,7 +1,7 @@
 //! The values of the command `listen`.
 use sub_plan::Options;
 
-/// A bit of a Teletext packet that the receiver gets wrong.
+/// A bit of a Teletext packet that is received wrong.
 #[derive(Clone, Copy, Debug, PartialEq, Eq)]
 pub struct Flip {
     /// The number of the Teletext packet, counted from 0 among all Teletext packets of the file.

@@ -18,7 +18,7 @@ abbrev pub is_help_of : Text → Text → Bool
 is_help_of first second =
     if is_command first then is_help_flag second else is_help_word first && is_command second
 
--- The arguments request help: after the program's name comes a word for help, alone or together
+-- The arguments request help: the program's name is followed by a word for help, alone or together
 -- with the name of a command.
 unfoldable pub requests_help : List Text → Bool
 requests_help (program ∷ word ∷ []) = is_help_word word

@@ -184,7 +184,7 @@ pub fn pid_at<'a>(matches: &ArgMatches<'a>) -> Result<Pid, UsageFault>
     parse_pid(text_at(matches, "pid")).ok_or(UsageFault::Pid)
 }
 
-/// Returns the packet size that `--packet-size` gives.
+/// Returns the packet size in the option `--packet-size`.
 ///
 /// # Errors
 ///

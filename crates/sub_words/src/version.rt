@@ -3,7 +3,7 @@ ghost use Rattle.std.specs.Prelude.{◌≡◌};
 ghost use Rattle.sub_words.specs.Commands.{texts_of};
 ghost use Rattle.sub_words.specs.Version as specs;
 
-/// Returns whether arguments request the version: after the program's name comes only a word for
+/// Returns whether arguments request the version: the program's name is followed only by a word for
 /// the version.
 #[tactic(auto, unfolding(crate::specs::Version::requests_version))]
 pub fn requests_version(arguments: &[&str]) -> bool

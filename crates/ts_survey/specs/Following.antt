@@ -8,7 +8,7 @@ use Rattle.mpeg_ts.specs.Joining.{JoiningValue, after_note, delivered, has_ended
 use Rattle.mpeg_ts.specs.PacketsInStep.{items_of}
 use Rattle.ttx_page.specs.Receiver.{RunsBy}
 
--- A receiver with `any_pes_packet` specifies nothing about its state.
+-- The contract of a receiver with `any_pes_packet` does not restrict its state.
 abbrev pub any_pes_packet : {T : Type 0} → T → List ℕ → T → Type 0
 any_pes_packet old pes_packet new = Unit {0}
 
@@ -20,7 +20,7 @@ pub record TakesBytes
   pub joined : concat pes_packets ≡ bytes
   pub run : RunsBy IsTaken old pes_packets new
 
--- A receiver received the next part of the bytes that are ready, or nothing if no byte is ready.
+-- A receiver got the next part of the bytes that are ready, or no bytes if none are ready.
 pub record GivesNext
     {T : Type 0} (IsTaken : T → List ℕ → T → Type 0) (before : JoiningValue) (old : T)
     (after : JoiningValue) (new : T)
@@ -31,8 +31,8 @@ pub record GivesNext
   pub some : pes_packet ≡ [] → before.pending ≡ []
   pub taken : IsTaken old pes_packet new
 
--- The events of a PID are processed one after another: after each event, everything that it
--- completes is received, until nothing more is ready.
+-- The events of a PID are processed one after another: after each event, the receiver gets all data
+-- that the event completes.
 abbrev pub FollowsNotes :
     {T : Type 0} → (T → List ℕ → T → Type 0) → JoiningValue → T → List Note → T → Type 0
 FollowsNotes IsTaken j old [] new = new ≡ old

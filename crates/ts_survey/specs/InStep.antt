@@ -1,5 +1,5 @@
 -- The transport packets and the bytes that belong to no packet, in bytes that arrive part by part
--- (by mpeg_ts.specs.PacketsInStep), and the packets that the receiver gets.
+-- (by mpeg_ts.specs.PacketsInStep), and the packets that are passed to the receiver.
 use Rattle.std.specs.Prelude.{◌≡◌, ℕ, suc, ◌+◌, ◌-◌, ◌*◌, ◌<◌, ◌≤◌, ◌==◌, min, Bool, true, false}
 use Rattle.std.specs.Prelude.{if◌then◌else◌, List, [], ◌∷◌, ◌++◌, length, drop}
 use Rattle.mpeg_ts.specs.GoodPackets.{loss_size}
@@ -42,8 +42,8 @@ skipped_after run (Skipped ∷ more) = skipped_after (counted_on run 1) more
 abbrev pub loss_reported : ℕ → ℕ → List (List ℕ)
 loss_reported distance run = if run == loss_size distance then [] ∷ [] else []
 
--- The packets that the receiver gets for these items, after `run` skipped bytes: each transport
--- packet, and [] for each gap.
+-- The packets that are passed to the receiver for these items, after `run` skipped bytes: each
+-- transport packet, and [] for each gap.
 unfoldable pub reported_of : ℕ → ℕ → List Item → List (List ℕ)
 reported_of distance run [] = []
 reported_of distance run (Packet p ∷ more) = p ∷ reported_of distance 0 more

@@ -101,7 +101,7 @@ impl Carrier {
 
     // Counts the packets lost before a packet, and records an announced jump of the counter.
     // Returns the PTS if the packet completes a PES header with a PTS. A repeat of the last good
-    // packet changes nothing.
+    // packet has no effect.
     fn note(&mut self, packet: &[u8; PACKET]) -> Option<u64>
         ensures { self.new.pid ≡ self.old.pid }
     {
@@ -268,7 +268,7 @@ impl Carrier {
         !self.pending.is_empty()
     }
 
-    /// Prints the PES packets that were not printed yet, since no more data is available for now.
+    /// Prints the pending lines of PES packets, since no more data is available for now.
     pub fn flush(&mut self, text: &mut Text)
         ensures { self.new.pid ≡ self.old.pid }
     {

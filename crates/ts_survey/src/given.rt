@@ -10,7 +10,7 @@ use ttx_pes::{is_gap_marker, size_of};
 #[derive(Drop)]
 pub struct Given {
     lines: PesLines,
-    // Whether a gap marker came after the last PES packet, and whether data is missing before the
+    // Whether a gap marker followed the last PES packet, and whether data is missing before the
     // contents of the last transport packet.
     is_after_gap: bool,
     is_broken: bool,
@@ -126,12 +126,12 @@ impl Given {
         self.scrambled = 0;
     }
 
-    /// Prints the PES packets that were not printed yet.
+    /// Prints the pending lines of PES packets.
     pub fn flush(&mut self, text: &mut Text) {
         self.lines.flush(text);
     }
 
-    /// Ends the recording: prints everything that is still to be printed for the PID.
+    /// Ends the recording: prints the remaining lines of the PID.
     pub fn end(&self, text: &mut Text) {
         if self.has_gap_marker {
             self.lines

@@ -482,7 +482,7 @@ impl Multiplex {
         }
     }
 
-    /// Prints everything that was not printed yet, since no more data is available for now.
+    /// Prints all pending lines, since no more data is available for now.
     pub fn flush(&mut self, text: &mut Text)
         ensures requested { KeepsRequested self.old self.new }
     {

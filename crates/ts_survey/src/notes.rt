@@ -24,7 +24,7 @@ pub struct Notes {
     strays: Rows,
     reported_strays: Rows,
     has_stray: bool,
-    // Whether a header of the page came in this PES packet.
+    // Whether this PES packet has a header of the page.
     is_opened: bool,
     // Whether the last header of the magazine is a header of the page.
     is_own: bool,
@@ -166,7 +166,7 @@ impl Notes {
         }
     }
 
-    /// Returns whether rows that came after the end of the page have to be printed.
+    /// Returns whether rows that were received after the end of the page have to be printed.
     pub fn has_new_strays(&self) -> bool {
         self.has_stray && self.strays != self.reported_strays
     }
@@ -177,13 +177,13 @@ impl Notes {
         self.rows.report_buffered(receiver.page(), text);
     }
 
-    /// Prints the rows that came after the end of the page.
+    /// Prints the rows that were received after the end of the page.
     pub fn report_strays(&mut self, text: &mut Text) {
         self.reported_strays = self.strays;
         self.strays.report(text);
     }
 
-    /// Prints for each page how many headers with the subtitle bit came.
+    /// Prints for each page how many headers with the subtitle bit were received.
     pub fn report_pages(&self, pid: u16, text: &mut Text) {
         let counts = self.subtitles.as_slice();
         for place in 0..counts.len() {
@@ -224,7 +224,7 @@ fn report_sub(pid: u16, magazine: u8, page: u8, text: &mut Text)
     text.put(b"\n");
 }
 
-// Prints how many headers with the subtitle bit came for a page, if any came.
+// Prints how many headers with the subtitle bit were received for a page, unless the number is 0.
 fn report_count(pid: u16, place: usize, count: u64, text: &mut Text) {
     if count == 0 {
         return;

@@ -67,7 +67,7 @@ impl Following {
         self.notes.report_rows(&self.receiver, text);
     }
 
-    /// Prints the rows that came after the end of the page.
+    /// Prints the rows that were received after the end of the page.
     pub fn report_strays(&mut self, text: &mut Text) {
         self.notes.report_strays(text);
     }

@@ -135,12 +135,12 @@ impl PesFile {
         text.put(why);
     }
 
-    /// Prints everything that was not printed yet, since no more data is available for now.
+    /// Prints all pending lines, since no more data is available for now.
     pub fn flush(&mut self, text: &mut Text) {
         self.lines.flush(text);
     }
 
-    /// Ends the file: prints everything that is left to print.
+    /// Ends the file: prints all remaining lines.
     pub fn end(&self, text: &mut Text) {
         self.lines.end(text);
         self.report_end(text);

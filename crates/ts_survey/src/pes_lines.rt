@@ -106,7 +106,7 @@ impl PesLines {
         pts.is_some() && self.page.is_changed()
     }
 
-    // Returns whether rows that came after the end of the page have to be printed.
+    // Returns whether rows that were received after the end of the page have to be printed.
     fn reports_strays(&self, pts: Option<u64>) -> bool {
         pts.is_some() && self.page.notes().has_new_strays()
     }
@@ -137,7 +137,7 @@ impl PesLines {
     }
 
     // Prints the run, then a PES packet on its own line, then the decoded page and the rows that
-    // came after the end of the page.
+    // were received after the end of the page.
     fn report_alone(
         &mut self,
         number: u64,
@@ -194,8 +194,8 @@ impl PesLines {
         self.run.count = 0;
     }
 
-    // Prints the decoded page, and the rows that came after the end of the page, after the line of
-    // the PES packet.
+    // Prints the decoded page, and the rows that were received after the end of the page, after the
+    // line of the PES packet.
     fn report_page(&mut self, number: u64, is_changed: bool, has_strays: bool, text: &mut Text)
         ensures { self.new.count ≡ self.old.count }
     {
@@ -216,7 +216,7 @@ impl PesLines {
         self.page.report_rows(text);
     }
 
-    // Prints the rows that came after the end of the page, if `is_reported` is set.
+    // Prints the rows that were received after the end of the page, if `is_reported` is set.
     fn report_strays(&mut self, number: u64, is_reported: bool, text: &mut Text)
         ensures { self.new.count ≡ self.old.count }
     {

@@ -19,7 +19,7 @@ const JUMP: u8 = 0x80;
 /// How a packet follows the packet before it in its PID, by continuity_counter.
 #[derive(Clone, Copy, PartialEq, Eq)]
 pub enum PacketLink {
-    /// The counter continues, or no packet came before.
+    /// The counter continues, or this is the first packet.
     Next,
     /// A jump of the counter is announced, in this packet or after the packet before.
     Announced,
@@ -114,7 +114,7 @@ fn no_breaks() -> [Break; BREAKS] {
 // runs for most packets of a recording.
 #[inline(always)]
 fn note_packet(state: &mut PidState, packet: &[u8; PACKET], number: u64) {
-    // The counter is read before anything is written, so that its byte is read once.
+    // The counter is read before the state is written, so that its byte is read only once.
     let counter = counter_of(packet);
     if state.last == 0 {
         state.first = number;
@@ -267,7 +267,7 @@ fn is_broken_between(breaks: &[Break], pid: u16, first: u64, second: u64) -> boo
         && first < one.at)
 }
 
-// Returns whether packets of another PID came both up to a packet number and after it.
+// Returns whether another PID had packets both up to a packet number and after it.
 fn others_span_packet(states: &[PidState], pid: usize, first: u64) -> bool {
     if pid >= states.len() {
         return spans_packet(states, first);
@@ -277,7 +277,7 @@ fn others_span_packet(states: &[PidState], pid: usize, first: u64) -> bool {
     spans_packet(before, first) || spans_packet(following, first)
 }
 
-// Returns whether packets of one of these PIDs came both up to a packet number and after it.
+// Returns whether one of these PIDs had packets both up to a packet number and after it.
 fn spans_packet(states: &[PidState], first: u64) -> bool {
     states.iter().any(|state| state.first != 0 && state.first <= first && first < state.last)
 }

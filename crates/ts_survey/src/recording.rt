@@ -97,8 +97,8 @@ impl Recording {
             → IsAsRequested self.new.requested self.new.kind }
         ensures finds { is_unknown self.old.kind ≡ true
             → FindsKind self.old bytes.now first.old first.new self.new }
-        // Until the kind of the recording is known, nothing else is printed. At the end the kind is
-        // known.
+        // Until the kind of the recording is known, no other lines are printed. At the end the kind
+        // is known.
         ensures unknown { is_unknown self.new.kind ≡ true → text.new ≡ text.old }
         ensures known { is_end ≡ true → self.new.out_of_memory ≡ false
             → is_unknown self.new.kind ≡ false }
@@ -281,8 +281,8 @@ impl Recording {
         }
     }
 
-    /// Prints everything that was not printed yet, if no more data is available for now, or the
-    /// recording is at its end.
+    /// Prints all pending lines if no more data is available for now, and ends the recording at its
+    /// end.
     #[tactic(auto, using(crate::proofs::ListedLemmas::stays_as_requested))]
     pub fn pause(&mut self, is_end: bool, has_no_more: bool, text: &mut Text)
         ensures end { is_end ≡ true → ReportsEnd self.old text.new }
@@ -303,7 +303,7 @@ impl Recording {
         }
     }
 
-    // Prints everything that was not printed yet, since no more data is available for now.
+    // Prints all pending lines, since no more data is available for now.
     #[tactic(auto, using(crate::proofs::ListedLemmas::what_goes_on))]
     fn flush(&mut self, text: &mut Text)
         ensures kind { GoesOn self.old.kind self.new.kind }
@@ -321,7 +321,7 @@ impl Recording {
         }
     }
 
-    // Ends the recording: prints everything that is left, and the line `over`.
+    // Ends the recording: prints all remaining lines, and the line `over` last.
     fn end(&mut self, text: &mut Text)
         ensures reported { ReportsEnd self.old text.new }
         ensures requested { self.new.requested ≡ self.old.requested }
@@ -331,8 +331,8 @@ impl Recording {
         put_over(skipped, number, text);
     }
 
-    // Prints everything that is left. Returns how many bytes belong to no packet, and how many
-    // packets the recording had.
+    // Prints all remaining lines except the last. Returns the number of bytes that belong to no
+    // packet, and the number of packets.
     fn report_last(&mut self, text: &mut Text) -> (u64, u64)
         ensures skipped { result.0 ≡ skipped_of self.old }
         ensures packets { result.1 ≡ packets_in self.old.kind }
@@ -412,7 +412,7 @@ fn size_in(requested: Option<PacketSize>, bytes: &[u8], is_end: bool) -> Option<
     }
 }
 
-// Returns the number of a PID, if one is given.
+// Returns the number of a PID; `None` if no PID is requested.
 fn number_of(pid: Option<Pid>) -> Option<u16>
     ensures { result ≡ pid }
 {

@@ -67,7 +67,7 @@ impl Partial {
         }
     }
 
-    // Ends the sections of a payload if stuffing comes next.
+    // Ends the sections of a payload if the next byte is stuffing.
     fn end_at_stuffing(&mut self) {
         if has_stuffing(self.bytes.as_slice()) {
             self.is_open = false;
@@ -84,7 +84,7 @@ fn add_to(received: &mut Section, bytes: &[u8]) {
     let _ = received.try_extend_from_slice(bytes);
 }
 
-// Returns whether stuffing comes next instead of a section: FF as table_id.
+// Returns whether the next byte is stuffing, FF in place of a table_id.
 fn has_stuffing(received: &[u8]) -> bool {
     received.len() >= 3 && received[0] == 0xFF
 }

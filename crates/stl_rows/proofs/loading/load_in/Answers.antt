@@ -1,5 +1,5 @@
 -- `load_in`: the first reported fault is the result; without a fault the programme has all
--- subtitles; if the source failed or memory could not be allocated, no fault comes before.
+-- subtitles; if the source failed or memory could not be allocated, no fault was found before.
 use Rattle.std.proofs.Common.{arith, ◌∙◌, rules, sym}
 use Rattle.std.proofs.lemmas.Bool.Decides.{nat_tests}
 use Rattle.stl_rows.proofs.EveryFaultLemmas.{first-not_read, first-of_file, keeps-none}

@@ -1,5 +1,5 @@
--- The ticks since the PTS of frame 0 are a multiple of 3600 and give a frame of the day, or no
--- frame of the day has this PTS.
+-- If the ticks since the PTS of frame 0 are not a multiple of 3600, or their frame is not in the
+-- day, then no frame of the day has this PTS.
 use Rattle.std.proofs.Common.{arith}
 use Rattle.sub_plan.proofs.ClockLemmas.{exact_none, exact_read}
 use Rattle.sub_plan.proofs.options.exact_frame.Goals as goal

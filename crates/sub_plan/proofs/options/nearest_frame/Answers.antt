@@ -1,5 +1,5 @@
--- The ticks since the first tick of frame 0, divided by 3600, give the frame, unless the frame is
--- after the day.
+-- The frame is the number of ticks since the first tick of frame 0, divided by 3600, if it is in
+-- the day.
 use Rattle.std.proofs.Common.{arith}
 use Rattle.std.proofs.lemmas.Bool.Decides.{nat_tests}
 use Rattle.sub_plan.specs.FrameTime.{frame_with_tolerance}

@@ -1,4 +1,4 @@
--- In each iteration of `survey`, nothing has failed, and all output is in the sink and flushed.
+-- In each iteration of `survey`, no device has failed, and all output is in the sink and flushed.
 use Rattle.std.proofs.Common.{◌≡◌, ◌≤◌, List, ℕ, false, length, take, true, vec_len}
 use Rattle.std.specs.Io.KnownBytes.{Consumes}
 use Rattle.ts_survey.specs.Counted.{IsAtPlace}
