@@ -1,5 +1,4 @@
--- Lent bytes that are taken in several pulls: borrowed-more. If the lent bytes contain a PES
--- packet, its size is read from the first bytes taken: borrowed_rest.
+-- Borrowed bytes that are read in several pulls.
 use Rattle.std.proofs.Common.{◌≡◌, ◌≢◌, ℕ, ◌+◌, ◌<◌, ◌≤◌, List, [], ◌++◌, length, take, Some, ap}
 use Rattle.std.proofs.Common.{◌∙◌, Bool, Ok, Result, arith, false, length-append}
 use Rattle.std.proofs.Common.{length-take, length-take-le, sym, true}
@@ -44,8 +43,8 @@ pub borrowed_head : (borrowed : List ℕ) → holds_packet borrowed ≡ true →
 unfolding holds_packet
 borrowed_head borrowed holds = grind (arith, nat_tests)
 
--- If the size of a PES packet was read from the first bytes taken, the source still lends the rest
--- of the packet.
+-- If the source has a complete PES packet buffered, and its first bytes are read, the rest of the
+-- packet is still buffered.
 pub borrowed_rest : (borrowed left room : List ℕ) (got size : ℕ)
     → holds_packet borrowed ≡ true
     → borrowed ≡ take got room ++ left
@@ -89,8 +88,8 @@ pub holds_packet_read : (bytes : List ℕ) (r : Result ℕ PesFault)
 unfolding holds_packet
 holds_packet_read bytes r many is = grind (arith, nat_tests)
 
--- If reading a PES packet failed, no report was pending, because reports are flushed before a
--- device is called.
+-- If reading a PES packet failed, no report was pending, because reports are flushed before the
+-- device is used.
 pub not_pending : (has_pending_reports fails ready : Bool)
     → NothingIsPending has_pending_reports ready
     → (ready ≡ true → fails ≡ false)

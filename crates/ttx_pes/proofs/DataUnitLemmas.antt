@@ -1,5 +1,4 @@
--- A data unit can be read exactly if it matches the grammar. Main lemmas: units_sound,
--- units_complete.
+-- A data unit can be parsed exactly if it matches the grammar.
 use Rattle.std.proofs.Common.{rules, ◌≡◌, ℕ, zero, suc, ◌+◌, ◌-◌, ◌*◌, ◌/◌, ◌%◌, ◌<◌, ◌≤◌, true}
 use Rattle.std.proofs.Common.{cond, eqb, List, [], ◌∷◌, ◌++◌, length, take, get_or, drop, map}
 use Rattle.std.proofs.Common.{Option, Some, Ok, refl, sym, ap, ◌∙◌, append_assoc, arith, inl, inr}
@@ -59,7 +58,7 @@ field_bit : (b : ℕ)
     × (1 ≤ cond (eqb ((b / 32) % 2) 1) 1 2) × (cond (eqb ((b / 32) % 2) 1) 1 2 ≤ 2)
 field_bit b lt = grind (arith, nat_tests)
 
--- A data unit that can be read matches the grammar.
+-- A data unit that can be parsed matches the grammar.
 pub unit_sound : (b : List ℕ) (u : Option UnitValue)
     → length b ≡ 46
     → AreBytes b
@@ -91,7 +90,7 @@ field_back : (reserved field line : ℕ)
     → cond (eqb (((64 * reserved + 32 * (2 - field) + line) / 32) % 2) 1) 1 2 ≡ field
 field_back reserved field line lo hi lt = grind (arith, nat_tests)
 
--- A data unit that matches the grammar can be read.
+-- A data unit that matches the grammar can be parsed.
 pub unit_complete : (u : Option UnitValue) (b : List ℕ)
     → IsDataUnit u b
     → (teletext_at b ≡ Ok u) × (length b ≡ 46)
@@ -99,8 +98,8 @@ unfolding teletext_at
 unit_complete u b h =
     grind (arith, nat_tests, teletext_id_eq, field_back, mirrored_twice, length-map)
 
--- The effect of a data unit on the units read so far: its unit, if any, is appended and keeps the
--- line order.
+-- The effect of a data unit on the units read so far: its unit, if there is one, is appended and
+-- keeps the line order.
 pub record Adds (prefix us : List UnitValue) (u : Option UnitValue) : Type 0 where
   pub is : us ≡ prefix ++ option_to_list u
   pub rises : (more : List UnitValue) → AreInLineOrder (last_place 0 us) more
@@ -111,7 +110,8 @@ with_unit_adds : (prefix us : List UnitValue) (u : Option UnitValue)
     → Adds prefix us u
 with_unit_adds prefix us u e = grind (arith, nat_tests, Ok-injective, append-nil, last_place-push)
 
--- If n data units can be read, they match the grammar, and their Teletext units are in line order.
+-- If n data units can be parsed, they match the grammar, and their Teletext units are in line
+-- order.
 pub units_sound : (n : ℕ) (prefix us : List UnitValue) (b : List ℕ)
     → length b ≡ 46 * n
     → AreBytes b
@@ -141,8 +141,7 @@ with_unit_takes : (prefix others : List UnitValue) (u : Option UnitValue)
     × AreInLineOrder (last_place 0 (prefix ++ option_to_list u)) others
 with_unit_takes prefix others u r = grind (arith, nat_tests, append-nil, last_place-push)
 
--- If n data units match the grammar and their Teletext units are in line order, the data units can
--- be read.
+-- If n data units match the grammar and their Teletext units are in line order, they can be parsed.
 pub units_complete : (n : ℕ) (prefix more : List UnitValue) (b : List ℕ)
     → AreDataUnits n more b
     → AreInLineOrder (last_place 0 prefix) more

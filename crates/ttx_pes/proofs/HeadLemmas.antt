@@ -1,5 +1,4 @@
--- Data fields whose data units have the same heads: one head, same_word; all heads, heads_more;
--- both data fields have their Teletext units at the same offsets, places_equal.
+-- Data fields whose data units have the same headers.
 use Rattle.std.proofs.Common.{◌≡◌, ℕ, zero, suc, ◌+◌, ◌-◌, ◌*◌, ◌/◌, ◌%◌, ◌<◌, ◌≤◌, List, []}
 use Rattle.std.proofs.Common.{◌∷◌, ◌++◌}
 use Rattle.std.proofs.Common.{length, take, drop, get_or, cond, Ok, refl, sym, ap, subst, ◌∙◌}
@@ -86,7 +85,7 @@ block_byte a at r l = get_or-take 46 (drop at a) r 0 l ∙ get_or-drop at a r 0
 abbrev units_in : List ℕ → List UnitValue
 units_in b = cond (is_teletext (get_or b 0 0)) (unit_of b ∷ []) []
 
--- A data unit that has the same head as a data unit that can be read can be read too.
+-- If a data unit can be parsed, so can a data unit with the same header.
 record ReadsSameHead (us more : List UnitValue) (b : List ℕ) : Type 0 where
   pub read : unit_at us b ≡ Ok (us ++ units_in b)
   pub last : last_place 0 more ≡ last_place 0 (us ++ units_in b)
@@ -107,8 +106,7 @@ units_of_data_unit : (field : List ℕ) (at : ℕ)
     → units_in (take 46 (drop at field)) ≡ sent_units field (teletext_place at field)
 units_of_data_unit field at = grind (arith, nat_tests, block_byte field at 0)
 
--- If the data units of a data field can be read, so can data units with the same heads, up to their
--- Teletext packets.
+-- If the data units of a data field can be parsed, so can data units with the same headers.
 units_equal : (n at : ℕ) (a b : List ℕ) (us vs all : List UnitValue)
     → ((k : ℕ) → k < n → IsSameHead a b (46 * k + at))
     → last_place 0 us ≡ last_place 0 vs
@@ -164,7 +162,7 @@ same_places (suc n) at a b same =
     let rest = same_places n (at + 46) a b next in
     rw (head.id, rest) refl
 
--- Two data fields with the same heads have their Teletext units at the same offsets.
+-- Two data fields with the same data unit headers have their Teletext units at the same offsets.
 pub places_equal : (a b places : List ℕ)
     → length a ≡ length b
     → 0 < length a

@@ -1,5 +1,5 @@
--- Facts about a PES packet follow from its header and its data field: from units that are read
--- again, facts_of_new_units, or from the data field of the packet before, facts_of_repeat.
+-- The parsed fields of a PES packet follow from its header and its data field, or from the packet
+-- that it repeats.
 use Rattle.std.proofs.lemmas.Bool.Decides.{nat_tests}
 use Rattle.std.proofs.Common.{◌≡◌, ℕ, ◌/◌, ◌<◌, List, ◌+◌, ◌%◌, ◌≤◌, ◌++◌, [], length, drop}
 use Rattle.std.proofs.Common.{false, take, Ok, Err, refl, sym, ap, subst, arith, length-drop}
@@ -28,7 +28,7 @@ value_refused b field t f e same bad =
     let there = rw (same, drop-drop 1 39 b) at bad in
     rw (e, there) refl
 
--- A value that is read from a PES packet's bytes from byte 6 on fits in a frame.
+-- The value of a PES packet fits in a frame.
 value_kept : (body : List ℕ) (v : PesValue)
     → length body + 6 ≤ 1656
     → (length body + 6) % 184 ≡ 0
@@ -41,14 +41,14 @@ value_kept body v short whole some fit e =
     value_of_packet v (first_six_bytes n ++ body)
     (body_sound n body v (omega arith) (omega arith) (omega arith) fit e)
 
--- The list has the length of a PES packet without its first six bytes.
+-- The bytes have the length of a PES packet without its first six bytes.
 pub record IsBody (body : List ℕ) : Type 0 where
   pub short : length body + 6 ≤ 1656
   pub whole : (length body + 6) % 184 ≡ 0
   pub long : 184 ≤ length body + 6
   pub fit : AreBytes body
 
--- The facts are true of the PES packet whose bytes from byte 6 on are `body`.
+-- The parsed fields are those of the PES packet whose bytes from byte 6 on are `body`.
 pub record DescribesPacket (body : List ℕ) (h : BufferedPacketValue) : Type 0 where
   pub value : value_at body ≡ Ok (buffered_frame (drop 39 body) h)
   pub known : IsInBuffer (drop 39 body) h

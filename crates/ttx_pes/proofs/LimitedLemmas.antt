@@ -1,5 +1,4 @@
--- Reading at most a limited number of PES packets: received_limited; skipping PES packets:
--- skipped_one, skipped_stop.
+-- Reading a limited number of PES packets, and skipping PES packets.
 use Rattle.std.proofs.Common.{◌≡◌, ℕ, zero, suc, ◌+◌, ◌-◌, ◌*◌, ◌≤◌, ◌<◌, List, [], ◌++◌, true}
 use Rattle.std.proofs.Common.{false, length, take, drop, Option, Some, None, Result, Ok, Err, refl}
 use Rattle.std.proofs.Common.{sym, ap, ◌∙◌, subst, inl, inr, arith, append_assoc, length-append}

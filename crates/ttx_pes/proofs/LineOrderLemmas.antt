@@ -1,5 +1,4 @@
--- A unit that follows the last place keeps the line order, and so do the numbered packets of a
--- frame. Main lemma: numbered_is_value.
+-- The numbered Teletext packets of a frame are in line order.
 use Rattle.std.proofs.Common.{rules, ◌≡◌, ℕ, ◌+◌, ◌<◌, ◌≤◌, true, false, cond, eqb, ltb, List, []}
 use Rattle.std.proofs.Common.{◌∷◌, ◌++◌, length, get_or, drop, map, refl, append_assoc, arith}
 use Rattle.std.proofs.lemmas.Bool.{lt-ltb}
@@ -89,8 +88,8 @@ numbered_order i last (p ∷ ps) few h lt =
     rw (one.line, stands)
     (refl, numbered_order (i + 1) (line_order_place (numbered_unit i p)) ps next h.1 rises)
 
--- The law of numbered frames: Teletext packets that are sent as one frame form a value that fits in
--- a PES packet.
+-- The law of numbered frames: the Teletext packets of one frame form a value that fits in a PES
+-- packet.
 pub numbered_is_value : LawOfNumberedFrame
 numbered_is_value pts ps lt few h =
     search (rules, length-numbered_units, numbered_each, numbered_order, packets-numbered_units)

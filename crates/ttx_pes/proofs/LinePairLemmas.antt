@@ -1,4 +1,4 @@
--- Line order is a property of pairs of units. Main lemma: line_order.
+-- Line order is a property of pairs of units.
 use Rattle.std.proofs.Common.{◌≡◌, ◌≢◌, ℕ, suc, ◌<◌, true, false, eqb, ltb, List, [], ◌∷◌, refl}
 use Rattle.std.proofs.Common.{arith, inl, inr, eq-eqb}
 use Rattle.std.proofs.lemmas.Bool.Decides.{nat_tests}
@@ -13,8 +13,7 @@ use Rattle.ttx_pes.specs.LineOrder.{line_order_place, AreInLineOrder, RisesTo}
 abbrev ComesAfterPlace : ℕ → UnitValue → Type 0
 ComesAfterPlace before u = u.line ≢ 0 → before < line_order_place u
 
--- If units are in line order, each unit with a defined line comes after the start and after all
--- units before it.
+-- If units are in line order, each unit with a defined line comes after all units before it.
 pairs_from_order : (before : ℕ) (us : List UnitValue)
     → AreInLineOrder before us
     → All (ComesAfterPlace before) us × AllPairs RisesTo us

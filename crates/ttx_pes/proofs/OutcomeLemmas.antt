@@ -1,5 +1,4 @@
--- The result of reading a file is its next answer, followed by the result for the rest:
--- outcome_after-next.
+-- The result of reading a file is its next result, followed by the results for the rest.
 use Rattle.std.proofs.Common.{◌≡◌, ℕ, ◌+◌, ◌≤◌, List, Option, Some, None, Result, Ok, Err}
 use Rattle.std.proofs.Common.{ap, ◌∙◌, arith}
 use Rattle.std.proofs.lemmas.Bool.Decides.{nat_tests}
@@ -21,7 +20,7 @@ until_then : (answer : Result (Option PesValue) PesFault) (more : PesPacketsValu
     ≡ answer_then answer (until_refused more.pes_packets more.left)
 until_then answer more = grind (arith, nat_tests)
 
--- After a valid PES packet, its length field and the parser determine the same remaining bytes.
+-- After a valid PES packet, its length field and the parser give the same remaining bytes.
 same_rest : (given : ℕ) (bytes : List ℕ) (answer : Result (Option PesValue) PesFault)
     → answer_at given bytes ≡ answer
     → answer_then answer (outcome_after (given + 1) (rest_after_pes_packet bytes))

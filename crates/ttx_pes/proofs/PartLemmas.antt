@@ -1,5 +1,4 @@
--- Reading a range of PES packets: the packets left in the range, `part_is`, and the number of the
--- packet, `number_is` and `number_none`.
+-- Reading a range of PES packets: the remaining packets of the range, and their indices.
 use Rattle.std.proofs.Common.{◌≡◌, ℕ, zero, suc, ◌+◌, List, Option, Some, None}
 use Rattle.std.proofs.Common.{refl, ap, ◌∙◌, arith}
 use Rattle.std.specs.Prelude.{option_map}

@@ -1,5 +1,4 @@
 -- The canonical packet of a value is a valid PES packet with that value, and the writer writes it.
--- Main lemmas: canonical_is_packet, refill-pts, spelled.
 use Rattle.std.proofs.Common.{List, Some, [], ap, append_assoc, arith, length, lit<, refl, suc}
 use Rattle.std.proofs.Common.{drop, take, zero, ℕ, ◌*◌, ◌++◌, ◌+◌, ◌-◌, ◌/◌, ◌∷◌, ◌≡◌, ◌≤◌, ◌<◌}
 use Rattle.std.proofs.lemmas.Bool.Decides.{nat_tests}

@@ -1,5 +1,4 @@
--- The header fields of a PES packet can be read exactly if they match the grammar. Main lemmas:
--- body_sound, body_complete.
+-- The header fields of a PES packet can be parsed exactly if they match the grammar.
 use Rattle.std.proofs.Common.{rules, ◌≡◌, ℕ, ◌-◌, ◌*◌, ◌/◌, ◌%◌, ◌^◌, ◌<◌, ◌≤◌, List, [], ◌∷◌, ◌++◌}
 use Rattle.std.proofs.Common.{length, get_or, take, drop, Ok, refl, sym, ap, ◌∙◌, append_assoc}
 use Rattle.std.proofs.Common.{◌+◌, arith, nat_eq, subst, length-append, length-take, length-drop}
@@ -16,7 +15,7 @@ use Rattle.ttx_pes.specs.Reading.{value_at}
 use Rattle.ttx_pes.proofs.DataUnitLemmas.{AreBytes-drop, list_of_bytes, units_sound, units_complete}
 use Rattle.sub_io.proofs.ReadingLemmas.{step_gave, Ok-injective, ok_result}
 
--- If a size can be read from six bytes, they match the first six bytes of a packet of the grammar.
+-- If a size can be parsed from six bytes, a packet of the grammar begins with them.
 pub head_sound : (b : List ℕ) (size : ℕ) → length b ≡ 6 → AreBytes b → size_at b ≡ Ok size
     → (n : ℕ) × (1 ≤ n) × (n ≤ 9) × (size ≡ 184 * n)
     × (b ≡ 0 ∷ 0 ∷ 1 ∷ 189 ∷ bytes_high_first 2 (184 * n - 6))
@@ -32,7 +31,7 @@ head_sound b size len fit e =
     let is-low : get_or b 5 0 ≡ (184 * (size / 184) - 6) % 256 = omega arith in
     (size / 184, omega arith, omega arith, omega arith, parts ∙ cc)
 
--- The size of a packet of the grammar can be read from its first six bytes.
+-- The size of a packet of the grammar can be parsed from its first six bytes.
 pub head_complete : (n : ℕ)
     → 1 ≤ n
     → n ≤ 9
@@ -63,7 +62,7 @@ header_sound : (b : List ℕ) (t : ℕ) → pts_at b ≡ Ok t → Header b t
 unfolding pts_at
 header_sound b t e = grind (arith, nat_tests)
 
--- A PTS that is read has 33 bits, and its five bytes are those from which it was read.
+-- A parsed PTS has 33 bits, and encoding it gives the same five bytes.
 pts_sound : (b : List ℕ) (t : ℕ)
     → AreBytes b
     → Header b t
@@ -78,7 +77,7 @@ parted b le = grind (arith, nat_tests, drop-drop 31 8 b, drop_more, take-append-
 abbrev pub value_with : ℕ → List UnitValue → PesValue
 value_with t us = record { pts = t; units = us }
 
--- If a value can be read from bytes, they are the bytes of a packet of the grammar from byte 6 on.
+-- If a value can be parsed from bytes, they are a packet of the grammar from byte 6 on.
 pub body_sound : (n : ℕ) (b : List ℕ) (v : PesValue)
     → 1 ≤ n
     → n ≤ 9
@@ -144,7 +143,7 @@ header_complete : (v : PesValue) (p : List ℕ) (h : IsValidPesPacket v p)
 unfolding pts_at body_of
 header_complete v p h = grind (arith, nat_tests, get_or_at, ok_result)
 
--- The value of a packet of the grammar can be read from its bytes from byte 6 on.
+-- The value of a packet of the grammar can be parsed from its bytes from byte 6 on.
 pub body_complete : (v : PesValue) (p : List ℕ) (h : IsValidPesPacket v p)
     → (value_at (body_of v p h) ≡ Ok v) × (length (body_of v p h) ≡ 184 * h.n - 6)
 unfolding body_of

@@ -1,5 +1,5 @@
--- The bytes read for one PES packet are a complete packet, a truncated one, or begin none. Main
--- lemmas: read_complete, taken_complete.
+-- The bytes read for one PES packet are a complete packet, a truncated packet, or not the beginning
+-- of a packet.
 use Rattle.std.proofs.Common.{◌≡◌, ℕ, ◌%◌, ◌<◌, ◌≤◌, List, [], ◌∷◌, ◌++◌, length, take}
 use Rattle.std.proofs.Common.{Option, Some, None, Result, Ok, Err, refl, sym, ap, ◌∙◌, subst, arith}
 use Rattle.std.proofs.Common.{append_assoc, inl, inr, length-append, length-take, true}

@@ -1,4 +1,4 @@
--- The PES packets that a reader consumes. Main lemma: taken_pes_packet.
+-- The PES packets that a reader consumes.
 use Rattle.std.proofs.Common.{◌≡◌, ◌≤◌, ℕ, List, [], ◌++◌, length, take, drop, Option, Ok, Err}
 use Rattle.std.proofs.Common.{refl, sym, ap, ◌∙◌, arith, length-take}
 use Rattle.std.proofs.lemmas.List.{append-nil, take-append-drop}
@@ -11,7 +11,7 @@ use Rattle.ttx_pes.proofs.DataUnitLemmas.{AreBytes-take}
 use Rattle.ttx_pes.proofs.PesHeaderLemmas.{head_sound}
 use Rattle.ttx_pes.proofs.TakingLemmas.{settles_as}
 
--- Bytes whose length field states their number are a PES packet.
+-- Bytes that are as many as their length field states are a PES packet.
 pub sized_pes_packet : (b : List ℕ)
     → AreBytes b
     → 6 ≤ length b

@@ -1,5 +1,4 @@
--- Bytes split into the PES packets that are read from them one after another. Main lemma:
--- splits_into.
+-- Bytes split into the PES packets that are read from them one after another.
 use Rattle.std.proofs.Common.{◌≡◌, ◌≢◌, ℕ, zero, suc, ◌+◌, ◌-◌, ◌<◌, ◌≤◌, ◌⊎◌, true}
 use Rattle.std.proofs.Common.{false, List, [], ◌∷◌, ◌++◌, length, take, drop, Option, Some, None}
 use Rattle.std.proofs.Common.{Result, Ok, Err, refl, sym, ap, subst, ◌∙◌, append_assoc, arith, inl}
@@ -92,7 +91,7 @@ record HasPacketInFront (b : List ℕ) (size : ℕ) : Type 0 where
   pub alone :
       packet_at (take size b) ≡ (value_at (take (size - 6) (drop 6 b)) >>= λ v. Ok (v, []))
 
--- The bytes begin no PES packet, for this fault.
+-- The bytes do not begin with a PES packet, because of this fault.
 record HasNoPacket (b : List ℕ) (f : PesFault) : Type 0 where
   pub read : packet_at b ≡ Err f
   pub kind : is_of_pes_packet f ≡ false
@@ -171,8 +170,7 @@ prefix_cases b fit = elim (cases_lt (length b) 6) [
   ]
 ]
 
--- The bytes after `given` PES packets split into the packets of `value` and a rest that begins no
--- packet.
+-- The bytes after `given` PES packets split into the packets of `value` and a rest without packets.
 record Splits (given : ℕ) (bytes : List ℕ) (value : PesPacketsValue) : Type 0 where
   pub packets : List (List ℕ)
   pub rest : List ℕ
@@ -257,8 +255,7 @@ next_pes_packet : (room given : ℕ) (bytes : List ℕ) (r : Result (Option PesV
 unfolding pes_packets_from
 next_pes_packet room given bytes r value e is = rw e is
 
--- The bytes after `given` PES packets split into the packets that are read from them (by induction
--- over the packets that may still be read).
+-- By induction over the packets that may still be read.
 splits_from : (room given : ℕ) (bytes : List ℕ)
     → AreBytes bytes
     → given + room ≡ most_packets
@@ -361,7 +358,7 @@ after_read b p e = elim (cases_lt (length b) 6) [
   ]
 ]
 
--- After a valid PES packet, its length field and the parser determine the same remaining bytes.
+-- After a valid PES packet, its length field and the parser give the same remaining bytes.
 pub rest_after_packet : (given : ℕ) (bytes : List ℕ) (v : PesValue)
     → answer_at given bytes ≡ Ok (Some v)
     → rest_after bytes ≡ rest_after_pes_packet bytes

@@ -1,6 +1,4 @@
--- The PES packets of a range, one by one: the size of the packet at the front of bytes,
--- pes_packet_stated; and skipping, counting and limiting packets, with and without a packet at the
--- front.
+-- Skipping, counting and limiting PES packets, one by one.
 use Rattle.std.proofs.Common.{◌≡◌, ℕ, zero, suc, ◌<◌, ◌≤◌, List, ◌++◌, length, take, drop}
 use Rattle.std.proofs.Common.{Some, None, Result, Ok, Err, refl, sym, ap, ◌∙◌, cond, inl, inr}
 use Rattle.std.proofs.Common.{arith}

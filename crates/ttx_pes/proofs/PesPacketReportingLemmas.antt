@@ -1,5 +1,4 @@
--- The answer of a reader of PES packets for each result of receiving a packet: reports_none,
--- reports_rest, reports_kept.
+-- The result of a reader of PES packets, for each result of receiving a packet.
 use Rattle.std.proofs.Common.{◌≡◌, ◌≢◌, ℕ, List, [], ◌++◌, length, take, drop, Option, None}
 use Rattle.std.proofs.Common.{Some, Bool, true, false, Result, Ok, Err, refl, sym, subst, ◌∙◌}
 use Rattle.std.proofs.Common.{arith, inl, inr}
@@ -27,7 +26,8 @@ use Rattle.ttx_pes.proofs.PesPacketBufferLemmas.{pes_packet_sized, rest_packet, 
 use Rattle.ttx_pes.proofs.TakingLemmas.{settled_field, settles_as, reports_end}
 use Rattle.ttx_pes.proofs.TakingLemmas.{reports_settled, reports_too_many, complete_packet_settles}
 
--- The fault is one of the format, but neither of a complete PES packet nor of a device.
+-- The fault is `Truncated`, or a wrong start code or length: neither a fault of a complete PES
+-- packet nor a device failure.
 abbrev pub IsRestFault : PesFault → Type 0
 IsRestFault f = (is_format_fault f ≡ true) × (is_of_pes_packet f ≡ false) × (is_read f ≡ false)
 

@@ -1,6 +1,5 @@
--- The reader makes the checks of the refusal in their order: the tests of the bytes decide whether
--- a PES packet can be read, and which fault is returned. Main lemmas: packet_requested,
--- tests_cases.
+-- The parser makes the checks in their order. Tests of the bytes determine whether a PES packet can
+-- be parsed, and which fault is returned.
 use Rattle.std.proofs.Common.{◌≡◌, ℕ, zero, suc, ◌+◌, ◌-◌, ◌*◌, ◌/◌, ◌%◌, ◌<◌, Bool, true, false}
 use Rattle.std.proofs.Common.{cond, not, eqb, leb, ltb, List, [], ◌∷◌, length, get_or, take, drop}
 use Rattle.std.proofs.Common.{Option, Some, None, Result, Ok, Err, refl, sym, ap, ◌∙◌, arith, inl}
@@ -20,16 +19,16 @@ use Rattle.ttx_pes.specs.Reading.{teletext_at, unit_at, units_at, value_at}
 use Rattle.ttx_pes.specs.Refusal.{reported_fault, unit_faults}
 use Rattle.ttx_pes.proofs.LineOrderLemmas.{last_place-push}
 
--- The fault of the first test that the bytes b fail, where the first test of the list has number i.
+-- The fault of the first failed test of the list; its first test has number i.
 abbrev pub first_wrong : List ℕ → ℕ → List Bool → Option PesFault
 first_wrong b i [] = None
 first_wrong b i (t ∷ ts) = cond (not t) (Some (reported_fault b i)) (first_wrong b (i + 1) ts)
 
--- All tests of the list before test number i hold.
+-- All tests of the list before test number i pass.
 abbrev pub HoldBelow : List Bool → ℕ → Type 0
 HoldBelow ts i = (j : ℕ) → j < i → get_or ts j true ≡ true
 
--- Some test of the list fails, and all tests before it hold.
+-- A test of the list fails, and all tests before it pass.
 pub record FirstWrong (b : List ℕ) (i : ℕ) (ts : List Bool) : Type 0 where
   pub at : ℕ
   pub buffered : HoldBelow ts at
@@ -79,8 +78,8 @@ next_place before b0 b2 =
     let u = lined_unit b0 b2 in
     cond (is_teletext u.id) (cond (eqb u.line 0) before (line_order_place u)) before
 
--- The tests of n data units from number k on, where the unit of the first has to follow the place
--- `before` in line order.
+-- The tests of n data units from number k on. The first unit must follow the line order position
+-- `before`.
 abbrev pub units_tests : List ℕ → ℕ → ℕ → ℕ → List Bool
 units_tests b zero k before = []
 units_tests b (suc n) k before =
@@ -122,8 +121,8 @@ unit_fault : (b : List ℕ) (i k r : ℕ) → r < 3 → i ≡ 9 + 3 * k + r
     → reported_fault b i ≡ get_or unit_faults r fault.Truncated
 unit_fault b i k r lt e = grind (arith, nat_tests, get_or_past)
 
--- The data units from number k on can be read exactly if their tests hold; otherwise the fault is
--- that of the first test that fails.
+-- The data units from number k on can be parsed exactly if all tests pass; otherwise the fault is
+-- that of the first failed test.
 units_requested : (n k i before : ℕ) (prefix : List UnitValue) (b d : List ℕ)
     → i ≡ 9 + 3 * k
     → last_place 0 prefix ≡ before
@@ -162,8 +161,8 @@ refusal-test c f r = grind (arith, nat_tests)
 not-not : (c : Bool) → not (not c) ≡ c
 not-not c = grind (arith, nat_tests)
 
--- The bytes of a PES packet from byte 6 on can be read exactly if their tests hold; otherwise the
--- fault is that of the first test that fails.
+-- The bytes of a PES packet from byte 6 on can be parsed exactly if all tests pass; otherwise the
+-- fault is that of the first failed test.
 body_requested : (n : ℕ) (b y rest : List ℕ)
     → length y ≡ 40 + 46 * n
     → ((i : ℕ) → i < 40 + 46 * n → get_or y i 0 ≡ get_or b (6 + i) 0)
@@ -177,8 +176,8 @@ body_requested n b y rest len same flags =
     ∙ same (40 + i) (omega arith) ∙ ap (λ (j : ℕ). get_or b j 0) (omega arith)) in
     grind (arith, nat_tests)
 
--- A PES packet can be read exactly if all its tests hold; otherwise the fault is that of the first
--- test that fails.
+-- A PES packet can be parsed exactly if all tests pass; otherwise the fault is that of the first
+-- failed test.
 pub packet_requested : (b : List ℕ)
     → refusal (packet_at b) ≡ first_wrong b 0 (tests b (stated_units b))
 unfolding packet_at size_at

@@ -1,4 +1,4 @@
--- A range of a file that splits into PES packets. Main lemma: ranges.
+-- The bytes of a range of a file that splits into PES packets.
 use Rattle.std.proofs.lemmas.Bool.Decides.{nat_tests}
 use Rattle.std.proofs.Common.{◌≡◌, ℕ, zero, suc, ◌+◌, ◌-◌, ◌*◌, ◌≤◌, List, [], ◌∷◌, ◌++◌, cond}
 use Rattle.std.proofs.Common.{length, take, drop, Option, Some, None, Ok, refl, sym, ap, ◌∙◌, arith}

@@ -1,5 +1,4 @@
--- A PES packet can be read exactly if it matches the grammar. Main lemmas: packet_is_read,
--- read_is_packet.
+-- A PES packet can be parsed exactly if it matches the grammar.
 use Rattle.std.proofs.Common.{rules, ◌≡◌, ◌≢◌, ℕ, ◌-◌, ◌+◌, ◌*◌, ◌<◌, ◌≤◌, List, ◌++◌, length, take}
 use Rattle.std.proofs.Common.{drop, Some, Result, Ok, Err, refl, sym, ap, subst, ◌∙◌, append_assoc}
 use Rattle.std.proofs.Common.{arith, inl, inr, ◌⊎◌, length-append, length-take, length-drop}
@@ -36,7 +35,7 @@ pub answer_packet : (given : ℕ) (b : List ℕ) (r : Result (PesValue × List �
 unfolding answer_at
 answer_packet given b r h ne e = grind (arith, nat_tests)
 
--- If fewer than six bytes are left, reading a PES packet returns `Truncated`.
+-- If fewer than six bytes remain, reading a PES packet returns `Truncated`.
 pub packet_short : (b : List ℕ) → length b < 6 → packet_at b ≡ Err fault.Truncated
 unfolding packet_at
 packet_short b h = rw (lt-ltb (length b) 6 h) refl
@@ -89,7 +88,7 @@ pub answer_of_packet : (given : ℕ) (b : List ℕ) (v : PesValue) (rest : List 
 unfolding packet_at
 answer_of_packet given b v rest ne e = grind (arith, nat_tests, answer_packet)
 
--- The law of reading: a PES packet of the grammar is read as its value, whatever bytes follow.
+-- The law of reading: reading a packet of the grammar returns its value, whatever bytes follow.
 pub packet_is_read : LawOfReading
 packet_is_read v b rest h =
     let body = body_of v b h in
@@ -121,7 +120,7 @@ sound_from b size v fit e long le ev =
     rw (parts, h.4) (body_sound h.0 body v h.1 h.2 len
     (AreBytes-take (size - 6) (drop 6 b) (AreBytes-drop 6 b fit)) ev)
 
--- The law of the grammar: bytes that are read as a value begin with a PES packet of the grammar.
+-- The law of the grammar: if reading returns a value, the bytes begin with a packet of the grammar.
 pub read_is_packet : LawOfGrammar
 read_is_packet v b rest fit e = elim (cases_lt (length b) 6) [
   | inl short ↦ let reported = packet_short b short in absurd cc
@@ -143,7 +142,7 @@ read_is_packet v b rest fit e = elim (cases_lt (length b) 6) [
   ]
 ]
 
--- The law of one value: two valid PES packets that begin the same list of bytes are the same
+-- The law of one value: if a list of bytes begins with two valid PES packets, they are the same
 -- packet.
 pub one_value : LawOfOneValue
 one_value a b x y v w p q e =
@@ -158,8 +157,8 @@ pub rest_after-packet : (v : PesValue) (b rest : List ℕ)
 unfolding rest_after
 rest_after-packet v b rest e = rw e refl
 
--- The law of reading back: the canonical packet followed by other bytes is read as its value, and
--- the other bytes are left.
+-- The law of reading back: reading a canonical packet returns its value, and leaves the bytes that
+-- follow.
 pub written_is_read : LawOfReadingBack
 written_is_read given v rest ne h =
     let b = canonical_packet v ++ rest in

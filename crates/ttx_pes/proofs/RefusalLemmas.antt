@@ -1,5 +1,4 @@
--- If no PES packet can be read, the fault is that of the first check that the bytes fail. Main
--- lemma: refusal_by_questions.
+-- If no PES packet can be read, the fault is that of the first check that the bytes fail.
 use Rattle.std.proofs.Common.{rules, ◌≡◌, ℕ, zero, suc, ◌+◌, ◌-◌, ◌*◌, ◌/◌, ◌%◌, ◌<◌, ◌≤◌, true}
 use Rattle.std.proofs.Common.{false, cond, not, ltb, List, [], ◌∷◌, ◌++◌, length, get_or, map}
 use Rattle.std.proofs.Common.{None, Some}
@@ -36,7 +35,7 @@ stated_count b h =
     let parts : (stated_size b % 184 ≡ 0) × (stated_size b ≤ 1656) = grind (arith, nat_tests) in
     (stated_size b / 184, omega arith, omega arith, omega arith)
 
--- If a PES packet can be read from the bytes, all tests of the bytes hold.
+-- If a PES packet can be read from the bytes, they pass all tests.
 held_if_read : (b : List ℕ) (r : PesValue × List ℕ)
     → packet_at b ≡ Ok r
     → (j : ℕ) → get_or (tests b (stated_units b)) j true ≡ true
@@ -66,8 +65,8 @@ check_of_unit_byte k i lt =
     let unit : (place - 46) / 46 ≡ k = omega arith in
     get_or_past header_byte_checks place _ (omega arith) ∙ rw (rest, unit) refl
 
--- Bytes that agree with a packet in all checks before number i agree with it in all checks before
--- an earlier number j.
+-- If bytes agree with a packet in all checks before number i, they do so in all checks before a
+-- smaller number j.
 agree_below : (i j : ℕ) (b c : List ℕ) → j ≤ i → AgreeBefore i b c → AgreeBefore j b c
 agree_below i j b c le h = grind (arith, nat_tests)
 
@@ -110,8 +109,8 @@ same_test (suc (suc (suc (suc (suc (suc (suc (suc zero)))))))) m n b c h count l
 same_test (suc (suc (suc (suc (suc (suc (suc (suc (suc j))))))))) m n b c h count long all =
     grind (arith, nat_tests, same_units, agree_below)
 
--- A blank packet of n payloads carries no Teletext packet. It serves to complete bytes that pass
--- the first checks to a packet of the grammar.
+-- A blank PES packet of n payloads, without Teletext packets. It completes bytes that pass the
+-- first checks to a packet of the grammar.
 abbrev blank_header : ℕ → List ℕ
 blank_header n =
     packet_start ++ (bytes_high_first 2 (packet_length n) ++ (0x80 ∷ 0x80 ∷ 0x24 ∷ pts_bytes 0))
@@ -122,14 +121,14 @@ blank n i = get_or (blank_header n) i (get_or (0x10 ∷ 0x2C ∷ []) ((i - 46) %
 blank_unit : (n k i : ℕ) → i < 4 → blank n (unit_place k i) ≡ get_or (0x10 ∷ 0x2C ∷ []) i 0
 blank_unit n k i lt = grind (arith, nat_tests, unit_place, get_or_past)
 
--- A list of bytes that has the bytes of b for all checks before number q, and otherwise those of a
--- blank packet.
+-- The bytes of b for all checks before number q, and the bytes of a blank packet for the other
+-- checks.
 abbrev mixed : ℕ → ℕ → List ℕ → ℕ → ℕ
 mixed n q b i = cond (ltb (check_of_byte i) q) (get_or b i 0) (blank n i) % 256
 
 -- This module constructs a packet of the grammar that agrees with the bytes b in all checks before
--- number q. Its assumptions: all tests before q hold, and n is the number of payloads if the length
--- field was checked.
+-- number q. It assumes that all tests before q pass, and that n is the number of payloads if the
+-- length field was checked.
 module _ (b : List ℕ) (fit : AreBytes b) (q n : ℕ) (lo : 1 ≤ n) (hi : n ≤ 9)
     (reported : 2 < q → stated_size b ≡ 184 * n)
     (buffered : HoldBelow (tests b (stated_units b)) q) where
@@ -230,7 +229,7 @@ payloads b q buffered = elim (cases_lt 2 q) [
   | inl more ↦ let t = stated_count b (buffered 2 more) in (t.0, t.1, t.2, λ _. t.3)
 ]
 
--- If test q of the bytes fails, no packet of the grammar agrees with the bytes in check q too.
+-- If test q fails, no packet of the grammar agrees with the bytes in check q too.
 none_agrees : (b : List ℕ) (q : ℕ) (v : PesValue) (p : List ℕ)
     → get_or (tests b (stated_units b)) q true ≡ false
     → IsValidPesPacket v p
@@ -274,8 +273,8 @@ refused_first b f fit e =
           )
     ]
 
--- If bytes fail a check, no PES packet can be read from them, since that packet would agree with
--- them in all checks.
+-- If bytes fail a check, no PES packet can be read from them: that packet would agree with them in
+-- all checks.
 failed_check_refuses : (b : List ℕ) (q : ℕ)
     → AreBytes b
     → FailFirst q b

@@ -1,6 +1,4 @@
--- Comparing slices in blocks: same_block for one block, four_same for four blocks of 64 bytes,
--- same_more_long for the next block of 256 bytes, same_complete at the end; payload_same for the
--- data field of one payload.
+-- Comparing slices in blocks.
 use Rattle.std.proofs.Common.{◌≡◌, ◌↔◌, ℕ, ◌+◌, ◌*◌, ◌≤◌, ◌^◌, ◌%◌, ◌-◌, Bool, true, List, []}
 use Rattle.std.proofs.Common.{◌∷◌, ◌++◌, map, length, take, drop, cond, nat_eq, refl, sym, ap}
 use Rattle.std.proofs.Common.{ap₂, ◌∙◌, ◌/◌, ◌<◌, ◌&&◌, arith, not, w8, eqb-true, eq-eqb}

@@ -1,4 +1,4 @@
--- Facts about a PES packet that repeats the packet before it: sent_again.
+-- The parsed fields of a PES packet that repeats the packet before it.
 use Rattle.std.proofs.Common.{◌≡◌, ℕ, ◌+◌, ◌%◌, ◌≤◌, List, length, drop, Ok, refl, sym, ap, subst}
 use Rattle.std.proofs.Common.{◌∙◌, arith, length-drop}
 use Rattle.std.proofs.lemmas.List.{drop-drop}

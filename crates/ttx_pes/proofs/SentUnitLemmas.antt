@@ -1,5 +1,4 @@
--- Teletext units by the offsets of their data units: one more unit, `one_more`, the remaining
--- units, `places_left`, and a unit by its number, `unit_at_place`.
+-- Teletext units by their offsets in the data field.
 use Rattle.std.proofs.lemmas.Bool.Decides.{nat_tests}
 use Rattle.std.proofs.Common.{◌≡◌, ℕ, ◌+◌, ◌-◌, ◌*◌, ◌<◌, List, [], ◌∷◌, ◌++◌}
 use Rattle.std.proofs.Common.{length, take, drop, get_or, map, refl, sym, ap, subst, ◌∙◌, arith}

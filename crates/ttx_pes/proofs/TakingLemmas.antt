@@ -1,5 +1,4 @@
--- What the bytes consumed of a PES packet determine, NAME_settles; what follows from that,
--- settled_NAME; and the reader's answer, reports_NAME.
+-- What the consumed bytes of a PES packet determine about the result of reading it.
 use Rattle.std.proofs.Common.{◌≡◌, ◌≢◌, ℕ, ◌<◌, ◌≤◌, List, [], length, take, drop, Option, None}
 use Rattle.std.proofs.Common.{Some, Result, Ok, Err, refl, sym, ap, subst, ◌∙◌, append_assoc, arith}
 use Rattle.std.proofs.Common.{length-append, length-take, length-drop, true}
@@ -39,7 +38,7 @@ too_many : (given : ℕ) (old new : Option (List ℕ)) (bytes taken : List ℕ)
 too_many given old new bytes taken h reported some full =
     grind (arith, nat_tests, left, answer_full, length-append)
 
--- If the bytes consumed are a complete PES packet, they determine its value or its first fault.
+-- If the consumed bytes are a complete PES packet, they determine its value or its first fault.
 pub complete_packet_settles : (old new : Option (List ℕ)) (taken : List ℕ)
     → Consumes old new taken
     → 6 ≤ length taken
@@ -69,14 +68,14 @@ pub settled_answer : (given : ℕ) (old new : Option (List ℕ)) (taken bytes : 
 settled_answer given old new taken bytes r h ne reported =
     grind (arith, nat_tests, left, answer_packet, length-append, answered)
 
--- If the bytes consumed determine a fault, they are rejected for that fault, even if the source's
--- bytes are not known.
+-- If the consumed bytes determine a fault, they are rejected for it, even if the bytes of the
+-- source are unknown.
 pub settled_refusal : (old new : Option (List ℕ)) (taken : List ℕ) (f : PesFault)
     → Settles old new taken (Err f)
     → TakesRefused old new f
 settled_refusal old new taken f h = grind (arith, nat_tests, append-nil taken)
 
--- If the bytes consumed determine a value, they are a valid PES packet with that value.
+-- If the consumed bytes determine a value, they are a valid PES packet with that value.
 abbrev pub settled_packet : (old new : Option (List ℕ)) (taken : List ℕ) (v : PesValue)
     → Settles old new taken (Ok v)
     → AreBytes taken

@@ -1,5 +1,5 @@
--- Specifies how a reader reads one PES packet, and which bytes are left if only a limited number of
--- PES packets may be read.
+-- How a reader reads one PES packet, and which bytes remain if only a limited number of PES packets
+-- may be read.
 use Rattle.std.specs.Borrow.{GName}
 use Rattle.std.specs.Prelude.{◌≡◌, ℕ, zero, suc, ◌+◌, ◌-◌, ◌<◌, nat_lt, Bool, true, false, List, []}
 use Rattle.std.specs.Prelude.{Option, Some, None, Result, Ok, Err, length, take, if◌then◌else◌}
@@ -18,32 +18,32 @@ use Rattle.ttx_pes.specs.declared.pes_packets.Received.TheVariants.{End, PesPack
 
 -- ---- reading one PES packet
 
--- The fault for which `count` bytes are not a complete PES packet, given the size in the packet's
--- first six bytes. `None` if the packet is complete.
+-- The fault of `count` bytes as a PES packet, for the size in their first six bytes: `Truncated`,
+-- or a fault of these six bytes. `None` if the packet is complete.
 abbrev pub fault_of_size : ℕ → Result ℕ PesFault → Option PesFault
 fault_of_size count (Ok size) = if nat_lt count size then Some Truncated else None
 fault_of_size count (Err f) = Some f
 
--- The fault for which the bytes do not begin with a PES packet, or `None` if they do.
+-- The fault because of which the bytes do not begin with a PES packet; `None` if they do.
 unfoldable pub rest_fault : List ℕ → Option PesFault
 rest_fault b =
     if nat_lt (length b) 6 then Some Truncated else fault_of_size (length b) (size_at (take 6 b))
 
--- The bytes that were read show by this fault that no PES packet begins here, whatever bytes
+-- The bytes read so far do not begin with a PES packet, because of this fault, whatever bytes
 -- follow.
 pub record ShowRest (following : Option (List ℕ)) (bytes : List ℕ) (f : PesFault) : Type 0 where
   pub some : 0 < length bytes
   pub all :
       (more : List ℕ) → (IsAtEnd following → more ≡ []) → rest_fault (bytes ++ more) ≡ Some f
 
--- The remaining bytes begin no PES packet, for this fault, and the bytes that were read show the
--- fault.
+-- The remaining bytes do not begin with a PES packet, because of this fault, as the bytes read so
+-- far show.
 pub record IsRest (old following : Option (List ℕ)) (f : PesFault) : Type 0 where
   pub bytes : List ℕ
   pub consumed : Consumes old following bytes
   pub shows : ShowRest following bytes f
 
--- Exactly one PES packet was consumed, and the taker processed the packet.
+-- Exactly one PES packet was consumed, and the taker processed it.
 pub record TakesPesPacketBy
     {T A : Type 0} (is_take : T → List ℕ → A → T → Type 0) (old new : Option (List ℕ))
     (before : T) (answer : A) (after : T)
@@ -54,10 +54,9 @@ pub record TakesPesPacketBy
   pub consumed : Consumes old new bytes
   pub takes : is_take before bytes answer after
 
--- The effect of a call of `next`. `old` and `new` are the bytes left before and after the call, and
--- `following` are the bytes that the device has left. A PES packet is consumed completely, and the
--- taker processes it. Without a PES packet, nothing is consumed; a failure happened within the next
--- packet.
+-- The effect of a call of `next`. `old` and `new` are the remaining bytes of the reader before and
+-- after the call, and `following` those of the device. A PES packet is consumed completely, and the
+-- taker processes it. Otherwise nothing is consumed; a failure happened within the next packet.
 abbrev pub Advances : {T A E : Type 0}
     → Option (List ℕ) → Option (List ℕ) → Option (List ℕ)
     → (T → List ℕ → A → T → Type 0) → T → T → Result (Received A) E → Type 0
@@ -70,33 +69,35 @@ Advances old new following is_take before after (Ok (Rest f)) =
 Advances old new following is_take before after (Err e) =
     Keeps old new × FailsWithin old following × (after ≡ before)
 
--- The result says that the remaining bytes begin no PES packet.
+-- The result is `Rest`: the remaining bytes do not begin with a PES packet.
 abbrev pub reports_rest : {A E : Type 0} → Result (Received A) E → Bool
 reports_rest (Ok (Rest f)) = true
 reports_rest _ = false
 
--- A reader that never knows whether its next call uses the device.
+-- The default of `ready`: the next call may use the device.
 abbrev pub never_ready : {P : Type 0} → P → Bool
 never_ready pes_packets = false
 
--- A reader that borrows no device.
+-- The default of `device`: the reader borrows no device.
 abbrev pub no_borrowed_devices : {P : Type 0} → P → List GName
 no_borrowed_devices pes_packets = []
 
 -- ---- reading PES packets from a source
 
--- The buffered bytes followed by the bytes of the source, if these are known.
+-- The buffered bytes, followed by the bytes of the source; `None` if these are unknown.
 abbrev pub buffered_then : List ℕ → Option (List ℕ) → Option (List ℕ)
 buffered_then [] known_bytes = known_bytes
 buffered_then (x ∷ buffered) known_bytes = prepend_known (x ∷ buffered) known_bytes
 
--- The next PES packet can be read without a call of the source's device: nothing is buffered, and
--- the source lends the packet completely, or lends bytes with an invalid start code or length.
+-- The next PES packet can be read without a call of the source's device: the reader's buffer is
+-- empty, and the source has buffered the complete packet, or bytes with a wrong start code or
+-- length.
 abbrev pub has_borrowed_pes_packet : List ℕ → List ℕ → Bool
 has_borrowed_pes_packet [] borrowed = holds_packet borrowed
 has_borrowed_pes_packet (x ∷ buffered) borrowed = false
 
--- What the bytes that were read for one PES packet mean for the result.
+-- The bytes read for one PES packet agree with the result: they are a complete packet, or have a
+-- fault, or the read failed.
 abbrev pub AreRead : {E : Type 0} → Option (List ℕ) → List ℕ → Result (Received (Unit {0})) E → Type
     0
 AreRead new bytes (Ok End) = (bytes ≡ []) × IsAtEnd new
@@ -105,7 +106,7 @@ AreRead new bytes (Ok (PesPacket answer)) =
 AreRead new bytes (Ok (Rest f)) = ShowRest new bytes f
 AreRead new bytes (Err e) = IsIncompletePesPacket bytes
 
--- The bytes that were read from the source for one PES packet, and their meaning for the result.
+-- The bytes read from the source for one PES packet agree with the result.
 pub record ReadsForPesPacket
     {E : Type 0} (old new : Option (List ℕ)) (bytes : List ℕ) (result : Result (Received (Unit {0}))
     E)
@@ -115,8 +116,8 @@ pub record ReadsForPesPacket
 
 -- ---- skipping PES packets
 
--- Of the first n PES packets, k were skipped; skipping the other n - k from here on gives the same
--- as skipping all n from the start.
+-- Of the first n PES packets, k were skipped. Skipping n - k more from here has the same effect as
+-- skipping n from the start.
 abbrev pub HasSkipped : ℕ → ℕ → Option (List ℕ) → Option (List ℕ) → Type 0
 HasSkipped n k old new =
     IfKnown old (λ bytes. (rest : List ℕ)
@@ -124,8 +125,7 @@ HasSkipped n k old new =
     × (rest_after_pes_packets n bytes ≡ rest_after_pes_packets (n - k) rest)
     × (count_pes_packets n bytes ≡ k + count_pes_packets (n - k) rest))
 
--- The first n PES packets were skipped, or all if the file has fewer, and `skipped` is the number
--- of PES packets skipped.
+-- The first n PES packets were skipped, or all if the file has fewer; `skipped` is their number.
 abbrev pub Passes : ℕ → Option (List ℕ) → Option (List ℕ) → ℕ → Type 0
 Passes n old new skipped =
     IfKnown old (λ bytes. (new ≡ Some (rest_after_pes_packets n bytes)) ×
@@ -133,7 +133,7 @@ Passes n old new skipped =
 
 -- ---- a limited number of PES packets
 
--- The limit is reached: no more PES packets may be read.
+-- The limit is 0: no more PES packets may be read.
 abbrev pub is_over : Option ℕ → Bool
 is_over None = false
 is_over (Some zero) = true
@@ -145,25 +145,24 @@ decremented_limit None = None
 decremented_limit (Some zero) = Some zero
 decremented_limit (Some (suc n)) = Some n
 
--- The number of PES packets that may be read after this result. `None` means no limit.
+-- The number of PES packets that may still be read after this result. `None` means no limit.
 abbrev pub limit_after : {A : Type 0} → Option ℕ → Received A → Option ℕ
 limit_after left End = left
 limit_after left (PesPacket answer) = decremented_limit left
 limit_after left (Rest f) = None
 
--- The bytes that may be read under the limit: those of that many PES packets, or all bytes if fewer
--- packets are left.
+-- The bytes of the next PES packets up to the limit, or all bytes if fewer packets remain.
 abbrev pub limited_known : Option ℕ → Option (List ℕ) → Option (List ℕ)
 limited_known None known_bytes = known_bytes
 limited_known (Some n) known_bytes = option_map (limited (Some n)) known_bytes
 
--- The remaining bytes are known to begin no PES packet. This implies that the limit was removed,
--- since bytes after the last packet are not limited.
+-- The remaining bytes do not begin with a PES packet. Then there is no limit, since the limit does
+-- not apply to bytes after the last packet.
 abbrev pub limited_rest : Option ℕ → Bool → Bool
 limited_rest None rest = rest
 limited_rest (Some n) rest = false
 
--- The bytes that the device has left, as far as the limit allows reading them.
+-- The remaining bytes of the device, as far as the limit allows reading them.
 abbrev pub limited_remaining : Option ℕ → Option (List ℕ) → Option (List ℕ) → Option (List ℕ)
 limited_remaining None known following = following
 limited_remaining (Some n) known following = option_map (limited (Some n)) known

@@ -1,4 +1,4 @@
--- Specifies a reader that compares each PES packet with the PES packet before it.
+-- The model of a reader that compares each PES packet with the PES packet before it.
 use Rattle.std.specs.Prelude.{◌≡◌, ℕ, ◌+◌, Bool, true, false, if◌then◌else◌, Option, Some, None}
 use Rattle.std.specs.Prelude.{Result, Ok, Err, List, drop}
 use Rattle.ttx_pes.specs.declared.comparing_reader.Compared.{Compared}
@@ -10,35 +10,35 @@ use Rattle.ttx_pes.specs.Fault.{is_of_pes_packet}
 use Rattle.ttx_pes.specs.PesGrammar.{PesValue}
 use Rattle.ttx_pes.specs.Reader.{TakesValidPesPacket}
 
--- The model of a comparing reader: its progress, the frame that it lends, and the data field of the
--- last PES packet, bytes 45 (data_identifier) to the end. The data field is empty before the first
--- packet, at the end and after a fault. Directly after the fault of a complete packet, `following`
--- is the number of packets consumed, including the faulty packet.
+-- The model of a comparing reader: its progress, its frame, and the data field of the last PES
+-- packet, bytes 45 (data_identifier) to the end. The data field is empty before the first packet,
+-- at the end and after a fault. Directly after the fault of a complete packet, `following` is the
+-- number of packets consumed, including the faulty one.
 pub record ComparingValue : Type 0 where
   pub progress : Progress
   pub frame : PesValue
   pub data_field : List ℕ
   pub following : Option ℕ
 
--- The number of PES packets consumed, if the answer is the fault of a complete packet; otherwise
+-- The number of PES packets consumed, if the result is the fault of a complete packet; otherwise
 -- `None`.
 abbrev pub taken_count_after : Progress → Result Compared PesFault → Option ℕ
 taken_count_after (Reading given) (Err f) = if is_of_pes_packet f then Some (given + 1) else None
 taken_count_after _ _ = None
 
--- The state of a comparing reader that continues after a faulty packet. `None` leaves the state
+-- The state of a comparing reader that continues after this number of PES packets. `None` leaves it
 -- unchanged.
 abbrev pub after_skipped_fault : ComparingValue → Option ℕ → ComparingValue
 after_skipped_fault c None = c
 after_skipped_fault c (Some given) = record c { progress = Reading given; following = None }
 
--- The state of a comparing reader after `skip_packet`: it continues if its last answer was the
+-- The state of a comparing reader after `skip_packet`: it continues if its last result was the
 -- fault of a complete packet; otherwise its state does not change.
 abbrev pub skipped_over : ComparingValue → ComparingValue
 skipped_over c = after_skipped_fault c c.following
 
--- The answer of a comparing reader in the form of `next_into`: `true` for a packet, whether it
--- repeats the packet before or not.
+-- The result of a comparing reader as a result of `next_into`: `true` for `Same` and `Other`,
+-- `false` for `End`.
 abbrev pub next_into_result : Result Compared PesFault → Result Bool PesFault
 next_into_result (Ok End) = Ok false
 next_into_result (Ok Same) = Ok true

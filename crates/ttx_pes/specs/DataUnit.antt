@@ -1,13 +1,13 @@
--- Data units of a PES data field (EN 300 472, syntax of the PES data field): 46 bytes each. Some
--- data units carry a Teletext packet, and a reader ignores the others.
+-- Data units of a PES data field (EN 300 472, syntax of the PES data field): 46 bytes each. A
+-- reader ignores data units that carry no Teletext packet.
 use Rattle.std.specs.Prelude.{◌≡◌, ℕ, zero, suc, ◌+◌, ◌-◌, ◌*◌, ◌<◌, ◌≤◌, Bool, false, ◌==◌, ◌||◌}
 use Rattle.std.specs.Prelude.{List, [], ◌∷◌, ◌++◌, length, map, replicate, Option, Some, None}
 use Rattle.std.specs.Option.{option_to_list}
 use Rattle.ttx_packet.specs.BitOrder.{mirror}
 use Rattle.ttx_packet.specs.PacketAddress.{IsPacket}
 
--- The contents of a Teletext unit: data_unit_id, the field (1 is the first, field_parity 1; 2 the
--- second, field_parity 0), line_offset, and the packet in Teletext's own order of bits.
+-- The contents of a Teletext unit: data_unit_id; the field, 1 for the first field (field_parity 1)
+-- and 2 for the second (field_parity 0); line_offset; and the packet in Teletext bit order.
 pub record UnitValue : Type 0 where
   pub id : ℕ
   pub field : ℕ
@@ -26,16 +26,15 @@ teletext_id = 0x02
 abbrev pub subtitle_id : ℕ
 subtitle_id = 0x03
 
--- The data_unit_id of a stuffing unit, and the value of each byte after its length if a writer
--- creates the unit.
+-- FF: the data_unit_id of a stuffing unit, and the value of its data bytes in written PES packets.
 abbrev pub stuffing : ℕ
 stuffing = 0xFF
 
--- The number of bytes of a data unit after its field data_unit_length.
+-- The value of data_unit_length: the number of bytes of a data unit after this field.
 abbrev pub data_unit_length : ℕ
 data_unit_length = 0x2C
 
--- The framing code of Teletext, with its bits in the order of a data unit.
+-- The framing code of Teletext, in the bit order of a data unit.
 abbrev pub framing_code : ℕ
 framing_code = 0xE4
 
@@ -47,11 +46,12 @@ pub record IsUnit (u : UnitValue) : Type 0 where
   pub line : u.line < 32
   pub packet : IsPacket u.packet
 
--- A data unit with this data_unit_id carries a Teletext packet.
+-- The data_unit_id is that of a data unit with a Teletext packet: 2 or 3.
 abbrev pub is_teletext : ℕ → Bool
 is_teletext id = (id == teletext_id) || (id == subtitle_id)
 
--- Byte 2 of a Teletext unit, counted from 0: two reserved bits, field_parity, line_offset.
+-- Byte 2 of a data unit with a Teletext packet, counted from 0: two reserved bits, field_parity,
+-- line_offset.
 abbrev pub field_and_line : ℕ → UnitValue → ℕ
 field_and_line reserved u = 64 * reserved + 32 * (2 - u.field) + u.line
 
@@ -71,8 +71,8 @@ pub record IsTeletextUnit (u : UnitValue) (b : List ℕ) : Type 0 where
       b ≡ u.id ∷ data_unit_length ∷ field_and_line reserved u ∷ framing_code ∷ map mirror u.packet
   pub is_unit : IsUnit u
 
--- The bytes b are a data unit with another data_unit_id than Teletext, 46 bytes, of which a reader
--- checks only the first two.
+-- The bytes b are a data unit without a Teletext packet, 46 bytes, of which a reader checks only
+-- the first two.
 pub record IsSkippedUnit (b : List ℕ) : Type 0 where
   pub id : ℕ
   pub rest : List ℕ
@@ -80,7 +80,7 @@ pub record IsSkippedUnit (b : List ℕ) : Type 0 where
   pub other : is_teletext id ≡ false
   pub size : length rest ≡ data_unit_length
 
--- The bytes b are a data unit, with its Teletext unit if it carries one.
+-- The bytes b are a data unit with this Teletext unit, or with none.
 abbrev pub IsDataUnit : Option UnitValue → List ℕ → Type 0
 IsDataUnit (Some u) b = IsTeletextUnit u b
 IsDataUnit None b = IsSkippedUnit b

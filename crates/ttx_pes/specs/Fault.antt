@@ -1,11 +1,11 @@
--- Faults of PES packets: their numbers and names in reports (own), faults of a device, and faults
--- after which reading can continue.
+-- Faults of PES packets: their codes in reports (own), device failures, and faults after which
+-- reading can continue.
 use Rattle.std.specs.Prelude.{Bool, true, false, codes}
 use Rattle.sub_io.specs.FaultCode.{FaultCodeValue, fault_code}
 use Rattle.ttx_pes.specs.declared.fault.PesFault.{PesFault}
 use Rattle.ttx_pes.specs.declared.fault.PesFault.TheVariants as fault
 
--- The number and the name of a PES fault in reports (own).
+-- The number and the name of a PES packet fault in reports (own).
 abbrev pub pes_code : PesFault → FaultCodeValue
 pes_code fault.Truncated = fault_code 30 (codes "Truncated")
 pes_code fault.Start = fault_code 31 (codes "Start")
@@ -24,8 +24,7 @@ pes_code fault.Ended = fault_code 43 (codes "Ended")
 pes_code fault.TooMany = fault_code 44 (codes "TooMany")
 pes_code fault.Lost = fault_code 45 (codes "Lost")
 
--- The fault is in the contents of a PES packet that is as long as its length field says, so another
--- packet may follow.
+-- The fault is in the contents of a complete PES packet, so another packet may follow.
 abbrev pub is_of_pes_packet : PesFault → Bool
 is_of_pes_packet fault.Flags = true
 is_of_pes_packet fault.NoTime = true
@@ -38,12 +37,12 @@ is_of_pes_packet fault.LineOrder = true
 is_of_pes_packet fault.Lost = true
 is_of_pes_packet _ = false
 
--- The fault is that the source failed.
+-- The fault is a failed read of the source.
 abbrev pub is_read : PesFault → Bool
 is_read fault.Read = true
 is_read _ = false
 
--- The fault is that the sink failed.
+-- The fault is a failed write to the sink.
 abbrev pub is_write : PesFault → Bool
 is_write fault.Write = true
 is_write _ = false

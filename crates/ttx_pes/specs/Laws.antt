@@ -1,4 +1,4 @@
--- Laws of the format of PES packets, stated for lists of bytes.
+-- Laws about the format of PES packets, for lists of bytes.
 use Rattle.std.specs.Prelude.{◌≡◌, ◌≢◌, ◌↔◌, ℕ, ◌^◌, ◌<◌, ◌≤◌, List, [], ◌++◌, length, map, Some}
 use Rattle.std.specs.Prelude.{None, Ok, Err, true}
 use Rattle.std.specs.Prelude.{IfSome, Option, min}
@@ -31,19 +31,18 @@ LawOfOneValue =
 abbrev pub LawOfPacketValue : Type 0
 LawOfPacketValue = (v : PesValue) (b : List ℕ) → IsValidPesPacket v b → IsPesValue v
 
--- The canonical packet of each value that fits in a frame is a valid PES packet with that value. So
--- the bytes written for a frame mean that frame.
+-- The canonical packet of each value that fits in a frame is a valid PES packet with that value.
 abbrev pub LawOfCanonicalPacket : Type 0
 LawOfCanonicalPacket = (v : PesValue) → IsPesValue v → IsValidPesPacket v (canonical_packet v)
 
--- A valid PES packet is read as its value, whatever bytes follow. So a reader rejects nothing that
--- matches the grammar.
+-- Reading a valid PES packet returns its value, whatever bytes follow. So a reader rejects nothing
+-- that matches the grammar.
 abbrev pub LawOfReading : Type 0
 LawOfReading =
     (v : PesValue) (b rest : List ℕ) → IsValidPesPacket v b → packet_at (b ++ rest) ≡ Ok (v, rest)
 
--- Bytes that are read as a value begin with a valid PES packet of that value. So a reader accepts
--- nothing that does not match the grammar.
+-- If reading returns a value, the bytes begin with a valid PES packet of that value. So a reader
+-- accepts nothing that does not match the grammar.
 abbrev pub LawOfGrammar : Type 0
 LawOfGrammar =
     (v : PesValue) (bytes rest : List ℕ)
@@ -52,9 +51,9 @@ LawOfGrammar =
     → (b : List ℕ) × IsValidPesPacket v b × (bytes ≡ b ++ rest)
 
 -- If no PES packet can be read from the bytes, the fault is that of the first check that they fail:
--- some packet of the grammar agrees with the bytes in all earlier checks, and no such packet agrees
--- with them in this check too. If the bytes fail a check, no PES packet is read. So the grammar and
--- the order of the checks determine which fault is reported.
+-- a packet of the grammar agrees with them in all earlier checks, but none agrees in this check
+-- too. If the bytes fail a check, no PES packet is read. So the grammar and the order of the checks
+-- determine the reported fault.
 abbrev pub LawOfRefusal : Type 0
 LawOfRefusal =
     (bytes : List ℕ)
@@ -64,9 +63,9 @@ LawOfRefusal =
     → (question : ℕ) × (reported_fault bytes question ≡ f) × FailFirst question bytes)
     × ((question : ℕ) → FailFirst question bytes → (f : PesFault) × (packet_at bytes ≡ Err f))
 
--- What a reader's answer means for the remaining bytes, in terms of the grammar: at the end no
--- bytes remain; after a fault of the format the remaining bytes begin with no valid PES packet;
--- after `TooMany` more bytes remain.
+-- The meaning of a reader's result for the remaining bytes. At the end, no bytes remain. After a
+-- format fault, the remaining bytes do not begin with a valid PES packet. After `TooMany`, more
+-- bytes remain.
 abbrev pub LawOfAnswers : Type 0
 LawOfAnswers =
     (given : ℕ) (bytes : List ℕ)
@@ -77,7 +76,7 @@ LawOfAnswers =
     → BeginNoPesPacket bytes)
     × (answer_at given bytes ≡ Err TooMany → 0 < length bytes)
 
--- The bytes written for a frame are read as that frame, and the bytes that follow are left. So a
+-- Reading the bytes written for a frame returns that frame, and leaves the bytes that follow. So a
 -- schedule is read as it was written.
 abbrev pub LawOfReadingBack : Type 0
 LawOfReadingBack =
@@ -87,14 +86,13 @@ LawOfReadingBack =
     → (answer_at given (canonical_packet v ++ rest) ≡ Ok (Some v))
     × (rest_after (canonical_packet v ++ rest) ≡ rest)
 
--- Units are in line order exactly if, of any two units with a defined line, the later unit comes
--- later in that order. So line order is a property of pairs of units, independent of the place that
--- the definition carries along.
+-- Units are in line order exactly if, for any two units with a defined line, the later unit has the
+-- later line.
 abbrev pub LawOfLineOrder : Type 0
 LawOfLineOrder = (units : List UnitValue) → AreInLineOrder 0 units ↔ AllPairs RisesTo units
 
--- Teletext packets that are sent as one frame form a value that fits in a frame, and the units of
--- that value carry these packets.
+-- The Teletext packets of one frame form a value that fits in a frame, and the units of that value
+-- carry these packets.
 abbrev pub LawOfNumberedFrame : Type 0
 LawOfNumberedFrame =
     (pts : ℕ) (packets : List (List ℕ))
@@ -104,16 +102,15 @@ LawOfNumberedFrame =
     → IsPesValue (numbered_frame pts packets)
     × (map (λ (u : UnitValue). u.packet) (numbered_units 0 packets) ≡ packets)
 
--- Bytes split into the PES packets that are read from them: the longest list of byte strings with
--- correct length fields at the front of the bytes. Each packet is read as its value by the grammar,
--- or has its fault. So skipped packets are reported completely, and nothing else is.
+-- Bytes split into the PES packets that are read from them: the longest list of packets with
+-- correct length fields at the front of the bytes. Each packet has the value or the fault that the
+-- grammar gives. So no skipped packet is left out of the reports.
 abbrev pub LawOfPesPackets : Type 0
 LawOfPesPackets = (bytes : List ℕ) → AreBytes bytes → SplitInto bytes (pes_packets_after 0 bytes)
 
--- A range of a file contains the PES packets with the numbers of the range, and also the bytes
--- after the last packet if the file has no packet with the range's last number. As many packets
--- precede the range as `first` says, if the file has that many. So reading a range gives the
--- packets that the file has at these numbers.
+-- A range of a file contains the PES packets with the indices in the range, and the bytes after the
+-- last packet of the file if the file ends before the range. The first packet of the range has the
+-- index `first`, if the file has that many packets.
 abbrev pub LawOfRanges : Type 0
 LawOfRanges =
     (first : ℕ) (last : Option ℕ) (pes_packets : List (List ℕ)) (rest : List ℕ)

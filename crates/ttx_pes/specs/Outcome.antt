@@ -1,5 +1,5 @@
--- The result of reading a whole file of PES packets: the values of its packets, then the end of the
--- file or a fault.
+-- The result of reading a whole PES file: the values of its PES packets, then the end of the file
+-- or a fault.
 use Rattle.std.specs.Prelude.{◌≡◌, ℕ, Bool, true, false, List, [], ◌∷◌, Option, Some, None, Result}
 use Rattle.std.specs.Prelude.{Ok, Err}
 use Rattle.ttx_pes.specs.declared.fault.PesFault.{PesFault}
@@ -16,7 +16,7 @@ pub data PesOutcome : Type 0 where
   gives : PesValue → PesOutcome → PesOutcome
 
 -- The result of reading up to the first rejected PES packet. If no packet is rejected, `left` is
--- the fault of the bytes after the last packet, if any.
+-- the fault of the bytes after the last packet, or `None`.
 abbrev pub until_refused : List (Result PesValue PesFault) → Option PesFault → PesOutcome
 until_refused [] None = ends
 until_refused [] (Some f) = fails f
@@ -30,8 +30,7 @@ outcome_after given bytes =
     let value = pes_packets_after given bytes in until_refused value.pes_packets value.left
 
 -- The PES packets of the result were consumed from a source. If the source failed, it failed within
--- the next packet. If the next packet is rejected for a fault of the format, the bytes consumed
--- show that fault.
+-- the next packet. If the next packet has a format fault, the consumed bytes have that fault.
 abbrev pub ReadsPackets : Bool → Option (List ℕ) → PesOutcome → Option (List ℕ) → Type 0
 ReadsPackets failed known ends left = failed ≡ false
 ReadsPackets failed known (fails f) left =

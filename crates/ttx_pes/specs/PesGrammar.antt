@@ -21,7 +21,7 @@ empty_value = record { pts = 0; units = [] }
 abbrev pub packet_start : List ℕ
 packet_start = 0x00 ∷ 0x00 ∷ 0x01 ∷ 0xBD ∷ []
 
--- The size of a payload in bytes. A PES packet fills 1 to 9 payloads.
+-- The size of a TS packet payload in bytes. A PES packet fills 1 to 9 payloads (EN 300 472).
 abbrev pub payload_size : ℕ
 payload_size = 184
 
@@ -29,7 +29,7 @@ payload_size = 184
 abbrev pub longest_packet : ℕ
 longest_packet = 1656
 
--- The number of bytes of a PES packet before its data units.
+-- The number of bytes before the data units of a PES packet.
 abbrev pub header_size : ℕ
 header_size = 46
 
@@ -37,8 +37,7 @@ header_size = 46
 abbrev pub most_units : ℕ
 most_units = 35
 
--- The field PES_packet_length of a PES packet of n payloads, which does not count the first 6
--- bytes.
+-- The field PES_packet_length of a PES packet of n payloads. It does not count the first 6 bytes.
 abbrev pub packet_length : ℕ → ℕ
 packet_length n = payload_size * n - 6
 
@@ -101,12 +100,12 @@ pub record IsValidPesPacket (v : PesValue) (b : List ℕ) : Type 0 where
 
 -- ---- the canonical packet
 
--- The smallest number of payloads that holds this number of Teletext units: the first payload holds
--- 3 units, each further payload 4.
+-- The smallest number of payloads in which this number of Teletext units fits: 3 units in the first
+-- payload, and 4 in each further payload.
 unfoldable pub payloads_for : ℕ → ℕ
 payloads_for units = units / 4 + 1
 
--- The bytes b, repeated n times.
+-- n copies of the bytes b.
 abbrev pub repeated : ℕ → List ℕ → List ℕ
 repeated zero b = []
 repeated (suc n) b = b ++ repeated n b
@@ -120,8 +119,8 @@ pes_packet_header n pts =
     ++ ((0x84 ∷ 0x80 ∷ header_data_length ∷ [])
     ++ (pts_bytes pts ++ (replicate 31 stuffing ++ (0x10 ∷ [])))))
 
--- The canonical packet of a value: its Teletext units in order, then stuffing units, in the fewest
--- payloads that hold them (own).
+-- The canonical packet of a value: its Teletext units in order, then stuffing units, in the
+-- smallest number of payloads (own).
 unfoldable pub canonical_packet : PesValue → List ℕ
 canonical_packet v =
     let n = payloads_for (length v.units) in
@@ -129,14 +128,14 @@ canonical_packet v =
     ++ (flat_map teletext_unit v.units
     ++ repeated (4 * n - 1 - length v.units) stuffing_unit)
 
--- The value fits in a `PesFrame`, like the value of each valid PES packet: the PTS has 33 bits, and
--- at most 35 valid units are in line order.
+-- The value fits in a `PesFrame`: the PTS has 33 bits, and at most 35 valid units are in line
+-- order.
 pub record IsPesValue (v : PesValue) : Type 0 where
   pub pts : v.pts < 2 ^ 33
   pub few : length v.units ≤ most_units
   pub each : AllByRecursion IsUnit v.units
   pub in_order : AreInLineOrder 0 v.units
 
--- The contents of the PES packet that carries these Teletext packets as one frame.
+-- The contents of the PES packet that carries the Teletext packets of one frame.
 abbrev pub numbered_frame : ℕ → List (List ℕ) → PesValue
 numbered_frame pts packets = record { pts = pts; units = numbered_units 0 packets }

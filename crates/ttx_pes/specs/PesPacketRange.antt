@@ -1,5 +1,4 @@
--- Ranges of the PES packets of a file, by their numbers counted from 0: which bytes of the file
--- belong to a range.
+-- Ranges of the PES packets of a file, by their indices counted from 0, and the bytes of a range.
 use Rattle.std.specs.Prelude.{◌≡◌, ◌==◌, ◌||◌, ℕ, zero, suc, ◌+◌, ◌-◌, nat_le, nat_lt}
 use Rattle.std.specs.Prelude.{if◌then◌else◌, List, [], ◌++◌, length, take, drop}
 use Rattle.std.specs.Prelude.{Option, Some, None, option_map}
@@ -10,23 +9,22 @@ use Rattle.ttx_pes.specs.Reading.{size_at}
 
 -- ---- the bytes of PES packets
 
--- The size in bytes of the PES packet at the front, as its first six bytes state it. `None` if they
--- begin no PES packet.
+-- The size of the PES packet at the front of the bytes, from its first six bytes. `None` if their
+-- start code or length is wrong.
 unfoldable pub stated_pes_packet : List ℕ → Option ℕ
 stated_pes_packet b = if nat_lt (length b) 6 then None else result_ok (size_at (take 6 b))
 
--- The size, if at least that many bytes are available.
+-- The size, if at least that many bytes are available; otherwise `None`.
 abbrev pub size_if_complete : ℕ → Option ℕ → Option ℕ
 size_if_complete count None = None
 size_if_complete count (Some size) = if nat_le size count then Some size else None
 
--- The size in bytes of the complete PES packet at the front of b, or `None` if b begins with no
+-- The size in bytes of the complete PES packet at the front of b. `None` if b does not begin with a
 -- complete PES packet.
 unfoldable pub pes_packet_size : List ℕ → Option ℕ
 pes_packet_size b = size_if_complete (length b) (stated_pes_packet b)
 
--- Applies `more` to the size of the PES packet at the front, or returns `none` if no packet is at
--- the front.
+-- Applies `more` to the size of the PES packet at the front. Returns `none` if there is no packet.
 abbrev pub by_pes_packet : {A : Type 0} → Option ℕ → (ℕ → A) → A → A
 by_pes_packet None more none = none
 by_pes_packet (Some size) more none = more size
@@ -49,19 +47,19 @@ count_pes_packets zero b = 0
 count_pes_packets (suc n) b =
     by_pes_packet (pes_packet_size b) (λ size. suc (count_pes_packets n (drop size b))) 0
 
--- The bytes of at most n PES packets; without a limit, all bytes.
+-- The bytes of the first n PES packets, or all bytes if there is no limit.
 abbrev pub limited : Option ℕ → List ℕ → List ℕ
 limited None b = b
 limited (Some n) b = first_pes_packets n b
 
--- A range of PES packets: the numbers of its first and last packet. A range without `last` extends
--- to the end of the file.
+-- A range of PES packets: the indices of its first and last packet. Without `last`, it extends to
+-- the end of the file.
 pub record PesPacketRangeValue : Type 0 where
   pub first : ℕ
   pub last : Option ℕ
 
--- The range from `first` to `last`, or `None` if it is not valid: `last` must not be less than
--- `first`, and must be less than the greatest 64-bit number.
+-- The range from `first` to `last`. `None` if it is invalid: `last` is less than `first`, or is the
+-- greatest 64-bit number.
 unfoldable pub range_of : ℕ → Option ℕ → Option PesPacketRangeValue
 range_of first None = Some (record { first = first; last = None })
 range_of first (Some last) =
@@ -72,33 +70,32 @@ range_of first (Some last) =
 abbrev pub range_length : PesPacketRangeValue → Option ℕ
 range_length r = option_map (λ last. last + 1 - r.first) r.last
 
--- The bytes of a range: its PES packets and, if the file has no packet with the last number, the
--- bytes after its last packet.
+-- The bytes of a range: its PES packets and, if the file ends before the range, the bytes after the
+-- last packet of the file.
 unfoldable pub in_range : PesPacketRangeValue → List ℕ → List ℕ
 in_range r b = limited (range_length r) (rest_after_pes_packets r.first b)
 
--- The number in the file of the first PES packet of a range. If the file has fewer packets, the
--- number of packets in the file.
+-- The index in the file of the first PES packet of a range, or the number of packets in the file if
+-- it has fewer.
 unfoldable pub first_index : PesPacketRangeValue → List ℕ → ℕ
 first_index r b = count_pes_packets r.first b
 
 -- ---- PES packets before a range
 
--- Progress in skipping the PES packets before a range: how many were skipped, and how many remain
--- to be skipped.
+-- The progress of skipping the PES packets before a range: the number of skipped packets, and the
+-- number still to be skipped.
 pub record AheadValue : Type 0 where
   pub skipped : ℕ
   pub to_skip : ℕ
 
 -- ---- ranges by lists of PES packets
 
--- The bytes begin with no PES packet.
+-- The bytes do not begin with a PES packet.
 abbrev pub BeginsNoPesPacket : List ℕ → Type 0
 BeginsNoPesPacket bytes = (p more : List ℕ) → IsPesPacket p → bytes ≡ p ++ more → ⊥
 
--- The part of a file from PES packet `first` to packet `last`. The file consists of these packets
--- and then a rest that begins no packet; the rest belongs to the part if the file ends before
--- packet `last`.
+-- The part of a file from PES packet `first` to packet `last`. The file consists of PES packets and
+-- a rest without packets. The rest belongs to the part if the file ends before packet `last`.
 abbrev pub packets_in_range : ℕ → Option ℕ → List (List ℕ) → List ℕ → List ℕ
 packets_in_range first None pes_packets rest = concat (drop first pes_packets) ++ rest
 packets_in_range first (Some last) pes_packets rest =

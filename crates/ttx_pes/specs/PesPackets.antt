@@ -1,6 +1,6 @@
--- The PES packets of a file: byte strings that are as long as the length field at their front says,
--- valid or not (EN 300 472, PES_packet_length). A PES packet that does not match the grammar can be
--- skipped, since its length field says where the next packet begins (own).
+-- The PES packets of a file, valid or not: each is as long as its length field states (EN 300 472,
+-- PES_packet_length). A PES packet that does not match the grammar can be skipped, since its length
+-- field shows where the next packet begins (own).
 use Rattle.std.specs.Prelude.{◌≡◌, ℕ, zero, suc, ◌+◌, ◌-◌, ◌*◌, ◌≤◌, true, if◌then◌else◌, List, []}
 use Rattle.std.specs.Prelude.{◌∷◌, ◌++◌, length, drop, Option, Some, None, Result, Ok, Err}
 use Rattle.std.specs.Int.{bytes_high_first}
@@ -34,25 +34,25 @@ pub record TakesPesPacket (old new : Option (List ℕ)) (f : PesFault) : Type 0 
 
 -- ---- the PES packets in a list of bytes
 
--- What is read from a file: the value or the fault of each PES packet, then the fault of the bytes
--- after the last packet, if any are left.
+-- The results of reading a file: the value or the fault of each PES packet, then the fault of the
+-- bytes after the last packet, if any remain.
 pub record PesPacketsValue : Type 0 where
   pub pes_packets : List (Result PesValue PesFault)
   pub left : Option PesFault
 
--- What is read from bytes without a PES packet. f is the fault of these bytes, if any.
+-- The results of reading bytes without a PES packet, which may have a fault.
 abbrev pub no_pes_packet : Option PesFault → PesPacketsValue
 no_pes_packet f = record { pes_packets = []; left = f }
 
--- Adds a PES packet in front of what is read after it.
+-- Adds the result for a PES packet in front of the results after it.
 abbrev pub with_pes_packet : Result PesValue PesFault → PesPacketsValue → PesPacketsValue
 with_pes_packet pes_packet more = record {
   pes_packets = pes_packet ∷ more.pes_packets;
   left = more.left;
 }
 
--- Adds a reader's result in front of what is read after it. If the result is no PES packet, reading
--- ends.
+-- Adds a reader's result in front of the results after it. If the result is not a PES packet, there
+-- are no further results.
 abbrev pub pes_packet_then : Result (Option PesValue) PesFault → PesPacketsValue → PesPacketsValue
 pes_packet_then (Ok (Some v)) more = with_pes_packet (Ok v) more
 pes_packet_then (Ok None) more = no_pes_packet None
@@ -63,8 +63,8 @@ pes_packet_then (Err f) more = if is_of_pes_packet f then with_pes_packet (Err f
 abbrev pub rest_after_pes_packet : List ℕ → List ℕ
 rest_after_pes_packet bytes = drop (stated_size bytes) bytes
 
--- What is read from the bytes that follow `given` PES packets, if at most `room` more packets may
--- be read.
+-- The results of reading the bytes after `given` PES packets, if at most `room` more packets may be
+-- read.
 unfoldable pub pes_packets_from : ℕ → ℕ → List ℕ → PesPacketsValue
 pes_packets_from zero given [] = no_pes_packet None
 pes_packets_from zero given (x ∷ b) = no_pes_packet (Some TooMany)
@@ -72,24 +72,24 @@ pes_packets_from (suc room) given bytes =
     pes_packet_then (answer_at given bytes)
     (pes_packets_from room (given + 1) (rest_after_pes_packet bytes))
 
--- What is read from the bytes that follow `given` PES packets.
+-- The results of reading the bytes after `given` PES packets.
 abbrev pub pes_packets_after : ℕ → List ℕ → PesPacketsValue
 pes_packets_after given bytes = pes_packets_from (most_packets - given) given bytes
 
 -- ---- the PES packets by the grammar
 
--- A PES packet is read as the value that the grammar gives it, or has the fault of its bytes.
+-- The result for a PES packet: its value by the grammar, or its fault.
 abbrev pub IsPesPacketOf : List ℕ → Result PesValue PesFault → Type 0
 IsPesPacketOf b (Ok v) = IsValidPesPacket v b
 IsPesPacketOf b (Err f) = (is_of_pes_packet f ≡ true) × (packet_at b ≡ Err f)
 
--- The result of a reader that has no PES packet left.
+-- The result of a reader for which no PES packet remains: the end of the file, or a fault.
 abbrev pub answer_left : Option PesFault → Result (Option PesValue) PesFault
 answer_left None = Ok None
 answer_left (Some f) = Err f
 
 -- The bytes split into the PES packets of `value`: the longest list of packets at the front of the
--- bytes, with at most as many packets as a day has frames.
+-- bytes, at most one for each frame of a day.
 pub record SplitInto (bytes : List ℕ) (value : PesPacketsValue) : Type 0 where
   pub packets : List (List ℕ)
   pub rest : List ℕ

@@ -1,4 +1,4 @@
--- Specifies which bytes a reader of PES packets consumes, what it returns, and its progress.
+-- The bytes that a reader of PES packets consumes, its results, and its progress.
 use Rattle.std.specs.Prelude.{◌≡◌, ◌≢◌, ◌↔◌, ℕ, ◌+◌, ◌<◌, ◌≤◌, ◌⊎◌, Bool, true, false, Option}
 use Rattle.std.specs.Prelude.{Some, None, Result, Ok, Err, IfOk, IfErr, IfSome, OnOk, List, ◌++◌}
 use Rattle.std.specs.Prelude.{length, take}
@@ -15,19 +15,20 @@ use Rattle.ttx_pes.specs.PesGrammar.{PesValue, IsValidPesPacket}
 use Rattle.ttx_pes.specs.Reading.{answer_at, is_format_fault, most_packets, packet_at, rest_after}
 use Rattle.ttx_pes.specs.Reading.{size_at}
 
--- The progress of a reader after an answer: a packet is counted, and the end and faults are final.
+-- The progress of a reader after a result: a packet is counted, and the end of the file or a fault
+-- is final.
 abbrev pub progress_after : Progress → Result (Option PesValue) PesFault → Progress
 progress_after p (Err _) = Broken
 progress_after (Reading given) (Ok (Some _)) = Reading (given + 1)
 progress_after p (Ok _) = AtEnd
 
--- The reader has read at most `most` PES packets, unless it is at the end or has reported a fault.
+-- The reader has read at most `most` PES packets, or has reached the end or reported a fault.
 abbrev pub GivesAtMost : ℕ → Progress → Type 0
 GivesAtMost most (Reading given) = given ≤ most
 GivesAtMost most AtEnd = Unit {0}
 GivesAtMost most Broken = Unit {0}
 
--- The result of `next_into` together with its frame, in the form of a result of `next`.
+-- The result of `next_into`, with its frame, as a result of `next`.
 abbrev pub yielded_frame : Result Bool PesFault → PesValue → Result (Option PesValue) PesFault
 yielded_frame (Ok true) v = Ok (Some v)
 yielded_frame (Ok false) v = Ok None
@@ -39,37 +40,37 @@ pub record TakesValidPesPacket (old new : Option (List ℕ)) (v : PesValue) : Ty
   pub is_packet : IsValidPesPacket v bytes
   pub consumed : Consumes old new bytes
 
--- The bytes are an incomplete PES packet: fewer than the six bytes that contain its size, or fewer
--- than that size.
+-- The bytes are an incomplete PES packet: they are fewer than six bytes, or fewer than its length
+-- field states.
 abbrev pub IsIncompletePesPacket : List ℕ → Type 0
 IsIncompletePesPacket bytes =
     (length bytes < 6)
     ⊎ ((size : ℕ) × (size_at (take 6 bytes) ≡ Ok size) × (length bytes < size))
 
--- The source failed within a PES packet: the bytes consumed are incomplete, and contain no fault.
+-- The source failed within a PES packet: the consumed bytes are an incomplete packet without a
+-- fault.
 pub record FailsWithin (old new : Option (List ℕ)) : Type 0 where
   pub bytes : List ℕ
   pub consumed : Consumes old new bytes
   pub begun : IsIncompletePesPacket bytes
 
--- The bytes consumed of a PES packet are rejected for the fault f of the format, whatever the
--- source returns next.
+-- The consumed bytes of a PES packet are rejected for the format fault f, whatever bytes follow.
 pub record TakesRefused (old new : Option (List ℕ)) (f : PesFault) : Type 0 where
   pub bytes : List ℕ
   pub consumed : Consumes old new bytes
   pub refused : packet_at bytes ≡ Err f
 
--- What each answer of a reader means. `before` is the reader's progress before the call; `old` and
--- `new` are the bytes that its source has left before and after the call, if they are known.
+-- The meaning of a reader's results. `before` is the reader's progress before the call; `old` and
+-- `new` are the remaining bytes of its source before and after the call, if they are known.
 pub record ReportsPacket
     (before : Progress)
     (old new : Option (List ℕ))
     (answer : Result (Option PesValue) PesFault)
     : Type 0 where
-  -- If the reader returns a packet, it is the value of exactly the bytes consumed.
+  -- If the reader returns a value, exactly a PES packet with this value was consumed.
   pub packet : IfOk answer (λ given. IfSome given (TakesValidPesPacket old new))
-  -- If the source's bytes are known and the source does not fail, these bytes determine the answer
-  -- and the bytes left.
+  -- If the bytes of the source are known and it does not fail, they determine the result and the
+  -- remaining bytes.
   pub exact :
       (given : ℕ)
       → before ≡ Reading given
@@ -78,15 +79,15 @@ pub record ReportsPacket
       (given : ℕ)
       → before ≡ Reading given
       → IfKnown old (λ bytes. OnOk answer (new ≡ Some (rest_after bytes)))
-  -- For a fault of the format, the bytes consumed have that fault, even if the source's bytes are
-  -- not known.
+  -- After a format fault, the consumed bytes have that fault, even if the bytes of the source are
+  -- unknown.
   pub refused : IfErr answer (λ fault. is_format_fault fault ≡ true → TakesRefused old new fault)
   pub too_many : IfErr answer (λ fault. fault ≡ TooMany → before ≡ Reading most_packets)
-  -- If the source fails, it fails within this PES packet, whose bytes so far contain no fault.
+  -- If the source fails, it fails within the PES packet, whose bytes so far have no fault.
   pub within : failed is_read answer ≡ true → FailsWithin old new
   pub at_end : before ≡ AtEnd → answer ≡ Ok None
   pub ended : (before ≡ Broken) ↔ (answer ≡ Err Ended)
-  -- No sink can fail, since a reader writes nothing.
+  -- A reader writes nothing, so no sink can fail.
   pub no_write : IfErr answer (λ fault. fault ≢ Write)
 
 -- Exactly n valid PES packets were consumed.

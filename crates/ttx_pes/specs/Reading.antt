@@ -1,5 +1,5 @@
--- Reading a PES packet at the front of a list of bytes. A function NAME_at returns the value that
--- it reads, or the first fault in the order of the fields.
+-- Parsing a PES packet at the front of a list of bytes. A function NAME_at returns the parsed
+-- value, or the first fault in the order of the fields.
 use Rattle.std.specs.Prelude.{ℕ, zero, suc, ◌+◌, ◌-◌, ◌*◌, ◌/◌, ◌%◌, ◌^◌, Bool, true, false}
 use Rattle.std.specs.Prelude.{not, ◌==◌, ◌&&◌, nat_lt, nat_le, if◌then◌else◌, List, [], ◌∷◌, ◌++◌}
 use Rattle.std.specs.Prelude.{length, take, drop, map, slice_index, Option, Some, None, Result, Ok}
@@ -14,7 +14,7 @@ use Rattle.ttx_pes.specs.DataUnit.{framing_code, stuffing}
 use Rattle.ttx_pes.specs.LineOrder.{last_place, may_follow}
 use Rattle.ttx_pes.specs.PesGrammar.{PesValue, header_data_length, longest_packet, payload_size}
 
--- The Teletext unit in the 46 bytes of a data unit.
+-- The Teletext unit decoded from the 46 bytes of a data unit.
 abbrev pub unit_of : List ℕ → UnitValue
 unit_of b = record {
   id = slice_index b 0;
@@ -31,13 +31,14 @@ teletext_at b =
     else if not (slice_index b 3 == framing_code) then Err fault.Framing
     else Ok (Some (unit_of b))
 
--- Appends a Teletext unit, if any, to the units read so far.
+-- Appends a Teletext unit, if there is one, to the units read so far. A unit that breaks the line
+-- order is a fault.
 abbrev pub with_unit : List UnitValue → Option UnitValue → Result (List UnitValue) PesFault
 with_unit units None = Ok units
 with_unit units (Some u) =
     if may_follow (last_place 0 units) u then Ok (units ++ u ∷ []) else Err fault.LineOrder
 
--- Appends the Teletext unit of a data unit, if it carries one, to the units read so far.
+-- Appends the Teletext unit of a data unit, if there is one, to the units read so far.
 unfoldable pub unit_at : List UnitValue → List ℕ → Result (List UnitValue) PesFault
 unit_at units b = do
   u ← teletext_at b
@@ -50,7 +51,7 @@ units_at (suc n) units b = do
   more ← unit_at units (take data_unit_size b)
   units_at n more (drop data_unit_size b)
 
--- The byte at `place` of a PES packet, given its bytes from byte 6 on.
+-- Byte number `place` of a PES packet. The list begins with byte 6 of the packet.
 abbrev pub byte_at : List ℕ → ℕ → ℕ
 byte_at b place = slice_index b (place - 6)
 
@@ -71,20 +72,22 @@ has_markers b =
     && (byte_at b 11 % 2 == 1)
     && (byte_at b 13 % 2 == 1)
 
--- All bytes are FF, like those of a gap marker from byte 6 on, which replaces lost PES packets
--- (own). A packet that is scrambled or has wrong flags is very unlikely to consist of FF only.
+-- All bytes are FF, as in a gap marker from byte 6 on (own). A scrambled packet, or one with wrong
+-- flags, is very unlikely to consist of FF only.
 abbrev pub is_filled : List ℕ → Bool
 is_filled b = list_all (λ byte. byte == stuffing) b
 
--- The PES packet is a gap marker: 184 bytes, FF from byte 6 on.
+-- The PES packet is a gap marker, which stands for lost PES packets: 184 bytes, all FF from byte 6
+-- on (own).
 abbrev pub is_gap_marker : List ℕ → Bool
 is_gap_marker pes_packet = (length pes_packet == payload_size) && is_filled (drop 6 pes_packet)
 
--- The fault of a PES packet whose byte 6 does not begin with 1000.
+-- The fault of a PES packet whose byte 6 does not begin with 1000: `Lost` for a gap marker,
+-- otherwise `Flags`.
 abbrev pub flags_fault : List ℕ → PesFault
 flags_fault b = if is_filled b then fault.Lost else fault.Flags
 
--- The PTS, read from bytes 6 to 45 of a PES packet.
+-- The PTS of a PES packet, parsed from its bytes 6 to 45, or their first fault.
 unfoldable pub pts_at : List ℕ → Result ℕ PesFault
 pts_at b =
     if not (byte_at b 6 / 0x10 == 8) then Err (flags_fault b)
@@ -94,14 +97,14 @@ pts_at b =
     else if not (byte_at b 45 / 0x10 == 1) then Err fault.DataId
     else Ok (pts_bits b)
 
--- The value of a PES packet, read from its bytes from byte 6 on.
+-- The value of a PES packet, parsed from its bytes from byte 6 on, or their first fault.
 unfoldable pub value_at : List ℕ → Result PesValue PesFault
 value_at b = do
   pts ← pts_at b
   units ← units_at (length (drop 40 b) / data_unit_size) [] (drop 40 b)
   Ok (record { pts = pts; units = units })
 
--- Bytes 0 to 3 are those of a PES packet with private data: 00 00 01 BD.
+-- Bytes 0 to 3 of a PES packet are 00 00 01 BD: the start code, and stream_id for private_stream_1.
 abbrev pub is_start : List ℕ → Bool
 is_start b =
     (slice_index b 0 == 0x00)
@@ -109,11 +112,11 @@ is_start b =
     && (slice_index b 2 == 0x01)
     && (slice_index b 3 == 0xBD)
 
--- The size in bytes of a PES packet, as the length field in bytes 4 and 5 states it.
+-- The size in bytes of a PES packet, from PES_packet_length in bytes 4 and 5.
 abbrev pub stated_size : List ℕ → ℕ
 stated_size b = 0x100 * slice_index b 4 + slice_index b 5 + 6
 
--- The size of a PES packet, 1 to 9 times 184 bytes, read from its bytes 0 to 5.
+-- The size of a PES packet, 1 to 9 times 184 bytes, parsed from its bytes 0 to 5, or their fault.
 unfoldable pub size_at : List ℕ → Result ℕ PesFault
 size_at b =
     if not (is_start b) then Err fault.Start
@@ -130,28 +133,29 @@ packet_at b = do
   v ← value_at body
   Ok (v, drop size b)
 
--- The maximum number of PES packets of a file: one for each frame of a day at 25 frames per second.
+-- The maximum number of PES packets in a file: one for each frame of a day at 25 frames per second.
 abbrev pub most_packets : ℕ
 most_packets = 2160000
 
--- The answer of a reader that has read `given` PES packets and has these bytes left, if its source
--- does not fail.
+-- The result of a reader that has read `given` PES packets, for these remaining bytes, if its
+-- source does not fail.
 unfoldable pub answer_at : ℕ → List ℕ → Result (Option PesValue) PesFault
 answer_at given [] = Ok None
 answer_at given (x ∷ b) =
     if given == most_packets then Err fault.TooMany
     else (packet_at (x ∷ b) >>= λ p. Ok (Some p.0))
 
--- The bytes left after reading a PES packet, or all bytes if no packet was read.
+-- The remaining bytes after a PES packet was read, or all bytes if none was read.
 abbrev pub bytes_left_after : List ℕ → Result (PesValue × List ℕ) PesFault → List ℕ
 bytes_left_after b (Ok p) = p.1
 bytes_left_after b (Err _) = b
 
--- The bytes after the PES packet at the front of b, or all bytes if b begins with no valid packet.
+-- The bytes after the PES packet at the front of b, or all bytes if b does not begin with a valid
+-- packet.
 unfoldable pub rest_after : List ℕ → List ℕ
 rest_after b = bytes_left_after b (packet_at b)
 
--- The fault is a fault of the format: `Truncated` to `LineOrder`, or `Lost`.
+-- The fault is a format fault: `Truncated` to `LineOrder`, or `Lost`.
 abbrev pub is_format_fault : PesFault → Bool
 is_format_fault fault.Read = false
 is_format_fault fault.Write = false

@@ -1,7 +1,6 @@
--- The fault of the bytes of a PES packet, by the grammar alone: the checks in order, and the first
--- check in which no packet of the grammar agrees with the bytes (EN 300 472; the order of the
--- checks is (own)). The parser returns the same fault, but stating that about the parser alone
--- would need the same checks.
+-- The fault of the bytes of a PES packet, defined by the grammar alone: the first check, in a fixed
+-- order, in which no packet of the grammar agrees with the bytes (EN 300 472; the order of the
+-- checks is (own)).
 --
 -- Each check has a number. It concerns bytes of the packet or of data unit k, or the number of
 -- bytes, and has a fault:
@@ -28,11 +27,11 @@ use Rattle.ttx_pes.specs.DataUnit.{data_unit_size}
 use Rattle.ttx_pes.specs.PesGrammar.{PesValue, IsValidPesPacket, header_size, most_units}
 use Rattle.ttx_pes.specs.Reading.{flags_fault}
 
--- The bytes of a PES packet from byte 6 on, as many as PES_packet_length says.
+-- The bytes of a PES packet from byte 6 on, as many as PES_packet_length states.
 abbrev pub stated_body : List ℕ → List ℕ
 stated_body b = take (0x100 * slice_index b 4 + slice_index b 5) (drop 6 b)
 
--- The faults of the checks 0 to 8, which come before those of the data units.
+-- The faults of the checks 0 to 8, which come before the checks of the data units.
 abbrev pub packet_faults : List ℕ → List PesFault
 packet_faults b =
     fault.Truncated ∷ fault.Start ∷ fault.Length ∷ fault.Truncated ∷ flags_fault (stated_body b)
@@ -47,21 +46,21 @@ abbrev pub reported_fault : List ℕ → ℕ → PesFault
 reported_fault b i =
     slice_index_or (packet_faults b) i (slice_index_or unit_faults (i % 3) fault.Truncated)
 
--- A number greater than that of any check, for bytes that may have any value.
+-- The check number of bytes that may have any value: greater than the number of any check.
 abbrev pub no_question : ℕ
 no_question = 9 + 3 * most_units
 
--- The number of the check for each of the 46 bytes before the data units.
+-- The check numbers of the 46 bytes before the data units.
 abbrev pub header_byte_checks : List ℕ
 header_byte_checks =
     (1 ∷ 1 ∷ 1 ∷ 1 ∷ 2 ∷ 2 ∷ 4 ∷ 5 ∷ 6 ∷ 7 ∷ 7 ∷ 7 ∷ 7 ∷ 7 ∷ [])
     ++ (replicate 31 no_question ++ (8 ∷ []))
 
--- The number of the check for each of the first four bytes of data unit 0.
+-- The check numbers of the first four bytes of data unit 0.
 abbrev pub unit_byte_checks : List ℕ
 unit_byte_checks = 10 ∷ 9 ∷ 11 ∷ 10 ∷ []
 
--- The number of the check that concerns the byte at `place` of a PES packet.
+-- The check number of byte number `place` of a PES packet.
 abbrev pub check_of_byte : ℕ → ℕ
 check_of_byte place =
     let within = place - header_size in
@@ -70,7 +69,7 @@ check_of_byte place =
     + 3 * (within / data_unit_size))
 
 -- The bytes agree with a valid packet in all checks before check number `question`: enough bytes
--- are available, and each byte checked equals the packet's byte, as far as the packet extends.
+-- are available, and each checked byte equals that of the packet.
 pub record AgreeBefore (question : ℕ) (bytes packet : List ℕ) : Type 0 where
   pub six : 0 < question → 6 ≤ length bytes
   pub all : 3 < question → length packet ≤ length bytes
@@ -80,8 +79,8 @@ pub record AgreeBefore (question : ℕ) (bytes packet : List ℕ) : Type 0 where
       → place < length packet
       → slice_index bytes place ≡ slice_index packet place
 
--- Check number `question` is the first check that the bytes fail: some packet of the grammar agrees
--- with the bytes in all earlier checks, and no such packet agrees with them in this check too.
+-- Check number `question` is the first check that the bytes fail: a packet of the grammar agrees
+-- with them in all earlier checks, but none agrees in this check too.
 pub record FailFirst (question : ℕ) (bytes : List ℕ) : Type 0 where
   pub value : PesValue
   pub packet : List ℕ

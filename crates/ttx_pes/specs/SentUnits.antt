@@ -1,12 +1,12 @@
--- The Teletext units of a data field (bytes 45, data_identifier, to the end of a PES packet), given
--- the offsets of their data units.
+-- The Teletext units at given offsets of a data field, which is bytes 45 (data_identifier) to the
+-- end of a PES packet.
 use Rattle.std.specs.Prelude.{ℕ, ◌+◌, ◌≤◌, All, Bool, true, false, List, take, drop, map}
 use Rattle.std.specs.Prelude.{Option, Some, None, Result, Ok, Err}
 use Rattle.ttx_pes.specs.declared.fault.PesFault.{PesFault}
 use Rattle.ttx_pes.specs.DataUnit.{UnitValue, data_unit_size}
 use Rattle.ttx_pes.specs.Reading.{unit_of}
 
--- The Teletext units whose data units begin at these offsets of a data field.
+-- The Teletext units at these offsets of a data field.
 abbrev pub sent_units : List ℕ → List ℕ → List UnitValue
 sent_units field places = map (λ at. unit_of (take data_unit_size (drop at field))) places
 
@@ -18,7 +18,7 @@ packets_of_units units = map (λ (u : UnitValue). u.packet) units
 abbrev pub AreWithin : ℕ → List ℕ → Type 0
 AreWithin size places = All (λ at. at + data_unit_size ≤ size) places
 
--- The Teletext unit of a data unit, given whether the data unit carries one, or its fault.
+-- The Teletext unit of a data unit if it carries one (`Ok true`), or its fault.
 abbrev pub unit_where : List ℕ → Result Bool PesFault → Result (Option UnitValue) PesFault
 unit_where b (Ok true) = Ok (Some (unit_of b))
 unit_where b (Ok false) = Ok None

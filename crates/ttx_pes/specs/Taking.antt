@@ -1,5 +1,4 @@
--- Specifies how a reader takes the bytes of a PES packet from a source in few pulls. Only private
--- clauses use these definitions.
+-- How a reader reads a PES packet, for private contracts only.
 use Rattle.std.specs.Prelude.{◌≡◌, ℕ, zero, suc, ◌+◌, ◌*◌, ◌/◌, ◌%◌, ◌<◌, ◌≤◌, List, [], ◌∷◌}
 use Rattle.std.specs.Prelude.{◌++◌, length, take, drop, slice_index, if◌then◌else◌, Bool, Option}
 use Rattle.std.specs.Prelude.{◌≢◌, true, false, Err, IfErr, OnOk, Ok, Result}
@@ -12,8 +11,8 @@ use Rattle.ttx_pes.specs.Reading.{is_format_fault, packet_at, units_at}
 use Rattle.ttx_pes.specs.Reading.{value_at}
 use Rattle.ttx_pes.specs.SentUnits.{AreWithin, sent_units}
 
--- The bytes consumed determine the result: the value of exactly these bytes, or a fault whatever
--- the source returns next.
+-- The consumed bytes determine the result, whatever bytes follow: a value of exactly these bytes,
+-- or a fault.
 pub record Settles
     (old new : Option (List ℕ)) (taken : List ℕ) (r : Result PesValue PesFault) : Type 0 where
   pub consumed : Consumes old new taken
@@ -21,19 +20,18 @@ pub record Settles
   pub answer : (rest : List ℕ) → (IsAtEnd new → rest ≡ [])
       → packet_at (taken ++ rest) ≡ (r >>= λ v. Ok (v, rest))
 
--- The Teletext units of the data field (bytes 45 to the end of a packet) are `units`, unless the
--- data field is empty.
+-- The data field (bytes 45 to the end of a PES packet) is empty, or its Teletext units are `units`.
 abbrev pub HasUnits : List ℕ → List UnitValue → Type 0
 HasUnits field units =
     0 < length field
     → units_at (length (drop 1 field) / data_unit_size) [] (drop 1 field) ≡ Ok units
 
--- The offset `at` of a data unit in a data field, as a list, or the empty list if the data unit
+-- The offset `at` of a data unit as a list of one element, or the empty list if the data unit
 -- carries no Teletext packet.
 abbrev pub teletext_place : ℕ → List ℕ → List ℕ
 teletext_place at field = if is_teletext (slice_index field at) then at ∷ [] else []
 
--- The offsets of the Teletext units among n data units of a data field, from the offset `at` on.
+-- The offsets of the Teletext units among the n data units from the offset `at` of a data field on.
 unfoldable pub teletext_places : ℕ → ℕ → List ℕ → List ℕ
 teletext_places zero at field = []
 teletext_places (suc n) at field =
@@ -44,45 +42,45 @@ abbrev pub AreAllPlaces : List ℕ → List ℕ → Type 0
 AreAllPlaces field places =
     places ≡ teletext_places (length (drop 1 field) / data_unit_size) 1 field
 
--- Two data fields have the same head of the data unit at an offset. The head is the first four
--- bytes: data_unit_id, data_unit_length, field_parity with line_offset, framing_code.
+-- The data units at this offset of two data fields have the same header: its four bytes are
+-- data_unit_id, data_unit_length, field_parity with line_offset, and framing_code.
 pub record IsSameHead (a b : List ℕ) (at : ℕ) : Type 0 where
   pub id : slice_index a at ≡ slice_index b at
   pub size : slice_index a (at + 1) ≡ slice_index b (at + 1)
   pub line : slice_index a (at + 2) ≡ slice_index b (at + 2)
   pub framing : slice_index a (at + 3) ≡ slice_index b (at + 3)
 
--- Two data fields have the same heads of all data units of the first data field.
+-- All data units of two data fields have the same headers.
 abbrev pub AreSameHeads : List ℕ → List ℕ → Type 0
 AreSameHeads a b =
     (k : ℕ) → data_unit_size * k + 1 + data_unit_size ≤ length a
     → IsSameHead a b (data_unit_size * k + 1)
 
--- The size in bytes that a data field, bytes 45 to the end of a PES packet, can have.
+-- The number is a possible size of a data field, bytes 45 to the end of a PES packet.
 pub record IsFieldSize (count : ℕ) : Type 0 where
   pub long : 139 ≤ count
   pub whole : (count + 45) % payload_size ≡ 0
 
--- Facts about the PES packet at the front of a buffer: its PTS, the size of its data field in
--- bytes, and the offsets of the data units with its Teletext units.
+-- Parsed fields of the PES packet in a buffer: its PTS, the size of its data field in bytes, and
+-- the offsets of its Teletext units.
 pub record BufferedPacketValue : Type 0 where
   pub pts : ℕ
   pub count : ℕ
   pub places : List ℕ
 
--- The facts about an empty buffer: PTS 0 and an empty data field.
+-- The parsed fields for an empty buffer: PTS 0 and an empty data field.
 abbrev pub no_packet : BufferedPacketValue
 no_packet = record { pts = 0; count = 0; places = [] }
 
--- The data field of the PES packet at the front of a buffer.
+-- The data field of the PES packet in a buffer.
 abbrev pub field_in : ℕ → List ℕ → List ℕ
 field_in count room = take count (drop 45 room)
 
--- The value of the PES packet with this data field and these facts.
+-- The value of the PES packet with this data field and these parsed fields.
 abbrev pub buffered_frame : List ℕ → BufferedPacketValue → PesValue
 buffered_frame field h = record { pts = h.pts; units = sent_units field h.places }
 
--- The facts are true of the PES packet with this data field.
+-- The parsed fields are those of the PES packet with this data field.
 pub record IsInBuffer (field : List ℕ) (h : BufferedPacketValue) : Type 0 where
   pub count : length field ≡ h.count
   pub short : h.count + 45 ≤ longest_packet
@@ -91,22 +89,21 @@ pub record IsInBuffer (field : List ℕ) (h : BufferedPacketValue) : Type 0 wher
   pub all : AreAllPlaces field h.places
   pub value : IsPesValue (buffered_frame field h)
 
--- The PES packet is valid and repeats the packet with this data field and these facts, with this
--- PTS.
+-- The PES packet, with this PTS, is valid and repeats the packet with this data field.
 pub record IsSentAgain (field : List ℕ) (h : BufferedPacketValue) (pes_packet : List ℕ) (pts : ℕ) :
     Type 0 where
   pub value : value_at (drop 6 pes_packet) ≡ Ok (buffered_frame field (record h { pts = pts }))
   pub field_eq : drop 45 pes_packet ≡ field
   pub known : IsInBuffer field (record h { pts = pts })
 
--- The stored frame, and the data field that it was read from, which is empty if no packet is
--- stored.
+-- The stored PES packet of a comparing reader: its contents and its data field, which is empty if
+-- no packet is stored.
 pub record KeptValue : Type 0 where
   pub frame : PesValue
   pub data_field : List ℕ
 
--- A PES packet was stored: it is valid, has the value of the stored frame, and repeats the data
--- field stored before or has another; or it is invalid, for the fault of the answer.
+-- The effect of storing a PES packet. A valid packet is stored, and the answer is true if its data
+-- field equals the one stored before. An invalid packet has the fault in the answer.
 pub record KeepsPesPacket
     (old : KeptValue) (pes_packet : List ℕ) (answer : Result Bool PesFault) (new : KeptValue)
     : Type 0 where
@@ -118,8 +115,7 @@ pub record KeepsPesPacket
   pub units : answer ≡ Ok true → new.frame.units ≡ old.frame.units
   pub other : answer ≡ Ok false → new.data_field ≢ old.data_field
 
--- The value of a PES packet was stored in a frame, or the packet is invalid, for the fault of the
--- answer.
+-- The effect of parsing a PES packet into a frame. An invalid packet has the fault in the answer.
 pub record ReadsValue
     (old : PesValue) (pes_packet : List ℕ) (answer : Result (Unit {0}) PesFault) (new : PesValue)
     : Type 0 where

@@ -1,5 +1,5 @@
-//! Flushes pending reports before a read that may block, which is any read of a PES packet that the
-//! source does not lend completely.
+//! Flushes pending reports before a read that may block: a read of a PES packet that is not
+//! completely buffered in the source.
 ghost use Rattle.std.specs.Prelude.{◌≡◌, OnOk, is_ok};
 ghost use Rattle.sub_io.specs.Flushing.{FlushesIfPending, BuffersOnlyWhilePending};
 ghost use Rattle.ttx_pes.specs.BorrowedPacket.{NothingIsPending, holds_packet};
@@ -8,9 +8,8 @@ use crate::pes_header::size_of;
 use crate::pes_packets::PesPackets;
 use sub_io::{Live, Stopped};
 
-/// Returns whether lent bytes contain all that is read of the next PES packet: as many bytes as its
-/// length field says (EN 300 472, PES_packet_length). If the start code or the length is wrong,
-/// only the first six bytes of the packet are read.
+/// Returns whether the bytes suffice to read the next PES packet: they contain the complete packet
+/// (EN 300 472, PES_packet_length), or six bytes that show a wrong start code or length.
 #[tactic(auto, using(crate::proofs::BorrowedPacketLemmas::holds_packet_short))]
 pub fn holds_packet(borrowed: &[u8]) -> bool
     ensures { result ≡ holds_packet borrowed.now }
@@ -24,8 +23,7 @@ pub fn holds_packet(borrowed: &[u8]) -> bool
     }
 }
 
-/// Flushes a device that may have pending reports, before a read that may block because it calls a
-/// device.
+/// Flushes pending reports of a device, if the next read may block.
 ///
 /// # Errors
 ///

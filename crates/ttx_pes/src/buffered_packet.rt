@@ -1,5 +1,4 @@
-//! Facts about the PES packet in a buffer, so that a repetition of the packet is only compared and
-//! not parsed.
+//! Parsed fields of the last PES packet, so that a repeat of this packet need not be parsed.
 ghost use Rattle.std.specs.Prelude.{◌≡◌, ◌+◌, ◌/◌, ◌%◌, ◌≤◌, ◌↔◌, true, Ok, Err, OnOk, IfOk, IfErr};
 ghost use Rattle.std.specs.Prelude.{IfSome, length, drop, take, []};
 ghost use Rattle.ttx_pes.specs.DataUnit.{data_unit_size};
@@ -22,14 +21,15 @@ use std::marker::Model;
 // The offset of the data field in a PES packet.
 const FIELD: usize = 45;
 
-/// Facts about the PES packet at the front of a buffer: its PTS, the size of its data field (bytes
-/// 45 to the end), and the offsets of its Teletext units.
+/// Parsed fields of the PES packet in a buffer: its PTS, the size of its data field (bytes 45 to
+/// the end), and the offsets of its Teletext units.
 #[derive(Drop)]
 pub(crate) struct BufferedPacket {
     pts: u64,
     count: usize,
     places: UnitPlaces,
-    // Whether the packet repeated the packet before it. Then the next packet may repeat it too.
+    // Whether the packet repeated the packet before it. If it did, the next packet probably is a
+    // repeat too.
     repeats: bool,
 }
 
@@ -44,9 +44,8 @@ impl Model for BufferedPacket {
     ghost invariant = { λ h. h.repeats ≡ true → IsFieldSize h.count };
 }
 
-// Changes the offsets of Teletext units from those in the data field `kept` to those in `field`.
-// Usually the data units of both fields begin in the same way, on the same lines of each frame.
-// Then the offsets do not change.
+// Changes `places` from the offsets of the Teletext units in the data field `kept` to those in
+// `field`. Usually the data units of both are on the same lines, so the offsets do not change.
 #[inline(always)]
 fn find_places(places: &mut UnitPlaces, kept: &[u8], field: &[u8]) -> Result<(), PesFault>
     requires within { AreWithin (length kept.now) places.old }
@@ -70,8 +69,8 @@ fn find_places(places: &mut UnitPlaces, kept: &[u8], field: &[u8]) -> Result<(),
     take_places(places, field)
 }
 
-// Returns whether a data field equals the stored data field. Different data fields usually differ
-// in their first eight bytes, or in the bytes that are compared next.
+// Returns whether a data field equals the stored one. For speed, compares first the bytes in which
+// different data fields usually differ.
 #[inline(always)]
 fn is_kept(kept: &[u8], field: &[u8]) -> bool
     requires { IsFieldSize (length field.now) }
@@ -81,7 +80,7 @@ fn is_kept(kept: &[u8], field: &[u8]) -> bool
 }
 
 impl BufferedPacket {
-    // Creates the facts about an empty buffer.
+    // Creates the fields for an empty buffer.
     pub(crate) fn new() -> Self
         ensures { result ≡ no_packet }
     {
@@ -93,7 +92,7 @@ impl BufferedPacket {
         }
     }
 
-    // Resets the facts to those of an empty buffer.
+    // Resets the fields to those of an empty buffer.
     pub(crate) fn clear(&mut self)
         ensures { self.new ≡ no_packet }
     {
@@ -110,8 +109,7 @@ impl BufferedPacket {
         self.pts
     }
 
-    // Returns the size of the packet in bytes. Without a packet this is 45, which is no size of a
-    // packet.
+    // Returns the size of the packet in bytes, or 45, an impossible size, if there is no packet.
     pub(crate) fn size(&self) -> usize
         requires { self.now.count + 45 ≤ longest_packet }
         ensures { result ≡ self.now.count + 45 }
@@ -126,8 +124,8 @@ impl BufferedPacket {
         self.pts = pts;
     }
 
-    // Returns whether the packet repeated the packet before it, so that the next packet may repeat
-    // it too. Only the way of reading depends on this, not the result.
+    // Returns whether the packet repeated the packet before it. Only the speed of reading depends
+    // on this, not the result.
     #[inline(always)]
     pub(crate) fn repeats(&self) -> bool
         ensures { result ≡ true → IsFieldSize self.now.count }
@@ -135,8 +133,8 @@ impl BufferedPacket {
         self.repeats
     }
 
-    // Returns the PTS of a packet that repeats the packet in the buffer: the packet is valid, and
-    // has the same data field.
+    // Returns the PTS of a packet that repeats the packet in the buffer: it is valid and has the
+    // same data field. Returns `None` for any other packet.
     #[inline(always)]
     pub(crate) fn pts_again(&self, before: &PacketBuffer, pes_packet: &[u8]) -> Option<u64>
         requires known { IsInBuffer (field_in self.now.count before.now) self.now }
@@ -177,8 +175,8 @@ impl BufferedPacket {
         SentUnits::new(self.field(room), self.places.as_slice())
     }
 
-    // Replaces the facts by those about a new packet, given its bytes from byte 6 on. Returns
-    // whether the data field equals that of the packet before, which is in the buffer `before`.
+    // Replaces the fields by those of a new packet, parsed from its bytes from byte 6 on. Returns
+    // whether its data field equals that of the packet in the buffer `before`.
     #[inline(always)]
     #[tactic(auto, unfolding(crate::specs::Reading::value_at))]
     pub(crate) fn take(&mut self, before: &PacketBuffer, body: &[u8]) -> Result<bool, PesFault>

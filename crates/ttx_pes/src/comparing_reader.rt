@@ -1,7 +1,7 @@
-//! Reads PES packets that mostly repeat the packet before.
+//! Reads PES packets, most of which repeat the packet before them.
 //!
-//! `check`, `listen` and `packets` each have their own loop over this reader. A common loop was
-//! proved as well, but needed more lemmas than it saved.
+//! `check`, `listen` and `packets` each have their own loop over this reader. A common loop would
+//! need more lemmas than it saves.
 ghost use Rattle.std.specs.Prelude.{◌≡◌, ℕ, ◌+◌, ◌≤◌, ◌≢◌, true, false, [], None, Ok, IfErr};
 ghost use Rattle.sub_io.specs.Device.{CanFail, CountsIf, failed};
 ghost use Rattle.ttx_pes.specs.Comparing.{next_into_result, taken_count_after, skipped_over};
@@ -27,25 +27,25 @@ use std::marker::Model;
 pub enum Compared {
     /// The file has ended.
     End,
-    /// A valid PES packet with the data field (bytes 45 to the end) of the packet before. The units
-    /// of both packets are the same; their PTS may differ.
+    /// A valid PES packet with the same data field (bytes 45 to the end) as the packet before. It
+    /// has the same units; its PTS may differ.
     Same,
-    /// A valid PES packet with another data field than the packet before, or the first packet of
-    /// the file.
+    /// A valid PES packet with a different data field from the packet before, or the first packet
+    /// of the file.
     Other,
 }
 
-/// Reads PES packets like `PesReader`, and compares the data field of each packet with that of the
-/// packet before. The reader stores its progress, the bytes of the last packet and the offsets of
-/// its Teletext units. It lends the units in the order of transmission, without reversing bits.
+/// A reader of PES packets like `PesReader` that also compares the data field of each packet with
+/// that of the packet before. It stores its progress, the bytes of the last packet, and the offsets
+/// of its Teletext units. The units are borrowed in DVB bit order, without reversing bits.
 ///
-/// A subtitle transmission repeats the same page many times. If the data field is the same, only
-/// the header of the packet is parsed.
+/// A subtitle transmission repeats each page many times. If the data field is unchanged, only the
+/// header of the PES packet is parsed.
 #[derive(Drop)]
 pub struct ComparingReader {
     progress: Progress,
-    // The number of packets consumed, including the last packet, if the last answer was the fault
-    // of a complete packet. `skip_packet` then continues; any other fault ends reading.
+    // The number of packets consumed, including the last one, if the last result was the fault of a
+    // complete packet; after such a fault `skip_packet` allows reading to continue.
     following: Option<u32>,
     kept: KeptFrame,
 }
@@ -113,7 +113,7 @@ fn read_compared<P: PesPackets>(
 }
 
 impl ComparingReader {
-    /// Creates a reader at the start of a file. Its frame has PTS 0 and no units.
+    /// Creates a reader at the start of a file, with PTS 0 and no units.
     pub fn new() -> Self
         ensures { result
             ≡ record {
@@ -142,24 +142,23 @@ impl ComparingReader {
     /// empty before the first packet, at the end and after a fault.
     pub fn units(&self) -> SentUnits<'_>
         ensures value { result ≡ self.now.frame.units }
-        // The value of every valid PES packet fits in a frame.
+        // The contents of every valid PES packet fit in a frame.
         ensures frame { IsPesValue self.now.frame }
     {
         self.kept.units()
     }
 
-    /// Reads the next PES packet, and returns whether it has the data field of the packet before
-    /// (EN 300 472, PES data field). `pts` and `units` then return the value of the packet.
+    /// Reads the next PES packet, and returns whether it has the same data field as the packet
+    /// before (EN 300 472, PES data field). Afterwards `pts` and `units` return the contents of the
+    /// packet.
     ///
     /// `Same` and `Other` consume exactly the packet's bytes, 184 to 1656. Returns `End` at the end
     /// of the source and at each later call.
     ///
     /// # Errors
     ///
-    /// Returns the errors of `PesReader::next`, in the same order: the header of each packet is
-    /// checked, and the units of a repeated data field were checked before. After `Flags` to
-    /// `LineOrder`, exactly the packet's bytes were consumed, and `skip_packet` allows reading to
-    /// continue.
+    /// Returns the same errors as `PesReader::next`. After the faults `Flags` to `LineOrder`,
+    /// exactly the packet's bytes were consumed, and `skip_packet` allows reading to continue.
     #[inline(always)]
     pub fn next<P: PesPackets>(&mut self, pes_packets: &mut P) -> Result<Compared, PesFault>
         requires { CanFail (P.failure_count pes_packets.old) }
@@ -169,12 +168,13 @@ impl ComparingReader {
             (P.remaining pes_packets.old)
             (P.left pes_packets.new) self.new.frame self.new.data_field }
         ensures empty { next_into_result result ≢ Ok true → self.new.frame ≡ empty_value }
-        // `Same` means that the data field is unchanged, and `Other` that it has changed.
+        // `Same` means that the data field is unchanged, and `Other` that it may have changed.
         ensures same { result ≡ Ok Same → self.new.data_field ≡ self.old.data_field }
         ensures units { result ≡ Ok Same → self.new.frame.units ≡ self.old.frame.units }
         ensures other { result ≡ Ok Other → self.new.data_field ≢ self.old.data_field }
 
-        // If the answer is the fault of a complete packet, the bytes of that packet were consumed.
+        // If the fault is in the contents of a complete packet, the bytes of that packet were
+        // consumed.
         ensures pes_packet { IfErr result (λ fault. is_of_pes_packet fault ≡ true
             → TakesPesPacket (P.remaining pes_packets.old) (P.left pes_packets.new) fault) }
         ensures following { self.new.following ≡ taken_count_after self.old.progress result }
@@ -182,16 +182,16 @@ impl ComparingReader {
             ≡ progress_after self.old.progress (yielded_frame (next_into_result result)
             self.new.frame) }
         ensures few { (given : ℕ) → self.new.progress ≡ Reading given → given ≤ most_packets }
-        // After the end of the source or a fault, the reader consumes nothing.
+        // After the end of the source or a fault, the reader consumes no bytes.
         ensures at_end { self.old.progress ≡ AtEnd → pes_packets.new ≡ pes_packets.old }
         ensures broken { self.old.progress ≡ Broken → pes_packets.new ≡ pes_packets.old }
-        // After a valid packet, or the fault of a complete packet, no further bytes have been read
-        // ahead.
+        // After a valid packet, or the fault of a complete packet, no byte after that packet has
+        // been read.
         ensures settled { next_into_result result ≡ Ok true → P.left pes_packets.new ≡ P.remaining
             pes_packets.new }
         ensures pes_packet_settled { IfErr result (λ fault. is_of_pes_packet fault ≡ true
             → P.left pes_packets.new ≡ P.remaining pes_packets.new) }
-        // Reading cannot fail if no device is called.
+        // Reading cannot fail if the next call uses no device.
         ensures ready { P.ready pes_packets.old ≡ true → failed is_read result ≡ false }
         ensures device { P.device pes_packets.new ≡ P.device pes_packets.old }
         ensures count { CountsIf P.failure_count pes_packets.old (failed is_read result)
@@ -236,8 +236,8 @@ impl ComparingReader {
         answer
     }
 
-    /// Continues after a faulty packet, if the last answer was the fault of a complete packet,
-    /// whose length field says where it ends. Does nothing after any other answer.
+    /// Allows reading to continue after the fault of a complete packet, whose length field shows
+    /// where it ends. Does nothing after any other result.
     pub fn skip_packet(&mut self)
         ensures over { self.new ≡ skipped_over self.old }
         ensures few { (given : ℕ) → self.new.progress ≡ Reading given → given ≤ most_packets }

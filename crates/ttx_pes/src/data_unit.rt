@@ -46,7 +46,7 @@ pub(crate) fn is_teletext(block: &[u8]) -> Result<bool, PesFault>
     Ok(true)
 }
 
-// Returns the Teletext unit of a data unit, if it carries one.
+// Returns the Teletext unit of a data unit, or `None` if it carries none.
 fn teletext_of(block: &[u8]) -> Result<Option<Unit>, PesFault>
     requires { length block.now ≡ data_unit_size }
     ensures exact { teletext_at block.now ≡ result }
@@ -72,7 +72,7 @@ pub(crate) fn unit_in(block: &[u8]) -> Unit
     Unit::new(block[0], field, line, packet)
 }
 
-// Appends the Teletext unit of a data unit, if the data unit carries one, to a frame.
+// Appends the Teletext unit of a data unit, if there is one, to a frame.
 #[tactic(auto, unfolding(crate::specs::Reading::unit_at))]
 fn take_unit(frame: &mut PesFrame, block: &[u8]) -> Result<(), PesFault>
     requires room { length frame.old.units + 1 ≤ most_units }
@@ -110,7 +110,7 @@ pub(crate) fn take_units(frame: &mut PesFrame, count: usize, blocks: &[u8]) -> R
     Ok(())
 }
 
-// Appends the data unit of a Teletext unit to the bytes of a packet.
+// Appends a Teletext unit, as a data unit, to the bytes of a PES packet.
 pub(crate) fn add_unit(out: &mut Bytes, unit: &Unit)
     requires { length out.old.items + data_unit_size ≤ longest_packet }
     ensures items { out.new.items ≡ out.old.items ++ teletext_unit unit.now }
@@ -121,7 +121,7 @@ pub(crate) fn add_unit(out: &mut Bytes, unit: &Unit)
     add(out, &unit.packet().mirrored());
 }
 
-// Appends a stuffing unit to the bytes of a packet.
+// Appends a stuffing unit to the bytes of a PES packet.
 pub(crate) fn add_stuffing(out: &mut Bytes)
     requires { length out.old.items + data_unit_size ≤ longest_packet }
     ensures items { out.new.items ≡ out.old.items ++ stuffing_unit }

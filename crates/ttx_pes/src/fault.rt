@@ -4,16 +4,16 @@ ghost use Rattle.ttx_pes.specs.declared.fault.PesFault.TheVariants.{Read};
 
 use sub_io::{Failed, FaultCode};
 
-/// A fault of reading or writing a PES packet (EN 300 472), in the order of their numbers.
-/// `PesReader::next` documents the order of the checks.
+/// A fault of reading or writing PES packets (EN 300 472). The checks are made in the order that
+/// `PesReader::next` documents.
 #[derive(Clone, Copy, Debug, PartialEq, Eq)]
 pub enum PesFault {
     /// The bytes end within a PES packet.
     Truncated,
-    /// Bytes 0 to 3 are not 00 00 01 BD: packet_start_code_prefix, and stream_id of
+    /// Bytes 0 to 3 are not 00 00 01 BD: packet_start_code_prefix, and stream_id for
     /// private_stream_1.
     Start,
-    /// PES_packet_length does not give a packet of 1 to 9 times 184 bytes.
+    /// By PES_packet_length, the size of the packet is not 1 to 9 times 184 bytes.
     Length,
     /// Byte 6 does not begin with 1000: the bits 10, then PES_scrambling_control 00.
     Flags,
@@ -29,26 +29,26 @@ pub enum PesFault {
     UnitLength,
     /// The framing code of a Teletext unit is not E4 (hexadecimal).
     Framing,
-    /// The line of a Teletext unit does not follow the lines of the units before it in the packet
+    /// The line of a Teletext unit does not come after the lines of the earlier units in the packet
     /// (own).
     LineOrder,
     /// The source failed during reading.
     Read,
     /// The sink failed during writing.
     Write,
-    /// The reader or writer has reported a fault before.
+    /// The reader or writer has already reported a fault.
     Ended,
-    /// More bytes follow 2,160,000 packets, one for each frame of a day (own).
+    /// The file has more than 2,160,000 packets, one for each frame of a day (own).
     TooMany,
-    /// All bytes from 6 on are FF: the packet is a gap marker, which replaces lost PES packets
-    /// (own).
+    /// The packet is a gap marker, which stands for lost PES packets: all bytes from byte 6 on are
+    /// FF (own).
     Lost,
 }
 
 impl PesFault {
     ghost use Rattle.ttx_pes.specs.Fault.{is_of_pes_packet, pes_code};
 
-    /// Returns the number and the name of the fault in reports (own).
+    /// Returns the number and the name of the fault in reports.
     pub fn code(self) -> FaultCode
         ensures { result ≡ pes_code self }
     {
@@ -72,9 +72,8 @@ impl PesFault {
         }
     }
 
-    /// Returns whether the fault is in the contents of a packet that is as long as its length field
-    /// says (EN 300 472, PES_packet_length). The length field then says where the next packet
-    /// begins.
+    /// Returns whether the fault is in the contents of a complete packet, whose length field shows
+    /// where the next packet begins (EN 300 472, PES_packet_length).
     pub fn is_of_pes_packet(self) -> bool
         ensures { result ≡ is_of_pes_packet self }
     {

@@ -1,4 +1,4 @@
-//! Reads PES packets from a source that has the bytes of a PES file.
+//! Reads the PES packets of a PES file.
 ghost use Rattle.std.specs.Prelude.{◌≡◌, ◌≤◌, [], ◌∷◌, IfNone, IfSome, Ok, Some, length, take};
 ghost use Rattle.std.specs.Prelude.{true};
 ghost use Rattle.sub_io.specs.Device.{CanFail};
@@ -13,16 +13,17 @@ use crate::pes_packet_buffer::{PesPacketBuffer, prefix_of};
 use crate::pes_packets::{PesPackets, REST_BUFFER_SIZE, Received, TakePesPacket};
 use sub_io::{Failed, Source};
 
-/// Reads the PES packets of a PES file. A packet that the source lends completely is not copied.
+/// A reader of the PES packets of a PES file. A packet that is completely buffered in the source is
+/// not copied.
 #[derive(Drop)]
 pub struct FilePesPackets<'a, S> {
     source: &'a mut S,
-    // The bytes read so far of a PES packet that the source did not lend completely.
+    // The first bytes of a PES packet that was not completely buffered in the source.
     begun: PesPacketBuffer,
 }
 
 impl<'a, S: Source> FilePesPackets<'a, S> {
-    /// Creates a reader of the PES packets that the source has left.
+    /// Creates a reader of the PES packets in the remaining bytes of the source.
     pub fn new(source: &'a mut S) -> Self
         ensures none { result.begun ≡ [] }
         ensures same { result.source.ghost_name ≡ source.entry.ghost_name }
@@ -35,7 +36,7 @@ impl<'a, S: Source> FilePesPackets<'a, S> {
     }
 }
 
-// Returns the size of the PES packet at the front of `bytes`, if the packet is complete.
+// Returns the size of the PES packet at the front of `bytes`, or `None` if it is incomplete.
 #[inline(always)]
 fn complete_size(bytes: &[u8]) -> Option<usize>
     ensures reported { IfSome result (λ size. size_at (take 6 bytes.now) ≡ Ok size) }
@@ -57,8 +58,8 @@ fn complete_size(bytes: &[u8]) -> Option<usize>
     }
 }
 
-// Lets `taker` process the next PES packet if the source lends the packet completely, and skips the
-// packet. Otherwise does nothing and returns `None`.
+// If the next PES packet is completely buffered in the source, lets `taker` process it, and skips
+// it. Otherwise does nothing and returns `None`.
 #[inline(always)]
 fn take_borrowed<S: Source, T: TakePesPacket>(source: &mut S, taker: &mut T) -> Option<T::Answer>
     requires count { CanFail (S.failure_count source.old) }
@@ -118,7 +119,7 @@ impl<S: Source> NumberedPesPackets for FilePesPackets<'_, S> {
 
     ghost skipped = { λ f. 0 };
 
-    /// Returns 0, since no PES packet is skipped before the first.
+    /// Returns 0, the index of the first PES packet.
     fn find_first(&mut self) -> Result<u64, FailedAt> {
         Ok(0)
     }

@@ -1,4 +1,4 @@
-//! The PES packet that was read last, which a comparing reader stores.
+//! The last PES packet, which a comparing reader stores.
 ghost use Rattle.std.specs.Prelude.{◌≡◌, ◌+◌, ◌%◌, ◌≤◌, [], drop, length, take};
 ghost use Rattle.ttx_pes.specs.PesGrammar.{IsPesValue, empty_value, longest_packet, payload_size};
 ghost use Rattle.ttx_pes.specs.PesPackets.{IsPesPacket};
@@ -12,7 +12,7 @@ use crate::pes_packets::TakePesPacket;
 use crate::sent_units::SentUnits;
 use std::marker::Model;
 
-/// A PTS and a data field (bytes 45 to the end of a PES packet) with its Teletext units.
+/// The last PES packet: its PTS, and its data field (bytes 45 to the end) with the Teletext units.
 #[derive(Drop)]
 pub(crate) struct KeptFrame {
     // A buffer for the bytes of the stored packet.
@@ -59,7 +59,7 @@ fn put_in_buffer(room: &mut PacketBuffer, pes_packet: &[u8])
 }
 
 impl KeptFrame {
-    // Creates an empty frame without a data field.
+    // Creates a value without a PES packet.
     pub(crate) fn new() -> Self
         ensures { result ≡ record { frame = empty_value; data_field = [] } }
     {
@@ -84,15 +84,15 @@ impl KeptFrame {
         self.known.units(&self.room)
     }
 
-    // Resets the frame to an empty frame without a data field.
+    // Removes the stored PES packet.
     pub(crate) fn clear(&mut self)
         ensures { self.new ≡ record { frame = empty_value; data_field = [] } }
     {
         self.known.clear();
     }
 
-    // Stores a packet that may differ from the stored packet. Such packets are rare, so this
-    // function is not inlined, which makes its callers faster.
+    // Stores a packet that may differ from the stored one. Not inlined, for speed: such packets are
+    // rare.
     #[inline(never)]
     fn take_other(&mut self, pes_packet: &[u8]) -> Result<bool, PesFault>
         requires { IsPesPacket pes_packet.now }
@@ -113,15 +113,14 @@ impl KeptFrame {
 }
 
 impl TakePesPacket for KeptFrame {
-    // `Ok(true)` if the data field equals the stored data field, `Ok(false)` if not, or the fault
-    // of the packet.
+    // `Ok(true)` if the data field equals the stored one, `Ok(false)` if not, or the fault of the
+    // packet.
     type Answer = Result<bool, PesFault>;
 
     ghost is_take = { KeepsPesPacket };
 
-    // Stores a packet, and compares it with the stored packet. Usually the packet is a repetition.
-    // Repetition is tested first only if the stored packet was a repetition too, so that no time is
-    // lost if every packet is different.
+    // Stores a packet, and compares it with the stored one. For speed, a repeat is tested first
+    // only if the stored packet was a repeat too.
     #[inline(always)]
     fn take(&mut self, pes_packet: &[u8]) -> Result<bool, PesFault> {
         if self.known.repeats() {

@@ -1,9 +1,9 @@
 //! Reads and writes EBU Teletext in PES packets (EN 300 472).
 //!
 //! A reader returns the PTS and the Teletext units of each PES packet, and consumes exactly the
-//! packet's bytes. A comparing reader also says whether the data field is that of the packet
-//! before. A writer writes the canonical packet of a frame. Builds on `sub_io` for devices and on
-//! `ttx_packet` for Teletext packets; the crates that write and check schedules build on this one.
+//! packet's bytes. A comparing reader also returns whether the data field is the same as in the
+//! packet before. A writer writes the canonical packet of a frame. Uses `sub_io` for devices and
+//! `ttx_packet` for Teletext packets; the crates that write and check schedules use this one.
 //!
 //! ```text
 //! let mut reader = PesReader::new();

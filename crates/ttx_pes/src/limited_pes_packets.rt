@@ -9,16 +9,17 @@ use crate::passing::skip_pes_packets;
 use crate::pes_packets::{PesPackets, REST_BUFFER_SIZE, Received, TakePesPacket};
 use sub_io::Failed;
 
-/// Reads at most a given number of the PES packets of another reader, and then ends.
+/// A reader of at most a given number of the PES packets of another reader.
 #[derive(Drop)]
 pub struct LimitedPesPackets<'a, P> {
     inner: &'a mut P,
-    // How many PES packets may still be read. `None` means no limit.
+    // The number of PES packets that may still be read. `None` means no limit.
     left: Option<u64>,
 }
 
 impl<'a, P: PesPackets> LimitedPesPackets<'a, P> {
-    /// Limits `inner` to `left` PES packets, or not at all if `left` is `None`.
+    /// Creates a reader of the next `left` PES packets of `inner`, or of all packets if `left` is
+    /// `None`.
     pub fn new(inner: &'a mut P, left: Option<u64>) -> Self
         ensures same { result.inner.ghost_name ≡ inner.entry.ghost_name }
         ensures now { result.inner.now ≡ inner.old }
@@ -27,8 +28,8 @@ impl<'a, P: PesPackets> LimitedPesPackets<'a, P> {
         LimitedPesPackets { inner, left }
     }
 
-    /// Skips the first `n` PES packets, or all if the file has fewer, without counting them towards
-    /// the limit. Returns how many packets were skipped, and whether the device failed.
+    /// Skips the first `n` PES packets, or all if the file has fewer. They do not count towards the
+    /// limit. Returns the number of skipped packets, and whether the device failed.
     pub(crate) fn skip_first(&mut self, n: u64) -> (u64, Result<(), Failed>)
         requires failures { CanFail (P.failure_count self.old.inner.now) }
         ensures most { result.0 ≤ n }
@@ -106,8 +107,8 @@ fn is_over(left: Option<u64>) -> bool
     }
 }
 
-// Returns how many PES packets may be read after this result. Bytes that begin no packet end the
-// limit, since all of them belong to the range.
+// Returns the number of PES packets that may be read after this result. Bytes that do not begin
+// with a packet remove the limit, since all of them belong to the range.
 #[inline(always)]
 fn limit_after<A>(left: Option<u64>, received: &Received<A>) -> Option<u64>
     requires { is_over left ≡ false }

@@ -1,4 +1,4 @@
-//! Writes the Teletext packets of a frame on the lines of EN 300 472, as one PES packet.
+//! Writes the Teletext packets of a frame as one PES packet, on the lines of EN 300 472.
 ghost use Rattle.std.specs.Prelude.{◌≡◌, ◌+◌, ◌^◌, ◌<◌, ◌≤◌, ◌==◌, false, length, IfErr};
 ghost use Rattle.sub_io.specs.Device.{CanFail, CountsIf, Writes, failed};
 ghost use Rattle.ttx_pes.specs.Fault.{is_write};
@@ -13,7 +13,7 @@ use crate::writer::PesWriter;
 use sub_io::Sink;
 use ttx_packet::Packet;
 
-// Returns the unit of Teletext packet number `i` of a frame, counted from 0.
+// Returns the unit for Teletext packet number `i` of a frame, counted from 0.
 fn unit_of_number(i: usize, packet: &Packet) -> Unit
     requires { i < 32 }
     ensures value { result ≡ numbered_unit i packet.now }
@@ -41,10 +41,10 @@ pub(crate) fn frame_of(pts: u64, packets: &[Packet]) -> PesFrame
     frame
 }
 
-/// Writes Teletext packets as one PES packet: as subtitle units (data_unit_id 03) on lines 7 to 22
-/// of the first field, then lines 7 to 22 of the second, as in EN 300 472.
+/// Writes Teletext packets as one PES packet (EN 300 472): as subtitle units (data_unit_id 03) on
+/// lines 7 to 22 of the first field, then on lines 7 to 22 of the second field.
 ///
-/// `pts` is in ticks of 90 kHz, 33 bits. At most 32 packets.
+/// `pts` is in ticks of 90 kHz, 33 bits. At most 32 packets fit.
 ///
 /// # Errors
 ///

@@ -11,15 +11,14 @@ use crate::pes_packets::{PesPackets, REST_BUFFER_SIZE, Received, TakePesPacket};
 use crate::pes_packets_ahead::PesPacketsAhead;
 use sub_io::Failed;
 
-/// Reads a range of the PES packets of another reader. If that reader has no packet with the
-/// range's last number, both end in the same way. Nothing after the last packet of the range is
-/// read.
+/// A reader of a range of the PES packets of another reader. If the file ends before the range
+/// does, both readers end in the same way. Nothing after the last packet of the range is read.
 ///
-/// Callers construct the value in place: if a function returned it, the prover would not know what
-/// was borrowed two structs deep.
+/// Callers construct the value in place, because the prover does not track borrows in nested
+/// structs that a function returns.
 #[derive(Drop)]
 pub struct PartOfPesPackets<'a, P> {
-    /// Reads all PES packets up to the last packet of the range.
+    /// Reads the PES packets up to the last packet of the range.
     pub inner: LimitedPesPackets<'a, P>,
     /// Counts the PES packets before the range.
     pub ahead: PesPacketsAhead,

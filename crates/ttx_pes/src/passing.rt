@@ -12,7 +12,7 @@ use crate::fault::PesFault;
 use crate::pes_packets::{PesPackets, Received, TakePesPacket};
 use sub_io::Failed;
 
-/// The maximum number of PES packets of a file: one for each frame of a day at 25 frames per
+/// The maximum number of PES packets in a file: one for each frame of a day at 25 frames per
 /// second.
 pub const MOST_PACKETS: u32 = 2_160_000;
 
@@ -28,8 +28,8 @@ impl TakePesPacket for SkipOver {
     fn take(&mut self, _pes_packet: &[u8]) {}
 }
 
-/// Skips the first `n` PES packets, or all if the file has fewer. Returns how many packets were
-/// skipped, and whether the device failed.
+/// Skips the first `n` PES packets, or all if the file has fewer. Returns the number of skipped
+/// packets, and whether the device failed.
 pub fn skip_pes_packets<P: PesPackets>(n: u64, pes_packets: &mut P) -> (u64, Result<(), Failed>)
     requires failures { CanFail (P.failure_count pes_packets.old) }
     ensures most { result.0 ≤ n }
@@ -37,7 +37,7 @@ pub fn skip_pes_packets<P: PesPackets>(n: u64, pes_packets: &mut P) -> (u64, Res
     ensures fewer { OnErr result.1 (result.0 < n) }
     ensures skipped { OnOk result.1
         (Passes n (P.remaining pes_packets.old) (P.remaining pes_packets.new) result.0) }
-    // Even if the device failed, it is known how many packets remain to be skipped.
+    // Even if the device failed, the number of skipped packets is known.
     ensures so_far { HasSkipped n result.0 (P.remaining pes_packets.old)
         (P.remaining pes_packets.new) }
     ensures same { P.device pes_packets.new ≡ P.device pes_packets.old }
@@ -58,7 +58,7 @@ pub fn skip_pes_packets<P: PesPackets>(n: u64, pes_packets: &mut P) -> (u64, Res
     (skipped, Ok(()))
 }
 
-// Reads on after the maximum number of PES packets, where no byte may be left.
+// Reads after the maximum number of PES packets, and returns a fault unless the file ends there.
 #[inline(never)]
 pub(crate) fn read_end<P: PesPackets>(given: u32, pes_packets: &mut P) -> Result<(), PesFault>
     requires count { CanFail (P.failure_count pes_packets.old) }

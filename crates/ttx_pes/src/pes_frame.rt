@@ -8,19 +8,20 @@ use crate::unit::Unit;
 use arrayvec::ArrayVec;
 use std::marker::Model;
 
-/// The maximum number of Teletext units in a PES packet: nine payloads have 9 * 4 - 1 data units.
+/// The maximum number of Teletext units in a PES packet: nine payloads contain 9 * 4 - 1 data
+/// units.
 pub const MOST_UNITS: usize = 35;
 
-/// The contents of one PES packet: a PTS, and Teletext units in the order of their lines (EN 300
-/// 472; the order is (own)).
+/// The contents of one PES packet: a PTS, and Teletext units in line order (EN 300 472; the order
+/// is (own)).
 #[derive(Drop)]
 pub struct PesFrame {
     pts: u64,
-    // Only the first `count` units belong to the frame. The others are left from earlier frames;
-    // resetting them would cost a write for each.
+    // Only the first `count` units belong to the frame. For speed, units of earlier frames are not
+    // reset.
     units: ArrayVec<Unit, MOST_UNITS>,
     count: usize,
-    // The place in line order that the next unit has to follow.
+    // The line order position of the last unit, which the next unit must follow.
     last: u8,
 }
 
@@ -72,7 +73,7 @@ impl PesFrame {
     /// Returns the Teletext units in the order of the packet, at most `MOST_UNITS`.
     pub fn units(&self) -> &[Unit]
         ensures value { result.now ≡ self.now.units }
-        // The value of every frame fits in a PES packet.
+        // The contents of every frame fit in a PES packet.
         ensures frame { IsPesValue self.now }
     {
         &self.units.as_slice()[..self.count]
@@ -83,8 +84,8 @@ impl PesFrame {
     /// # Errors
     ///
     /// Returns `unit` if the frame already has `MOST_UNITS` units, or if the line of `unit` does
-    /// not follow the lines of the units before it. The frame does not change. A unit of line 0 may
-    /// be anywhere.
+    /// not come after the lines of the earlier units; a unit of line 0 may be anywhere. The frame
+    /// does not change.
     #[tactic(auto, using(crate::proofs::LineOrderLemmas::order))]
     pub fn add(&mut self, unit: Unit) -> Result<(), Unit>
         ensures variant { IsOk result ↔ ((length self.old.units < most_units)
@@ -106,7 +107,7 @@ impl PesFrame {
         Ok(())
     }
 
-    // Appends a unit to a frame in which it is known to fit.
+    // Appends a unit that fits in the frame.
     #[tactic(auto, using(crate::proofs::LineOrderLemmas::order))]
     pub(crate) fn push(&mut self, unit: Unit)
         requires room { length self.old.units < most_units }
@@ -138,7 +139,7 @@ impl PesFrame {
     }
 }
 
-// Stores a unit at the index `place`: over a unit left from an earlier frame, or at the end.
+// Stores a unit at the index `place`, over a unit of an earlier frame or at the end.
 fn put_at(units: &mut ArrayVec<Unit, MOST_UNITS>, place: usize, unit: Unit)
     requires place { place ≤ length units.old.items }
     requires room { place < most_units }

@@ -14,7 +14,7 @@ use crate::writer::{Bytes, add};
 use arrayvec::ArrayVec;
 use byteorder::{BigEndian, ByteOrder, LittleEndian};
 
-/// The size of a payload in bytes. A PES packet fills 1 to 9 payloads.
+/// The size of a TS packet payload in bytes. A PES packet fills 1 to 9 payloads (EN 300 472).
 pub(crate) const PAYLOAD: usize = 184;
 
 /// The size of the longest PES packet in bytes.
@@ -45,8 +45,8 @@ pub fn size_of(head: &[u8; 6]) -> Result<usize, PesFault>
     Ok(size)
 }
 
-// Returns whether the bytes are the start of a PES packet with private data, by comparing them as
-// one word.
+// Returns whether the bytes begin with the start code and stream_id of private_stream_1. Compares
+// them as one word.
 #[tactic(auto, using(crate::proofs::PesHeaderLemmas::start_word))]
 pub(crate) fn is_start(head: &[u8; 6]) -> bool
     ensures { result ≡ is_start head.now }
@@ -54,15 +54,15 @@ pub(crate) fn is_start(head: &[u8; 6]) -> bool
     LittleEndian::read_u32(head) == 0xBD01_0000
 }
 
-// Returns the value of PES_packet_length.
+// Returns the value of the field PES_packet_length.
 pub(crate) fn length_of(head: &[u8; 6]) -> u16
     ensures { result ≡ 0x100 * slice_index head.now 4 + slice_index head.now 5 }
 {
     BigEndian::read_u16(&head[4..])
 }
 
-// Returns the PTS of a PES packet, given its bytes from byte 6 on. Checks the fields in their
-// order. (Inlined, since a call that returns its result in memory takes a third of the time.)
+// Returns the PTS of a PES packet, parsed from its bytes from byte 6 on. Checks the fields in
+// order. Inlined for speed.
 #[inline(always)]
 #[tactic(auto, unfolding(crate::specs::Reading::pts_at))]
 pub(crate) fn pts_of(body: &[u8]) -> Result<u64, PesFault>
@@ -90,8 +90,8 @@ pub(crate) fn pts_of(body: &[u8]) -> Result<u64, PesFault>
     Ok(high * (1 << 30) + fifteen_bits(body, 4) * (1 << 15) + fifteen_bits(body, 6))
 }
 
-// Returns the fault of a PES packet whose byte 6 does not begin with 1000, given its bytes from
-// byte 6 on.
+// Returns the fault of a PES packet whose byte 6 does not begin with 1000: `Lost` for a gap marker,
+// otherwise `Flags`.
 fn flags_fault(body: &[u8]) -> PesFault
     ensures { result ≡ flags_fault body.now }
 {
@@ -102,15 +102,15 @@ fn flags_fault(body: &[u8]) -> PesFault
     }
 }
 
-// Returns whether all bytes are FF, like those of a gap marker from byte 6 on.
+// Returns whether all bytes are FF, as in a gap marker from byte 6 on.
 fn is_filled(body: &[u8]) -> bool
     ensures { result ≡ is_filled body.now }
 {
     body.iter().all(|byte| *byte == 0xFF)
 }
 
-/// Returns whether a PES packet is a gap marker, which replaces lost PES packets: 184 bytes, FF
-/// from byte 6 on (own).
+/// Returns whether a PES packet is a gap marker, which stands for lost PES packets: 184 bytes, all
+/// FF from byte 6 on (own).
 pub fn is_gap_marker(pes_packet: &[u8]) -> bool
     ensures { result ≡ is_gap_marker pes_packet.now }
 {
@@ -121,8 +121,7 @@ pub fn is_gap_marker(pes_packet: &[u8]) -> bool
     is_filled(body)
 }
 
-// Returns a group of 15 bits of the PTS from the two bytes at `place`, without the marker bit after
-// the group.
+// Returns 15 bits of the PTS from the two bytes at `place`, without the marker bit.
 fn fifteen_bits(body: &[u8], place: usize) -> u64
     requires { place + 2 ≤ length body.now }
     ensures value { result

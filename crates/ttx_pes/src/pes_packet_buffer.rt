@@ -1,4 +1,4 @@
-//! A buffer for a PES packet that its source does not lend completely.
+//! A buffer for a PES packet that is not completely buffered in its source.
 ghost use Rattle.std.specs.Prelude.{◌≡◌, ◌+◌, ◌<◌, ◌≤◌, ◌++◌, [], IsSome, false, is_ok, length};
 ghost use Rattle.std.specs.Prelude.{take, true};
 ghost use Rattle.std.specs.Io.KnownBytes.{Consumes, IsAtEnd, prepend_known};
@@ -17,12 +17,12 @@ use sub_io::{Failed, Source};
 /// A buffer for the bytes of one PES packet.
 pub(crate) type PacketBuffer = [u8; LONGEST_PACKET];
 
-// The number of first bytes that contain the size of a PES packet.
+// The number of bytes at the front of a PES packet that determine its size.
 const HEAD: usize = 6;
 
-/// The first bytes of a PES packet that is not complete yet, or bytes that begin no packet.
+/// The first bytes of an incomplete PES packet, or bytes that do not begin with a PES packet.
 ///
-/// The model of the buffer is the list of these bytes.
+/// Its model is the list of these bytes.
 #[derive(Drop)]
 pub(crate) struct PesPacketBuffer {
     room: PacketBuffer,
@@ -41,9 +41,9 @@ impl Model for PesPacketBuffer {
     ghost invariant = { λ h. (h.len ≤ longest_packet) × IsSome (rest_fault (take h.len h.room)) };
 }
 
-// Pulls into `room`, which already has `buffered` bytes, until `room` has at least `least` bytes,
-// or the source ends or fails. Requests at most `most` bytes in total. Returns how many bytes
-// `room` has, and whether the source failed.
+// Pulls into `room`, which already has `buffered` bytes, until it has at least `least` bytes, or
+// the source ends or fails. Requests at most `most` bytes in total. Returns the number of bytes in
+// `room`, and whether the source failed.
 fn fill_on<S: Source>(
     source: &mut S,
     room: &mut [u8],
@@ -81,8 +81,8 @@ fn fill_on<S: Source>(
     (at, false)
 }
 
-// Reads the PES packet whose first bytes are in the buffer, and returns how many bytes are then in
-// the buffer. Checks the bytes for faults before each pull.
+// Reads the rest of the PES packet whose first bytes are in the buffer. Checks the bytes for faults
+// before each pull. Returns the number of bytes in the buffer, and the result.
 fn read_pes_packet<S: Source>(
     source: &mut S,
     room: &mut PacketBuffer,
@@ -169,9 +169,8 @@ impl PesPacketBuffer {
         buffered
     }
 
-    // Reads the rest of the PES packet in the buffer, and lets `taker` process the packet. Few
-    // packets are not lent completely, so this function is not inlined, which makes its callers
-    // faster.
+    // Reads the rest of the PES packet in the buffer, and lets `taker` process the packet. Not
+    // inlined, for speed: few packets are read in this way.
     #[inline(never)]
     pub(crate) fn next<S: Source, T: TakePesPacket>(
         &mut self,

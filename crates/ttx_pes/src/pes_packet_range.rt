@@ -4,8 +4,9 @@ ghost use Rattle.ttx_pes.specs.PesPacketRange.{range_length, range_of};
 
 use std::marker::Model;
 
-/// A range of PES packets by their numbers in the file, counted from 0. Invalid packets count if
-/// they are as long as their length field says. The model of a range has its two numbers.
+/// A range of PES packets, by their indices in the file, counted from 0. Invalid packets count if
+/// they are as long as their length field states. Its model has the indices of the first and the
+/// last packet.
 #[derive(Clone, Copy, Debug, PartialEq, Eq)]
 pub struct PesPacketRange {
     first: u64,
@@ -27,8 +28,8 @@ impl Model for PesPacketRange {
 }
 
 impl PesPacketRange {
-    /// Creates the range from `first` to `last`, both included, or to the end of the file without
-    /// `last`. Returns `None` if `last` is less than `first`, or the greatest 64-bit number.
+    /// Creates the range from `first` to `last`, inclusive, or to the end of the file if `last` is
+    /// `None`. Returns `None` if `last` is less than `first`, or is the greatest 64-bit number.
     #[tactic(auto, unfolding(crate::specs::PesPacketRange::range_of))]
     pub fn new(first: u64, last: Option<u64>) -> Option<PesPacketRange>
         ensures { result ≡ range_of first last }
@@ -41,14 +42,15 @@ impl PesPacketRange {
         Some(PesPacketRange { first, last })
     }
 
-    /// Returns how many PES packets precede the range.
+    /// Returns the number of PES packets before the range.
     pub fn first(self) -> u64
         ensures { result ≡ self.first }
     {
         self.first
     }
 
-    /// Returns how many PES packets the range has, or `None` if it extends to the end of the file.
+    /// Returns the number of PES packets in the range, or `None` if it extends to the end of the
+    /// file.
     pub fn most(self) -> Option<u64>
         ensures { result ≡ range_length self }
     {

@@ -1,9 +1,8 @@
-//! Readers of PES packets. A PES packet is a byte string that is as long as its length field says;
-//! it may be invalid.
+//! The traits of readers of PES packets. A PES packet is as long as its length field states, but
+//! its contents may be invalid.
 //!
-//! `next` passes a packet to a taker while the source lends the packet, and then skips the packet.
-//! So no packet is copied, and none stays in the source. Bytes that begin no packet are read by a
-//! separate call, which only `extract` uses.
+//! `next` passes a borrowed packet to a taker, and then skips it. So no packet is copied. Bytes
+//! that do not begin with a packet are read by a separate function, which only `extract` uses.
 ghost use Rattle.std.specs.Borrow.{GName};
 ghost use Rattle.std.specs.Prelude.{◌≡◌, ℕ, Bool, List, Option, is_ok, true};
 ghost use Rattle.std.specs.Io.{ReadsAtMost};
@@ -14,29 +13,29 @@ ghost use Rattle.ttx_pes.specs.PesPackets.{IsPesPacket};
 use crate::fault::PesFault;
 use sub_io::Failed;
 
-/// The size in bytes of a buffer for bytes that begin no PES packet. A reader has read at most this
-/// many of them before it reports the fault.
+/// The size in bytes of a buffer for bytes that do not begin with a PES packet. A reader has read
+/// at most this many of them when it reports their fault.
 pub const REST_BUFFER_SIZE: usize = 2048;
 
-/// What a reader of PES packets has received: a packet, with the taker's answer, or why no packet
-/// follows.
+/// The result of reading a PES packet: a packet, with the taker's answer, or the reason why no
+/// packet follows.
 #[derive(Clone, Copy, Debug, PartialEq, Eq)]
 pub enum Received<A> {
     /// The end of the file or recording.
     End,
     /// A PES packet, with the taker's answer.
     PesPacket(A),
-    /// Bytes that begin no PES packet, for this fault: `Truncated`, `Start` or `Length`.
+    /// Bytes that do not begin with a PES packet, with their fault: `Truncated`, `Start` or
+    /// `Length`.
     Rest(PesFault),
 }
 
-/// Processes PES packets, and returns an answer for each.
+/// A consumer of PES packets that returns an answer for each packet.
 pub trait TakePesPacket {
     /// The answer of the taker for one PES packet.
     type Answer;
 
-    // How processing a packet changes the taker: the state before, the packet, the answer, the
-    // state after.
+    // How processing a packet changes the taker. Arguments: old state, packet, answer, new state.
     ghost is_take: { Self → List ℕ → Self.Answer → Self → Type 0 };
 
     /// Processes a PES packet, which is borrowed from the source.
@@ -45,21 +44,21 @@ pub trait TakePesPacket {
         ensures { is_take self.old pes_packet.now result self.new };
 }
 
-/// Reads the PES packets of a file or recording in order, up to the end or to bytes that begin no
-/// packet. A packet has a start code and is as long as its length field says (EN 300 472,
-/// PES_packet_length); it may be invalid.
+/// A reader of the PES packets of a file or recording, in order, up to the end or to bytes that do
+/// not begin with a packet. A packet has a start code and is as long as its length field states (EN
+/// 300 472, PES_packet_length); its contents may be invalid.
 pub trait PesPackets {
-    // The bytes that the reader has left, if they are known.
+    // The remaining bytes of the reader, or `None` if they are unknown.
     ghost remaining: { Self → Option (List ℕ) };
 
-    // The bytes that the device has left. After a failure, or bytes that begin no packet, the
-    // reader has already read some of its remaining bytes from the device.
+    // The remaining bytes of the device. After a failure, or bytes that do not begin with a packet,
+    // the reader has already read some of its remaining bytes from the device.
     ghost left: { Self → Option (List ℕ) };
 
-    // How many calls of the reader's device have failed.
+    // The number of failed calls of the reader's device.
     ghost failure_count: { Self → ℕ };
 
-    // Whether the reader has returned `Rest`, so that the remaining bytes begin no PES packet.
+    // Whether the reader has returned `Rest`: the remaining bytes do not begin with a PES packet.
     ghost is_rest: { Self → Bool };
 
     // Whether the next call uses no device.
@@ -68,12 +67,12 @@ pub trait PesPackets {
     // The references by which the reader borrows its device, outermost first.
     ghost device: { Self → List GName } = { no_borrowed_devices };
 
-    /// Lets `taker` process the next PES packet, if the reader has one. Without a packet, the taker
-    /// is not called, and later calls consume nothing.
+    /// Lets `taker` process the next PES packet. If there is none, the taker is not called, and
+    /// later calls consume nothing.
     ///
     /// # Errors
     ///
-    /// Returns `Failed` if the device fails. No byte of the packet was consumed.
+    /// Returns `Failed` if the device fails. No byte of the packet was consumed by the call.
     fn next<T: TakePesPacket>(&mut self, taker: &mut T) -> Result<Received<T::Answer>, Failed>
         requires failures { CanFail (failure_count self.old) }
         ensures received { Advances (remaining self.old) (remaining self.new) (left self.new)
@@ -83,12 +82,12 @@ pub trait PesPackets {
         ensures same { device self.new ≡ device self.old }
         ensures count { CountsFailure (failure_count self.old) result (failure_count self.new) };
 
-    /// Reads remaining bytes after `Rest`, and returns how many are at the front of `room`. The
-    /// bytes that were already read to find the fault come first. Returns 0 at the end.
+    /// Reads remaining bytes after `Rest` into the front of `room`, and returns their number. First
+    /// come the bytes that were already read to find the fault. Returns 0 at the end.
     ///
     /// # Errors
     ///
-    /// Returns `Failed` if the device fails. No byte was consumed.
+    /// Returns `Failed` if the device fails. No byte was consumed by the call.
     fn read_rest(&mut self, room: &mut [u8; REST_BUFFER_SIZE]) -> Result<usize, Failed>
         requires rest { is_rest self.old ≡ true }
         requires failures { CanFail (failure_count self.old) }
@@ -98,7 +97,7 @@ pub trait PesPackets {
         ensures same { device self.new ≡ device self.old }
         ensures count { CountsFailure (failure_count self.old) result (failure_count self.new) };
 
-    /// Returns whether it is known that the next call uses no device.
+    /// Returns `true` only if the next call uses no device.
     fn is_ready(&self) -> bool
         ensures { result ≡ true → ready self.now ≡ true };
 }

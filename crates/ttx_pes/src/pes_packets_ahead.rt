@@ -1,10 +1,10 @@
-//! Counts the PES packets that are skipped before those to be read.
+//! Counts the PES packets to skip before a range.
 ghost use Rattle.std.specs.Prelude.{◌≡◌, ◌+◌, ◌-◌, ◌≤◌};
 
 use std::marker::Model;
 
-/// How many PES packets were skipped, and how many remain to be skipped. The model has both
-/// numbers.
+/// The number of skipped PES packets, and the number of PES packets still to be skipped. Its model
+/// has both numbers.
 #[derive(Drop)]
 pub struct PesPacketsAhead {
     skipped: u64,
@@ -23,7 +23,7 @@ impl Model for PesPacketsAhead {
 }
 
 impl PesPacketsAhead {
-    /// Creates a counter for `to_skip` PES packets that remain to be skipped.
+    /// Creates a counter with `to_skip` PES packets still to be skipped.
     pub fn new(to_skip: u64) -> Self
         ensures { result ≡ record { skipped = 0; to_skip = to_skip } }
     {
@@ -33,21 +33,21 @@ impl PesPacketsAhead {
         }
     }
 
-    // Returns how many PES packets were skipped.
+    // Returns the number of skipped PES packets.
     pub(crate) fn skipped(&self) -> u64
         ensures { result ≡ self.now.skipped }
     {
         self.skipped
     }
 
-    // Returns how many PES packets remain to be skipped.
+    // Returns the number of PES packets still to be skipped.
     pub(crate) fn to_skip(&self) -> u64
         ensures { result ≡ self.now.to_skip }
     {
         self.to_skip
     }
 
-    // Counts PES packets that were skipped.
+    // Counts skipped PES packets.
     pub(crate) fn count(&mut self, skipped: u64)
         requires { skipped ≤ self.old.to_skip }
         ensures { self.new ≡ record {
@@ -59,7 +59,7 @@ impl PesPacketsAhead {
         self.to_skip -= skipped;
     }
 
-    // Sets the number of PES packets that remain to be skipped to 0.
+    // Sets the number of PES packets still to be skipped to 0.
     pub(crate) fn end(&mut self)
         ensures { self.new ≡ record self.old { to_skip = 0 } }
     {

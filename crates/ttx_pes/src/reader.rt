@@ -1,4 +1,4 @@
-//! Reads the values of PES packets one after another.
+//! Reads the contents of PES packets, one after another.
 ghost use Rattle.std.specs.Prelude.{◌≡◌, ℕ, ◌+◌, ◌%◌, ◌≤◌, ◌≢◌, true, length, Ok, Err, OnOk, IfErr};
 ghost use Rattle.sub_io.specs.Device.{CanFail, CountsIf, failed};
 ghost use Rattle.ttx_pes.specs.Fault.{is_read};
@@ -20,7 +20,7 @@ use crate::progress::Progress;
 use std::marker::Model;
 use sub_io::Source;
 
-/// Reads PES packets with Teletext units. The value is the progress of the reader.
+/// A reader of PES packets with Teletext units. Its model is its progress.
 #[derive(Drop)]
 pub struct PesReader {
     progress: Progress,
@@ -38,7 +38,7 @@ impl Model for PesReader {
     ghost invariant = { λ r. GivesAtMost most_packets r.progress };
 }
 
-// Stores the value of a PES packet in `frame`, given the packet's bytes from byte 6 on.
+// Parses a PES packet, from byte 6 on, into `frame`.
 #[tactic(auto, unfolding(crate::specs::Reading::value_at))]
 fn read_value(body: &[u8], frame: &mut PesFrame) -> Result<(), PesFault>
     requires short { length body.now + 6 ≤ longest_packet }
@@ -54,18 +54,18 @@ fn read_value(body: &[u8], frame: &mut PesFrame) -> Result<(), PesFault>
 }
 
 impl TakePesPacket for PesFrame {
-    // `Ok` if the PES packet is valid, or its fault.
+    // `Ok` if the PES packet is valid, otherwise its fault.
     type Answer = Result<(), PesFault>;
 
     ghost is_take = { ReadsValue };
 
-    // Stores the value of a PES packet in the frame.
+    // Parses a PES packet into the frame.
     fn take(&mut self, pes_packet: &[u8]) -> Result<(), PesFault> {
         read_value(body_of_pes_packet(pes_packet), self)
     }
 }
 
-// Stores the next PES packet's value in `frame`. Returns `false` if no packet is left.
+// Parses the next PES packet into `frame`. Returns `false` if no packet remains.
 fn read_packet<P: PesPackets>(
     given: u32,
     pes_packets: &mut P,
@@ -92,7 +92,7 @@ fn read_packet<P: PesPackets>(
     }
 }
 
-// Stores the next PES packet's value in `frame`. Returns `false` at the end of the source.
+// Parses the next PES packet into `frame`. Returns `false` at the end of the source.
 fn read_next<S: Source>(given: u32, source: &mut S, frame: &mut PesFrame) -> Result<bool, PesFault>
     requires { CanFail (S.failure_count source.old) }
     ensures reports { ReportsPacket (Reading given) (S.remaining source.old)
@@ -123,16 +123,16 @@ impl PesReader {
     /// # Errors
     ///
     /// Checks in this order: `TooMany` if bytes follow 2,160,000 packets, one for each frame of a
-    /// day; `Truncated` if fewer than six bytes are left; `Start`, `Length`; `Truncated` if the
-    /// bytes end within the packet; `Flags` to `DataId`; then for each data unit `UnitLength`,
-    /// `Framing`, `LineOrder`. Returns `Read` if the source fails before the bytes that show a
-    /// fault are read. After any error each call returns `Ended` and consumes nothing.
+    /// day; `Truncated` if fewer than six bytes remain; `Start`; `Length`; `Truncated` if the bytes
+    /// end within the packet; `Flags` to `DataId`; for each data unit `UnitLength`, `Framing`,
+    /// `LineOrder`. Returns `Read` if the source fails before a fault is read. After any error each
+    /// call returns `Ended` and consumes nothing.
     pub fn next<S: Source>(&mut self, source: &mut S) -> Result<Option<PesFrame>, PesFault>
         requires { CanFail (S.failure_count source.old) }
         ensures reports { ReportsPacket self.old (S.remaining source.old) (S.remaining source.new)
             result }
         ensures progress { self.new ≡ progress_after self.old result }
-        // After the end of the source or a fault, the reader consumes nothing.
+        // After the end of the source or a fault, the reader consumes no bytes.
         ensures at_end { self.old ≡ AtEnd → source.new ≡ source.old }
         ensures broken { self.old ≡ Broken → source.new ≡ source.old }
         ensures count { CountsIf S.failure_count source.old (failed is_read result) source.new }
@@ -145,15 +145,15 @@ impl PesReader {
         }
     }
 
-    /// Reads the next PES packet into `frame`: returns `true` if `next` would return a frame, and
-    /// `false` if it would return `None`.
+    /// Reads the next PES packet into `frame`, like `next`. Returns `false` at the end of the
+    /// source.
     ///
-    /// `frame` becomes the frame that `next` would return. If `next` would return no frame, `frame`
-    /// gets PTS 0 and no units. Its previous contents are lost.
+    /// The previous contents of `frame` are lost. At the end or after a fault, `frame` gets PTS 0
+    /// and no units.
     ///
     /// # Errors
     ///
-    /// Returns the errors of `next`.
+    /// Returns the same errors as `next`.
     pub fn next_into<S: Source>(
         &mut self,
         source: &mut S,
@@ -165,7 +165,7 @@ impl PesReader {
         ensures empty { result ≢ Ok true → frame.new ≡ empty_value }
         ensures progress { self.new ≡ progress_after self.old (yielded_frame result frame.new) }
         ensures few { (given : ℕ) → self.new ≡ Reading given → given ≤ most_packets }
-        // After the end of the source or a fault, the reader consumes nothing.
+        // After the end of the source or a fault, the reader consumes no bytes.
         ensures at_end { self.old ≡ AtEnd → source.new ≡ source.old }
         ensures broken { self.old ≡ Broken → source.new ≡ source.old }
         ensures count { CountsIf S.failure_count source.old (failed is_read result) source.new }

@@ -11,9 +11,9 @@ use std::marker::Model;
 use sub_io::{Failed, Sink, put_all};
 use ttx_packet::Packet;
 
-/// A PES packet whose bytes are built once. For each transmission only its PTS is set (EN 300 472).
+/// A PES packet that is built once and sent repeatedly; only its PTS is set each time (EN 300 472).
 ///
-/// Its model is the contents of the packet: the PTS and the units.
+/// Its model is the contents of the packet: its PTS and its units.
 #[derive(Drop)]
 pub struct RepeatedPacket {
     frame: PesFrame,
@@ -33,8 +33,8 @@ impl Model for RepeatedPacket {
 }
 
 impl RepeatedPacket {
-    /// Creates one PES packet with these Teletext packets, on the lines that `put_frame` uses. Its
-    /// PTS is 0.
+    /// Creates a PES packet with these Teletext packets and PTS 0. The lines are those that
+    /// `put_frame` uses.
     ///
     /// At most 32 Teletext packets fit.
     pub fn of_packets(packets: &[Packet]) -> Self

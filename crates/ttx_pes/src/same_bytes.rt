@@ -10,7 +10,7 @@ use byteorder::{ByteOrder, LittleEndian};
 // The size in bytes of the data field of a PES packet of one payload.
 const ONE_PAYLOAD: usize = 139;
 
-// Returns whether two slices have the same first eight bytes.
+// Returns whether the first eight bytes of two slices are equal.
 #[inline(always)]
 pub(crate) fn begin_equally(a: &[u8], b: &[u8]) -> bool
     requires a { 8 ≤ length a.now }
@@ -20,8 +20,8 @@ pub(crate) fn begin_equally(a: &[u8], b: &[u8]) -> bool
     LittleEndian::read_u64(a) == LittleEndian::read_u64(b)
 }
 
-// Returns whether two data fields of the same length are equal. (Not inlined: inlined into the
-// function that chooses the buffer, it would load each byte of both buffers.)
+// Returns whether two data fields of the same length are equal. Not inlined, for speed: otherwise
+// each byte would be loaded from both possible buffers.
 #[inline(never)]
 pub(crate) fn is_same(a: &[u8], b: &[u8]) -> bool
     requires size { IsFieldSize (length a.now) }
@@ -35,8 +35,8 @@ pub(crate) fn is_same(a: &[u8], b: &[u8]) -> bool
     }
 }
 
-// Returns whether two data fields of one payload are equal. Compares their second 64 bytes first,
-// which contain the text of the row in subtitles.
+// Returns whether two data fields of one payload are equal. For speed, compares their second 64
+// bytes first, which contain the text of the subtitle's row.
 #[inline(always)]
 #[tactic(auto, using(crate::proofs::SameBytesLemmas::payload_same))]
 fn is_same_payload(a: &[u8], b: &[u8]) -> bool
@@ -55,9 +55,9 @@ fn is_same_payload(a: &[u8], b: &[u8]) -> bool
     is_same_block::<16>(a.last_chunk().unwrap(), b.last_chunk().unwrap())
 }
 
-// Returns whether two slices are equal, in blocks of 256 bytes. The last block overlaps the block
-// before, so that no byte is left over. The last block is compared first, because different
-// subtitles mostly differ in the last row.
+// Returns whether two slices are equal, by comparing blocks of 256 bytes. The last block overlaps
+// the block before it, so that no byte is left over. It is compared first, because different
+// subtitles mostly differ in their last row.
 #[inline(always)]
 #[tactic(auto, using(crate::proofs::SameBytesLemmas::same_blocks))]
 fn is_same_by_long_blocks(a: &[u8], b: &[u8]) -> bool

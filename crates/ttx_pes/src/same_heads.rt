@@ -1,5 +1,5 @@
-//! Compares the heads of the data units of two data fields. If the heads are equal, both data
-//! fields have their Teletext units at the same offsets.
+//! Compares the headers of the data units of two data fields. If they are equal, both data fields
+//! have their Teletext units at the same offsets.
 ghost use Rattle.std.specs.Prelude.{◌≡◌, ◌+◌, ◌%◌, ◌≤◌, length, true};
 ghost use Rattle.ttx_pes.specs.PesGrammar.{payload_size};
 ghost use Rattle.ttx_pes.specs.Taking.{AreSameHeads, IsSameHead};
@@ -12,8 +12,8 @@ use byteorder::{ByteOrder, LittleEndian};
 // three data units.
 const FIRST: usize = 1 + 3 * DATA_UNIT;
 
-// Returns whether two data fields have the same head of the data unit at the offset `place`, by
-// comparing four bytes as one word.
+// Returns whether the headers of the data units at the offset `place` of two data fields are equal.
+// Compares the four bytes as one word.
 #[inline(always)]
 #[tactic(auto, using(crate::proofs::HeadLemmas::same_word))]
 fn is_same_head(a: &[u8], b: &[u8], place: usize) -> bool
@@ -26,8 +26,8 @@ fn is_same_head(a: &[u8], b: &[u8], place: usize) -> bool
     LittleEndian::read_u32(a_from) == LittleEndian::read_u32(b_from)
 }
 
-// Returns whether two data fields have the same heads of three data units, the first at the offset
-// `place`.
+// Returns whether the headers of three data units of two data fields are equal, the first at the
+// offset `place`.
 #[inline(always)]
 fn are_same_three(a: &[u8], b: &[u8], place: usize) -> bool
     requires a { place + 96 ≤ length a.now }
@@ -41,8 +41,8 @@ fn are_same_three(a: &[u8], b: &[u8], place: usize) -> bool
         && is_same_head(a, b, place + 2 * DATA_UNIT)
 }
 
-// Returns whether two data fields of the same length have the same heads of all data units. Each
-// iteration compares the four data units of a payload; the first payload has three.
+// Returns whether the headers of all data units of two data fields of the same length are equal.
+// Each iteration compares the four data units of a payload; the first payload has three.
 #[tactic(auto, using(crate::proofs::HeadLemmas::same_heads))]
 pub(crate) fn are_same_heads(a: &[u8], b: &[u8]) -> bool
     requires long { 139 ≤ length a.now }

@@ -18,7 +18,7 @@ use ttx_packet::SentPacket;
 pub struct SentUnits<'a> {
     // The data field: bytes 45 to the end of the PES packet.
     field: &'a [u8],
-    // The offsets in the data field of the data units that carry the Teletext units.
+    // The offsets of the Teletext units in the data field.
     places: &'a [u16],
 }
 
@@ -39,7 +39,7 @@ impl<'a> Model for SentUnits<'a> {
 }
 
 impl<'a> SentUnits<'a> {
-    // Creates the list of Teletext units whose data units begin at these offsets of a data field.
+    // Creates the list of Teletext units at these offsets of a data field.
     pub(crate) fn new(field: &'a [u8], places: &'a [u16]) -> Self
         requires few { length places.now ≤ most_units }
         requires within { AreWithin (length field.now) places.now }
@@ -58,7 +58,7 @@ impl<'a> SentUnits<'a> {
         self.places.len()
     }
 
-    /// Returns the Teletext packet of a unit, by the unit's number counted from 0.
+    /// Returns the Teletext packet of unit `number`, counted from 0.
     #[inline(always)]
     pub fn packet(&self, number: usize) -> SentPacket<'a>
         requires { number < length self.now }
@@ -69,7 +69,7 @@ impl<'a> SentUnits<'a> {
         SentPacket::new(block.last_chunk().unwrap())
     }
 
-    /// Returns a Teletext unit by its number counted from 0, with the bits of its packet reversed.
+    /// Returns Teletext unit `number`, counted from 0, with its packet in Teletext bit order.
     pub fn unit(&self, number: usize) -> Unit
         requires { number < length self.now }
         ensures { (other : UnitValue) → result ≡ slice_index_or self.now number other }

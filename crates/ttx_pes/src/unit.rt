@@ -5,8 +5,8 @@ ghost use Rattle.std.specs.Prelude.{replicate};
 use std::marker::Model;
 use ttx_packet::Packet;
 
-/// The contents of a data unit with a Teletext packet (EN 300 472, data unit syntax), without its
-/// reserved bits.
+/// The contents of a data unit that carries a Teletext packet (EN 300 472, data unit syntax),
+/// without its reserved bits.
 #[derive(Clone, Copy, Debug, PartialEq, Eq)]
 pub struct Unit {
     id: u8,
@@ -30,7 +30,7 @@ impl Model for Unit {
 }
 
 impl Default for Unit {
-    /// Returns the unit that fills unused places of a frame: data_unit_id 02, line 0 of the first
+    /// Returns the unit in unused array elements of a frame: data_unit_id 02, line 0 of the first
     /// field, and zero bytes.
     fn default() -> Self
         ensures { result ≡ record { id = 2; field = 1; line = 0; packet = replicate 42 0 } }
@@ -62,7 +62,7 @@ impl Unit {
         }
     }
 
-    /// Returns data_unit_id: 2 for Teletext that is not subtitles, 3 for subtitles.
+    /// Returns the data_unit_id: 3 for Teletext subtitles, 2 for other Teletext.
     pub fn id(&self) -> u8
         ensures value { result ≡ self.now.id }
         ensures range { (2 ≤ result) × (result ≤ 3) }
@@ -86,15 +86,15 @@ impl Unit {
         self.line
     }
 
-    /// Returns the Teletext packet of the unit in Teletext's own bit order.
+    /// Returns the Teletext packet of the unit in Teletext bit order.
     pub fn packet(&self) -> &Packet
         ensures value { result.now ≡ self.now.packet }
     {
         &self.packet
     }
 
-    // Returns the place in line order that the next unit has to follow, if this unit may follow the
-    // place `last`.
+    // Returns the line order position that the next unit must follow, or `None` if this unit may
+    // not follow the position `last`.
     pub(crate) fn place_after(&self, last: u8) -> Option<u8>
         requires { last < 64 }
         ensures variant { is_some result ≡ may_follow last self.now }

@@ -1,4 +1,4 @@
-//! The offsets of the Teletext units in a data field, so that the units need not be copied.
+//! The offsets of the Teletext units in a data field, with which the units need not be copied.
 ghost use Rattle.std.specs.Prelude.{◌≡◌, ◌+◌, ◌*◌, ◌/◌, ◌<◌, ◌≤◌, [], ◌∷◌, ◌++◌, length, take};
 ghost use Rattle.std.specs.Prelude.{drop};
 ghost use Rattle.std.specs.Prelude.{Err, IfErr, IfOk, MatchOption, Ok, OnOk, false, true};
@@ -14,7 +14,7 @@ use crate::fault::PesFault;
 use crate::pes_frame::MOST_UNITS;
 use std::marker::Model;
 
-/// The offsets in a data field at which the data units with Teletext packets begin, in order.
+/// The offsets of the Teletext units in a data field, in order.
 #[derive(Drop)]
 pub(crate) struct UnitPlaces {
     // Only the first `count` offsets are used.
@@ -69,8 +69,8 @@ impl UnitPlaces {
     }
 }
 
-// Returns the place in line order that the next unit has to follow, if the unit of this data unit
-// may follow the place `last`.
+// Returns the line order position that the next unit must follow, or a fault if the unit of this
+// data unit may not follow the position `last`.
 #[inline(always)]
 fn place_after(last: u8, block: &[u8]) -> Option<u8>
     requires last { last < 64 }
@@ -88,8 +88,8 @@ fn place_after(last: u8, block: &[u8]) -> Option<u8>
     if last < place { Some(place) } else { None }
 }
 
-// Appends the offset of a data unit if it carries a Teletext packet. `last` is the place in line
-// order that its unit has to follow; the result is the place that the next unit has to follow.
+// Appends the offset of a data unit if it carries a Teletext packet. Its unit must follow the line
+// order position `last`; returns the position that the next unit must follow.
 #[inline(always)]
 #[tactic(auto, using(crate::proofs::SentUnitLemmas::one_more))]
 fn take_place(places: &mut UnitPlaces, last: u8, field: &[u8], place: u16) -> Result<u8, PesFault>
@@ -122,8 +122,8 @@ fn take_place(places: &mut UnitPlaces, last: u8, field: &[u8], place: u16) -> Re
     Ok(next)
 }
 
-/// Finds the offsets of the Teletext units of a data field, up to the first fault. Reads no bytes
-/// of the Teletext packets.
+/// Finds the offsets of the Teletext units in a data field, up to the first fault. Does not read
+/// the Teletext packets.
 #[tactic(auto, using(crate::proofs::SentUnitLemmas::places_left))]
 pub(crate) fn take_places(places: &mut UnitPlaces, field: &[u8]) -> Result<(), PesFault>
     requires none { places.old ≡ [] }

@@ -17,7 +17,7 @@ use sub_io::{Sink, put_all};
 /// The bytes of a PES packet that is being written.
 pub(crate) type Bytes = ArrayVec<u8, LONGEST_PACKET>;
 
-// Appends bytes to a packet that has room for them.
+// Appends bytes to a packet that has space for them.
 pub(crate) fn add(out: &mut Bytes, bytes: &[u8])
     requires { length out.old.items + length bytes.now ≤ longest_packet }
     ensures items { out.new.items ≡ out.old.items ++ bytes.now }
@@ -43,7 +43,7 @@ pub(crate) fn packet_of(frame: &PesFrame) -> Bytes
     out
 }
 
-/// Writes PES packets with Teletext units, and remembers whether a fault occurred.
+/// A writer of PES packets with Teletext units.
 #[derive(Drop)]
 pub struct PesWriter {
     broken: bool,
@@ -52,14 +52,14 @@ pub struct PesWriter {
 impl Model for PesWriter {
     ghost use Rattle.std.specs.Prelude.{Bool};
 
-    // The model of a writer: whether a fault occurred.
+    // Its model: whether a write has failed.
     ghost Value = { Bool };
 
     ghost view = { λ w. w.broken };
 }
 
 impl PesWriter {
-    /// Creates a writer that has had no fault.
+    /// Creates a writer.
     pub fn new() -> Self
         ensures { result ≡ false }
     {
@@ -67,7 +67,7 @@ impl PesWriter {
     }
 
     /// Writes the canonical packet of a frame: its units in order, then stuffing units, in the
-    /// fewest payloads of 184 bytes that hold them (EN 300 472; the choice of stuffing is (own)).
+    /// smallest number of payloads of 184 bytes (EN 300 472; the choice of stuffing is (own)).
     ///
     /// # Errors
     ///

@@ -1,4 +1,4 @@
-//! Compares two blocks of bytes at once, one byte per lane of a vector.
+//! Compares blocks of bytes, one byte per lane of a vector.
 ghost use Rattle.std.specs.Prelude.{◌≡◌, ◌↔◌, ◌≤◌, true};
 
 use std::simd::prelude::*;

@@ -1,5 +1,4 @@
--- `holds_packet` agrees with its definition, which depends on the first six bytes:
--- holds_packet_read.
+-- `holds_packet` agrees with its definition, which depends on the first six bytes.
 use Rattle.std.proofs.Common.{◌≡◌, ◌≤◌, ◌∙◌, Err, Ok, ap, length, rules, take}
 use Rattle.ttx_pes.specs.Reading.{size_at}
 use Rattle.ttx_pes.proofs.BorrowedPacketLemmas.{holds_packet_read}

@@ -1,5 +1,5 @@
--- A data field with the same heads as the stored data field has its Teletext units at the same
--- offsets: places_equal.
+-- A data field with the same data unit headers as the stored one has its Teletext units at the same
+-- offsets.
 use Rattle.std.proofs.Common.{◌≡◌, length, arith, rules}
 use Rattle.ttx_pes.specs.Taking.{AreSameHeads}
 use Rattle.ttx_pes.proofs.HeadLemmas.{places_equal}

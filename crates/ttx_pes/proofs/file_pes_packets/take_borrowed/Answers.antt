@@ -1,4 +1,4 @@
--- A PES packet that is lent completely is processed and skipped: by PesPacketBufferLemmas.
+-- A PES packet that is completely buffered in the source is processed and skipped.
 use Rattle.std.proofs.Common.{arith, subst, sym}
 use Rattle.std.specs.Io.KnownBytes.{Consumes}
 use Rattle.sub_io.proofs.DeviceLemmas.{Consumes-skipped}

@@ -1,4 +1,4 @@
--- Each iteration of `skip_pes_packets` skips one PES packet, or ends: by LimitedLemmas.
+-- Each iteration of `skip_pes_packets` skips one PES packet, or ends the loop.
 use Rattle.std.proofs.Common.{◌∙◌, arith}
 use Rattle.sub_io.specs.declared.source.Failed.{Failed}
 use Rattle.ttx_pes.proofs.LimitedLemmas.{skipped_all, skipped_one, skipped_stop}

@@ -1,4 +1,4 @@
--- After each iteration of `skip_pes_packets`, the count is the number of PES packets skipped.
+-- After each iteration of `skip_pes_packets`, the count is the number of skipped PES packets.
 use Rattle.std.proofs.Common.{◌≡◌, ◌-◌, ◌≤◌}
 use Rattle.ttx_pes.specs.Advancing.{HasSkipped}
 use Rattle.ttx_pes.proofs.passing.skip_pes_packets.Given as goal

@@ -1,5 +1,4 @@
--- Each iteration of `fill_on` places the bytes read after those of earlier iterations, by
--- Consumes-more.
+-- Each iteration of `fill_on` stores the bytes of one pull after those of the earlier pulls.
 use Rattle.std.proofs.Common.{◌+◌, ◌-◌, ◌≤◌, arith, length, take}
 use Rattle.std.proofs.lemmas.Bool.Decides.{nat_tests}
 use Rattle.std.proofs.KnownBytes.{Consumes-kept}

@@ -1,5 +1,5 @@
--- After each iteration of `fill_on`, the bytes read follow those that were in the buffer before,
--- and no pull has failed.
+-- After each iteration of `fill_on`, the bytes read so far follow the bytes that were in the buffer
+-- before, and no pull has failed.
 use Rattle.std.proofs.Common.{◌+◌, ◌-◌, ◌≡◌, ◌≤◌, ◌++◌, length, take}
 use Rattle.std.specs.Io.KnownBytes.{Consumes, prepend_known}
 use Rattle.ttx_pes.proofs.pes_packet_buffer.fill_on.Given as goal

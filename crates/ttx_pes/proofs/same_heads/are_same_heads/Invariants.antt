@@ -1,4 +1,4 @@
--- In each iteration of `are_same_heads`, the heads of all earlier data units are the same.
+-- In each iteration of `are_same_heads`, the headers of all earlier data units are equal.
 use Rattle.std.proofs.Common.{ℕ, ◌+◌, ◌*◌, ◌<◌}
 use Rattle.ttx_pes.specs.Taking.{IsSameHead}
 use Rattle.ttx_pes.proofs.same_heads.are_same_heads.Given as goal

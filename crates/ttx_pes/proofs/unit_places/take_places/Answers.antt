@@ -1,4 +1,4 @@
--- `take_places` stops at the first data unit with a fault: places_next.
+-- `take_places` stops at the first data unit with a fault.
 use Rattle.std.proofs.Common.{◌≡◌, ◌-◌, ◌/◌, length, drop, rules, sym, ap, ◌∙◌}
 use Rattle.std.proofs.lemmas.List.{length-drop}
 use Rattle.std.proofs.lemmas.Result.{err_from_is_err_and}

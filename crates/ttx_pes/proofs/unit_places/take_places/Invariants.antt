@@ -1,5 +1,5 @@
--- After each iteration of `take_places`, the units found so far and those of the remaining data
--- units are together all units of the data field.
+-- After each iteration of `take_places`, the units found so far and the units of the remaining data
+-- units are all units of the data field.
 use Rattle.std.proofs.Common.{◌≡◌, ◌≤◌, ◌<◌, ◌+◌, ◌-◌, ◌*◌, ◌++◌, [], length, drop}
 use Rattle.ttx_pes.specs.LineOrder.{last_place}
 use Rattle.ttx_pes.specs.Reading.{units_at}

@@ -1,4 +1,4 @@
--- A PES packet with the stored data field repeats the stored packet: sent_again.
+-- A PES packet with the stored data field repeats the stored packet.
 use Rattle.std.proofs.Common.{◌∙◌, arith, rules}
 use Rattle.sub_io.specs.Reading.{AreBytes}
 use Rattle.ttx_pes.proofs.SentAgainLemmas.{sent_again}

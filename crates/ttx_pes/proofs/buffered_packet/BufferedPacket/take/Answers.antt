@@ -1,5 +1,4 @@
--- The facts about a PES packet follow from its header and its data field: facts_of_new_units,
--- facts_of_repeat.
+-- The parsed fields of a PES packet follow from its header and its data field.
 use Rattle.std.proofs.Common.{ap, ◌≡◌, arith, refl, rules}
 use Rattle.std.proofs.lemmas.Result.{err_from_is_err_and}
 use Rattle.ttx_pes.specs.Taking.{BufferedPacketValue}

@@ -1,4 +1,4 @@
--- The data field that a comparing reader stores is that of the PES packet consumed.
+-- A comparing reader stores the data field of the consumed PES packet.
 use Rattle.std.proofs.Common.{refl}
 use Rattle.ttx_pes.proofs.comparing_reader.ComparingReader.next.Goals as goal
 

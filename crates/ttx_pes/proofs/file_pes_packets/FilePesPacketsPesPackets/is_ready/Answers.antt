@@ -1,4 +1,4 @@
--- If a prefix of the lent bytes contains the next PES packet, so do all lent bytes.
+-- If a prefix of the borrowed bytes suffices to read the next PES packet, so do all borrowed bytes.
 use Rattle.std.proofs.Common.{◌∙◌, sym}
 use Rattle.ttx_pes.proofs.BorrowedPacketLemmas.{buffered_holds}
 use Rattle.ttx_pes.proofs.PesPacketBufferLemmas.{borrowed_pes_packet_holds}

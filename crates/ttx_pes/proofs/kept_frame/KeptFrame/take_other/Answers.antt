@@ -1,4 +1,4 @@
--- A PES packet that differs from the stored packet replaces it in the buffer: by KeptFrameLemmas.
+-- A PES packet that differs from the stored packet replaces it in the buffer.
 use Rattle.std.proofs.Common.{◌∙◌, Bool, false, Ok, Result, arith, subst, sym}
 use Rattle.std.proofs.lemmas.Bool.{true≢false}
 use Rattle.ttx_pes.specs.Taking.{KeepsPesPacket, KeptValue}

@@ -1,4 +1,4 @@
--- Once no PES packet has to be skipped, the range begins with the next packet: number_none.
+-- When no PES packet is still to be skipped, the range begins with the next packet.
 use Rattle.std.proofs.Common.{◌∙◌, sym}
 use Rattle.ttx_pes.proofs.PartLemmas.{number_none}
 use Rattle.ttx_pes.proofs.part_of_pes_packets.PartOfPesPackets.skip_before_range.Goals as goal

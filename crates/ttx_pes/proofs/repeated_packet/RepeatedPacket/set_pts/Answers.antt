@@ -1,4 +1,4 @@
--- Replacing the bytes of the PTS gives the canonical packet with the new PTS: refill-pts.
+-- Replacing the bytes of the PTS gives the canonical packet with the new PTS.
 use Rattle.ttx_pes.proofs.PesGrammarLemmas.{has_room_for_pts, refill-pts}
 use Rattle.ttx_pes.proofs.repeated_packet.RepeatedPacket.set_pts.Goals as goal
 

@@ -1,4 +1,4 @@
--- Teletext packet number k of a PES packet is in the data unit at offset number k: packet_at_place.
+-- Teletext packet number k of a PES packet is in the data unit at offset number k.
 use Rattle.std.proofs.Common.{◌≡◌, take, drop, get_or, rules, ◌∙◌}
 use Rattle.ttx_pes.proofs.SentUnitLemmas.{has_place, packet_at_place}
 use Rattle.ttx_pes.proofs.sent_units.SentUnits.packet.Goals as goal

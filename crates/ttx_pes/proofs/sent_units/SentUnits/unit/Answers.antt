@@ -1,4 +1,4 @@
--- Teletext unit number k of a PES packet is in the data unit at offset number k: unit_at_place.
+-- Teletext unit number k of a PES packet is in the data unit at offset number k.
 use Rattle.std.proofs.Common.{◌≡◌, take, drop, get_or, rules, sym, ap, ◌∙◌}
 use Rattle.ttx_pes.specs.Reading.{unit_of}
 use Rattle.ttx_pes.proofs.SentUnitLemmas.{has_place, is_unit_at_place, unit_at_place}
