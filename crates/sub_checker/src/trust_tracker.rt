@@ -1,4 +1,4 @@
-//! Tracks which frames are trusted: frames that can be broadcast again unchanged.
+//! Tracks which frames are trusted: frames that can be broadcast unchanged.
 ghost use Rattle.std.specs.Prelude.{◌≡◌, ◌≤◌, ◌&&◌, is_some};
 ghost use Rattle.sub_io.specs.Reporting.{first_alone};
 ghost use Rattle.sub_rules.specs.Trusted.{at_pes, trusted};
@@ -10,7 +10,7 @@ ghost use Rattle.sub_checker.specs.TrustTracker.{trusted_before};
 
 use sub_rules::{CheckFault, Event};
 
-/// Tracks which frames are trusted: frames that can be broadcast again unchanged.
+/// Tracks which frames are trusted: frames that can be broadcast unchanged.
 #[derive(Clone, Copy)]
 pub(crate) struct TrustTracker {
     /// The number of the current PES packet. It counts skipped packets too; the checker counts only

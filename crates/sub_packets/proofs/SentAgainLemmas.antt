@@ -163,8 +163,8 @@ begun_by w ps begins =
     subst (λ (xs : List (List ℕ)). holds_beginning w.keeps (kind w.page) xs ≡ true)
     (sym begins.packets_are) (or_left _ _ begins.is_header)
 
--- If the packets of the last frame broke no rule and are sent again, the listener's state stays the
--- same.
+-- If the packets of the last PES packet broke no rule and are sent again, the listener's state
+-- stays the same.
 pub received_again :
     (heard last ps : List (List ℕ)) (headers : ℕ) (s : Listener)
     → KnowsLast heard last s

@@ -72,8 +72,8 @@ abbrev pub begins_frame : Watched → ℕ → Bool → List (List ℕ) → Bool
 begins_frame w from before packets =
     (nat_lt 0 from && before) || holds_beginning w.keeps (kind w.page) packets
 
--- The listener's state agrees with all packets received, `heard`, and with those of the last frame,
--- `last`.
+-- The listener's state agrees with all packets received, `heard`, and with those of the last PES
+-- packet, `last`.
 pub record KnowsLast (heard last : List (List ℕ)) (s : Listener) : Type 0 where
   pub knows : Knows heard s
   pub last_is : (headers : ℕ) → s.last ≡ Some headers → WereJudged s.watched heard last headers

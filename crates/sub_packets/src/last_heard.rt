@@ -1,5 +1,5 @@
-//! Properties of the packets of the last frame: the number of headers of the page, whether one of
-//! them erases the page, and whether all packets are free of faults.
+//! Properties of the Teletext packets of the last PES packet: the number of headers of the page,
+//! whether one of them erases the page, and whether all packets are free of faults.
 ghost use Rattle.std.specs.Prelude.{◌≡◌, ◌+◌, ◌<◌, ◌&&◌, ◌||◌, ◌==◌, if◌then◌else◌, None, Some};
 ghost use Rattle.std.specs.Prelude.{nat_lt};
 ghost use Rattle.ttx_pes.specs.PesGrammar.{most_units};
@@ -12,8 +12,7 @@ pub(crate) fn counted(headers: u8, is_header: bool) -> u8
     if is_header { headers + 1 } else { headers }
 }
 
-/// Returns whether the first packet of a frame erases the page. `begins` says whether packet `k`
-/// does.
+/// Returns whether the first packet erases the page. `begins` says whether packet `k` does.
 pub(crate) fn begins_with(first: bool, k: usize, begins: bool) -> bool
     ensures { result ≡ (if k == 0 then begins else first) }
 {

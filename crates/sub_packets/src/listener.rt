@@ -56,8 +56,8 @@ pub struct Listener {
     pub comparison: Comparison,
     /// Whether a packet of the last frame erases the page.
     pub begun: bool,
-    // The number of headers of the page in the last frame, if its first packet erases the page and
-    // none of its packets breaks a rule.
+    // The number of headers of the page in the last PES packet, if its first Teletext packet erases
+    // the page and none of them breaks a rule.
     last: Option<u8>,
 }
 

@@ -1,15 +1,15 @@
--- Trusted frames (not defined by a standard): the frames that can be broadcast again unchanged,
--- whatever is wrong elsewhere in the file. The checker reports them in addition to the faults.
+-- Trusted frames (not defined by a standard): the frames that can be broadcast unchanged, whatever
+-- is wrong elsewhere in the file. The checker reports them in addition to the faults.
 --
 -- Checking a file produces a list of steps: events, and the starts and ends of PES packets and
 -- frames. In the definitions, `past` is the list of the steps so far, the latest first.
 --
 -- A frame is fault-free if none of its packets has a fault that affects receivers, and no fault is
 -- active at its end. If frame numbers do not increase, no later frame is fault-free. The last frame
--- before a PES packet or bytes that cannot be read is not trusted, since these may belong to it.
--- The trusted frames of a run of fault-free frames begin with the first header of the page that has
--- C4 (erase page) set, or with any header of the page if C4 must always be set. They are reported
--- when the run ends.
+-- before a faulty PES packet, or before bytes that cannot be read, is not trusted, since these may
+-- belong to it. The trusted frames of a run of fault-free frames begin with the first header of the
+-- page that has C4 (erase page) set, or with any header of the page if C4 must always be set. They
+-- are reported when the run ends.
 --
 -- If the page need not be correct at each frame end, a run is trusted only if the page was correct
 -- at one of its ends. If the run ends because the page is overdue, the frames with the wrong page

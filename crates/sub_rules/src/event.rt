@@ -3,7 +3,7 @@ use crate::end_rule::EndRule;
 use crate::fault::CheckFault;
 
 /// An event of checking a PES file: a fault, the end of a fault, or frames that can be broadcast
-/// again unchanged.
+/// unchanged.
 #[derive(Clone, Copy, Debug, PartialEq, Eq)]
 pub enum Event {
     /// A rule is broken at this place. For a rule that is checked at the end of each frame, the
@@ -19,8 +19,8 @@ pub enum Event {
     /// Several consecutive PES packets were skipped because of the same fault. The fault of the
     /// first packet was reported before; this event has the fault of the last.
     SkippedUntil(CheckFault),
-    /// Trusted frames: frames that can be broadcast again unchanged, whatever is wrong elsewhere.
-    /// They have no fault that affects receivers, and the first frame has a header of the page.
+    /// Trusted frames: frames that can be broadcast unchanged, whatever is wrong elsewhere. They
+    /// have no fault that affects receivers, and the first frame has a header of the page.
     Trusted {
         /// The first trusted frame.
         from: u32,

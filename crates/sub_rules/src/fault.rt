@@ -100,8 +100,8 @@ pub enum CheckFault {
         frame: u32,
     },
     /// At the end of a frame, a cell of the page differs from the expected page. If the page may
-    /// take `within` frames to become correct, the fault is reported when it is overdue, or at once
-    /// if the cell has a code that was not expected within these frames.
+    /// take `within` frames to become correct, the fault is reported when the page is overdue, or
+    /// at once if the cell has a code that was not expected within these frames.
     Content {
         /// The frame at whose end the cell is wrong.
         frame: u32,
@@ -117,7 +117,7 @@ pub enum CheckFault {
     },
     /// At the end of a frame, the page is open although complete pages are required: no later
     /// header has ended it. If the page may take `within` frames to become correct, the fault is
-    /// reported only when it is overdue.
+    /// reported only when the page is overdue.
     Incomplete {
         /// The frame at whose end the page is open.
         frame: u32,
@@ -134,7 +134,7 @@ pub enum CheckFault {
         frame: u32,
     },
     /// A subtitle ends after the last frame. If the page may take `within` frames to become
-    /// correct, also if it is still wrong at the end of the last frame but not yet overdue.
+    /// correct, also if the page is still wrong at the end of the last frame but not yet overdue.
     Late {
         /// The last frame of the transmission.
         frame: u32,

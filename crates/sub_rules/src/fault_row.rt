@@ -13,7 +13,7 @@ pub struct FaultRow {
     /// The place of the fault: a TTI block or a text position in the subtitle file; or a PES
     /// packet, a frame, a Teletext packet or a cell.
     pub place: FaultPlace,
-    /// Whether the fault affects receivers, so its frame cannot be broadcast again unchanged.
+    /// Whether the fault affects receivers, so its frame cannot be broadcast unchanged.
     pub invalidates: bool,
     /// Whether the PES packet is skipped: reading continues after it.
     pub is_skipped: bool,

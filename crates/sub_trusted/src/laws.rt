@@ -1,5 +1,5 @@
-//! Laws about trusted frames: they can be broadcast again unchanged, and all such frames are
-//! reported as trusted.
+//! Laws about trusted frames: they can be broadcast unchanged, and all such frames are reported as
+//! trusted.
 //!
 //! The functions have no body: the contract of each states a law.
 ghost use Rattle.sub_trusted.specs.EqualTrust.{LawOfEqualTrust};
@@ -7,10 +7,10 @@ ghost use Rattle.sub_trusted.specs.TrustedFrames.{LawOfAllTrusted, LawOfTrusted}
 ghost use Rattle.sub_trusted.specs.TrustedFrames.{LawOfTrustedKnown};
 ghost use Rattle.sub_trusted.specs.TrustedRepeats.{LawOfTrustedRepeats};
 
-/// Trusted frames of a PES file can be broadcast again unchanged, whatever is on air before and
-/// after them. The first trusted frame has a header that erases the page, and receivers recover
-/// from it. If `within` is not 0, at least one of the trusted frames is finished. No skipped PES
-/// packet was sent in them. If subtitles were rejected, this holds for the reliable subtitles.
+/// Trusted frames of a PES file can be broadcast unchanged, whatever is on air before and after
+/// them. The first trusted frame has a header that erases the page, and receivers recover from it.
+/// If `within` is not 0, at least one of the trusted frames is finished. No skipped PES packet was
+/// sent in them. If subtitles were rejected, this holds for the reliable subtitles.
 pub fn law_of_trusted_repeats()
     ensures { LawOfTrustedRepeats }
 {}

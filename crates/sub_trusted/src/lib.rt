@@ -1,5 +1,4 @@
-//! Laws about trusted frames: the frames of a faulty transmission that can be broadcast again
-//! unchanged.
+//! Laws about trusted frames: the frames of a faulty transmission that can be broadcast unchanged.
 //!
 //! `sub_laws` defines the guarantees for a range of frames, and `sub_rules` defines the reports.
 //! This crate contains no program: the contract of each function states a law.
