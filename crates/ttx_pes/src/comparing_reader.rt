@@ -168,7 +168,7 @@ impl ComparingReader {
             (P.remaining pes_packets.old)
             (P.left pes_packets.new) self.new.frame self.new.data_field }
         ensures empty { next_into_result result ≢ Ok true → self.new.frame ≡ empty_value }
-        // `Same` means that the data field is unchanged, and `Other` that it may have changed.
+        // `Same` means that the data field is unchanged, and `Other` that it has changed.
         ensures same { result ≡ Ok Same → self.new.data_field ≡ self.old.data_field }
         ensures units { result ≡ Ok Same → self.new.frame.units ≡ self.old.frame.units }
         ensures other { result ≡ Ok Other → self.new.data_field ≢ self.old.data_field }
