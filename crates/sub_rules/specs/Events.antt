@@ -359,7 +359,7 @@ first_header_events g frames zero =
     else Reported (fault.NoFirstHeader (frame_at frames 0)) ∷ []
 first_header_events g frames (suc i) = []
 
--- ---- events of the whole transmission
+-- ---- events of the entire transmission
 
 -- The events at the end of the file: each active fault ends.
 abbrev pub endings : ActiveFaults → ℕ → List Event

@@ -41,12 +41,9 @@ goes_back g = g.any_refused && not (g.within == 0)
 abbrev pub steps_before : Criteria → Option ℕ → List CheckStep
 steps_before g first_unfinished = if goes_back g then GoesBack first_unfinished ∷ [] else []
 
--- The steps at the end of a frame. If `within` is not 0, the first steps say since which frame the
--- page is unfinished, and whether that is a fault; then come the events.
---
---   i   how many frames of the transmission were sent by the end of the frame before
---   n   how many were sent by this end
---   f   the frame of the day
+-- The steps at the end of frame f. If `within` is not 0, the first steps have the first frame with
+-- an unfinished page, and whether the page is overdue. The events follow. By this end, n frames of
+-- the transmission were sent; by the previous end, i frames.
 abbrev pub steps_at_end : Criteria → Transmission → ℕ → ℕ → ℕ → List CheckStep
 steps_at_end g frames i n f =
     steps_before g (first_unfinished_before g frames i f)
