@@ -1,11 +1,13 @@
 """All lines about a recording, in order."""
 from __future__ import annotations
 
+from typing import NamedTuple
+
 from developing.every_place.recordings import TIME_STAMP, UNSEEN, Skipped, packets_of
 from developing.every_place.reading import HEAD
 from subtitles.common.times import ticks_between
 from subtitles.formats.teletext import START, Page
-from .clocks import Clock, Counters
+from .clocks import Clock, Counters, Seconds
 from .packets import Packet, size_of
 from .pictures import Video, is_video
 from .tables import PAT, PMT, Programme, Sections, pids_in, programme_of
@@ -13,7 +15,9 @@ from .teletext import PesLines, Teletext
 
 HEAD_BYTES = 11
 TIMED = 192  # size of packets with a time stamp
-NO_PCR = 0x1FFF
+READ = 65_536  # bytes
+MOST, MOST_TABLES = 64, 128  # PIDs
+NO_PCR = NULL = 0x1FFF  # PCR_PID of a programme without PCR; PID of null packets
 DATA_IDENTIFIERS = range(0x10, 0x20)
 
 
@@ -50,6 +54,13 @@ def pes_file_lines(data: bytes, page: Page) -> list[str]:
     return [*lines, "over 0 0"]
 
 
+class Named(NamedTuple):
+    """What a PMT says of a PID: the PCR_PID of its programme, and its stream_type."""
+
+    clock: int
+    kind: int
+
+
 class Stream:
     """A transport stream."""
 
@@ -61,14 +72,14 @@ class Stream:
         self.counters = Counters()
         self.sections = {0: Sections()}
         self.printed: dict[tuple[int, int], bytes] = {}  # sections of PMTs
-        self.programmes: dict[int, Programme] = {}
+        self.named: dict[int, Named] = {}  # by the last PMT that names the PID
         self.clocks: dict[int, Clock] = {}
         self.teletext: dict[int, Teletext] = {}
         self.video: dict[int, Video] = {}
-        self.others: set[int] = set()  # PIDs without Teletext and video
+        self.others: set[int] = set()  # PIDs without Teletext
 
     def lines_of(self, data: bytes, is_short: bool) -> list[str]:
-        """Return the lines; in a short recording the last lines of `pes` come late."""
+        """Return the lines; sometimes the last lines of `pes` come late."""
         if self.asked is not None:
             self.follow(self.asked)
         skipped = 0
@@ -79,7 +90,7 @@ class Stream:
                     teletext.stretch.is_hurt |= one.length >= UNSEEN * self.size
             else:
                 self.take(Packet(one.data))
-        if not is_short:
+        if not is_short and len(data) % READ:
             for teletext in self.teletext.values():
                 teletext.lines.flush()
         self.end()
@@ -88,8 +99,7 @@ class Stream:
 
     def end(self) -> None:
         for teletext in self.teletext.values():
-            while teletext.waiting:
-                teletext.print_jump()
+            teletext.print_jumps()
         for video in self.video.values():
             video.end()
         for _, teletext in sorted(self.teletext.items()):
@@ -99,27 +109,32 @@ class Stream:
                 self.say(f"pcr {pid} {clock.last}")
 
     def follow(self, pid: int) -> None:
-        if pid not in self.teletext:
+        if pid not in self.teletext and len(self.teletext) < MOST:
             self.say(f"teletext {pid}")
             self.teletext[pid] = Teletext(pid, self.page, self.say, self.counters)
 
     def take(self, packet: Packet) -> None:
         pid = packet.pid
         self.place += 1
+        if pid == NULL:
+            return
         self.counters.take(packet, self.place)
         if pid in self.clocks:
             self.take_pcr(self.clocks[pid], packet)
         if pid in self.sections:
             for section in self.sections[pid].take(packet):
                 self.take_section(pid, section)
-        elif not {pid} & (self.teletext.keys() | self.video.keys() | self.others):
+        elif pid not in self.teletext and pid not in self.others:
             self.look_at(packet)
+        if pid in self.video:
+            self.video[pid].take(packet)
         if pid in self.teletext:
             pts = self.teletext[pid].take(packet)
             if pts is not None:
                 self.compare(self.teletext[pid], pts)
-        elif pid in self.video:
-            self.video[pid].take(packet)
+        for teletext in self.teletext.values():
+            if teletext.waiting:
+                teletext.print_jumps(self.place)
 
     def look_at(self, packet: Packet) -> None:
         """Detect whether a PID has Teletext or video."""
@@ -128,7 +143,9 @@ class Stream:
                 or not data.startswith(START[:3]):
             return
         if is_video(data):
-            self.video[packet.pid] = Video(packet.pid, self.say, self.kind_of)
+            self.others.add(packet.pid)
+            if len(self.video) < MOST:
+                self.video[packet.pid] = Video(packet.pid, self.say, self.kind_of)
         elif not data.startswith(START):
             self.others.add(packet.pid)
         elif len(data) > 9 and len(data) > 9 + data[8]:
@@ -142,7 +159,8 @@ class Stream:
     def take_section(self, pid: int, section: bytes) -> None:
         if pid == 0 and section[0] == PAT:
             for one in pids_in(section):
-                self.sections.setdefault(one, Sections())
+                if len(self.sections) < MOST_TABLES:
+                    self.sections.setdefault(one, Sections())
         elif pid != 0 and section[0] == PMT and self.is_new(section):
             programme = programme_of(section)
             if programme:
@@ -156,24 +174,23 @@ class Stream:
 
     def take_programme(self, programme: Programme) -> None:
         self.say(f"programme {programme.number} {programme.clock}")
-        self.programmes[programme.number] = programme
-        if programme.clock != NO_PCR:
+        if programme.clock != NO_PCR and len(self.clocks) < MOST:
             self.clocks.setdefault(programme.clock, Clock(programme.clock, self.say))
         for stream in programme.streams:
             self.say(f"stream {stream.pid} {stream.kind}")
+            self.named[stream.pid] = Named(programme.clock, stream.kind)
             for page in stream.announced:
                 self.say(f"announce {stream.pid} {page}")
             if stream.announced and self.asked is None:
                 self.follow(stream.pid)
 
+    def clock_of(self, pid: int) -> int:
+        """Return the PCR_PID of the programme of a PID."""
+        return self.named[pid].clock if pid in self.named else NO_PCR
+
     def kind_of(self, pid: int) -> int | None:
         """Return the stream_type of a PID."""
-        return next((stream.kind for programme in self.programmes.values()
-                     for stream in programme.streams if stream.pid == pid), None)
-
-    def programme_with(self, pid: int) -> Programme | None:
-        return next((programme for programme in self.programmes.values()
-                     if pid in [stream.pid for stream in programme.streams]), None)
+        return self.named[pid].kind if pid in self.named else None
 
     # Clocks
 
@@ -184,23 +201,23 @@ class Stream:
             return
         jump = clock.take(packet.pcr, self.place)
         for pid, teletext in self.teletext.items():
-            programme = self.programme_with(pid)
-            if programme and programme.clock == clock.pid:
+            if self.clock_of(pid) == clock.pid:
                 teletext.note_pcr(jump)
 
     def compare(self, teletext: Teletext, pts: int) -> None:
         """Compare a PTS with the programme's pictures and PCR."""
-        programme = self.programme_with(teletext.pid)
-        if not programme or programme.clock == NO_PCR:
+        pcr_pid = self.clock_of(teletext.pid)
+        if pcr_pid == NO_PCR:
             return
-        pids = [stream.pid for stream in programme.streams]
-        video = next((one for pid, one in self.video.items() if pid in pids), None)
-        if video and video.decoding is not None and video.number != teletext.picture:
-            teletext.picture = video.number
+        video = next((one for pid, one in self.video.items() if self.clock_of(pid) == pcr_pid), None)
+        if video and video.decoding is not None and (video, video.number) != teletext.picture:
+            if video != teletext.picture[0]:
+                teletext.leads = Seconds()
+            teletext.picture = video, video.number
             if teletext.leads.is_next(pts):
                 self.say(f"lead {teletext.pid} {pts} {ticks_between(video.decoding, pts)} "
                          f"{video.pid} {video.number}")
-        clock = self.clocks[programme.clock]
-        if clock.last is not None and clock.is_near(self.place) and not teletext.is_behind_gap \
+        clock = self.clocks.get(pcr_pid)
+        if clock and clock.last is not None and clock.is_near(self.place) and not teletext.is_behind_gap \
                 and teletext.aheads.is_next(pts):
             self.say(f"ahead {teletext.pid} {pts} {ticks_between(clock.last, pts)}")

@@ -12,7 +12,7 @@ from .packets import Packet
 MOST_TICKS = 900_000  # of a group, 10 seconds
 VIDEO = 0xE0  # stream_id of video; the lower four bits may differ
 MPEG, H264, HEVC = (1, 2), 0x1B, 0x24  # stream_type
-GROUP = 0xB8  # start code of a group of pictures
+GROUP, PICTURE = 0xB8, 0  # start codes
 CLOSED_GOP = 0x40
 START = b"\0\0\1"
 
@@ -33,6 +33,8 @@ def form_of(kind: int | None, data: bytes) -> str | None:
         if kind == HEVC and data[at + 3] >> 1 & 63 < 32:  # nal_unit_type of a slice
             unit = data[at + 3] >> 1 & 63
             return "closed" if 17 <= unit <= 20 else "open" if unit in (16, 21) else "unknown"
+        if kind != HEVC and data[at + 3] == PICTURE:
+            return "unknown"
         if kind != HEVC and data[at + 3] == GROUP and at + 7 < len(data):
             return "closed" if data[at + 7] & CLOSED_GOP else "open"
         at = data.find(START, at + 3)
@@ -88,13 +90,12 @@ class Video:
         self.stretch = Stretch(packet)
 
     def take_payload(self, packet: Packet) -> None:
-        if packet.begins and (packet.is_scrambled or not packet.is_wrong):
-            self.first, self.header = None, b""
-            self.is_flagged |= packet.is_random_access
-            self.is_next_flagged, self.is_flagged = self.is_flagged, False
-            if packet.is_scrambled:
-                self.header = None
-                self.begin(None, None)
+        if packet.begins:
+            self.is_next_flagged = self.is_flagged or packet.is_random_access
+            self.first, self.is_flagged = None, False
+            self.header = None if packet.is_wrong else b""
+            if packet.is_scrambled and self.begin(None, None):
+                self.first = b""
         if packet.is_wrong:
             return
         if self.header is not None:

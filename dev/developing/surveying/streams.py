@@ -7,18 +7,20 @@ from random import Random
 from typing import Callable, NamedTuple
 
 from developing.every_place.recordings import PACKET, SIZES, SYNC
-from developing.every_place.streams import (Unit, any_place, change, is_packet, random_bytes,
-                                            stream_of, without_payload)
-from developing.multiplex import crc
+from developing.every_place.streams import (Unit, any_place, change, is_packet, made_wrong,
+                                            random_bytes, stream_of, without_payload)
 from developing.pes import packet as teletext_packet, pes_packet, pts_bytes, triplet
 from subtitles.common.times import CLOCK, wrapped
 from subtitles.formats.teletext import START, Page, page_name
+from .tables import checked
 
 FULL = PACKET - 4
 BEGINS = 0x40
 RANDOM_ACCESS, PCR_FLAG = 0x40, 0x10
 MPEG_1, MPEG_2, H264, HEVC = 0x01, 0x02, 0x1B, 0x24  # stream_type
 NO_PCR = 0x1FFF
+FIRST_PCR = 0x11F  # PCR_PID of the first programme, if it has a PID of its own
+NULL = bytes([SYNC, 0x1F, 0xFF, 0x10]).ljust(PACKET, b"\xff")
 PAGES: list[Page] = [(0, 0x88), (0, 0x88), (0, 0x88), (0, 0x77), (1, 0x88), (0, 0xFF), (7, 0x99)]
 
 
@@ -31,6 +33,7 @@ class Multiplex:
         self.chance = chance
         self.units: list[Unit] = []
         self.counters: dict[int, int] = {}
+        self.losses: list[int] = []  # places of units
 
     def send(self, pid: int, payload: bytes, begins: bool = False, flags: int = 0,
              pcr: int | None = None) -> None:
@@ -57,15 +60,20 @@ class Multiplex:
             self.send(pid, data[place:place + size], place == 0, flags, pcr)
             place, flags, pcr = place + size, 0, None
 
-    def send_section(self, pid: int, table: int, number: int, version: int, body: bytes) -> None:
-        """Send a section, sometimes with current_next_indicator 0, or after stuffing bytes."""
-        is_current = self.chance.random() < 0.97
-        data = struct.pack(">BHHBBB", table, 0xB000 | len(body) + 9, number,
-                           0xC0 | version << 1 | is_current, 0, 0) + body
-        before = b"\xff" * self.chance.choice([0, 0, 0, 0, 5, 170])
-        data = bytes([len(before)]) + before + data + crc(data).to_bytes(4, "big")
-        for place in range(0, len(data), FULL):
-            self.send(pid, data[place:place + FULL].ljust(FULL, b"\xff"), place == 0)
+    def send_sections(self, pid: int, table: int, number: int, version: int, body: bytes) -> None:
+        """Send a section after stuffing bytes, sometimes two."""
+        data, starts = b"\xff" * self.chance.choice([0, 0, 0, 0, 5, 170]), []
+        for section in self.chance.choice([[0], [0], [0], [1], [1, 0]]):
+            is_current = self.chance.random() < 0.97
+            made = struct.pack(">BHHBBB", table, 0xB000 | len(body) + 9, number,
+                               0xC0 | version << 1 | is_current, section, section) + body
+            starts.append(len(data))
+            data += made + checked(made).to_bytes(4, "big")
+        while data:
+            pointer = bytes([start for start in starts if 0 <= start < FULL - 1][:1])
+            size = FULL - len(pointer)
+            self.send(pid, (pointer + data[:size]).ljust(FULL, b"\xff"), pointer != b"")
+            data, starts = data[size:], [start - size for start in starts]
 
 
 def random_descriptors(chance: Random, announces: bool) -> bytes:
@@ -78,7 +86,8 @@ def random_descriptors(chance: Random, announces: bool) -> bytes:
             bytes(chance.choices(b"engdufra", k=3)) + bytes([chance.randrange(256), page])
             for page in chance.choices([0x88, 0x77, 0x99, 0x00], k=chance.choice([1, 1, 2, 5])))
         pages += b"x" * chance.choice([0, 0, 0, 1, 4])
-        made += bytes([chance.choice([0x56, 0x56, 0x46]), len(pages)]) + pages
+        more = chance.choice([0] * 30 + [5, 9])  # the descriptor goes beyond its stream
+        made += bytes([chance.choice([0x56, 0x56, 0x46]), len(pages) + more]) + pages
     return made
 
 
@@ -131,6 +140,8 @@ def teletext_pes(chance: Random, pts: int, packets: list[bytes]) -> bytes:
     data = pes_packet(wrapped(pts), packets)
     if chance.random() < 0.02:
         return data[:6] + b"\xff" * (len(data) - 6)  # a gap marker, if it is short
+    if chance.random() < 0.04:  # another PTS_DTS_flags
+        return data[:7] + bytes([chance.choice([0, 0x40, 0xC0])]) + data[8:]
     if chance.random() < 0.05:
         unit = 46 * chance.randrange(1, len(data) // 46)
         places = [range(unit, unit + 4), [0, 3, 4, 5, 6, 7, 8, 9, 11, 13, 45]]
@@ -155,7 +166,7 @@ def time_bytes(prefix: int, ticks: int) -> bytes:
 
 def picture_pes(chance: Random, kind: int, pts: int, dts: int, is_first: bool, is_odd: bool
                 ) -> bytes:
-    """Return a PES packet with a picture; an odd one has another start or header."""
+    """Return a PES packet with a picture or two; an odd one has another start or header."""
     head = b"\0\0\1\xe0\0\0\x84\xc0\x0a" + time_bytes(3, pts) + time_bytes(1, dts)
     if dts == pts and chance.random() < 0.9:
         head = b"\0\0\1\xe0\0\0\x84\x80\x05" + time_bytes(2, pts)
@@ -167,9 +178,9 @@ def picture_pes(chance: Random, kind: int, pts: int, dts: int, is_first: bool, i
         changed[place] = chance.choice(values)
         head = bytes(changed)
     codes = [code for code in BEFORE_PICTURE[kind] if is_first and chance.random() < 0.8]
-    for code in [*codes, chance.choice(OF_PICTURE[kind])]:
+    for code in [*codes, chance.choice(OF_PICTURE[kind]), *codes[:chance.choice([0, 0, 0, 4])]]:
         head += b"\0" * chance.choice([2, 2, 3]) + bytes([1, code]) \
-            + bytes(chance.choices(range(4, 255), k=chance.choice([4, 8, 60, 200])))
+            + chance.randbytes(chance.choice([4, 8, 60, 200]))
     return head
 
 
@@ -192,8 +203,8 @@ class Programme:
         self.events: list[Event] = []
         self.streams: list[tuple[int, int, bool]] = []  # stream_type, PID, whether it is announced
         videos, teletexts = chance.choice([0, 1, 1, 1, 2]), chance.choice([0, 1, 1, 1, 2, 3])
-        pcr = chance.choice(["own PID", "own PID", "video", "none"])
-        self.clock = first if pcr == "video" and videos else NO_PCR if pcr == "none" else first + 15
+        self.clock = chance.choice([first + 15, first + 15, FIRST_PCR, first if videos else first + 15,
+                                    NO_PCR])
         for at in range(min(videos, 1) if is_small else videos):
             self.add_video(first + at)
         for at in range(min(teletexts, 1) if is_small else teletexts):
@@ -202,8 +213,22 @@ class Programme:
             self.add_other(first + 14)
         if self.clock == first + 15:
             self.each(chance.choice([1800, 3600, 3600, 9000, 20_000]), lambda _, time: (
-                mux.send(self.clock, b"", pcr=self.pcr_at(time))))
+                mux.send(self.clock, bytes(chance.choice([0, 0, 10, 177])), pcr=self.pcr_at(time))))
+        for at, _ in self.jumps:
+            self.events.append((at, self.splice))
         self.change_pmt()
+
+    def splice(self) -> None:
+        """Jump with the counters too, sometimes announced, and lose TS packets."""
+        chance, mux = self.chance, self.mux
+        for pid in [self.clock, *[pid for _, pid, _ in self.streams]]:
+            if chance.random() < 0.3:
+                mux.counters[pid] = chance.randrange(16)
+            if chance.random() < 0.5:
+                mux.units.append(Unit(without_payload(chance, pid, True)))
+                if chance.random() < 0.3:
+                    mux.units[-1] = made_wrong(chance, mux.units[-1])
+        mux.losses.append(len(mux.units) + chance.randrange(-3, 6))
 
     def random_jumps(self, ticks: list[int], count: int) -> TimeJumps:
         return [(self.chance.randrange(self.length), self.chance.choice(ticks))
@@ -225,7 +250,7 @@ class Programme:
     def add_video(self, pid: int) -> None:
         chance, mux = self.chance, self.mux
         kind = chance.choice(list(OF_PICTURE))
-        self.streams.append((kind if chance.random() < 0.9 else 6, pid, False))
+        self.streams.append((kind, pid, False))
         step, group = chance.choice([3600, 3600, 3003, 1800, 40_000]), chance.choice([5, 12, 400])
         late, odd = chance.choice([0, 0, 1, 2]), chance.choice([0, 0, 0, 0.1])
         sizes = chance.choice([(FULL,), (FULL,), (FULL, FULL, 5, 12, 100)])
@@ -247,7 +272,7 @@ class Programme:
         if is_announced or chance.random() < 0.5:
             self.streams.append((6, pid, is_announced))
         delay = chance.choice([0, 9000, -20_000])
-        sizes = chance.choice([(FULL,)] * 3 + [(FULL, 30, 100)])
+        sizes = chance.choice([(FULL,), (FULL,), (FULL, 5, 12, 100)])
         same = random_teletext(chance, True)
 
         def send(_: int, time: int) -> None:
@@ -278,6 +303,9 @@ class Programme:
         info = random_descriptors(self.chance, False)
         self.pmt = struct.pack(">HH", 0xE000 | self.clock, 0xF000 | len(info)) + info
         for kind, pid, is_announced in self.streams:
+            if self.chance.random() < 0.15:
+                continue
+            kind = kind if self.chance.random() < 0.9 else 6
             more = random_descriptors(self.chance, is_announced)
             self.pmt += struct.pack(">BHH", kind, 0xE000 | pid, 0xF000 | len(more)) + more
 
@@ -287,23 +315,25 @@ def random_units(chance: Random) -> list[Unit]:
     mux = Multiplex(chance)
     count, length = chance.choice([
         (1, 1_200_000), (1, 400_000), (1, 90_000), (1, 90_000), (2, 200_000), (2, 90_000),
-        (3, 90_000), (40, 9000)])
+        (3, 90_000), chance.choice([(40, 9000), (140, 4500)])])
     programmes = [Programme(chance, mux, number, length, count > 3)
                   for number in range(1, count + 1)]
 
     def send_tables() -> None:
         if chance.random() < 0.2:
             chance.choice(programmes).change_pmt()
-        mux.send_section(0, 0, 1, 0, b"".join(
+        mux.send_sections(0, 0, 1, 0, b"".join(
             struct.pack(">HH", one.number, 0xE000 | one.pmt_pid) for one in programmes))
         for one in programmes:
-            mux.send_section(one.pmt_pid, 2, one.number, one.version, one.pmt)
+            mux.send_sections(one.pmt_pid, 2, one.number, one.version, one.pmt)
 
     first, step = chance.choice([0, 0, 1, 9000]), chance.choice([9000, 45_000])
     events: list[Event] = [(time, send_tables) for time in range(first, length, step)]
     events += [event for one in programmes for event in one.events]
     for _, event in sorted(events, key=lambda event: event[0]):
         event()
+    for at in reversed(mux.losses):
+        del mux.units[max(0, at):at + chance.choice([0, 1, 2, 3])]
     return mux.units
 
 
@@ -316,6 +346,9 @@ def announce_jump(chance: Random, units: list[Unit]) -> None:
     at, more = any_place(chance, units), chance.choice([0, 1, 5])
     pid = pid_of(units[at])
     announcing = bytearray(without_payload(chance, pid, True))
+    if units[at].packet[3] & 0x20 and units[at].packet[4] and chance.random() < 0.5:
+        announcing = bytearray(units[at].packet)  # again, but announced
+        announcing[5] |= 0x80
     if chance.random() < 0.3:
         place, bit = chance.choice([(1, 0x80), (3, 0x40), (3, 0x10), (5, 0x80)])
         announcing[place] ^= bit
@@ -362,7 +395,7 @@ def random_pes_file(chance: Random) -> bytes:
 def random_recording(seed: int) -> Recording:
     chance = Random(f"survey {seed}")
     page = chance.choice(PAGES[2:5]) if chance.random() < 0.2 else PAGES[0]
-    if chance.random() < 0.06:
+    if chance.random() < 0.1:
         return Recording(random_pes_file(chance), page)
     units, size = random_units(chance), chance.choice(SIZES)
     pid = pid_of(chance.choice(units)) if units and chance.random() < 0.1 else None
@@ -372,7 +405,14 @@ def random_recording(seed: int) -> Recording:
                 change(chance, units, size)
             else:
                 announce_jump(chance, units)
+    for _ in range(4 if chance.random() < 0.05 else 0):
+        many = (NULL + bytes(size - PACKET)) * 1700
+        units.insert(chance.randrange(len(units) + 1), Unit(many + NULL))
+    if chance.random() < 0.03:
+        units = [one for one in units if chance.random() < 0.7]
     data = stream_of(chance, units, size)
+    if chance.random() < 0.05:  # a few packets of another size
+        data = stream_of(chance, units[:4], chance.choice(SIZES)) + data
     data = data[chance.randrange(1000) if chance.random() < 0.2 else 0:]
     data = data[:len(data) - (chance.randrange(1000) if chance.random() < 0.2 else 0)]
     if chance.random() < 0.01:

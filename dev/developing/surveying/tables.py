@@ -1,6 +1,7 @@
 """PAT and PMT (ISO/IEC 13818-1, 2.4.4), and the Teletext that a PMT announces (EN 300 468)."""
 from __future__ import annotations
 
+from functools import lru_cache
 from typing import Iterator, NamedTuple
 
 from developing.multiplex import crc
@@ -10,6 +11,7 @@ from .packets import Packet
 PAT, PMT = 0, 2  # table_id
 CURRENT = 1  # current_next_indicator
 ANNOUNCING = 0x56, 0x46  # Teletext descriptor, VBI Teletext descriptor
+checked = lru_cache(256)(crc)
 
 
 class Stream(NamedTuple):
@@ -63,7 +65,7 @@ class Sections:
             if len(self.part) < 3 or len(self.part) < length:
                 return
             section, self.part = self.part[:length], self.part[length:]
-            if length >= 12 and section[5] & CURRENT and crc(section) == 0:
+            if length >= 12 and section[5] & CURRENT and checked(section) == 0:
                 yield section
 
 

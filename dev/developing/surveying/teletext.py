@@ -10,10 +10,12 @@ from subtitles.formats.teletext import NUMBER, START as PES_START, SUBTITLE, Pag
     page_name
 from .clocks import Counters, Jump, Say, Seconds, number
 from .packets import Packet
+from .pictures import Video
 from .page import DecodedPage, Rows, decode_triplet, shown
 
 MARK = 45  # the fault of a gap marker
 MOST_JUMPS = 4  # jumps that wait for their line
+MOST_PACKETS = 5000  # for which a jump waits
 CHARACTER_SETS = 28, 29  # packets with character sets
 
 
@@ -141,7 +143,8 @@ class Teletext:
         self.is_complete = True
         self.is_behind_gap = False
         # Next to other clocks.
-        self.aheads, self.leads, self.picture = Seconds(), Seconds(), 0
+        self.aheads, self.leads = Seconds(), Seconds()
+        self.picture: tuple[Video | None, int] = None, 0  # of the last `lead`, and its number
         self.settled: int | None = None  # the last PTS before the last PCR
         # Jumps of the PCR that wait for their lines, with the PTS before and after.
         self.waiting: list[tuple[Jump, int | None, int | None]] = []
@@ -149,6 +152,7 @@ class Teletext:
     def take(self, packet: Packet) -> int | None:
         """Take a TS packet of the PID; return the PTS that is now known."""
         self.packets += 1
+        self.is_behind_gap &= not self.refusal
         self.scrambled += packet.is_scrambled
         stretch = self.stretch
         if packet.is_wrong:
@@ -218,6 +222,11 @@ class Teletext:
             if len(self.waiting) > MOST_JUMPS:
                 self.print_jump()
         self.settled = self.last_pts
+
+    def print_jumps(self, place: int | None = None) -> None:
+        """Print the jumps that have waited long enough, or all."""
+        while self.waiting and (place is None or place - self.waiting[0][0].last > MOST_PACKETS):
+            self.print_jump()
 
     def print_jump(self) -> None:
         jump, before, after = self.waiting.pop(0)
