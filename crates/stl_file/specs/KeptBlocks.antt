@@ -11,9 +11,9 @@ use Rattle.stl_file.specs.SubtitleBlocks.{IsBlock}
 use Rattle.stl_file.specs.TimeCode.{day}
 use Rattle.stl_file.specs.Tti.{ebn, is_skipped_block, last_block}
 
--- The block b is neither a comment nor user data, and is not removed. The first block of a subtitle
--- is not removed if it is not outside the scope, a later block if the first block was not removed.
--- `within` is `None` before a first block, and otherwise whether the first block was not removed.
+-- The block b, which is neither a comment nor user data, belongs to a subtitle that is not outside
+-- the scope. `within` is `None` if b is the first block of a subtitle; for a later block, it says
+-- whether the first block was not outside the scope.
 abbrev pub stays : Scope → Option Bool → List ℕ → Bool
 stays scope None b = not (begins_outside scope b)
 stays scope (Some stayed) b = stayed
@@ -23,8 +23,8 @@ abbrev pub within_after : Scope → Option Bool → List ℕ → Option Bool
 within_after scope within b =
     if ebn b == last_block then None else Some (stays scope within b)
 
--- The blocks of a file without those of subtitles outside the scope. Comments and user data are not
--- removed.
+-- The blocks of a file without the blocks of subtitles outside the scope. Comments and user data
+-- stay in the list.
 abbrev pub kept_blocks : Scope → Option Bool → List (List ℕ) → List (List ℕ)
 kept_blocks scope within [] = []
 kept_blocks scope within (b ∷ bs) =

@@ -29,11 +29,11 @@ pub record SubSetValue : Type 0 where
 abbrev pub three_bits : ℕ → ℕ → ℕ → NationalBits
 three_bits c12 c13 c14 = record { c12 = c12 == 1; c13 = c13 == 1; c14 = c14 == 1 }
 
--- The character at the place `cell` that has a byte of its own.
+-- The character at the place `cell` that is encoded as a single byte.
 abbrev pub plain : ℕ → ℕ → NationalCharacter
 plain cell byte = record { cell = cell; mark = None; byte = byte }
 
--- The character at the place `cell` that is a diacritical mark with the letter after it.
+-- The character at the place `cell` that is encoded as a diacritical mark and a letter.
 abbrev pub with_mark : ℕ → ℕ → ℕ → NationalCharacter
 with_mark cell mark letter = record { cell = cell; mark = Some mark; byte = letter }
 

@@ -11,7 +11,7 @@ use crate::national::{National, NationalBits};
 pub(crate) struct NationalCharacter {
     /// The code of the character's cell on a page.
     pub(crate) cell: u8,
-    /// The diacritical mark before the character's byte, if it has one.
+    /// The diacritical mark before the byte of the character, if any.
     pub(crate) mark: Option<u8>,
     /// The byte of the character; after a diacritical mark, the byte of the letter.
     pub(crate) byte: u8,

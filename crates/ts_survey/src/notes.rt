@@ -60,7 +60,7 @@ impl Notes {
         }
     }
 
-    /// Ends a PES packet, and adds the state of the receiver after it to the events.
+    /// Ends a PES packet, and adds the state of the receiver after this packet to the events.
     pub fn end(&self, receiver: &Blank, heard: &mut Heard) {
         let is_blank = is_blank(receiver.page());
         heard.add_if(receiver.open(), b'o');

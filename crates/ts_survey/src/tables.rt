@@ -224,8 +224,8 @@ fn is_known_section(known: &[KnownSection], name: SectionName, crc: &[u8; 4]) ->
         .any(|one| is_same_name(one.name, name) && one.crc == *crc)
 }
 
-/// Returns the two parts of a payload with sections: the end of the sections that began before, and
-/// the sections that begin in this payload, if any (ISO/IEC 13818-1, pointer_field).
+/// Splits a payload with sections by its pointer_field (ISO/IEC 13818-1). Returns the end of the
+/// sections that began in earlier payloads, and the sections that begin in this payload, if any.
 pub fn parts_of<'a>(packet: &[u8; PACKET], payload: &'a [u8]) -> (&'a [u8], Option<&'a [u8]>) {
     if !begins(packet) || payload.is_empty() {
         return (payload, None);

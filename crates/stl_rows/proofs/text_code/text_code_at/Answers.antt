@@ -1,4 +1,4 @@
--- `text_code_at`: one or two bytes are one text code. All cells are below 128.
+-- `text_code_at` reads one or two bytes as a text code, whose cell is below 128.
 use Rattle.std.proofs.Common.{arith, subst, sym}
 use Rattle.std.proofs.lemmas.Bool.Decides.{nat_tests}
 use Rattle.std.specs.Prelude.{IfSome}
