@@ -1,22 +1,22 @@
 -- The GSI block (EBU Tech 3264), 1024 bytes. Each field with its offset and its length:
 --
---   CPN 0 3 code page number TNG 248 3 number of subtitle groups
---   DFC 3 8 disk format code MNC 251 2 displayable characters in a row
---   DSC 11 1 display standard code MNR 253 2 displayable rows
---   CCT 12 2 character code table TCS 255 1 time code status
---   LC 14 2 language code TCP 256 8 time code of the programme's start
---   OPT 16 32 original programme title TCF 264 8 time code of the first in-cue
---   OET 48 32 original episode title TND 272 1 number of disks
---   TPT 80 32 translated programme title DSN 273 1 disk sequence number
---   TET 112 32 translated episode title CO 274 3 country of origin
---   TN 144 32 translator's name PUB 277 32 publisher
---   TCD 176 32 translator's contact EN 309 32 editor's name
---   SLR 208 16 subtitle list reference ECD 341 32 editor's contact
---   CD 224 6 creation date 373 75 spare
---   RD 230 6 revision date UDA 448 576 user-defined area
---   RN 236 2 revision number
---   TNB 238 5 number of TTI blocks
---   TNS 243 5 number of subtitles
+--   CPN    0   3   code page number           TNG  248   3   number of subtitle groups
+--   DFC    3   8   disk format code           MNC  251   2   displayable characters in a row
+--   DSC   11   1   display standard code      MNR  253   2   displayable rows
+--   CCT   12   2   character code table       TCS  255   1   time code status
+--   LC    14   2   language code              TCP  256   8   time code of the programme's start
+--   OPT   16  32   original programme title   TCF  264   8   time code of the first in-cue
+--   OET   48  32   original episode title     TND  272   1   number of disks
+--   TPT   80  32   translated programme title DSN  273   1   disk sequence number
+--   TET  112  32   translated episode title   CO   274   3   country of origin
+--   TN   144  32   translator's name          PUB  277  32   publisher
+--   TCD  176  32   translator's contact       EN   309  32   editor's name
+--   SLR  208  16   subtitle list reference    ECD  341  32   editor's contact
+--   CD   224   6   creation date                   373  75   spare
+--   RD   230   6   revision date              UDA  448 576   user-defined area
+--   RN   236   2   revision number
+--   TNB  238   5   number of TTI blocks
+--   TNS  243   5   number of subtitles
 --
 -- DFC, DSC and CCT decide whether a file is accepted; all other bytes are stored but not checked.
 use Rattle.std.specs.Prelude.{◌≡◌, ℕ, ◌+◌, ◌/◌, ◌%◌, Bool, false, true, not, ◌&&◌, ◌||◌, ◌==◌}

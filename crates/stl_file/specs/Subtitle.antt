@@ -6,12 +6,12 @@ use Rattle.stl_file.specs.Tti.{unused_space}
 
 -- A subtitle (EBU Tech 3264, TTI block):
 --
---   sgn subtitle group number, one byte
---   sn subtitle number, two bytes
---   tci, tco time code in and out, as frames of the day
---   vp vertical position: the row of the first line
---   jc justification code
---   text the text of all blocks of the subtitle, in the code of the file's CCT
+--   sgn       subtitle group number, one byte
+--   sn        subtitle number, two bytes
+--   tci, tco  time code in and out, as frames of the day
+--   vp        vertical position: the row of the first line
+--   jc        justification code
+--   text      the text of all blocks of the subtitle, in the code of the file's CCT
 pub record SubtitleValue : Type 0 where
   pub sgn : ℕ
   pub sn : ℕ

@@ -1,16 +1,16 @@
 -- A TTI block (EBU Tech 3264), 128 bytes:
 --
---   0 SGN subtitle group number
---   1, 2 SN subtitle number, low byte first
---   3 EBN extension block number: 00 to EF more blocks follow, F0 to FD reserved,
+--   0        SGN  subtitle group number
+--   1, 2     SN   subtitle number, low byte first
+--   3        EBN  extension block number: 00 to EF more blocks follow, F0 to FD reserved,
 --                 FE user data, FF the subtitle's last block
---   4 CS cumulative status: 0 not cumulative
---   5 to 8 TCI time code in: hours, minutes, seconds and frames, in binary
---   9 to 12 TCO time code out
---   13 VP vertical position: row 1 to 23
---   14 JC justification code: 0 unchanged, 1 left, 2 centred, 3 right
---   15 CF comment flag: 0 subtitle, 1 comment
---   16 on TF text field, 112 bytes
+--   4        CS   cumulative status: 0 not cumulative
+--   5 to 8   TCI  time code in: hours, minutes, seconds and frames, in binary
+--   9 to 12  TCO  time code out
+--   13       VP   vertical position: row 1 to 23
+--   14       JC   justification code: 0 unchanged, 1 left, 2 centred, 3 right
+--   15       CF   comment flag: 0 subtitle, 1 comment
+--   16 on    TF   text field, 112 bytes
 --
 -- The functions take the block's bytes; offsets count from 0.
 use Rattle.std.specs.Prelude.{ℕ, ◌+◌, ◌*◌, Bool, not, ◌==◌, ◌||◌, ◌&&◌, nat_lt}

@@ -5,13 +5,13 @@ use Rattle.ttx_packet.specs.PageId.{PageIdValue}
 
 -- The options of a schedule and of a check:
 --
---   page the Teletext page with the subtitles
---   every repeat bound: a header of the page at least once in this many frames
---   origin the PTS of frame 0, in ticks of 90 kHz
---   asks_complete each page must be ended by a later header
---   within the expected page must be right within this many frames; 0: at the end of each
---   pace maximum distance of PES packets in frames, if it is limited
---   keeps headers of repeats may have C4, erase page, clear
+--   page           the Teletext page with the subtitles
+--   every          repeat bound: a header of the page at least once in this many frames
+--   origin         the PTS of frame 0, in ticks of 90 kHz
+--   asks_complete  each page must be ended by a later header
+--   within         the expected page must be right within this many frames; 0: at the end of each
+--   pace           maximum distance of PES packets in frames, if it is limited
+--   keeps          headers of repeats may have C4, erase page, clear
 pub record OptionsValue : Type 0 where
   pub page : PageIdValue
   pub every : ℕ

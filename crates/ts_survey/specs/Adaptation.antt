@@ -1,16 +1,16 @@
 -- The fields of an adaptation field (ISO/IEC 13818-1, adaptation_field):
 --
---   4 adaptation_field_length
---   5 discontinuity_indicator (1 bit), random_access_indicator (1),
+--   4      adaptation_field_length
+--   5      discontinuity_indicator (1 bit), random_access_indicator (1),
 --          elementary_stream_priority_indicator (1), PCR_flag (1) and four more flags
---   6..11 if PCR_flag is set: program_clock_reference_base (33 bits), reserved (6),
+--   6..11  if PCR_flag is set: program_clock_reference_base (33 bits), reserved (6),
 --          extension (9)
 --
 -- The times in the header of a PES packet (ISO/IEC 13818-1, PES_packet):
 --
---   7 PTS_DTS_flags (2 bits): the first one for a PTS, the second for a DTS as well
---   8 PES_header_data_length: the bytes of the header after this one
---   9..13 four bits, PTS 32..30, a marker bit, PTS 29..15, a marker bit, PTS 14..0, a marker bit
+--   7      PTS_DTS_flags (2 bits): the first one for a PTS, the second for a DTS as well
+--   8      PES_header_data_length: the bytes of the header after this one
+--   9..13  four bits, PTS 32..30, a marker bit, PTS 29..15, a marker bit, PTS 14..0, a marker bit
 --   14..18 the DTS, in the same way
 use Rattle.std.specs.Prelude.{ℕ, ◌+◌, ◌*◌, ◌/◌, ◌%◌, ◌==◌, ◌&&◌, ◌||◌, not, nat_lt, Bool}
 use Rattle.std.specs.Prelude.{if◌then◌else◌, List, [], length, slice_index, Option, Some}

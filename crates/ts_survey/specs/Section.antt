@@ -1,16 +1,16 @@
 -- Sections of tables (ISO/IEC 13818-1, 2.4.4), and the contents of those of a PAT and of a PMT:
 --
---   0 table_id: 00 of a PAT, 02 of a PMT
---   1..2 section_syntax_indicator (1 bit), 0, reserved (2), section_length (12): bytes after it
---   3..4 transport_stream_id of a PAT, program_number of a PMT
---   6 section_number
---   8.. of a PAT, for each programme: program_number (16 bits), reserved (3), the PID of its PMT
+--   0      table_id: 00 of a PAT, 02 of a PMT
+--   1..2   section_syntax_indicator (1 bit), 0, reserved (2), section_length (12): bytes after it
+--   3..4   transport_stream_id of a PAT, program_number of a PMT
+--   6      section_number
+--   8..    of a PAT, for each programme: program_number (16 bits), reserved (3), the PID of its PMT
 --          (13); the program_number 0 names a network instead
---   8..9 of a PMT: reserved (3 bits), PCR_PID (13)
+--   8..9   of a PMT: reserved (3 bits), PCR_PID (13)
 --   10..11 of a PMT: reserved (4 bits), program_info_length (12), and so many bytes after it
---   .. then for each stream: stream_type (8 bits), reserved (3), elementary_PID (13), reserved
+--   ..     then for each stream: stream_type (8 bits), reserved (3), elementary_PID (13), reserved
 --          (4), ES_info_length (12), and so many bytes of descriptors
---   .. CRC_32
+--   ..     CRC_32
 use Rattle.std.specs.Prelude.{ℕ, ◌+◌, ◌-◌, ◌*◌, ◌/◌, ◌%◌, ◌==◌, ◌&&◌, ◌||◌, Bool, min, nat_le}
 use Rattle.std.specs.Prelude.{if◌then◌else◌, List, [], ◌∷◌, length, slice_index, bit_xor}
 use Rattle.std.specs.Prelude.{Option, Some, None, nat_lt}
