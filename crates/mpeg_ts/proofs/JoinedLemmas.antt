@@ -46,7 +46,7 @@ pub joined-ended : (v : JoiningValue) (wrong : Bool) (goods : List GoodPacket)
 joined-ended v wrong [] e = rw e refl
 joined-ended v wrong (g ∷ more) e = rw e refl
 
--- The output of good packets is the output of their parts, for each state of the part before.
+-- The output of good transport packets is the output of their parts, in each state of reassembly.
 pub record OutputOfGoods (wrong : Bool) (goods : List GoodPacket) : Type 0 where
   pub headless :
       (v : JoiningValue) (part : Part)

@@ -116,7 +116,7 @@ pub record GoodPackets : Type 0 where
 abbrev pub with_good : GoodPacket → GoodPackets → GoodPackets
 with_good g more = record { packets = g ∷ more.packets; wrong_after = more.wrong_after }
 
--- The good transport packets among further events of the PID, after this history.
+-- The good transport packets among further events of the PID, after the events of this history.
 unfoldable pub good_after : PacketHistory → List Note → GoodPackets
 good_after history [] = record { packets = []; wrong_after = history.has_wrong }
 good_after history (Wrong ∷ notes) = good_after (record history { has_wrong = true }) notes

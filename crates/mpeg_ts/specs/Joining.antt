@@ -115,14 +115,14 @@ with_gap gap v = record v {
   pending = gap_marker_where (gap && gave_packet v.given);
 }
 
--- The kind of contents of `count` collected bytes, for this size in their first six bytes.
+-- Classifies `count` collected bytes, for the size that their first six bytes state.
 abbrev pub found_by_size : ℕ → Result ℕ PesFault → Found
 found_by_size count (Ok size) = if nat_le size count then found.CompletePesPacket size
     else found.Unfinished
 found_by_size count (Err f) = found.Other f
 
--- The kind of contents of the collected bytes: a complete PES packet, an incomplete PES packet, or
--- a wrong start code or length.
+-- Classifies the collected bytes: a complete PES packet, an incomplete PES packet, or a wrong start
+-- code or length.
 unfoldable pub found_in : List ℕ → Found
 found_in bytes =
     if nat_lt (length bytes) 6 then found.Unfinished

@@ -58,7 +58,7 @@ parts_from part (g ∷ more) =
     if begins_part g then part ∷ parts_from (part_of g) more
     else parts_from (with_packet part g) more
 
--- The parts of a list of good transport packets.
+-- Splits good transport packets into parts, with at most one PES packet each.
 abbrev pub parts : List GoodPacket → List Part
 parts [] = []
 parts (g ∷ more) = parts_from (part_of g) more

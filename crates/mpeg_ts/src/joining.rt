@@ -46,7 +46,7 @@ pub(crate) enum Given {
     GapMarker,
 }
 
-/// The kind of contents of the bytes collected for a PES packet.
+/// A classification of the bytes collected for a PES packet.
 #[derive(Drop)]
 pub(crate) enum Found {
     /// An incomplete PES packet.

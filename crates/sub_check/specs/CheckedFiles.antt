@@ -165,9 +165,8 @@ events_of_first_pes_packets programme options bytes n =
     let file = pes_packet_file_of (clock_of options) bytes in
     events_of_pes_packets (criteria_of programme options file.unread) (take n file.pes_packets)
 
--- The result of a check of a PES file against a programme, with any options. A result that refuses
--- the subtitle file, or reports a failed source or a refused allocation, depends on other things
--- than these bytes.
+-- The result of a check of a PES file against a programme, with any options. A fault of the
+-- subtitle file, a failed source or a refused allocation may be returned for any bytes.
 pub record IsCheckedBy
     (programme : ProgrammeValue) (options : OptionsValue) (bytes : List ℕ)
     (answer : Result Accepted CheckFault)
@@ -305,7 +304,7 @@ events_of_first_by judged options bytes n =
     let file = pes_packet_file_of (clock_of options) bytes in
     events_of_pes_packets (criteria_of_judged judged options file.unread) (take n file.pes_packets)
 
--- Frames that are reported as trusted need no correction on air: receivers recover in them,
+-- Frames that the checker reports as trusted need no correction on air: receivers recover in them,
 -- whatever is transmitted in other frames. This applies to the part of the transmission with rising
 -- frames.
 abbrev pub ReportsWhatMayStay : JudgedValue → OptionsValue → List ℕ → Type 0

@@ -7,7 +7,7 @@ use Rattle.std.specs.Prelude.{Option, Some, None, option_map, Result, Ok, Err}
 use Rattle.sub_io.specs.Buffered.{BufferState, ReadAhead}
 use Rattle.sub_io.specs.Countdown.{CountingDown, fails_next, countdown_after}
 
--- The number of bytes that a call of a device transferred. `None` if the call failed.
+-- The number of bytes transferred by a call of a device; `None` if the call failed.
 abbrev pub answered : {E : Type 0} → Result ℕ E → Option ℕ
 answered (Ok n) = Some n
 answered (Err _) = None
@@ -18,7 +18,7 @@ any_call old borrowed answer new = Unit {0}
 
 -- ---- the calls of `fill`
 
--- The end of the calls of `fill`, with `room` bytes of the buffer unfilled. If the buffer is full,
+-- How the calls of `fill` end, with `room` bytes of the buffer unfilled. If the buffer is full,
 -- there is no further call; otherwise the last call returned 0 bytes. If `fill` fails, the last
 -- call failed.
 abbrev pub EndsFilling :
@@ -48,8 +48,8 @@ pub record FillsByPulls
 
 -- ---- the calls of `put_all`
 
--- The end of the calls of `put_all`, with `bytes` still to be written. If no bytes remain, there is
--- no further call. If `put_all` fails, the last call failed.
+-- How the calls of `put_all` end, with `bytes` still to be written. If no bytes remain, there is no
+-- further call. If `put_all` fails, the last call failed.
 abbrev pub EndsPutting :
     {D : Type 0} → (D → List ℕ → Option ℕ → D → Type 0) → D → List ℕ → Bool → D → Type 0
 EndsPutting IsPush old bytes true new = (bytes ≡ []) × (new ≡ old)

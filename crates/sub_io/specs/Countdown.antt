@@ -13,7 +13,7 @@ fails_next None = false
 fails_next (Some zero) = true
 fails_next (Some (suc k)) = false
 
--- The countdown after one more call of the device.
+-- The countdown to the failing call, after one more call of the device.
 abbrev pub countdown_after : Option ℕ → Option ℕ
 countdown_after None = None
 countdown_after (Some zero) = None

@@ -77,7 +77,7 @@ pub mapped_completely : (f : ℕ → ℕ) (xs out : List ℕ) (n : ℕ)
     → out ≡ map f xs
 mapped_completely f xs out n size to = grind (arith, nat_tests, take_all)
 
--- If the mask of a block is empty and no item before the block passes the test, no item up to the
+-- If the mask of a block is zero and no item before the block passes the test, no item up to the
 -- end of the block passes.
 pub none_so_far : {X : Type 0} (p : X → Bool) (xs : List X) (a m : ℕ) (d : X)
     → a + 16 ≤ length xs
@@ -95,8 +95,8 @@ pub record IsFirst {X : Type 0} (p : X → Bool) (xs : List X) (place : ℕ) (d 
   pub passes : p (get_or xs place d) ≡ true
   pub before : (k : ℕ) → k < place → p (get_or xs k d) ≡ false
 
--- If the mask of a block is not empty and no item before the block passes the test, the lowest bit
--- of the mask is the first item that passes.
+-- If the mask of a block is not zero and no item before the block passes the test, its lowest set
+-- bit is the first item that passes.
 pub first_so_far : {X : Type 0} (p : X → Bool) (xs : List X) (a m : ℕ) (d : X)
     → a + 16 ≤ length xs
     → m ≡ mask_l (map p (chunk a 16 xs))

@@ -57,7 +57,7 @@ module _ (w : PageIdValue) (before heard : List (List ℕ)) where
   unended-later holds = grind (arith, nat_tests, after-append)
 
   -- If a receiver starts late and its page is open, the page is also open after all sent packets,
-  -- and both lists have the same span.
+  -- and the last page transmission is the same in both lists.
   pub open-later : is_open_after (kind w) heard ≡ true
       → (is_open_after (kind w) (before ++ heard) ≡ true)
       × (span (kind w) (before ++ heard) ≡ span (kind w) heard)

@@ -54,7 +54,8 @@ first_code w spanned row column packet same within is below = go (find test span
         grind (arith, nat_tests, find_none_fails, test, list_any_at)
     go (Some first) e = search (rules, find_eq, test, All-contains, row_from_test)
 
--- In well-formed packets, each packet of a row in the span has the codes that the packets show.
+-- In well-formed packets, each row packet of the last page transmission has the codes that the
+-- packets show.
 pub shown_is : (w : PageIdValue) (sent : List (List ℕ)) (row column : ℕ) (packet : List ℕ)
     → IsSound w sent
     → Contains (span (kind w) sent) packet
@@ -92,7 +93,8 @@ module _ (class : ReceiverClass) (w : PageIdValue) (sent : List (List ℕ)) (arr
       law_of_repeats false false class w sent arrived got (shown w sent) old new
       (sends_shown w sent sound) may near (law_of_forgetting class w got old new hears)
 
-  -- After a header of the page, each cell has the code that the packets show, or an allowed space.
+  -- After a header of the page, each cell has the code that the packets show, or is a space because
+  -- of noise or loss.
   cell_shown : holds_header (kind w) sent ≡ true
       → (row column : ℕ)
       → IsCell row column

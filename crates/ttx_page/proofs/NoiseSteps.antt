@@ -200,11 +200,11 @@ pub both_right : (x y : Bool) → (x && y) ≡ true → y ≡ true
 both_right x y e = grind (arith, nat_tests)
 
 -- The lemmas of this module are about one cell of the page: its expected code, and the condition
--- under which a space is allowed instead.
+-- under which it may be a space instead.
 module _ (keeps anew : Bool) (class : ReceiverClass) (w : PageIdValue) (row column code : ℕ)
     (Excuse : Type 0) where
-  -- Each packet of the cell's row in the long span has odd parity, and the expected code for the
-  -- cell.
+  -- Each packet of the cell's row, in the transmissions of the current text, has odd parity and the
+  -- expected code for the cell.
   abbrev pub AreTargets : List Item → Type 0
   AreTargets items =
       (item : Item)
@@ -212,8 +212,8 @@ module _ (keeps anew : Bool) (class : ReceiverClass) (w : PageIdValue) (row colu
       → kind w item.0 ≡ Row row
       → HasOddText item.0 × (code_of (text_byte item.0 column) ≡ code)
 
-  -- A space in the cell is allowed if a packet of its row in the span is lost or has a wrong byte
-  -- for the cell.
+  -- The cell may be a space if a packet of its row, in the last transmission of the page, is lost
+  -- or has a wrong byte for the cell.
   abbrev pub GiveExcuses : List Item → Type 0
   GiveExcuses items =
       (item : Item)
@@ -244,8 +244,8 @@ module _ (keeps anew : Bool) (class : ReceiverClass) (w : PageIdValue) (row colu
         → IsFreshCell start items
         → AreTargets items
         → (cell now.page row column ≡ code) ⊎ (cell now.page row column ≡ space)
-    -- After a header of the page, the cell has the expected code, or a space is allowed, or the
-    -- span has no packet of the row.
+    -- After a header of the page, the cell has the expected code, or may be a space, or the last
+    -- transmission of the page has no packet of its row.
     pub cell_eq : holds_header (kind_of_item w) items ≡ true
         → IsFreshCell start items
         → AreTargets items

@@ -1,4 +1,4 @@
--- The span of a mapped list and of joined lists.
+-- The last page transmission (span) in a mapped list and in joined lists.
 use Rattle.std.proofs.Common.{◌≡◌, zero, suc, inl, inr, Bool, true, false, ◌||◌, cond, List, []}
 use Rattle.std.proofs.Common.{◌∷◌, ◌++◌, Some, None, map, zip, find, Any, Contains, refl, ap, ◌∙◌}
 use Rattle.std.proofs.Common.{arith}
@@ -71,8 +71,8 @@ module _ {A B : Type 0} (kind_of : B → PacketKind) (f : A → B) where
   before-map [] = refl
   before-map (x ∷ xs) = rw (before-map xs) (simp map-cond)
 
-  -- The span of a mapped list is the mapped span, so one definition applies to packets and to pairs
-  -- of packets.
+  -- Mapping a list maps its last page transmission (span), so one definition applies to packets and
+  -- to pairs of packets.
   pub span-map : (xs : List A) → span kind_of (map f xs) ≡ map f (span (λ x. kind_of (f x)) xs)
   span-map xs = grind (arith, nat_tests, after-map, before-map)
 

@@ -1,4 +1,4 @@
--- The span lies between its bounds.
+-- The last page transmission (span) has exactly the items between its bounds.
 use Rattle.std.proofs.Common.{◌≡◌, ℕ, suc, ◌+◌, ◌-◌, ◌<◌, ◌≤◌, inl, inr, Bool, true, false, not}
 use Rattle.std.proofs.Common.{List, [], ◌∷◌, length, drop, take, get_or, slice_range, HoldsAt}
 use Rattle.std.proofs.Common.{IsTrue, All, refl, arith}

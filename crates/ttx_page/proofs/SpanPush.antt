@@ -1,4 +1,4 @@
--- How one more packet at the end of a list changes the span.
+-- How one more packet at the end of a list changes the last page transmission (span).
 use Rattle.std.proofs.Common.{◌≡◌, Bool, true, false, not, ◌&&◌, ◌||◌, cond, List, [], ◌∷◌, ◌++◌}
 use Rattle.std.proofs.Common.{refl, arith}
 use Rattle.std.specs.List.{list_any}
@@ -32,8 +32,8 @@ module _ {A : Type 0} (kind_of : A → PacketKind) where
   before-push [] x = refl
   before-push (y ∷ ys) x = let rest = before-push ys x in grind (arith, nat_tests)
 
-  -- How an appended packet changes the span. After a header of the page the span is empty; any
-  -- other packet is added to the span if the page is open and the packet does not end it.
+  -- How an appended packet changes the last page transmission (span). After a header of the page it
+  -- is empty; any other packet is added if the page is open and the packet does not end it.
   pub span-push : (xs : List A) (x : A)
       → span kind_of (xs ++ x ∷ [])
       ≡ cond (is_this_page (kind_of x)) []

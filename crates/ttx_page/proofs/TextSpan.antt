@@ -1,4 +1,4 @@
--- The long span of a list: how one more packet changes it, and the long span of a mapped list.
+-- The transmissions of the current text (long span): how one more packet changes them.
 use Rattle.std.proofs.Common.{◌≡◌, Bool, true, false, not, ◌&&◌, ◌||◌, cond, List, [], ◌∷◌, ◌++◌}
 use Rattle.std.proofs.Common.{refl, sym, ap, ◌∙◌, map, arith, append_assoc}
 use Rattle.std.specs.List.{AllByRecursion, list_any}
@@ -83,9 +83,9 @@ module _ {A : Type 0} (kind_of : A → PacketKind) where
         let opened = from-open xs in
         grind (arith, nat_tests)
 
-    -- How an appended packet changes the long span. After a header that starts a new text the long
-    -- span is empty; any other packet except a header of the page is added if the page is open and
-    -- the packet does not end it.
+    -- How an appended packet changes the packets of the current text (long span). After a header
+    -- that starts a new text there are none; any other packet except a header of the page is added
+    -- if the page is open and the packet does not end it.
     pub text_span-push : (xs : List A) (x : A)
         → text_span keeps kind_of (xs ++ x ∷ [])
         ≡ cond (begins_text keeps (kind_of x)) []
@@ -199,7 +199,7 @@ module _ {A : Type 0} (kind_of : A → PacketKind) where
         let both = list_any-append (λ y. begins_text keeps (kind_of y)) xs ys in
         grind (arith, nat_tests)
 
-    -- Packets put before a list can only add packets to the front of its long span.
+    -- Packets put before a list can only add packets to the front of its current text (long span).
     pub text_span-later : (xs ys : List A)
         → (more : List A)
         × (text_span keeps kind_of (xs ++ ys) ≡ more ++ text_span keeps kind_of ys)

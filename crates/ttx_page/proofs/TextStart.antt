@@ -48,8 +48,8 @@ module _ (keeps : Bool) (w : PageIdValue) (before heard : List (List ℕ)) (pack
       subst (λ (ps : List (List ℕ)). Contains ps q) (sym later.1)
       (Contains-append_right later.0 spanned q within)
 
-  -- If the long span has a packet of a row, a further packet does not change the first packet of
-  -- that row.
+  -- If a row was already sent in the current text, a further packet does not change the first
+  -- packet of that row.
   first_stays : (row : ℕ) (q : List ℕ)
       → begins_text keeps (kind w packet) ≡ false
       → Contains span_of_all q

@@ -36,8 +36,8 @@ abbrev pub LosesByte : List ℕ → Option (List ℕ) → ℕ → Type 0
 LosesByte sent None column = ⊤
 LosesByte sent (Some got) column = text_byte got column ≢ text_byte sent column
 
--- The cell was hit by noise or loss: a packet of its row in the span was lost, or its byte for the
--- column was received with a wrong value.
+-- The cell was hit by noise or loss: a packet of its row, in the last transmission of the page, was
+-- lost or was received with a wrong byte for the cell.
 abbrev pub IsHitOrLost :
     PageIdValue → List (List ℕ) → List (Option (List ℕ)) → ℕ → ℕ → Type 0
 IsHitOrLost w sent arrivals row column =

@@ -43,9 +43,9 @@ pub record IsSound (w : PageIdValue) (sent : List (List ℕ)) : Type 0 where
   pub exact : All HasExactCodeWords sent
   -- Each header of the page has C4, erase page, set.
   pub erases : All (ErasesPage w) sent
-  -- Each row packet in the span has 40 bytes of odd parity.
+  -- Each row packet in the last transmission of the page has 40 bytes of odd parity.
   pub odd : All (IsOddRow w) (span (kind w) sent)
-  -- Two packets of the same row in the span have the same character codes.
+  -- Two packets of the same row in the last transmission of the page have the same character codes.
   pub same : All (λ first. All (HasSameCodes w first) (span (kind w) sent)) (span (kind w) sent)
 
 -- The final state of a receiver that had received no header of the page before, and whose page was
@@ -58,8 +58,8 @@ pub record EndsAs
   -- The page is open exactly if the packets contain a header of the page and no later header ends
   -- it.
   pub is_open : new.is_open ≡ is_open_after (kind w) sent
-  -- If a header of the page was received, each cell has the code that the packets show, or an
-  -- allowed space.
+  -- If a header of the page was received, each cell has the code that the packets show, or is a
+  -- space if `IsExcused` is true for it.
   pub cells :
       IsTrue new.heard
       → (row column : ℕ)

@@ -72,8 +72,8 @@ RunsBy {S} StepsBy old (packet ∷ packets) new =
 abbrev pub Hears : PageIdValue → State → List (List ℕ) → State → Type 0
 Hears w old packets new = RunsBy (Step w) old packets new
 
--- The relation holds between the old and the new code of each cell of a stored row for which a byte
--- of even parity was received.
+-- For each byte of even parity in a stored row, this relation holds between the old and the new
+-- code of its cell.
 abbrev pub AtEvenBytes :
     (ℕ → ℕ → Type 0) → PageIdValue → State → List ℕ → State → Type 0
 AtEvenBytes StateAfterItems w old packet new =

@@ -22,7 +22,8 @@ pub record EndsAfresh
   pub heard : IsTrue new.heard
   -- The page is open exactly if no header after the last header of the page ends it.
   pub is_open : new.is_open ≡ is_unended (kind w) sent
-  -- Each cell of the page has the code that the packets show, or an allowed space.
+  -- Each cell of the page has the code that the packets show, or is a space if `IsExcused` is true
+  -- for it.
   pub cells :
       (row column : ℕ)
       → IsCell row column

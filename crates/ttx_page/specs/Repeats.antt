@@ -105,14 +105,15 @@ pub record SendsText
   pub exact : All HasExactCodeWords sent
   -- If repeats must not keep earlier text, each header of the page has C4, erase page, set.
   pub erases : IsFalse keeps → All (ErasesPage w) sent
-  -- Each row packet in the long span has 40 bytes of odd parity, and the codes of the text.
+  -- Each row packet in the transmissions of the current text has 40 bytes of odd parity, and the
+  -- codes of the text.
   pub odd : All (IsOddRow w) (text_span keeps (kind w) sent)
   pub codes : All (HasCodes w text) (text_span keeps (kind w) sent)
 
 -- The packet may follow the earlier packets `before` (own). Its address and page header are code
 -- words. If repeats must not keep earlier text, a header of the page has C4 set. A row sent while
--- the page is open has bytes of odd parity, and the codes of the first packet of its row in the
--- long span.
+-- the page is open has bytes of odd parity, and the codes with which the current text first sent
+-- this row.
 pub record MayFollow
     (keeps : Bool) (w : PageIdValue) (before : List (List ℕ)) (packet : List ℕ)
     : Type 0 where
@@ -134,7 +135,7 @@ IsFresh keeps anew w sent old =
     ⊎ (IsTrue (holds_beginning keeps (kind w) sent)
     ⊎ (IsFalse old.is_open × IsBlank old.page))
 
--- The span contains no packet of the row.
+-- The last transmission of the page has no packet of this row.
 abbrev pub HasNoRow : PageIdValue → List (List ℕ) → ℕ → Type 0
 HasNoRow w sent row =
     IsFalse (list_any (λ packet. is_row row (kind w packet)) (span (kind w) sent))
@@ -152,8 +153,9 @@ pub record EndsForgetting
   pub is_open :
       IsTrue (holds_header (kind w) sent || not old.is_open)
       → new.is_open ≡ is_open_after (kind w) sent
-  -- If the page does not depend on its earlier contents, each cell has the code of the text, or a
-  -- space that is allowed or in a row without a packet in the span.
+  -- If the page does not depend on its earlier contents, each cell has the code of the text, or is
+  -- a space if `IsExcused` is true for it or the last transmission of the page has no packet of its
+  -- row.
   pub cells :
       IsTrue (holds_header (kind w) sent)
       → IsFresh keeps anew w sent old

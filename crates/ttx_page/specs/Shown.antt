@@ -9,7 +9,7 @@ use Rattle.ttx_page.specs.PacketKind.{kind, is_row}
 use Rattle.ttx_page.specs.Span.{span, text_span}
 
 -- The character code that the packets show in a cell: the code in the first packet of its row in
--- the span, or a space if the span has no packet of that row.
+-- the last transmission of the page, or a space if that has no packet of the row.
 abbrev pub shown : PageIdValue → List (List ℕ) → ℕ → ℕ → ℕ
 shown w packets row column =
     unwrap_or
@@ -17,9 +17,9 @@ shown w packets row column =
     (find (λ p. is_row row (kind w p)) (span (kind w) packets)))
     space
 
--- The character code that the packets show in a cell, if repeats may keep earlier text (`keeps`):
--- the code in the first packet of its row in the long span, or a space if the long span has no
--- packet of that row.
+-- The character code that the packets show in a cell if repeats may keep earlier text (`keeps`):
+-- the code in the first packet of its row in the transmissions of the current text, or a space if
+-- these have no packet of the row.
 abbrev pub kept : Bool → PageIdValue → List (List ℕ) → ℕ → ℕ → ℕ
 kept keeps w packets row column =
     unwrap_or
@@ -27,8 +27,8 @@ kept keeps w packets row column =
     (find (λ p. is_row row (kind w p)) (text_span keeps (kind w) packets)))
     space
 
--- The cell was hit by noise: a packet of its row in the span was received with a wrong byte for its
--- column.
+-- The cell was hit by noise: a packet of its row, in the last transmission of the page, was
+-- received with a wrong byte for the cell.
 abbrev pub IsHit : PageIdValue → List (List ℕ) → List (List ℕ) → ℕ → ℕ → Type 0
 IsHit w sent got row column =
     Any (λ pair. (kind w pair.0 ≡ Row row) × (text_byte pair.1 column ≢ text_byte pair.0 column))

@@ -1,5 +1,5 @@
--- The span of a list of packets: the packets of the latest transmission of the page. They follow
--- the last header of the page, up to a header that ends the page (EN 300 706).
+-- The span of a list of packets: the packets of the last transmission of the page. They follow the
+-- last header of the page, up to a header that ends the page (EN 300 706).
 --
 -- The items of a list are packets, or packets with additional data; `kind_of` returns the kind of
 -- an item's packet. So one definition applies to sent packets, received packets, and pairs of both.
@@ -27,8 +27,8 @@ abbrev pub before_end : {A : Type 0} → (A → PacketKind) → List A → List 
 before_end kind_of [] = []
 before_end kind_of (x ∷ xs) = if ends_page (kind_of x) then [] else x ∷ before_end kind_of xs
 
--- The span: the items after the last header of the page, up to the first later header that ends the
--- page.
+-- The span, the last transmission of the page: the items after the last header of the page, up to
+-- the first later header that ends the page.
 abbrev pub span : {A : Type 0} → (A → PacketKind) → List A → List A
 span kind_of items = before_end kind_of (after_last_header kind_of items)
 
@@ -42,7 +42,7 @@ is_unended kind_of items =
 abbrev pub is_open_after : {A : Type 0} → (A → PacketKind) → List A → Bool
 is_open_after kind_of items = holds_header kind_of items && is_unended kind_of items
 
--- ---- the long span of a page whose repeats may keep earlier text
+-- ---- the transmissions of the current text (long span)
 
 -- The list contains a header that starts a new text.
 abbrev pub holds_beginning : {A : Type 0} → Bool → (A → PacketKind) → List A → Bool
@@ -65,31 +65,32 @@ while_open kind_of is_open (x ∷ xs) =
     then x ∷ while_open kind_of true xs
     else while_open kind_of false xs)
 
--- The long span, for a page whose repeats may keep earlier text (`keeps`): the spans of all headers
--- of the page, from the last header that starts a new text on. Otherwise the long span equals the
--- span.
+-- The long span, all transmissions of the current text: the spans of all headers of the page, from
+-- the last header that starts a new text on. If repeats must not keep earlier text (`keeps` is
+-- false), it equals the span.
 abbrev pub text_span : {A : Type 0} → Bool → (A → PacketKind) → List A → List A
 text_span keeps kind_of items = while_open kind_of false (from_beginning keeps kind_of items)
 
--- ---- the bounds of the span
+-- ---- the bounds of the last page transmission (span)
 
--- The bounds of the span: from the item after the last header of the page to the first later header
--- that ends the page, or to the end of the list.
+-- The bounds of the span, the last transmission of the page: from the item after the last header of
+-- the page to the first later header that ends the page, or to the end of the list.
 pub record IsSpan {A : Type 0} (kind_of : A → PacketKind) (items : List A) (from to : ℕ)
     : Type 0 where
   pub order : (0 < from) × (from ≤ to) × (to ≤ length items)
-  -- The item before the span is a header of the page, and no later item is a header of the page.
+  -- The item before the last page transmission (span) is a header of the page, and no later item is
+  -- one.
   pub header : HoldsAt (λ x. IsTrue (is_this_page (kind_of x))) items (from - 1)
   pub no_later_header :
       AllWithin (λ x. IsFalse (is_this_page (kind_of x))) items from (length items)
-  -- No item of the span is a header that ends the page. The item after the span, if there is one,
-  -- is such a header.
+  -- No item of the last page transmission (span) is a header that ends the page. The item after it,
+  -- if there is one, is such a header.
   pub no_earlier_end : AllWithin (λ x. IsFalse (ends_page (kind_of x))) items from to
   pub end : (to ≡ length items) ⊎ HoldsAt (λ x. IsTrue (ends_page (kind_of x))) items to
 
--- The span has exactly the items between the bounds of `IsSpan`, in order. If the list has no
--- header of the page, the span is empty. So the bounds may be read as the definition of the span,
--- instead of the recursion.
+-- The last transmission of the page (span) has exactly the items between the bounds of `IsSpan`, in
+-- order, and is empty if the list has no header of the page. So the bounds may be read as its
+-- definition.
 abbrev pub LawOfSpan : Type 0 → Type 0
 LawOfSpan A =
     (kind_of : A → PacketKind) (items : List A)

@@ -11,8 +11,8 @@ ghost use Rattle.ttx_page.specs.Repeats.{LawOfRepeats};
 ghost use Rattle.ttx_page.specs.Screen.{LawOfScreen};
 ghost use Rattle.ttx_page.specs.Span.{LawOfSpan};
 
-/// The span of a list contains all items after the last header of the page, in order, up to the
-/// first later header that ends the page, or to the end of the list.
+/// The span of a list is the last transmission of the page: all items after the last header of the
+/// page, in order, up to the first later header that ends the page, or to the end of the list.
 ///
 /// The items `T` are packets, or packets with additional data.
 #[tactic(auto, using(crate::proofs::SpanPlaces::law_of_span))]

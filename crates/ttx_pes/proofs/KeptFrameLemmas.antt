@@ -28,7 +28,7 @@ value_refused b field t f e same bad =
     let there = rw (same, drop-drop 1 39 b) at bad in
     rw (e, there) refl
 
--- The value of a PES packet fits in a frame.
+-- The value of a PES packet fits in a `PesFrame`.
 value_kept : (body : List ℕ) (v : PesValue)
     → length body + 6 ≤ 1656
     → (length body + 6) % 184 ≡ 0

@@ -27,11 +27,12 @@ LawOfOneValue =
     → a ++ x ≡ b ++ y
     → (a ≡ b) × (v ≡ w)
 
--- The value of a valid PES packet fits in a frame.
+-- The value of a valid PES packet fits in a `PesFrame`.
 abbrev pub LawOfPacketValue : Type 0
 LawOfPacketValue = (v : PesValue) (b : List ℕ) → IsValidPesPacket v b → IsPesValue v
 
--- The canonical packet of each value that fits in a frame is a valid PES packet with that value.
+-- The canonical packet of each value that fits in a `PesFrame` is a valid PES packet with that
+-- value.
 abbrev pub LawOfCanonicalPacket : Type 0
 LawOfCanonicalPacket = (v : PesValue) → IsPesValue v → IsValidPesPacket v (canonical_packet v)
 
@@ -91,8 +92,8 @@ LawOfReadingBack =
 abbrev pub LawOfLineOrder : Type 0
 LawOfLineOrder = (units : List UnitValue) → AreInLineOrder 0 units ↔ AllPairs RisesTo units
 
--- The Teletext packets of one frame form a value that fits in a frame, and the units of that value
--- carry these packets.
+-- The Teletext packets of one video frame form a value that fits in a `PesFrame`, and the units of
+-- that value carry these packets.
 abbrev pub LawOfNumberedFrame : Type 0
 LawOfNumberedFrame =
     (pts : ℕ) (packets : List (List ℕ))

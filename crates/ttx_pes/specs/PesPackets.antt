@@ -44,7 +44,7 @@ pub record PesPacketsValue : Type 0 where
 abbrev pub no_pes_packet : Option PesFault → PesPacketsValue
 no_pes_packet f = record { pes_packets = []; left = f }
 
--- Adds the result for a PES packet in front of the results after it.
+-- The results of reading a PES packet and the bytes after it.
 abbrev pub with_pes_packet : Result PesValue PesFault → PesPacketsValue → PesPacketsValue
 with_pes_packet pes_packet more = record {
   pes_packets = pes_packet ∷ more.pes_packets;

@@ -115,7 +115,8 @@ pub record KeepsPesPacket
   pub units : answer ≡ Ok true → new.frame.units ≡ old.frame.units
   pub other : answer ≡ Ok false → new.data_field ≢ old.data_field
 
--- The effect of parsing a PES packet into a frame. An invalid packet has the fault in the answer.
+-- The effect of parsing a PES packet into a `PesFrame`. An invalid packet has the fault in the
+-- answer.
 pub record ReadsValue
     (old : PesValue) (pes_packet : List ℕ) (answer : Result (Unit {0}) PesFault) (new : PesValue)
     : Type 0 where

@@ -142,7 +142,7 @@ impl ComparingReader {
     /// empty before the first packet, at the end and after a fault.
     pub fn units(&self) -> SentUnits<'_>
         ensures value { result ≡ self.now.frame.units }
-        // The contents of every valid PES packet fit in a frame.
+        // The contents of every valid PES packet fit in a `PesFrame`.
         ensures frame { IsPesValue self.now.frame }
     {
         self.kept.units()

@@ -72,7 +72,7 @@ pub(crate) fn unit_in(block: &[u8]) -> Unit
     Unit::new(block[0], field, line, packet)
 }
 
-// Appends the Teletext unit of a data unit, if there is one, to a frame.
+// Appends the Teletext unit of a data unit, if there is one, to a `PesFrame`.
 #[tactic(auto, unfolding(crate::specs::Reading::unit_at))]
 fn take_unit(frame: &mut PesFrame, block: &[u8]) -> Result<(), PesFault>
     requires room { length frame.old.units + 1 ≤ most_units }
@@ -91,7 +91,7 @@ fn take_unit(frame: &mut PesFrame, block: &[u8]) -> Result<(), PesFault>
     Ok(())
 }
 
-// Appends the Teletext units of `count` data units to a frame, up to the first fault.
+// Appends the Teletext units of `count` data units to a `PesFrame`, up to the first fault.
 #[tactic(auto, using(crate::proofs::DataUnitLemmas::units_left))]
 pub(crate) fn take_units(frame: &mut PesFrame, count: usize, blocks: &[u8]) -> Result<(), PesFault>
     requires room { length frame.old.units + count ≤ most_units }

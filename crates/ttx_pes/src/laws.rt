@@ -60,8 +60,8 @@ pub fn law_of_line_order()
     ensures { LawOfLineOrder }
 {}
 
-/// The Teletext packets of one frame form a value that fits in a `PesFrame`, and the units of that
-/// value carry these packets.
+/// The Teletext packets of one video frame form a value that fits in a `PesFrame`, and the units of
+/// that value carry these packets.
 pub fn law_of_numbered_frame()
     ensures { LawOfNumberedFrame }
 {}

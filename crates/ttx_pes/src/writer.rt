@@ -26,7 +26,7 @@ pub(crate) fn add(out: &mut Bytes, bytes: &[u8])
     out.try_extend_from_slice(bytes).unwrap();
 }
 
-// Returns the canonical packet of a frame.
+// Returns the canonical packet with the contents of a `PesFrame`.
 #[tactic(auto, using(crate::proofs::PesGrammarLemmas::packing))]
 pub(crate) fn packet_of(frame: &PesFrame) -> Bytes
     ensures { result.items ≡ canonical_packet frame.now }
