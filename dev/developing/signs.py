@@ -35,9 +35,9 @@ bit_and bit_or bit_xor count_ones bytes_high_first | bit_and, bit_or, bit_xor, c
 IfKnown | IfKnown told P | P holds of the bytes of a source, if they are known
 """
 
-HEAD = """-- begins a comment; use lines import names; ignore pub, abbrev, unfoldable and Type 0. A definition is its type, after the colon, and its value, one line for each form of its
-arguments; _ is any other form. A file whose first line says that private functions cite it belongs
-to the proofs: no promise depends on it.
+HEAD = """-- begins a comment; use lines import names; ignore pub, abbrev, unfoldable and Type 0. A
+definition is its type, after the colon, and its value, one line for each form of its arguments; _
+is any other form.
 
 Places count from 0. EN 300 706 counts the bytes of a packet from 1, with clock run-in and framing
 code before the 42: so place 0 is its byte 4; the text begins at place 2 of a row, at place 10 of a
