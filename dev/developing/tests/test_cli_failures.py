@@ -277,7 +277,7 @@ class Bugs(CallCase):
 
     def test_reports_a_bug_in_each_step(self) -> None:
         for place in ("judging.pair.PairJudge.judge", "judging.pair.check_file_alone",
-                      "judging.timing.find",
+                      "judging.timing.estimate_origin",
                       "judging.pair.explain_part", "judging.part.Part.is_read",
                       "judging.check.CheckOutput.read_line", "cli.main.make_parser",
                       "cli.single.request_of",

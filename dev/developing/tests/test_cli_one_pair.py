@@ -16,7 +16,8 @@ from subtitles.cli import batch, collection, single
 from subtitles.cli.single import (
     FilesInUse, KEPT_SECONDS, Output, OutputFiles, PairOptions, claim_pair, judge_pair, now,
     pair_title, print_verdict, refuse_outputs, remove_results, report_pair)
-from subtitles.clock.start import Clock, FITTED, FITTED_LATER, GIVEN, RECORDING, TimedPart
+from subtitles.clock.start import (
+    Clock, ESTIMATED_LATER_NOTE, ESTIMATED_NOTE, GIVEN, RECORDING, TimedPart)
 from subtitles.common.command_line import Stop, Unanswered
 from subtitles.common.markup import HEAD
 from subtitles.judging.check import CheckOutput
@@ -72,7 +73,7 @@ class LastLines(Case):
         self.must("parts", said[:2] == [
             "part 1, from 00:00:00:00 to 00:00:00:09: accepted 10 frames 2 transmissions",
             "part 2, from 00:00:00:10 to 00:00:00:19: accepted 10 frames 2 transmissions"], said)
-        self.must("estimated", FITTED_LATER in said and said[-1] ==
+        self.must("estimated", ESTIMATED_LATER_NOTE in said and said[-1] ==
                   "accepted 20 frames 4 transmissions in 2 parts", said)
         rows: list[tuple[list[str], str, bool]] = [
             (["accepted 10 frames 2 transmissions"], "relative 10 frames 2 transmissions", False),
@@ -81,7 +82,7 @@ class LastLines(Case):
             said = self.said(self.verdict([make_part(0, 9, 0, make_answer(
                 lines, path=self.path("list")), source=RECORDING)]))
             self.must("without a clock", said[-1] == last and any(
-                one.startswith(FITTED) for one in said) == is_said, said)
+                one.startswith(ESTIMATED_NOTE) for one in said) == is_said, said)
         causes: list[Any] = ["first", None, "third"]
         with mock.patch.object(single, "format_cause_counts", lambda some: f"{some}"):
             said = self.said(self.verdict([make_part(0, 9, 0, causes=one) for one in causes]))

@@ -11,11 +11,12 @@ from typing import Callable, Sequence
 
 from developing.multiplex import Multiplex, TENTH
 from subtitles.clock.alignment import (
-    AGAIN, Agreed, Base, Drift, Early, Edge, FEW_TEXTS, RARE, Shown, UNSEEN_SHARE, back_at,
-    bases_of, drift_of, edges_of, settled, usual_delay)
-from subtitles.clock.origin import Origin
+    Drift, EarlyCues, ExpectedCue, ExpectedSubtitle, FEW_TEXTS, MOST_ERASED, MatchedChange, RARE,
+    TimeBase, UNSEEN_SHARE, choose_clock, find_drift, find_expected_cues, find_repeat,
+    find_time_bases, find_usual_delay)
+from subtitles.clock.origin import OriginEstimate
 from subtitles.clock.start import Clock, RECORDING, TimedPart
-from subtitles.clock.stretches import are_alike, is_again
+from subtitles.clock.stretches import have_equal_steps, is_repeated_airing
 from subtitles.common.command_line import Lateness, late_word
 from subtitles.common.times import CLOCK, FRAMES_OF_A_DAY, Span, TICKS, time_in
 from subtitles.judging.part import belongs_to_part, find_lost_spans, find_recorded_span
@@ -37,26 +38,26 @@ TEXT, OTHER = ((20, b"text"),), ((20, b"other"),)
 
 class Edges(Case):
     def test_finds_a_cue_where_the_look_changes(self) -> None:
-        one = Shown(10, 20, (20, 2, b"one"), b"one")
+        one = ExpectedSubtitle(10, 20, (20, 2, b"one"), b"one")
         for name, other, frames in (
                 ("a pause", one._replace(begin=25, end=30), [10, 20, 25, 30]),
                 ("the same once more", one._replace(begin=20, end=30), [10, 30]),
-                ("on another row", Shown(20, 30, (22, 2, b"one"), b"one"), [10, 20, 30]),
-                ("other letters", Shown(20, 30, (20, 2, b"two"), b"two"), [10, 20, 30])):
-            self.must(name, [edge.frame for edge in edges_of([one, other])] == frames)
+                ("on another row", ExpectedSubtitle(20, 30, (22, 2, b"one"), b"one"), [10, 20, 30]),
+                ("other letters", ExpectedSubtitle(20, 30, (20, 2, b"two"), b"two"), [10, 20, 30])):
+            self.must(name, [cue.frame for cue in find_expected_cues([one, other])] == frames)
 
 
 class BeginsAndEnds(Case):
     def test_finds_a_delay_of_nine_in_ten_begins_or_ends(self) -> None:
-        several = [Shown(100 * at, 100 * at + 50, at, b"%d" % at) for at in range(10)]
-        edges = edges_of(several)
+        several = [ExpectedSubtitle(100 * at, 100 * at + 50, at, b"%d" % at) for at in range(10)]
+        cues = find_expected_cues(several)
         for is_begin in (True, False):
             for others, is_told in ((0, True), (1, True), (2, False)):
-                late = [one for one in edges if one.is_begin == is_begin][others:]
-                changes = [Change(TICKS * (edge.frame + 7 * (edge in late)), edge.letters, at,
-                                  ((20, edge.letters),)) for at, edge in enumerate(edges)]
-                base = Base(edges, changes, 0, 1000 * TICKS, (0, 19), 0)
-                found = base.apart(base.fit_at(0))
+                late = [one for one in cues if one.is_begin == is_begin][others:]
+                changes = [Change(TICKS * (cue.frame + 7 * (cue in late)), cue.letters, at,
+                                  ((20, cue.letters),)) for at, cue in enumerate(cues)]
+                base = TimeBase(cues, changes, 0, 1000 * TICKS, (0, 19), 0)
+                found = base.find_cue_offset(base.compare(0))
                 self.must(f"{is_begin} {others}", (found and found[:3]) == (
                     (is_begin, 7, 10 - others) if is_told else None), found)
 
@@ -72,25 +73,27 @@ class RepeatedPages(Case):
             for frame, most, wanted in ((3, 1, 2), (3, 2, 2), (4, 1, None), (4, 2, 2), (52, 50, 2),
                                         (53, 50, None)):
                 changes = [change(0, b"text", 0), change(2, b"", 1), change(frame, b"text", 2)]
-                self.must(f"{origin} {frame} {most}", back_at(changes, 0, most) == wanted,
-                          back_at(changes, 0, most))
+                self.must(f"{origin} {frame} {most}", find_repeat(changes, 0, most) == wanted,
+                          find_repeat(changes, 0, most))
             changes = [change(0, b"text", 0), change(2, b"", 1), change(3, b"other", 2),
                        change(4, b"text", 3)]
-            self.must(f"{origin}, behind another", back_at(changes, 0, 5) == 3)
-            self.must(f"{origin}, not blank", back_at(changes, 2, 5) is None)
+            self.must(f"{origin}, behind another", find_repeat(changes, 0, 5) == 3)
+            self.must(f"{origin}, not blank", find_repeat(changes, 2, 5) is None)
 
 
     def test_counts_a_repeated_page_only_if_it_is_expected(self) -> None:
         for due, away in itertools.product(range(1, 9), repeat=2):
-            edges = edges_of([Shown(100, 130, 1, b"text"), Shown(130 + due, 160, 1, b"text")])
+            cues = find_expected_cues([ExpectedSubtitle(100, 130, 1, b"text"),
+                                       ExpectedSubtitle(130 + due, 160, 1, b"text")])
             frames = [100, 110, 110 + away, 130, 130 + due, 160]
-            base = Base(edges, [Change(TICKS * frame, b"" if at % 2 else b"text", at, () if at % 2
-                                       else TEXT) for at, frame in enumerate(frames)],
-                        0, 1000 * TICKS, (0, 5), 0)
-            if away <= min(AGAIN, due - 1):
+            base = TimeBase(cues, [Change(TICKS * frame, b"" if at % 2 else b"text", at,
+                                          () if at % 2
+                                          else TEXT) for at, frame in enumerate(frames)],
+                            0, 1000 * TICKS, (0, 5), 0)
+            if away <= min(MOST_ERASED, due - 1):
                 del frames[1:3]
             self.must(f"{due} {away}", [*base.changes] == frames, base.changes)
-            self.must("some", [*base.limited(edges, 100, 160).changes] == frames[1:-1])
+            self.must("some", [*base.copy_between(cues, 100, 160).changes] == frames[1:-1])
 
 
 # Delays of cues: the clock found with and without known delays; a drifting clock; repeated
@@ -118,9 +121,9 @@ def measured_delays(inserter: Inserter) -> Lateness:
     return Lateness(*({by: kind.count(by) for by in sorted({*kind})} for kind in kinds))
 
 
-def do_all_agree(origin: Origin) -> bool:
+def do_all_agree(origin: OriginEstimate) -> bool:
     """Return whether all cues agree that can."""
-    return any(part.agree == part.among for part in origin.parts[:1])
+    return any(part.matches == part.total for part in origin.parts[:1])
 
 
 class EstimatedClocks(unittest.TestCase):
@@ -132,29 +135,31 @@ class EstimatedClocks(unittest.TestCase):
             ({1: 20}, {0: 20}, 0), ({1: 20}, {0: 2, 1: 18}, 1), ({1: 90}, {0: 9}, 1),
             ({1: 90}, {0: 10}, 0), ({0: 1, 1: 19}, {1: 20}, 1)]
         for begins, ends, wanted in rows:
-            self.assertEqual(usual_delay(begins, ends), wanted, (begins, ends))
+            self.assertEqual(find_usual_delay(begins, ends), wanted, (begins, ends))
 
     def clock_delay(self, delays: Sequence[int], within: int, shares: Lateness | None = None
-              ) -> tuple[int, Early | None]:
+              ) -> tuple[int, EarlyCues | None]:
         """Return how many frames the clock is later than that of the earliest cue, for begins with
         some delays."""
         frames = [100 * at + at * at for at in range(1, len(delays) + 1)]
-        edges = [Edge(frame, b"%d" % at, True) for at, frame in enumerate(frames)]
-        base = bases_of([], packets_of([(TICKS * (frame + by), edge.letters) for frame, by, edge in
-                                        zip(frames, delays, edges)]), within)[0]
-        base = base.limited(edges, -1, 1 << 40)
+        cues = [ExpectedCue(frame, b"%d" % at, True) for at, frame in enumerate(frames)]
+        base = find_time_bases([], packets_of([(TICKS * (frame + by), cue.letters) for frame, by,
+                                               cue in
+                                               zip(frames, delays, cues)]), within)[0]
+        base = base.copy_between(cues, -1, 1 << 40)
         fit = base.fit(base.fits[0].start)
-        best, early = settled(base, fit, shares)
+        best, early = choose_clock(base, fit, shares)
         return fit.start - best.start, early
 
     def test_counts_cues_before_the_usual_clock(self) -> None:
         for delays, within, wanted in (
                 ([0] * 9, 2, (0, None)), ([2] * 9, 2, (0, None)), ([0, 1, 2] * 4, 2, (0, None)),
-                ([0, *[2] * 8], 2, (2, Early(1, 9, 2))), ([0, *[1] * 19], 1, (1, Early(1, 20, 1))),
-                ([0, *[1] * 20], 1, (1, Early(1, 21, 1))),
-                ([0, 1, *[2] * 50], 2, (2, Early(2, 52, 2)))):
+                ([0, *[2] * 8], 2, (2, EarlyCues(1, 9, 2))),
+            ([0, *[1] * 19], 1, (1, EarlyCues(1, 20, 1))),
+                ([0, *[1] * 20], 1, (1, EarlyCues(1, 21, 1))),
+                ([0, 1, *[2] * 50], 2, (2, EarlyCues(2, 52, 2)))):
             self.assertEqual(self.clock_delay(delays, within), wanted, delays)
-        self.assertEqual([Early(count, of, 1).are_many for count, of in (
+        self.assertEqual([EarlyCues(count, of, 1).is_common_delay for count, of in (
             (1, RARE), (1, RARE + 1), (2, 2 * RARE), (2, 2 * RARE + 1))], [True, False] * 2)
 
     def test_takes_the_likeliest_clock_for_known_delays(self) -> None:
@@ -177,9 +182,9 @@ class EstimatedClocks(unittest.TestCase):
                 shown = [one._replace(letters=b"text %d" % at, begin=one.begin + 30 * at,
                                       end=one.end + 30 * at)
                          for at, one in enumerate(random_programme(chance, (12, 40)[seed % 2]))]
-                edges = edges_of(shown)
-                times = [(pts + TICKS * inserter(chance, edge.is_begin), text)
-                         for (pts, text), edge in zip(page_changes(edges, 0), edges)]
+                cues = find_expected_cues(shown)
+                times = [(pts + TICKS * inserter(chance, cue.is_begin), text)
+                         for (pts, text), cue in zip(page_changes(cues, 0), cues)]
                 with self.subTest(name, seed=seed):
                     one = find_origin(shown, packets_of(times), within, late=shares)
                     self.assertTrue(one.status == 0 and do_all_agree(one), one.lines)
@@ -194,11 +199,11 @@ class EstimatedClocks(unittest.TestCase):
             chance = random.Random(5)
             shown = [one._replace(letters=b"text %d" % at)
                      for at, one in enumerate(random_programme(chance, 30))]
-            edges, shares = edges_of(shown), measured_delays(inserter)
-            begins = [at for at, edge in enumerate(edges) if edge.is_begin]
-            times = [(pts + TICKS * (-1 if at == begins[20] else inserter(chance, edge.is_begin)),
+            cues, shares = find_expected_cues(shown), measured_delays(inserter)
+            begins = [at for at, cue in enumerate(cues) if cue.is_begin]
+            times = [(pts + TICKS * (-1 if at == begins[20] else inserter(chance, cue.is_begin)),
                       text) for at,
-                      ((pts, text), edge) in enumerate(zip(page_changes(edges, 0), edges))]
+                     ((pts, text), cue) in enumerate(zip(page_changes(cues, 0), cues))]
             one = find_origin(shown, packets_of(sorted(times)), within, late=shares)
             self.assertFalse(do_all_agree(one), (name, one.lines))
 
@@ -207,8 +212,8 @@ class Drifts(unittest.TestCase):
     def drift(self, delays: Sequence[int], texts: Sequence[bytes] = ()) -> Drift | None:
         """Return the drift of texts every 100 frames with some delays."""
         texts = texts or [b"%d" % at for at in range(len(delays))]
-        return drift_of([Edge(100 * at, text, True) for at, text in enumerate(texts)], {
-            100 * at + by: Agreed(0, b"%d" % at, 0) for at, by in enumerate(delays)})
+        return find_drift([ExpectedCue(100 * at, text, True) for at, text in enumerate(texts)], {
+            100 * at + by: MatchedChange(0, b"%d" % at, 0) for at, by in enumerate(delays)})
 
     def test_finds_only_a_steady_drift(self) -> None:
         steady = [at // 3 for at in range(12)]
@@ -251,12 +256,12 @@ class RepeatedProgrammes(unittest.TestCase):
             ([0, 10, 20, 30], True), ([0, 1, 10, 11, 20, 21], True), ([0, 3, 9, 27, 81], False),
             ([at * at for at in range(40)], False), ([5], False), ([], True)]
         for frames, wanted in rows:
-            self.assertEqual(are_alike(frames), wanted, frames)
+            self.assertEqual(have_equal_steps(frames), wanted, frames)
 
     def test_takes_half_of_the_cues_for_a_repeat(self) -> None:
-        base = bases_of([], packets_of([(0, b"a")]), 0)[0]
-        base = base.limited([Edge(at, b"%d" % at if at % 2 == 0 else b"", at % 2 == 0)
-                             for at in range(40)], -1, 1)
+        base = find_time_bases([], packets_of([(0, b"a")]), 0)[0]
+        base = base.copy_between([ExpectedCue(at, b"%d" % at if at % 2 == 0 else b"", at % 2 == 0)
+                                  for at in range(40)], -1, 1)
         first = {at: (0, at) for at in range(40)}
         for some, known, wanted in (
                 (range(20), first, True), (range(19), first, False), (range(0, 40, 2), first, True),
@@ -265,8 +270,8 @@ class RepeatedProgrammes(unittest.TestCase):
                 (range(0, 36, 5), first, False), ((0, 4, 8, 16, 20), {0: (0, 0), 4: (0, 4)}, False),
                 ((0, 4, 8, 16, 20), {0: (0, 0), 4: (0, 4), 20: (0, 20)}, True), ((), first, False),
                 (range(0, 24, 4), {at: (0, at) for at in (0, 4, 20)}, True)):
-            self.assertEqual(is_again([base], known, {at: (0, 100 + at) for at in some}), wanted,
-                             some)
+            self.assertEqual(is_repeated_airing([base], known, {at: (0, 100 + at) for at in some}),
+                             wanted, some)
 
 
 class JudgedPairs(Case):

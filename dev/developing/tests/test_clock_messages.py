@@ -7,12 +7,13 @@ from types import SimpleNamespace
 from typing import Any, Sequence
 
 from developing.pes import packet
-from subtitles.clock.alignment import Early
+from subtitles.clock.alignment import EarlyCues
 from subtitles.clock.origin import (
-    Origin, Sought, break_lines, is_sent, measure, part_lines, shift_lines, take_parts)
+    OriginEstimate, OriginSearch, break_lines, compare_with_known, part_lines, report_sent_pages,
+    shift_lines, store_parts)
 from subtitles.clock.start import (
-    Clock, FITTED, First, GIVEN, NoFirst, RECORDING, START, TCP, began, first_picture, left_out,
-    off_words)
+    Clock, ESTIMATED_NOTE, FirstPicture, GIVEN, NoFirstPicture, RECORDING, START, TCP,
+    compute_start_clock, count_skipped, find_first_picture, largest_offset_text)
 from subtitles.clock.stretches import Stretch
 from subtitles.common.times import CLOCK, TICKS
 from subtitles.request.request import ORIGIN_CHOICE, Selection, Unclear
@@ -36,20 +37,21 @@ def part_at(frames: int, begin: int = 0, base: int = 0) -> Any:
 
 
 class OriginLines(unittest.TestCase):
-    def part(self, agree: int, among: int, letters: int, edges: int = 20, **more: Any) -> Any:
+    def part(self, matches: int, total: int, letters: int, cues: int = 20, **more: Any) -> Any:
         """Return a part of whose cues some agree with the best origin."""
-        best: dict[str, Any] = {"agree": agree, "among": among, "letters": letters, "exact": agree,
-                                "first_other": None, "late": [0], "origin": 9, "start": 0}
+        best: dict[str, Any] = {"matches": matches, "total": total,
+                                "content_matches": letters, "exact_matches": matches,
+                                "first_unmatched": None, "delays": [0], "origin": 9, "start": 0}
         best.update({name: more.pop(name) for name in list(more) if name in best})
-        fit = SimpleNamespace(**best, points=lambda is_one=True: best["agree"])
-        sent = SimpleNamespace(edges=[None] * edges, within=more.get("within", 0),
-                               apart=lambda _: more.get("apart"))
+        fit = SimpleNamespace(**best, score=lambda is_one=True: best["matches"])
+        sent = SimpleNamespace(cues=[None] * cues, within=more.get("within", 0),
+                               find_cue_offset=lambda _: more.get("apart"))
         return SimpleNamespace(best=fit, others=more.get("others", []), sent=sent,
                                early=more.get("early"))
 
-    def other(self, origin: int, agree: int) -> Any:
-        return SimpleNamespace(origin=origin, agree=agree, start=900, texts=1,
-                               points=lambda is_one=True: agree)
+    def other(self, origin: int, matches: int) -> Any:
+        return SimpleNamespace(origin=origin, matches=matches, start=900, text_matches=1,
+                               score=lambda is_one=True: matches)
 
     def test_describes_a_part_by_its_best_origin(self) -> None:
         rows: list[tuple[Any, int, list[str]]] = [
@@ -61,33 +63,34 @@ class OriginLines(unittest.TestCase):
              ["4 of 9 cues match, 4 with the expected text; the file has 20; next best: "
               "none", "fewer than half of the cues match with --origin 9: check that this is the "
               "right subtitle file"]),
-            (self.part(9, 10, 9, within=3, late=[0], early=Early(1, 30, 2), first_other=50), 20,
-             ["9 of 10 cues match, 9 with the expected text; the file has 20; next best: "
+            (self.part(9, 10, 9, within=3, delays=[0], early=EarlyCues(1, 30, 2),
+                       first_unmatched=50),
+             20, ["9 of 10 cues match, 9 with the expected text; the file has 20; next best: "
               "none", "no cue is late", "1 of 30 cues is up to 2 frames early compared with the "
               "others", "the first cue without a match is at 00:00:02:00"]),
-            (self.part(8, 10, 8, within=3, late=[0], early=Early(2, 10, 1)), 20,
+            (self.part(8, 10, 8, within=3, delays=[0], early=EarlyCues(2, 10, 1)), 20,
              ["8 of 10 cues match, 8 with the expected text; the file has 20; next best: "
               "none", "no cue is late", "2 of 10 cues are up to 1 frame early compared with the "
               "others: are these early, or is the inserter late for the others? Give --origin or "
               "--start"])]
         for count, words in ((5, ""), (6, " and 1 more")):
-            rows.append((self.part(9, 9, 9, first_other=0, others=[
+            rows.append((self.part(9, 9, 9, first_unmatched=0, others=[
                 self.other(at, 9) for at in range(count)]), 20, [
                     "9 of 9 cues match, 9 with the expected text; the file has 20; next best: "
                     "--origin 0 with 9", "it is ambiguous: as good as --origin 9 are "
                     f"--origin 0, --origin 1, --origin 2, --origin 3, --origin 4{words}",
                     "the first cue without a match is at 00:00:00:00"]))
-        rows.append((self.part(3, 3, 3, within=3, late=[2, 1, 3, 2]), 20, [
+        rows.append((self.part(3, 3, 3, within=3, delays=[2, 1, 3, 2]), 20, [
             "3 of 3 cues match, 3 with the expected text; the file has 20; next best: none",
             "cues are 1 to 3 frames late (median 2)"]))
-        rows += [(self.part(9, 9, 9, exact=9 - off), 9, [
+        rows += [(self.part(9, 9, 9, exact_matches=9 - off), 9, [
             "9 of 9 cues match, 9 with the expected text; this part has 20; next best: none",
             f"{off} of them match only to the nearest frame: PTS that are not whole frames apart "
             "are refused as 61"]) for off in (1, 9)]
-        for is_begin, agree, late, line in (
+        for is_begin, matches, late, line in (
                 (True, 5, 2, "all in-cues are 2 frames late compared with the out-cues"),
                 (False, 4, -1, "4 of 5 out-cues are 1 frame early compared with the in-cues")):
-            apart = SimpleNamespace(is_begin=is_begin, agree=agree, of=5, late=late)
+            apart = SimpleNamespace(is_begin=is_begin, matches=matches, total=5, late=late)
             rows.append((self.part(4, 9, 4, apart=apart), 20, [
                 "4 of 9 cues match, 4 with the expected text; the file has 20; next best: "
                 "none", line]))
@@ -101,9 +104,9 @@ class OriginLines(unittest.TestCase):
         for count, printed in itertools.product(range(5), (1, 2, 3)):
             parts = [self.part(20, 20, 20) for _ in range(count)]
             for one in parts:
-                one.begin, one.end, one.base, one.over, one.origin = 0, 50, 0, [], 9
-            found, breaks = Origin(), max(count - 1, 0)
-            take_parts(found, Sought("a", "b", breaks=printed), [], parts)
+                one.begin, one.end, one.base, one.overlapping, one.origin = 0, 50, 0, [], 9
+            found, breaks = OriginEstimate(), max(count - 1, 0)
+            store_parts(found, OriginSearch("a", "b", breaks=printed), [], parts)
             words = {0: "no break", 1: "1 break"}.get(breaks, f"{breaks} breaks")
             if count == printed + 1:
                 self.assertEqual((found.status, len(found.parts), found.breaks), (0, count, None),
@@ -115,24 +118,25 @@ class OriginLines(unittest.TestCase):
                                                *break_lines(parts)], (count, printed))
 
     def test_describes_each_part(self) -> None:
-        over = [SimpleNamespace(begin=25 * at, end=25 * at + 50) for at in range(3)]
+        overlapping = [SimpleNamespace(begin=25 * at, end=25 * at + 50) for at in range(3)]
         for origin, count in itertools.product((None, 9), (1, 2)):
-            parts = [self.part(edges - 1, edges, edges - 1, edges) for edges in (20, 12, 6)]
+            parts = [self.part(cues - 1, cues, cues - 1, cues) for cues in (20, 12, 6)]
             for number, one in enumerate(parts):
                 one.begin, one.end, one.origin = 1000 * number, 1000 * number + 500, 9 + number
-                one.base, one.over, one.sent.packets = 0, over[2 * number:][:2], (number, 7)
-            found, bases = Origin(), [one.sent for one in parts][:count]
-            take_parts(found, Sought("a", "b", origin=origin, breaks=2), bases, parts)
+                one.base, one.sent.packets = 0, (number, 7)
+                one.overlapping = overlapping[2 * number:][:2]
+            found, bases = OriginEstimate(), [one.sent for one in parts][:count]
+            store_parts(found, OriginSearch("a", "b", origin=origin, breaks=2), bases, parts)
             pes = [f"--pes {at}-7 " * (count > 1) for at in range(3)]
-            self.assertEqual((found.status, found.away, found.printed), (
+            self.assertEqual((found.status, found.ticks_late, found.printed), (
                 0, None if origin is None else 0, [
                     f"--from 00:00:00:00 --to 00:00:20:00 {pes[0]}--origin 9",
                     f"--from 00:00:40:00 --to 00:01:00:00 {pes[1]}--origin 10",
                     f"--from 00:01:20:00 --to 00:01:40:00 {pes[2]}--origin 11"]), (origin, count))
-            self.assertEqual([(one.origin, one.packets, one.frames, one.agree, one.among)
+            self.assertEqual([(one.origin, one.packets, one.frames, one.matches, one.total)
                               for one in found.parts], [
-                (9 + at, (at, 7) if count > 1 else None, (1000 * at, 1000 * at + 500), edges - 1,
-                 edges) for at, edges in enumerate((20, 12, 6))], (origin, count))
+                (9 + at, (at, 7) if count > 1 else None, (1000 * at, 1000 * at + 500), cues - 1,
+                 cues) for at, cues in enumerate((20, 12, 6))], (origin, count))
             for line, is_there in (("3 parts: 35 of 38 cues match", True),
                                    ("19 of 20 cues match, 19 with the expected text; this part has "
                                     "20; next best: none", True),
@@ -143,15 +147,16 @@ class OriginLines(unittest.TestCase):
                 self.assertEqual(found.lines.count(line), int(is_there), found.lines)
 
     def test_is_unclear_if_many_cues_of_a_part_are_early(self) -> None:
-        many, few = Early(9, 20, 1), Early(1, 30, 1)
+        many, few = EarlyCues(9, 20, 1), EarlyCues(1, 30, 1)
         for early, origin, status in (((None, None), None, 0), ((many, None), None, 1),
                                       ((many, None), 9, 0), ((None, many), None, 1),
                                       ((None, many), 9, 1), ((many, few), 9, 0)):
             parts = [self.part(20, 20, 20, early=one) for one in early]
             for one in parts:
-                one.begin, one.end, one.base, one.over, one.origin = 0, 50, 0, [], 9
-            found = Origin()
-            take_parts(found, Sought("a", "b", origin=origin, breaks=1), [parts[0].sent], parts)
+                one.begin, one.end, one.base, one.overlapping, one.origin = 0, 50, 0, [], 9
+            found = OriginEstimate()
+            store_parts(found, OriginSearch("a", "b", origin=origin, breaks=1), [parts[0].sent],
+                        parts)
             self.assertEqual((found.status, len(found.parts)), (status, 2 - 2 * status), early)
 
     def test_compares_an_origin_with_a_given_one(self) -> None:
@@ -161,11 +166,12 @@ class OriginLines(unittest.TestCase):
             (0, 0, "--origin 0"), (0, 9, "0 frames and 9 ticks late compared with --origin 0"),
             (0, 251 * TICKS, "251 frames late compared with --origin 0"), (9, 9, "--origin 9")]
         for known, origin, words in rows:
-            found, part = Origin(), self.part(20, 20, 20)
+            found, part = OriginEstimate(), self.part(20, 20, 20)
             part.origin = origin
-            measure(found, known, part)
+            compare_with_known(found, known, part)
             self.assertEqual(found.lines, [f"it is {words}"] * bool(words), (known, origin))
-            self.assertEqual(found.away, None if known is None else origin - known, (known, origin))
+            self.assertEqual(found.ticks_late, None if known is None else origin - known,
+                             (known, origin))
 
     def test_what_is_there(self) -> None:
         runs = [Run(0, 2, 0, TICKS, "h", ""), Run(2, 1, None, 0, "m", ""),
@@ -186,7 +192,7 @@ class OriginLines(unittest.TestCase):
             lines, packets = list[str](), Packets(0, several)
             packets.marks, packets.changes = some, changes
             packets.damage, packets.sent = damage, {"888": 9, "150": 1, "777": 2}
-            self.assertEqual((is_sent(packets, Sought("a", "one"), lines), lines),
+            self.assertEqual((report_sent_pages(packets, OriginSearch("a", "one"), lines), lines),
                              (bool(changes), printed), (several, some, damage))
 
     def test_reports_the_length_of_each_break(self) -> None:
@@ -199,32 +205,32 @@ class OriginLines(unittest.TestCase):
             "part 5 begins at 00:00:16:00, after a break of 00:00:00:00 and 7 ticks"])
         self.assertEqual(list(break_lines(parts[:1])), [])
 
-    def shifts(self, *frames: int, bases: tuple[int, ...] = ()) -> list[str]:
+    def shift_texts(self, *frames: int, bases: tuple[int, ...] = ()) -> list[str]:
         """Return the lines about stretches with delays, a minute each."""
         parts = [part_at(one, 1500 * at, (*bases, *[0] * 99)[at]) for at, one in enumerate(frames)]
-        edges = [SimpleNamespace(frame=1500 * at) for at in range(len(parts))]
-        tracks: list[Any] = [SimpleNamespace(edges=edges, start=one, base=part.base)
+        cues = [SimpleNamespace(frame=1500 * at) for at in range(len(parts))]
+        tracks: list[Any] = [SimpleNamespace(cues=cues, start=one, base=part.base)
                              for one, part in zip(frames, parts)]
         return shift_lines([Stretch(one, at, at + 1) for at, one in enumerate(tracks)], parts,
                            ORIGIN)
 
     def test_reports_from_which_time_subtitles_are_late(self) -> None:
         printed = "on subtitles are"
-        self.assertEqual(self.shifts(0, 25),
+        self.assertEqual(self.shift_texts(0, 25),
                          [f"from 00:01:00:00 {printed} 1.00 s (25 frames) late"])
-        self.assertEqual(self.shifts(0, 26, 0), [
+        self.assertEqual(self.shift_texts(0, 26, 0), [
             f"from 00:01:00:00 {printed} 1.04 s (26 frames) late",
             f"from 00:02:00:00 {printed} on time"])
-        self.assertEqual(self.shifts(0, -1500), [
+        self.assertEqual(self.shift_texts(0, -1500), [
             f"from 00:01:00:00 {printed} 60.00 s (1500 frames) early"])
-        self.assertEqual(self.shifts(0, -1500, -3000), [
+        self.assertEqual(self.shift_texts(0, -1500, -3000), [
             f"from 00:01:00:00 {printed} 60.00 s (1500 frames) early",
             f"from 00:02:00:00 {printed} 120.00 s (3000 frames) early"])
-        self.assertEqual(self.shifts(0, 5, 1, bases=(0, 1, 1)), [
+        self.assertEqual(self.shift_texts(0, 5, 1, bases=(0, 1, 1)), [
             "from 00:01:00:00 on, where PTS go back, subtitles are 0.20 s (5 frames) late",
             f"from 00:02:00:00 {printed} 0.04 s (1 frame) late"])
         for count, left in ((20, 0), (21, 1), (25, 5)):
-            found = self.shifts(*((at * 7) % 5 * 30 for at in range(count + 1)))
+            found = self.shift_texts(*((at * 7) % 5 * 30 for at in range(count + 1)))
             words = f"and {left} more change{'s' * (left != 1)}"
             self.assertEqual((len(found), words in found), (20 + (left > 0), left > 0), found)
             self.assertTrue(found[-1].startswith(f"from 00:{count:02}:00:00"), found)
@@ -259,24 +265,24 @@ def picture_lines(frames: Sequence[int | None], end: str = "0 0", passed: int = 
 
 
 class FirstPictures(unittest.TestCase):
-    def said(self, lines: Sequence[str], is_whole: bool = True) -> str | First:
+    def said(self, lines: Sequence[str], is_whole: bool = True) -> str | FirstPicture:
         try:
-            return first_picture(surveyed(lines, is_whole), TELETEXT)
-        except NoFirst as reason:
+            return find_first_picture(surveyed(lines, is_whole), TELETEXT)
+        except NoFirstPicture as reason:
             return str(reason)
 
     def test_takes_the_smallest_pts(self) -> None:
         for frames, least in ((GROUP, 0), ([0], 0), ([7, 5, 6], 5), ([0, 1, 2], 0)):
-            self.assertEqual(self.said(picture_lines(frames)), First(
+            self.assertEqual(self.said(picture_lines(frames)), FirstPicture(
                 VIDEO, MPEG_2, (CLOCK - 5 + TICKS * least) % CLOCK, 3), frames)
         for kind in (0x01, H_264, HEVC):
             lines = [*programme_with((VIDEO, kind)), f"video {VIDEO} 0", f"picture {VIDEO} 9"]
-            self.assertEqual(self.said(lines), First(VIDEO, kind, 9, 0), kind)
+            self.assertEqual(self.said(lines), FirstPicture(VIDEO, kind, 9, 0), kind)
         self.assertIn("PTS 9, HEVC of PID 0x200; 1 PES packet of video before it skipped",
-                      First(VIDEO, HEVC, 9, 1).line())
+                      FirstPicture(VIDEO, HEVC, 9, 1).line())
 
     def test_takes_all_pmts_into_account(self) -> None:
-        first = First(VIDEO, MPEG_2, 0, 0)
+        first = FirstPicture(VIDEO, MPEG_2, 0, 0)
         begun, none = [f"video {VIDEO} 0", f"picture {VIDEO} 0"], programme_with()
         own = programme_with((VIDEO, MPEG_2))
         for tables in ([*none, *own], [*own, *none]):
@@ -301,25 +307,27 @@ class FirstPictures(unittest.TestCase):
                                   str(within))
             if moved is None:
                 with self.assertRaises(Unclear):
-                    began(request, surveyed(lines), packets)
+                    compute_start_clock(request, surveyed(lines), packets)
                 continue
-            found = began(request, surveyed(lines), packets)
+            found = compute_start_clock(request, surveyed(lines), packets)
             origin = (shift - 2 * TICKS + moved) % CLOCK
             self.assertEqual((found.clock, found.frame), (Clock(origin, START), 2),
                              (shift, several, within))
             self.assertIn(words, found.lines[1], (shift, several, within))
         lines = [*programme_with((VIDEO, MPEG_2)), f"video {VIDEO} 0", f"picture {VIDEO} {TICKS}",
                  f"picture {VIDEO} 0", f"group {VIDEO} 0 0 open"]
-        self.assertEqual(began(request, surveyed(lines), packets).clock.away, -1)
-        self.assertEqual(off_words(180), "PTS are up to 180 ticks (2.00 ms) off their frames")
+        self.assertEqual(compute_start_clock(request, surveyed(lines), packets).clock.away, -1)
+        self.assertEqual(largest_offset_text(180),
+                         "PTS are up to 180 ticks (2.00 ms) off their frames")
         for source, evidence in itertools.product((RECORDING, GIVEN, START, TCP), (
                 None, Selection(ORIGIN_CHOICE, "8", "words"))):
-            chosen = (evidence or Selection(ORIGIN_CHOICE, "7", FITTED))._replace(part=2)
+            chosen = (evidence or Selection(ORIGIN_CHOICE, "7", ESTIMATED_NOTE))._replace(part=2)
             self.assertEqual(Clock(7, source, evidence=evidence).chosen(2),
                              chosen if source == RECORDING else None, (source, evidence))
         for other, away in ((None, 0), (0, -3), (5 * TICKS + 9, 2), (5 * TICKS - 9, 2),
                             (CLOCK - TICKS, -4)):
-            self.assertEqual(First(VIDEO, MPEG_2, 3 * TICKS, 0, other).away, away, (other, away))
+            self.assertEqual(FirstPicture(VIDEO, MPEG_2, 3 * TICKS, 0, other).away, away,
+                             (other, away))
 
     def test_takes_the_first_picture_of_a_closed_or_open_group(self) -> None:
         flagged, least = (CLOCK - 5 + TICKS * 2) % CLOCK, CLOCK - 5
@@ -334,8 +342,8 @@ class FirstPictures(unittest.TestCase):
                 ([0, 1, 2], "open", least, None, 0, ""), ([0, 2, 1], "closed", least, None, 0, "")):
             lines = picture_lines(frames)
             found = self.said([*lines[:-1], f"group {VIDEO} {flagged} {least} {form}", lines[-1]])
-            self.assertEqual(found, First(VIDEO, MPEG_2, first, 3, other), (frames, form))
-            assert isinstance(found, First)
+            self.assertEqual(found, FirstPicture(VIDEO, MPEG_2, first, 3, other), (frames, form))
+            assert isinstance(found, FirstPicture)
             self.assertEqual((found.away, found.line()), (
                 away, f"the first picture has PTS {first}{begin}{more}"), (frames, form, first))
 
@@ -384,7 +392,7 @@ class FirstPictures(unittest.TestCase):
                 ([*long[:250], long[251]], False, 0), ([*long[:100], *long[101:]], False, 1),
                 ([*long[:245], *long[246:251]], False, 1),
                 ([(CLOCK - frame + one) % CLOCK for one in (0, frame, 3 * frame)], False, 1)):
-            self.assertEqual(left_out(pts, is_cut), count, (pts[:5], is_cut))
+            self.assertEqual(count_skipped(pts, is_cut), count, (pts[:5], is_cut))
 
 
 BEGIN, EACH, LENGTH, COUNT = 900_000, 60, 40, 6  # frames, and subtitles of the first programme

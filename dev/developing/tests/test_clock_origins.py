@@ -9,9 +9,11 @@ from typing import Sequence
 
 from developing.pes import MARK, data_field, packet, pes_packet, pts_in, teletext_packets
 from developing.stl import boxed
-from subtitles.clock.alignment import Base, Edge, Shown as Due, bases_of, delays_of, edges_of
-from subtitles.clock.origin import Origin, Sought, find, subtitles_between
-from subtitles.clock.stretches import Stretch, Track, best_row, find_row
+from subtitles.clock.alignment import (
+    ExpectedCue, ExpectedSubtitle as Due, TimeBase, count_delays, find_expected_cues,
+    find_time_bases)
+from subtitles.clock.origin import OriginEstimate, OriginSearch, estimate_origin, subtitles_between
+from subtitles.clock.stretches import Stretch, Track, find_best_stretches, find_stretches
 from subtitles.common.command_line import Stop
 from subtitles.common.times import ALL_DAY, Between, CLOCK, TICKS, time_of
 from subtitles.stream.packets import Change
@@ -38,13 +40,14 @@ class Origins(Case):
         return write_subtitle_file(self, [(begin, end, boxed(text)) for begin, end, text in times],
                              name, 0, 20)
 
-    def find(self, stl: str, pes: Sequence[bytes], *words: str) -> Origin:
+    def find(self, stl: str, pes: Sequence[bytes], *words: str) -> OriginEstimate:
         """Find the origin of PES packets."""
         request = request_for(stl, "one.pes", *words)
-        return find(Sought(stl, "one.pes", request.page, request.option, request.origin,
-                           request.within,
-                           request.breaks, request.pes),
-                           survey_packets(self, b"".join(pes), request.page))
+        return estimate_origin(OriginSearch(stl, "one.pes", request.page, request.option,
+                                            request.origin,
+                                            request.within,
+                                            request.breaks, request.pes),
+                               survey_packets(self, b"".join(pes), request.page))
 
     def test_selects_subtitles_by_time_and_number(self) -> None:
         stl = self.stl([(0, 50, b"a"), (60, 60, b"b"), (100, 150, b"c"), (200, 300, b"d")])
@@ -95,10 +98,10 @@ class Origins(Case):
     def test_finds_the_origin_of_random_transmissions(self) -> None:
         for seed in range(8):
             chance = random.Random(seed)
-            data, edges = random_subtitles(seed)
+            data, cues = random_subtitles(seed)
             stl = self.write("random.stl", data)
             given = chance.choice([chance.randrange(CLOCK),
-                                   -TICKS * edges[len(edges) // 2] % CLOCK])
+                                   -TICKS * cues[len(cues) // 2] % CLOCK])
             page = chance.choice(["888", "12A", "701"])
             pes = schedule_pes(self, stl, "--page", page, "--origin", str(given), "--every",
                                str(chance.randrange(5, 500)))
@@ -153,7 +156,8 @@ class Origins(Case):
     def test_takes_the_origin_of_the_earliest_of_equal_matches(self) -> None:
         one, other = (100, 150, b"One"), (200, 260, b"Other")
         own = [(100 * at, 100 * at + 20 + 5 * at, b"Text %c" % (65 + at)) for at in range(12)]
-        rows: list[tuple[list[Shown], int, list[Shown], int, list[str], str]] = [
+        rows: list[tuple[list[Shown], int, list[Shown], int, list[str],
+                         str]] = [
             ([one], 0, [other], 100, [], "as good as --origin 0 are --origin 360000"),
             (own[6:], 0, own[:6], 2000, [], "as good as --origin 7200000 are --origin 0"),
             (own[6:], 1000, own[:6], 950, ["--pes 12-23 --origin 3420000"], "12 of 12 cues")]
@@ -180,7 +184,7 @@ class Origins(Case):
         pes = schedule_pes(self, self.stl(times[:20], "sent.stl")) + schedule_pes(self, 
             self.stl(times[20:], "sent.stl"), "--origin", str(900 * TICKS))
         found = self.find(self.stl(times), pes)
-        self.must("two", found.printed == ["--origin 0"] and not found.shifts, found)
+        self.must("two", found.printed == ["--origin 0"] and not found.shift_texts, found)
 
     def transmission(self, begin: int, late: Sequence[int] = (0,) * COUNT) -> list[bytes]:
         """Return the PES packets of a programme, some of them delayed."""
@@ -207,10 +211,10 @@ class Origins(Case):
                 own = self.transmission(gap * number)
                 pes += [*own, pes_packet((pts_in(own[-1]) + 9 * TICKS) % CLOCK, [HEADER, CLOSING])]
             count, found = len(own) + 1, self.find(self.own_stl(), pes)
-            self.must(f"{gap} {runs}", (found.status, found.runs) == (int(runs > 1), [
+            self.must(f"{gap} {runs}", (found.status, found.airings) == (int(runs > 1), [
                 (count * at - (at > 0), count * (at + 1) - 1)
                 for at in range(runs)] * (runs > 1)), found)
-            for number, (first, last) in enumerate(found.runs):
+            for number, (first, last) in enumerate(found.airings):
                 one = self.find(self.own_stl(), pes, "--pes", f"{first}-{last}")
                 self.must(f"{gap} {number}", one.printed == [
                     f"--origin {(gap * number - TICKS * FIRST) % CLOCK}"], one)
@@ -222,42 +226,44 @@ class Origins(Case):
             found = self.find(self.own_stl(), self.transmission(5000, late),
                               *([] if known is None else ["--origin", str(known)]))
             with self.subTest(known=known):
-                self.assertEqual((found.status, found.shifted_from, found.away),
+                self.assertEqual((found.status, found.first_shift, found.ticks_late),
                                  (0, FIRST + 70 * 6, away))
                 frames = 50 + (away or 0) // TICKS
-                self.assertIn(f"{frames / 25:.2f} s ({frames} frames) late", found.shifts[0])
+                self.assertIn(f"{frames / 25:.2f} s ({frames} frames) late", found.shift_texts[0])
                 self.assertEqual(found.parts[0].origin, origin)
-                self.assertEqual((found.parts[0].agree, found.parts[0].among, found.are_all),
+                self.assertEqual((found.parts[0].matches, found.parts[0].total, found.has_all_cues),
                                  (12, 12, True))
         whole = self.find(self.own_stl(), self.transmission(5000))
-        self.assertTrue(whole.are_all and not whole.shifts and whole.shifted_from is None)
+        self.assertTrue(whole.has_all_cues and not whole.shift_texts and whole.first_shift is None)
         self.assertIn("subtitles expected from 11:06:40:00 to 11:07:12:10, page received from "
                       "11:06:40:00 to 11:07:12:10", whole.lines)
 
     def test_accepts_ends_with_the_same_delay(self) -> None:
-        for late, are_all in (([3] * COUNT, True), ([3] * 6 + [9] * 6, False),
-                              ([3] * (COUNT - 1) + [9], False)):
+        for late, has_all_cues in (([3] * COUNT, True), ([3] * 6 + [9] * 6, False),
+                                   ([3] * (COUNT - 1) + [9], False)):
             pes = [pes_packet(TICKS * (70 * number + frame), [
                 HEADER, *[row_packet(20, b"Number %d" % number)] * (not frame), CLOSING])
                 for number, by in enumerate(late) for frame in (0, 40 + by)]
             found = self.find(self.own_stl(), pes)
-            self.must(f"{late}", found.are_all == are_all, found)
+            self.must(f"{late}", found.has_all_cues == has_all_cues, found)
 
     def test_counts_cues_that_agree(self) -> None:
         pes, count = self.transmission(5000), 2 * COUNT
         pes[6] = pes_packet(5000 + TICKS * 210, [HEADER, row_packet(20, b"Another"), CLOSING])
-        for some, agree, among, letters in ((pes, count, count, count - 1),
-                                            (pes[:-3], count - 3, count - 3, count - 4),
-                                            (pes[:10] + pes[11:], count - 2, count, count - 3),
-                                            (pes[:11] + pes[12:], count - 1, count, count - 2)):
+        for some, matches, total, letters in ((pes, count, count, count - 1),
+                                              (pes[:-3], count - 3, count - 3, count - 4),
+                                              (pes[:10] + pes[11:], count - 2, count, count - 3),
+                                              (pes[:11] + pes[12:], count - 1, count, count - 2)):
             found = self.find(self.own_stl(), some)
-            part, are_all = found.parts[0], agree == among
-            self.must(f"{agree}", (part.agree, part.among, found.are_all) == (
-                agree, among, are_all) and f" {letters} with the expected text" in part.line, found)
+            part, has_all_cues = found.parts[0], matches == total
+            self.must(f"{matches}", (part.matches, part.total, found.has_all_cues) == (
+                matches, total, has_all_cues) and f" {letters} with the expected text" in part.line,
+                      found)
             others = [line for line in found.lines if line.startswith("the first cue without")]
-            self.must(f"{agree}: first", others == [
+            self.must(f"{matches}: first", others == [
                 "the first cue without a match is at "
-                f"{time_of(FIRST + 350 + 40 * (agree == count - 1))}"] * (not are_all), others)
+                f"{time_of(FIRST + 350 + 40 * (matches == count - 1))}"] * (not has_all_cues),
+                      others)
 
     def test_reports_missing_pts_gap_markers_and_other_pages(self) -> None:
         good = self.transmission(0)[:3]
@@ -288,16 +294,16 @@ class Origins(Case):
 
 
 class Tracks(unittest.TestCase):
-    edges = edges_of([Due(100 * at, 100 * at + 50, at, b"%d" % at) for at in range(1, 7)])
+    cues = find_expected_cues([Due(100 * at, 100 * at + 50, at, b"%d" % at) for at in range(1, 7)])
 
-    def base(self, changes: dict[int, bytes], within: int = 0) -> Base:
+    def base(self, changes: dict[int, bytes], within: int = 0) -> TimeBase:
         """A time base in which the page changes at some frames."""
-        return Base(self.edges, [Change(TICKS * frame, letters, frame, ((20, letters),))
-                                 for frame, letters in sorted(changes.items())],
-                    0, 1000 * TICKS, (0, 999), within)
+        return TimeBase(self.cues, [Change(TICKS * frame, letters, frame, ((20, letters),))
+                                    for frame, letters in sorted(changes.items())],
+                        0, 1000 * TICKS, (0, 999), within)
 
     def test_gives_a_text_more_points_than_an_erased_page(self) -> None:
-        due = {edge.frame: edge.letters for edge in self.edges}
+        due = {cue.frame: cue.letters for cue in self.cues}
         sent = {**due, 200: b"x", 301: due[300]}
         del sent[250], sent[300]
         for within, points, late, places in ((0, [3, 2, 1, 0, 0, 2], 0, [150, 200, 350]),
@@ -305,19 +311,19 @@ class Tracks(unittest.TestCase):
             track = Track(0, 0, self.base(sent, within))
             self.assertEqual(track.points, points + [3, 2] * 3, (within, points, late))
             self.assertEqual(track.rank(), (-sum(track.points), late, 0), (within, points, late))
-            self.assertEqual(Stretch(track, 1, 6).agreeing(), places, (within, points, late))
-            self.assertEqual(max(track.in_a_row), 7 if not within else 8, (within, points, late))
+            self.assertEqual(Stretch(track, 1, 6).matching_places(), places, (within, points, late))
+            self.assertEqual(max(track.row_lengths), 7 if not within else 8, (within, points, late))
 
     def test_prefers_two_texts_to_many_times(self) -> None:
-        edges = [Edge(1000 * at, b"%d" % at, True) for at in range(4)]
-        others = {frame + edge.frame: b"other %d" % frame for frame in range(100, 250, 2)
-                  for edge in edges}
+        cues = [ExpectedCue(1000 * at, b"%d" % at, True) for at in range(4)]
+        others = {frame + cue.frame: b"other %d" % frame for frame in range(100, 250, 2)
+                  for cue in cues}
         for within in (0, 1):
             sent = {**others, 51: b"0", 1051 + within: b"1"}
-            base = Base(edges, [Change(TICKS * frame, letters, frame, ((20, letters),))
-                                for frame, letters in sorted(sent.items())],
-                        0, 9000 * TICKS, (0, 9000), within)
-            self.assertEqual((base.fits[0].start, base.fits[0].agree), (-51, 2), within)
+            base = TimeBase(cues, [Change(TICKS * frame, letters, frame, ((20, letters),))
+                                   for frame, letters in sorted(sent.items())],
+                            0, 9000 * TICKS, (0, 9000), within)
+            self.assertEqual((base.fits[0].start, base.fits[0].matches), (-51, 2), within)
 
     def test_a_track_may_follow_only_an_earlier_one(self) -> None:
         base = self.base({})
@@ -329,38 +335,39 @@ class Tracks(unittest.TestCase):
             self.assertEqual(found, wanted, (one, before, frames))
 
     def test_needs_five_cues_in_a_row_for_a_track(self) -> None:
-        due = {edge.frame: edge.letters for edge in self.edges}
+        due = {cue.frame: cue.letters for cue in self.cues}
         few = [self.base(dict([*due.items()][:count])) for count in (4, 5, 12)]
         for bases, number in (([few[0]], None), ([few[1]], 0), ([few[0], few[2]], 1), (few, 2)):
-            row = find_row(bases)
+            row = find_stretches(bases)
             self.assertEqual([stretch.track.base for stretch in row],
                              [] if number is None else [number], (bases, number))
         later = {frame + 40 * (frame > 350): letters for frame, letters in due.items()}
         for some in (later, {frame: text and b"other " + text for frame, text in later.items()}):
-            row = find_row([self.base(some)])
+            row = find_stretches([self.base(some)])
             self.assertEqual([(stretch.track.start, stretch.first, stretch.end)
                               for stretch in row], [(0, 0, 6), (-40, 6, 12)], some)
 
     def test_takes_the_least_of_the_starts_that_fit_equally(self) -> None:
         """The order of a set of starts does not decide: for -301 and -500 it has 0 first."""
-        most = {edge.frame: edge.letters for edge in self.edges[:-1]}
+        most = {cue.frame: cue.letters for cue in self.cues[:-1]}
         for later in (300, 301, 400, 500):
             twice = {**most, **{frame + later: text for frame, text in most.items()}}
-            self.assertEqual([stretch.track.start for stretch in find_row([self.base(twice)])],
+            self.assertEqual([stretch.track.start for stretch
+                              in find_stretches([self.base(twice)])],
                              [-later], later)
 
     def test_splits_only_where_another_track_agrees_better(self) -> None:
-        due = {edge.frame: edge.letters for edge in self.edges}
+        due = {cue.frame: cue.letters for cue in self.cues}
         half, rest = ({frame: due[frame] for frame in due if (frame < 400) == is_first}
                       for is_first in (True, False))
-        few = self.base(due).limited(self.edges[:4], -1, 1000)
+        few = self.base(due).copy_between(self.cues[:4], -1, 1000)
 
         def moved(by: int) -> dict[int, bytes]:
             return {frame + by: letters for frame, letters in rest.items()}
 
         ends = {frame + 3 * (not letters): letters for frame, letters in due.items()}
         later = {frame + 2 - (frame == 400): letters for frame, letters in rest.items()}
-        rows: list[tuple[list[Base], list[tuple[int, int, int, int]]]] = [
+        rows: list[tuple[list[TimeBase], list[tuple[int, int, int, int]]]] = [
             ([self.base(due)], [(0, 0, 0, 12)]), ([few], []),
             ([self.base(ends)], [(0, 0, 0, 12)]),
             ([self.base({**half, **dict.fromkeys(rest, b"x"), **moved(300)})],
@@ -370,7 +377,7 @@ class Tracks(unittest.TestCase):
              [(0, 0, 0, 6), (1, 0, 6, 12)])]
         for number, (bases, wanted) in enumerate(rows):
             self.assertEqual([(one.track.base, one.track.start, one.first, one.end)
-                              for one in find_row(bases)], wanted, number)
+                              for one in find_stretches(bases)], wanted, number)
 
     def test_prefers_the_nearer_track(self) -> None:
         def row(*several: tuple[int, int, list[int]]) -> list[tuple[int, int]]:
@@ -378,7 +385,7 @@ class Tracks(unittest.TestCase):
             for number, start, points in several:
                 tracks.append(Track(number, start, self.base({})))
                 tracks[-1].points = points
-            found = best_row(self.edges, tracks)
+            found = find_best_stretches(self.cues, tracks)
             self.assertEqual([one.first for one in found], [0, *(one.end for one in found[:-1])])
             return [(one.track.start, one.end) for one in found]
 
@@ -406,23 +413,24 @@ class Tracks(unittest.TestCase):
 class Delays(unittest.TestCase):
     # delays in frames; `None` if not sent
     LATE = [(0, 0), (1, 0), (2, 1), (2, 0), (None, None), (2, 2)]
-    EDGES = [Edge(100 * at + 40 * is_end + at * at, b"" if is_end else b"%d" % at, not is_end)
+    EDGES = [ExpectedCue(100 * at + 40 * is_end + at * at, b"" if is_end else b"%d" % at,
+                         not is_end)
              for at in range(len(LATE)) for is_end in (False, True)]
 
-    def base_of_delays(self) -> Base:
+    def base_of_delays(self) -> TimeBase:
         """Return the time base of page transmissions with these delays."""
-        changes = [(TICKS * (edge.frame + by), edge.letters) for edge, by in zip(
+        changes = [(TICKS * (cue.frame + by), cue.letters) for cue, by in zip(
             self.EDGES, (by for pair in self.LATE for by in pair)) if by is not None]
-        return bases_of([], packets_of(changes), 3)[0].limited(self.EDGES, -1, 1 << 40)
+        return find_time_bases([], packets_of(changes), 3)[0].copy_between(self.EDGES, -1, 1 << 40)
 
     def test_counts_delays_of_begins_and_ends(self) -> None:
         base = self.base_of_delays()
-        self.assertEqual(delays_of(base, base.fit_at(0)), (
+        self.assertEqual(count_delays(base, base.compare(0)), (
             Counter({2: 3, 0: 1, 1: 1}), Counter({0: 3, 1: 1, 2: 1})))
 
     def test_computes_a_part_without_cached_results_of_the_programme(self) -> None:
         request, other = self.base_of_delays(), self.base_of_delays()
         whole = request.fits
-        found = request.limited(self.EDGES[4:8], 150, 400).fits
-        self.assertEqual(found, other.limited(self.EDGES[4:8], 150, 400).fits)
+        found = request.copy_between(self.EDGES[4:8], 150, 400).fits
+        self.assertEqual(found, other.copy_between(self.EDGES[4:8], 150, 400).fits)
         self.assertNotEqual(found, whole)

@@ -5,10 +5,11 @@ import random
 import unittest
 from typing import Sequence
 
-from subtitles.clock.alignment import AGAIN, Edge, Shown, bases_of, edges_of
+from subtitles.clock.alignment import (
+    ExpectedCue, ExpectedSubtitle, MOST_ERASED, find_expected_cues, find_time_bases)
 from subtitles.clock.origin import (
-    Origin, Sought, packets_of as packets_of_run, take_one, take_parts)
-from subtitles.clock.stretches import by_breaks, find_row, parts_of, runs_of
+    OriginEstimate, OriginSearch, find_airing_packets, store_first_part, store_parts)
+from subtitles.clock.stretches import find_airings, find_stretches, fit_parts, split_at_breaks
 from subtitles.common.command_line import Lateness
 from subtitles.common.times import CLOCK, FRAMES_A_SECOND, FRAMES_OF_A_DAY, TICKS
 from subtitles.stream.packets import Change, Packets, Run
@@ -18,21 +19,21 @@ SEEDS = range(20)
 Sending = tuple[int, bytes]  # a PTS that doesn't wrap, and the text of the page
 
 
-def random_programme(chance: random.Random, count: int | None = None) -> list[Shown]:
+def random_programme(chance: random.Random, count: int | None = None) -> list[ExpectedSubtitle]:
     """Return random subtitles, some of which adjoin or repeat a text."""
     frame, made = chance.randrange(FRAMES_OF_A_DAY // 2), []
     for number in range(count or chance.choice((6, 12, 30))):
-        frame += chance.choice((0, AGAIN + 1, chance.randrange(AGAIN + 1, 200)))
+        frame += chance.choice((0, MOST_ERASED + 1, chance.randrange(MOST_ERASED + 1, 200)))
         end = frame + chance.randrange(12, 150)
         text = b"text %d" % (number if chance.random() < 0.9 else 0)
-        made.append(Shown(frame, end, (number, text), text))
+        made.append(ExpectedSubtitle(frame, end, (number, text), text))
         frame = end
     return made
 
 
-def page_changes(edges: Sequence[Edge], origin: int) -> list[Sending]:
+def page_changes(cues: Sequence[ExpectedCue], origin: int) -> list[Sending]:
     """Return the page changes of cues, by an origin."""
-    return [(origin + TICKS * edge.frame, edge.letters) for edge in edges]
+    return [(origin + TICKS * cue.frame, cue.letters) for cue in cues]
 
 
 def packets_of(sendings: Sequence[Sending], every: int = 0, chance: random.Random | None = None) \
@@ -53,68 +54,69 @@ def packets_of(sendings: Sequence[Sending], every: int = 0, chance: random.Rando
     return made
 
 
-def find_origin(shown: Sequence[Shown], packets: Packets, within: int = 0, known: int | None = None,
-          breaks: int = 0, run: int | None = None, late: Lateness | None = None) -> Origin:
+def find_origin(shown: Sequence[ExpectedSubtitle], packets: Packets, within: int = 0,
+                known: int | None = None,
+          breaks: int = 0, run: int | None = None, late: Lateness | None = None) -> OriginEstimate:
     """Find the origin of subtitles in PES packets."""
-    request = Sought("", "", origin=known, breaks=breaks)
-    origin, bases = Origin(), bases_of(shown, packets, within)
-    runs = runs_of(bases)
+    request = OriginSearch("", "", origin=known, breaks=breaks)
+    origin, bases = OriginEstimate(), find_time_bases(shown, packets, within)
+    runs = find_airings(bases)
     if len(runs) > 1:
-        origin.runs = [packets_of_run(runs, at, bases, packets) for at in range(len(runs))]
-    if run and origin.runs:
-        bases = bases_of(shown, packets, within, origin.runs[run - 1])
-    row = find_row(bases)
+        origin.airings = [find_airing_packets(runs, at, bases, packets) for at in range(len(runs))]
+    if run and origin.airings:
+        bases = find_time_bases(shown, packets, within, origin.airings[run - 1])
+    row = find_stretches(bases)
     if breaks:
-        take_parts(origin, request, bases, parts_of(shown, bases, by_breaks(row), late))
+        store_parts(origin, request, bases, fit_parts(shown, bases, split_at_breaks(row), late))
     else:
-        take_one(origin, request, bases, row, parts_of(shown, bases, row, late))
+        store_first_part(origin, request, bases, row, fit_parts(shown, bases, row, late))
     return origin
 
 
 class OriginProperties(unittest.TestCase):
-    def each(self) -> list[tuple[random.Random, list[Shown], list[Edge], int]]:
+    def each(self) -> list[tuple[random.Random, list[ExpectedSubtitle], list[ExpectedCue], int]]:
         made = []
         for seed in SEEDS:
             chance = random.Random(seed)
             shown = random_programme(chance)
-            edges = edges_of(shown)
-            near = -TICKS * edges[len(edges) // 2].frame % CLOCK  # PTS wrap in the middle
-            made.append((chance, shown, edges, chance.choice((0, near, chance.randrange(CLOCK)))))
+            cues = find_expected_cues(shown)
+            near = -TICKS * cues[len(cues) // 2].frame % CLOCK  # PTS wrap in the middle
+            made.append((chance, shown, cues, chance.choice((0, near, chance.randrange(CLOCK)))))
         return made
 
     def test_finds_any_origin_although_some_are_lost(self) -> None:
-        for chance, shown, edges, origin in self.each():
-            kept = [one for one in page_changes(edges, origin) if chance.random() < 0.85]
-            for name, some in (("all", page_changes(edges, origin)), ("some", kept)):
+        for chance, shown, cues, origin in self.each():
+            kept = [one for one in page_changes(cues, origin) if chance.random() < 0.85]
+            for name, some in (("all", page_changes(cues, origin)), ("some", kept)):
                 one = find_origin(shown, packets_of(some, chance.choice((0, 25))))
                 with self.subTest(name, origin=origin):
                     self.assertEqual((one.status, [part.origin for part in one.parts]),
                                      (0, [origin % CLOCK]), one.lines)
-            self.assertEqual(one.runs, [], origin)
+            self.assertEqual(one.airings, [], origin)
 
     def test_reports_the_delay_against_a_given_origin(self) -> None:
-        for chance, shown, edges, origin in self.each():
+        for chance, shown, cues, origin in self.each():
             away = chance.randrange(-50, 51) * TICKS + chance.choice((0, 0, 7))
-            one = find_origin(shown, packets_of(page_changes(edges, origin + away)), known=origin)
-            self.assertEqual(one.away, away, origin)
+            one = find_origin(shown, packets_of(page_changes(cues, origin + away)), known=origin)
+            self.assertEqual(one.ticks_late, away, origin)
 
     def test_reports_pts_that_are_off_their_frames(self) -> None:
-        for chance, shown, edges, origin in self.each():
+        for chance, shown, cues, origin in self.each():
             sendings = [(pts + chance.randrange(-900, 901), text) for pts, text in
-                        page_changes(edges, origin)]
+                        page_changes(cues, origin)]
             one = find_origin(shown, packets_of(sendings))
             self.assertLessEqual(abs((one.parts[0].origin - origin + 900) % CLOCK - 900), 900,
                                  origin)
             self.assertTrue(any("only to the nearest frame" in line for line in one.lines), origin)
 
     def test_reports_that_all_ends_are_late(self) -> None:
-        for chance, shown, edges, origin in self.each():
+        for chance, shown, cues, origin in self.each():
             shown = [one._replace(end=one.end - 6, letters=b"text %d" % at)
                      for at, one in enumerate(shown)]  # none adjoin or have the same text
-            edges = edges_of(shown)
+            cues = find_expected_cues(shown)
             late = chance.choice((-3, -1, 2, 4))
             sendings = [(pts + late * TICKS * (not text), text) for pts, text in
-                        page_changes(edges, origin)]
+                        page_changes(cues, origin)]
             if sorted(sendings) != sendings:
                 continue
             one = find_origin(shown, packets_of(sendings))
@@ -124,11 +126,11 @@ class OriginProperties(unittest.TestCase):
                                 for line in one.lines), one.lines)
 
     def test_finds_the_origin_of_the_least_delayed_cue(self) -> None:
-        for chance, shown, edges, origin in self.each():
+        for chance, shown, cues, origin in self.each():
             within = chance.choice((1, 2, 5))
-            late = [chance.randrange(within + 1) for _ in edges]
+            late = [chance.randrange(within + 1) for _ in cues]
             sendings = [(pts + TICKS * by, text) for (pts, text), by in zip(
-                page_changes(edges, origin), late)]
+                page_changes(cues, origin), late)]
             if any(one >= two for (one, _), (two, _) in zip(sendings, sendings[1:])):
                 continue
             shares = dict.fromkeys(range(within + 1), 1)
@@ -141,8 +143,8 @@ class OriginProperties(unittest.TestCase):
                 "early compared with the others" in line for line in one.lines), one.lines)
 
     def test_accepts_the_second_field_as_in_time(self) -> None:
-        for chance, shown, edges, origin in self.each():
-            first, *others = page_changes(edges, origin)
+        for chance, shown, cues, origin in self.each():
+            first, *others = page_changes(cues, origin)
             sendings = [first, *((pts + TICKS // 2 * chance.randrange(2), text)
                                  for pts, text in others)]
             one = find_origin(shown, packets_of(sendings), 1)
@@ -157,7 +159,8 @@ class OriginProperties(unittest.TestCase):
                      for at, one in enumerate(shown)]
             origins, sendings = [origin], list[Sending]()
             for number in range(breaks + 1):
-                sendings += page_changes(edges_of(shown[12 * number:12 * number + 12]), origins[-1])
+                sendings += page_changes(find_expected_cues(shown[12 * number:12 * number + 12]),
+                                         origins[-1])
                 origins.append(origins[-1] + TICKS * chance.choice((300, 4000, -10 ** 6)))
             one = find_origin(shown, packets_of(sendings), breaks=breaks)
             self.assertEqual([part.origin for part in one.parts],
@@ -169,45 +172,45 @@ class OriginProperties(unittest.TestCase):
     def test_reports_from_which_cue_subtitles_are_late(self) -> None:
         for chance, _, _, origin in self.each():
             shown = random_programme(chance, 30)
-            edges, at = edges_of(shown), 2 * chance.randrange(4, 11)
+            cues, at = find_expected_cues(shown), 2 * chance.randrange(4, 11)
             late = chance.choice((7, 40, 250))
             sendings = [(pts + TICKS * late * (number >= at), text)
-                        for number, (pts, text) in enumerate(page_changes(edges, origin))]
+                        for number, (pts, text) in enumerate(page_changes(cues, origin))]
             one = find_origin(shown, packets_of(sendings))
             self.assertEqual([part.origin for part in one.parts], [origin % CLOCK], origin)
-            self.assertEqual(one.shifted_from, edges[at].frame, one.lines)
-            self.assertIn(f"({late} frames) late", one.shifts[0], origin)
+            self.assertEqual(one.first_shift, cues[at].frame, one.lines)
+            self.assertIn(f"({late} frames) late", one.shift_texts[0], origin)
 
     def test_finds_each_run_of_a_programme(self) -> None:
-        for chance, shown, edges, origin in self.each():
+        for chance, shown, cues, origin in self.each():
             runs = chance.choice((1, 2, 3))
-            step = TICKS * (edges[-1].frame - edges[0].frame + chance.randrange(100, 5000))
+            step = TICKS * (cues[-1].frame - cues[0].frame + chance.randrange(100, 5000))
             sendings = [one for run in range(runs)
-                        for one in page_changes(edges, origin + step * run)]
+                        for one in page_changes(cues, origin + step * run)]
             if sendings[-1][0] - sendings[0][0] >= CLOCK // 2:
                 continue  # the wrap can't be distinguished from a break
             for number in range(1, runs + 1):
                 one = find_origin(shown, packets_of(sendings), run=number)
-                self.assertEqual((len(one.runs), [part.origin for part in one.parts]),
+                self.assertEqual((len(one.airings), [part.origin for part in one.parts]),
                                  (runs if runs > 1 else 0,
                                   [(origin + step * (number - 1)) % CLOCK]),
                                  one.lines)
 
     def test_finds_runs_many_hours_apart(self) -> None:
         hour = 3600 * FRAMES_A_SECOND
-        for chance, shown, edges, origin in self.each():
+        for chance, shown, cues, origin in self.each():
             away = chance.randrange(14, 20) * hour
-            sendings = [one for at in (0, away) for one in page_changes(edges, origin + TICKS * at)]
+            sendings = [one for at in (0, away) for one in page_changes(cues, origin + TICKS * at)]
             packets = packets_of(sendings, hour)
             half = len(packets.changes) // 2
             last, first = (one.number for one in packets.changes[half - 1:half + 1])
-            self.assertEqual(find_origin(shown, packets).runs, [
+            self.assertEqual(find_origin(shown, packets).airings, [
                 (0, first - 1), (last + 1, packets.count - 1)], origin)
 
     def test_reports_an_origin_that_is_not_unique(self) -> None:
-        shown = [Shown(100, 150, 1, b"own")]
-        other = [Shown(100, 150, 1, b"other"), Shown(300, 350, 2, b"another")]
-        one = find_origin(shown, packets_of(page_changes(edges_of(other), 0)))
+        shown = [ExpectedSubtitle(100, 150, 1, b"own")]
+        other = [ExpectedSubtitle(100, 150, 1, b"other"), ExpectedSubtitle(300, 350, 2, b"another")]
+        one = find_origin(shown, packets_of(page_changes(find_expected_cues(other), 0)))
         self.assertEqual((one.status, one.parts), (1, []))
         self.assertTrue(any("ambiguous" in line for line in one.lines))
 

@@ -5,8 +5,8 @@ from __future__ import annotations
 import itertools
 from typing import Any, Sequence
 
-from subtitles.clock.alignment import edges_of
-from subtitles.clock.origin import Origin, Sought, find, subtitles_between
+from subtitles.clock.alignment import find_expected_cues
+from subtitles.clock.origin import OriginEstimate, OriginSearch, estimate_origin, subtitles_between
 from subtitles.common.command_line import Lateness
 from subtitles.common.times import ALL_DAY, Between, TICKS
 from .bench import Case
@@ -22,15 +22,15 @@ class Requests(Case):
         super().setUp()
         self.stl = write_programme(self, self.times)
         self.shown = subtitles_between(self.stl, "english", ALL_DAY, ())
-        self.edges = edges_of(self.shown)
+        self.cues = find_expected_cues(self.shown)
 
-    def find(self, sendings: Sequence[tuple[int, bytes]], **asked: Any) -> Origin:
+    def find(self, sendings: Sequence[tuple[int, bytes]], **asked: Any) -> OriginEstimate:
         """Find the origin of page transmissions."""
-        return find(Sought(self.stl, "one.pes", **asked), packets_of(sendings))
+        return estimate_origin(OriginSearch(self.stl, "one.pes", **asked), packets_of(sendings))
 
     def transmissions(self, late: Sequence[int]) -> list[tuple[int, bytes]]:
         """Return all page transmissions, each delayed by some frames."""
-        return [(TICKS * (edge.frame + by), edge.letters) for edge, by in zip(self.edges, late)]
+        return [(TICKS * (cue.frame + by), cue.letters) for cue, by in zip(self.cues, late)]
 
     def test_searches_only_the_requested_subtitles_and_packets(self) -> None:
         twice = [*self.transmissions([0] * 24), *self.transmissions([EACH] * 24)]
@@ -43,7 +43,7 @@ class Requests(Case):
             ({"between": rest, "left_out": (7, 8), "inside": (0, 23)}, 8, 0, 0)]
         for request, count, number, runs in rows:
             found = self.find(twice, **request)
-            self.assertEqual((len(found.runs), [one.origin for one in found.parts]), (
+            self.assertEqual((len(found.airings), [one.origin for one in found.parts]), (
                 runs, [] if number is None else [TICKS * number]), request)
             self.assertTrue(runs or found.parts[0].line.startswith(
                 f"{count} of {count} cues match, "), found)
@@ -61,15 +61,15 @@ class Requests(Case):
                 status, (1 + ("breaks" in request)) * (1 - status)), (request, found))
         wrong = [(ticks, text and b"x" + text) for ticks, text in self.transmissions([EACH] * 24)]
         found = self.find(self.transmissions([*[0] * 8, *[50] * 8, *[90] * 8]))
-        self.assertEqual((found.shifted_from, len(found.shifts)), (self.edges[8].frame, 2))
+        self.assertEqual((found.first_shift, len(found.shift_texts)), (self.cues[8].frame, 2))
         # compared with the given origin
         found = self.find(self.transmissions([*[100] * 12, *[150] * 12]), origin=0)
-        self.assertIn("(150 frames) late", found.shifts[0])
+        self.assertIn("(150 frames) late", found.shift_texts[0])
         late_then = self.transmissions([*[0] * 12, *[50] * 6, *[600] * 6])  # a delay, then a break
         self.assertEqual(len(self.find(late_then, breaks=1).parts), 2)
         for origin, runs in ((None, 2), (0, 0), (TICKS, 0)):
             found = self.find([*self.transmissions([0] * 24), *wrong], origin=origin)
-            self.assertEqual((len(found.runs), found.status), (runs, int(runs > 0)), origin)
+            self.assertEqual((len(found.airings), found.status), (runs, int(runs > 0)), origin)
 
     def test_reports_the_drift_of_the_judged_time_base(self) -> None:
         steady = [at // 6 for at in range(24)]
@@ -78,7 +78,7 @@ class Requests(Case):
                                                          (0, 4)):
             for some in (self.transmissions(sent), strange + self.transmissions(sent)):
                 found = self.find(some, within=within)
-                self.assertEqual(["later and later" in line for line in found.shifts],
+                self.assertEqual(["later and later" in line for line in found.shift_texts],
                                  [True] * is_told, found)
 
     def test_reports_unclear_results_with_rows_of_a_closed_page_first(self) -> None:
@@ -86,7 +86,7 @@ class Requests(Case):
             packets = packets_of(self.transmissions(sent))
             packets.strays.append((0, ()))
             packets.runs[0] = packets.runs[0]._replace(does="hs")
-            found = find(Sought(self.stl, "one.pes", within=2), packets)
+            found = estimate_origin(OriginSearch(self.stl, "one.pes", within=2), packets)
             self.assertEqual((found.lines[0], found.status) == (
                 "rows came while page 888 was not open, in 1 PES packet", 1), is_told, found)
             self.assertEqual(any("rows came" in line for line in found.lines), is_told,

@@ -10,11 +10,13 @@ from typing import Any, Sequence
 from unittest import mock
 
 from subtitles.clock.alignment import (
-    AGAIN, Agreed, Apart, Base, Drift, Early, Edge, MOST_APART, MOST_BASES, REPEATED, Shown,
-    back_at, bases_of, drift_of, edges_of, likeliest, most_changed, settled, single_texts,
-    without_repeats)
+    CueOffset, Drift, EarlyCues, ExpectedCue, ExpectedSubtitle, MOST_BASES, MOST_CUE_OFFSET,
+    MOST_ERASED, MatchedChange, REPEATED, TimeBase, choose_clock, find_drift, find_expected_cues,
+    find_likeliest_clock, find_repeat, find_single_texts, find_time_bases, select_time_bases,
+    skip_repeats)
 from subtitles.clock.stretches import (
-    FittedPart, Stretch, Track, border_of, by_times, parts_of, runs_of, sent_between)
+    EstimatedPart, Stretch, Track, find_airings, find_border, find_changes_by_time, fit_parts,
+    limit_bases)
 from subtitles.common.command_line import Lateness
 from subtitles.common.times import CLOCK, EARLY, TICKS
 from subtitles.stream.packets import Change, Packets, Run
@@ -30,11 +32,11 @@ def changes_at(several: Sequence[tuple[int, bytes]], shift: int = 0) -> list[Cha
             for at, (ticks, letters) in enumerate(several)]
 
 
-def base_with(edges: Sequence[Edge], several: Sequence[tuple[int, bytes]], length: int = 9999,
-              within: int = 0, shift: int = 0) -> Base:
+def base_with(cues: Sequence[ExpectedCue], several: Sequence[tuple[int, bytes]], length: int = 9999,
+              within: int = 0, shift: int = 0) -> TimeBase:
     """Return a time base of a given length in which the page changes."""
-    return Base(edges, changes_at(several, shift), shift, (shift + TICKS * length) % CLOCK,
-                (0, 99), within)
+    return TimeBase(cues, changes_at(several, shift), shift, (shift + TICKS * length) % CLOCK,
+                    (0, 99), within)
 
 
 class TimeBases(unittest.TestCase):
@@ -78,15 +80,16 @@ class TimeBases(unittest.TestCase):
         for some, wanted in rows:
             changes = [Change(TICKS * frame, b"x" * bool(shown), at, shown)
                        for at, (frame, shown) in enumerate(some)]
-            self.assertEqual([one.number for one in without_repeats(changes, AGAIN)], wanted, some)
+            self.assertEqual([one.number for one in skip_repeats(changes, MOST_ERASED)], wanted,
+                             some)
         many = [Change(TICKS, b"x" * (at % 2), at, text if at == 25 else other * (at % 2))
                 for at in range(1, 40)]
         many[0] = many[0]._replace(letters=b"x", rows=text)
-        self.assertEqual((back_at(many, 0, 1), back_at(many[:1], 0, 1)), (24, None))
-        due = [Shown(100, 130, 1, b"x"), Shown(133, 160, 1, b"x")]
+        self.assertEqual((find_repeat(many, 0, 1), find_repeat(many[:1], 0, 1)), (24, None))
+        due = [ExpectedSubtitle(100, 130, 1, b"x"), ExpectedSubtitle(133, 160, 1, b"x")]
         for second, frames in ((due[1], [0, 20, 23]), (due[1]._replace(letters=b"y"), [0]),
                                (due[1]._replace(begin=130), [0])):
-            base = base_with(edges_of([due[0], second]), [
+            base = base_with(find_expected_cues([due[0], second]), [
                 (0, b"x"), (20 * TICKS, b""), (23 * TICKS, b"x")])
             self.assertEqual([*base.changes], frames, second)
 
@@ -97,7 +100,7 @@ class TimeBases(unittest.TestCase):
                                   for at in range(len(counts))])
             packets.changes = [Change(0, b"", 4 * at + more) for at, count in enumerate(counts)
                                for more in range(count)]
-            return [(base.start, base.stop, len(some)) for base, some in most_changed(
+            return [(base.start, base.stop, len(some)) for base, some in select_time_bases(
                 packets, inside)]
 
         whole = [(0, 4, 2), (4, 8, 4), (12, 16, 1), (16, 20, 3)]
@@ -117,23 +120,25 @@ class TimeBases(unittest.TestCase):
             packets = Packets(0, [Run(at, 1, None if kind == "m" else TICKS * at, 0, kind, "")
                                   for at, kind in enumerate(kinds)])
             packets.changes = [Change(0, b"", 1)]
-            self.assertEqual([base.sent for base in bases_of([], packets, 0)], [
+            self.assertEqual([base.sent for base in find_time_bases([], packets, 0)], [
                 (TICKS * wanted[0], TICKS * wanted[1])] if wanted else [], kinds)
         long = Packets(0, [Run(0, 9, 5, TICKS, "h", "")])
         long.changes = [Change(5, b"", 0)]
-        self.assertEqual([(one.sent, one.packets, one.length) for one in bases_of([], long, 0)],
+        self.assertEqual([(one.sent, one.packets, one.length)
+                          for one in find_time_bases([], long, 0)],
                          [((5, 5 + 8 * TICKS), (0, 8), 8)])
 
 
 class Fits(unittest.TestCase):
-    edges = edges_of([Shown(10, 20, 1, b"a"), Shown(30, 45, 2, b"b"), Shown(50, 60, 3, b"c")])
+    cues = find_expected_cues([ExpectedSubtitle(10, 20, 1, b"a"), ExpectedSubtitle(30, 45, 2, b"b"),
+                               ExpectedSubtitle(50, 60, 3, b"c")])
     SENT = [(0, b"a"), (10, b""), (20, b"b"), (35, b""), (40, b"c"), (50, b"")]
 
     def fit(self, sent: Sequence[tuple[int, bytes]], offs: Sequence[int] = (0,) * 9,
                length: int = 50, within: int = 0, shift: int = 0, start: int = 10) -> Any:
         """Return how cues agree with the right origin."""
-        return base_with(self.edges, [(TICKS * frame + off, letters) for (frame, letters), off in
-                                      zip(sent, offs)], length, within, shift).fit_at(start)
+        return base_with(self.cues, [(TICKS * frame + off, letters) for (frame, letters), off in
+                                     zip(sent, offs)], length, within, shift).compare(start)
 
     def test_counts_cues_with_their_characters_and_texts(self) -> None:
         sent = self.SENT
@@ -148,117 +153,120 @@ class Fits(unittest.TestCase):
         for shift, (some, length, wanted) in itertools.product(SHIFTS, rows):
             fit = self.fit(some, length=length, shift=shift)
             self.assertEqual(fit[1:8], wanted, (some, length))
-            self.assertEqual((fit.origin, fit.start, fit.late), (
+            self.assertEqual((fit.origin, fit.start, fit.delays), (
                 (shift - 10 * TICKS) % CLOCK, 10, []), some)
-            self.assertEqual((fit.points(), fit.points(False)), (
-                fit.agree + fit.letters, fit.agree + fit.texts), (shift, some, length))
+            self.assertEqual((fit.score(), fit.score(False)), (
+                fit.matches + fit.content_matches, fit.matches + fit.text_matches),
+                             (shift, some, length))
 
     def test_computes_origin_and_delays_of_pts_off_their_frames(self) -> None:
         for offs, rest, exact in (((0, 0, 0, 0, 0, 0), 0, 6), ((0, 0, 5, 5, 5, 5), 5, 4),
                                   ((-9, -9, 0, 0, 0, 7), 0, 3), ((-9, -9, -9, -9, 0, 7), -9, 4),
                                   ((1, 2, 3, 4, 5, 6), 4, 1)):
             fit = self.fit(self.SENT, offs)
-            self.assertEqual((fit.origin, fit.exact), ((rest - 10 * TICKS) % CLOCK, exact), offs)
+            self.assertEqual((fit.origin, fit.exact_matches), ((rest - 10 * TICKS) % CLOCK, exact),
+                             offs)
         late = [(1, b"a"), (10, b""), (22, b"b"), (36, b""), (42, b"x"), (50, b"")]
         fit = self.fit(late, within=2)
-        self.assertEqual((fit.origin, *fit[1:8], fit.late), (
+        self.assertEqual((fit.origin, *fit[1:8], fit.delays), (
             -10 * TICKS % CLOCK, 5, 5, 2, 5, 6, 10, 50, [1, 0, 2, 1, 0]))
         fields = self.fit(late, [0, 1800, 9, -9, 0, 5], within=2)
         self.assertEqual(fields, fit)
         for frame, text, is_there in ((20, b"b", True), (20, b"x", False), (21, b"b", False)):
-            one = base_with(self.edges, [(TICKS * frame, text)])
-            self.assertEqual(one.has(self.edges[2], 10), is_there, (frame, text, is_there))
-        one = base_with(self.edges, [(TICKS * 20, b"b"), (TICKS * 21, b"x"), (TICKS * 22, b"b"),
-                                     (TICKS * 36, b"")], 60, 2)
+            one = base_with(self.cues, [(TICKS * frame, text)])
+            self.assertEqual(one.has_text_at(self.cues[2], 10), is_there, (frame, text, is_there))
+        one = base_with(self.cues, [(TICKS * 20, b"b"), (TICKS * 21, b"x"), (TICKS * 22, b"b"),
+                                    (TICKS * 36, b"")], 60, 2)
         for at, start, by in ((2, 10, 0), (2, 9, 1), (2, 8, 0), (2, 7, None), (2, 11, 1),
                                 (3, 10, 1), (3, 9, 0), (3, 8, None), (3, 11, 2)):
-            found = one.agreed(self.edges[at], start)
+            found = one.find_match(self.cues[at], start)
             self.assertEqual(found and found.late, by, (at, start))
-        fit = base_with(self.edges, [(TICKS * 22, b"b")], 60, 2).fit(10)
-        self.assertEqual((fit.start, fit.late), (8, [0]))
-        base = base_with(self.edges, [(TICKS * (frame + 2), text) for frame, text in self.SENT],
+        fit = base_with(self.cues, [(TICKS * 22, b"b")], 60, 2).fit(10)
+        self.assertEqual((fit.start, fit.delays), (8, [0]))
+        base = base_with(self.cues, [(TICKS * (frame + 2), text) for frame, text in self.SENT],
                          60, 2)
         for start in (8, 9, 10):  # a delay of all is no delay
-            self.assertEqual((base.fit(start).start, base.fit(start).late), (8, [0] * 6), start)
-        self.assertEqual([min(one.late) for one in base.fits], [0] * len(base.fits))
-        self.assertEqual((base_with(self.edges, []).fits, base_with([], self.SENT).fits), ([], []))
+            self.assertEqual((base.fit(start).start, base.fit(start).delays), (8, [0] * 6), start)
+        self.assertEqual([min(one.delays) for one in base.fits], [0] * len(base.fits))
+        self.assertEqual((base_with(self.cues, []).fits, base_with([], self.SENT).fits), ([], []))
 
     def test_finds_the_smaller_delay_between_begins_and_ends(self) -> None:
         two = [(frame + by, text) for (frame, text), by in zip(self.SENT, (0, 2, 0, 2, 0, 2))]
         one = [(0, b"x"), (10, b"")]
-        rows: list[tuple[list[tuple[int, bytes]], int, Apart | None]] = [
-            (self.SENT, 0, None), (two, 0, Apart(False, 2, 3, 3)), (two, 1, Apart(False, 2, 3, 3)),
-            (two, 2, None), ([*two[:5], (50, b"")], 0, None),
+        rows: list[tuple[list[tuple[int, bytes]], int, CueOffset | None]] = [
+            (self.SENT, 0, None), (two, 0, CueOffset(False, 2, 3, 3)),
+            (two, 1, CueOffset(False, 2, 3, 3)), (two, 2, None), ([*two[:5], (50, b"")], 0, None),
             ([*two[:1], (12, b""), *two[2:3], (37, b""), two[4], (56, b"")], 0, None),
-            ([*self.SENT[:1], (MOST_APART + 10, b"")], 0, None), (one[1:], 0, None)]
+            ([*self.SENT[:1], (MOST_CUE_OFFSET + 10, b"")], 0, None), (one[1:], 0, None)]
         for some, within, wanted in rows:
-            base = base_with(self.edges, [(TICKS * frame, text) for frame, text in some], 60,
+            base = base_with(self.cues, [(TICKS * frame, text) for frame, text in some], 60,
                              within)
-            self.assertEqual(base.apart(base.fit_at(10)), wanted, (some, within))
+            self.assertEqual(base.find_cue_offset(base.compare(10)), wanted, (some, within))
         half = [(0, b"a"), (10, b""), (12, b""), (20, b"b"), (37, b"")]  # on time, or all later
-        base = base_with(self.edges[:4], [(TICKS * frame, text) for frame, text in half])
-        self.assertIsNone(base.apart(base.fit_at(10)))
-        base = base_with(self.edges, [(TICKS * frame, text) for frame, text in self.SENT], 49)
-        for is_begin, late, agree, of in (
+        base = base_with(self.cues[:4], [(TICKS * frame, text) for frame, text in half])
+        self.assertIsNone(base.find_cue_offset(base.compare(10)))
+        base = base_with(self.cues, [(TICKS * frame, text) for frame, text in self.SENT], 49)
+        for is_begin, late, matches, of in (
                 (True, 0, 3, 3), (False, 0, 2, 2), (True, 10, 0, 2), (True, -1, 0, 2),
                 (False, -1, 0, 3), (True, 9, 0, 3), (False, -36, 0, 1), (True, 20, 0, 2)):
-            self.assertEqual(base.late_by(base.fit_at(10), is_begin, late),
-                             Apart(is_begin, late, agree, of), (is_begin, late, agree))
-        for at, is_told in ((MOST_APART, True), (MOST_APART + 1, False)):
-            base = base_with(self.edges[:2], [(0, b"a"), (TICKS * (10 + at), b"")])
-            found = base.apart(base.fit_at(10))
-            self.assertEqual(found, Apart(False, at, 1, 1) if is_told else None, (at, is_told))
-        base = base_with(self.edges[:2], [(TICKS * 13, b"")])
-        self.assertIsNone(base.apart(base.fit_at(10)))
+            self.assertEqual(base.count_delayed(base.compare(10), is_begin, late),
+                             CueOffset(is_begin, late, matches, of), (is_begin, late, matches))
+        for at, is_told in ((MOST_CUE_OFFSET, True), (MOST_CUE_OFFSET + 1, False)):
+            base = base_with(self.cues[:2], [(0, b"a"), (TICKS * (10 + at), b"")])
+            found = base.find_cue_offset(base.compare(10))
+            self.assertEqual(found, CueOffset(False, at, 1, 1) if is_told else None, (at, is_told))
+        base = base_with(self.cues[:2], [(TICKS * 13, b"")])
+        self.assertIsNone(base.find_cue_offset(base.compare(10)))
         # the ends are on time, the beginnings are not: these determine the origin
         for by in (-3, 3):
             some = [(frame + 9 + by * bool(text), text) for frame, text in self.SENT]
-            base = base_with(self.edges, [(TICKS * frame, text) for frame, text in some], 70)
-            self.assertEqual(base.apart(base.fit_at(1)), Apart(True, by, 3, 3), by)
-            self.assertEqual(base.by_beginnings(base.fit_at(1)).start, 1 - by, by)
-            self.assertEqual(base.by_beginnings(base.fit_at(1 - by)).start, 1 - by, by)
+            base = base_with(self.cues, [(TICKS * frame, text) for frame, text in some], 70)
+            self.assertEqual(base.find_cue_offset(base.compare(1)), CueOffset(True, by, 3, 3), by)
+            self.assertEqual(base.align_in_cues(base.compare(1)).start, 1 - by, by)
+            self.assertEqual(base.align_in_cues(base.compare(1 - by)).start, 1 - by, by)
 
     def test_samples_the_votes_of_many_changes(self) -> None:
         sent = [(TICKS * at, b"x") for at in range(0, 80, 2)] + [
-            (TICKS * (edge.frame + 500), b"y") for edge in self.edges] + [(TICKS * 900, b"x")]
+            (TICKS * (cue.frame + 500), b"y") for cue in self.cues] + [(TICKS * 900, b"x")]
         for votes in (1 << 20, 100):
             with mock.patch("subtitles.clock.alignment.VOTES", votes):
-                starts = [fit.start for fit in base_with(self.edges, sent).fits]
+                starts = [fit.start for fit in base_with(self.cues, sent).fits]
             self.assertIn(-500, starts, votes)
         with mock.patch("subtitles.clock.alignment.VOTES", 60):
-            self.assertEqual(len(by_times([base_with(self.edges * 2, sent)], 12)), 12)
+            self.assertEqual(len(find_changes_by_time([base_with(self.cues * 2, sent)], 12)), 12)
         for count, votes in ((REPEATED, True), (REPEATED + 1, False)):
-            edges = [Edge(1000 * at * at, b"x", True) for at in range(count)] + [
-                Edge(5, b"", False), Edge(7, b"y", True)]
-            found = base_with(edges, [(TICKS, b"x"), (2 * TICKS, b""), (3 * TICKS, b"y")]).alike()
+            cues = [ExpectedCue(1000 * at * at, b"x", True) for at in range(count)] + [
+                ExpectedCue(5, b"", False), ExpectedCue(7, b"y", True)]
+            found = base_with(cues, [(TICKS, b"x"), (2 * TICKS, b""),
+                                     (3 * TICKS, b"y")]).count_equal_texts()
             self.assertEqual(found, {4: 1, **{1000 * at * at - 1: 1 for at in range(
                 count * votes)}}, (count, votes))
 
     def test_returns_texts_that_are_sent_once(self) -> None:
-        self.assertEqual(single_texts([(1, b"a"), (2, b""), (3, b"b"), (4, b"a"), (5, b""),
-                                       (6, b"c"), (7, b"a")]), {b"b": 3, b"c": 6})
-        self.assertEqual(single_texts([(1, b""), (2, b"a")]), {b"a": 2})
+        self.assertEqual(find_single_texts([(1, b"a"), (2, b""), (3, b"b"), (4, b"a"), (5, b""),
+                                            (6, b"c"), (7, b"a")]), {b"b": 3, b"c": 6})
+        self.assertEqual(find_single_texts([(1, b""), (2, b"a")]), {b"a": 2})
 
 
 class Parts(unittest.TestCase):
-    shown = [Shown(100 * at, 100 * at + 50, at, b"%d" % at) for at in range(1, 7)]
+    shown = [ExpectedSubtitle(100 * at, 100 * at + 50, at, b"%d" % at) for at in range(1, 7)]
 
-    def parts(self, shown: Sequence[Shown], later: int, is_anew: bool,
-              extra: Sequence[tuple[int, bytes]] = ()) -> list[FittedPart]:
+    def parts(self, shown: Sequence[ExpectedSubtitle], later: int, is_anew: bool,
+              extra: Sequence[tuple[int, bytes]] = ()) -> list[EstimatedPart]:
         """Return the parts of a programme whose second half is sent later, or after PTS went back.
 
         `extra` has further page changes of the first time base.
         """
-        edges = edges_of(shown)
-        half = sum(edge.frame < 400 for edge in edges)
-        first = [(TICKS * edge.frame, edge.letters) for edge in edges[:half]]
-        second = [(TICKS * (edge.frame + later), edge.letters) for edge in edges[half:]]
+        cues = find_expected_cues(shown)
+        half = sum(cue.frame < 400 for cue in cues)
+        first = [(TICKS * cue.frame, cue.letters) for cue in cues[:half]]
+        second = [(TICKS * (cue.frame + later), cue.letters) for cue in cues[half:]]
         first += [(TICKS * frame, letters) for frame, letters in extra]
         several = [first, second] if is_anew else [sorted(first + second)]
-        bases = [base_with(edges, some, 6000) for some in several]
+        bases = [base_with(cues, some, 6000) for some in several]
         row = [Stretch(Track(0, 0, bases[0]), 0, half),
-               Stretch(Track(len(bases) - 1, -later, bases[-1]), half, len(edges))]
-        return parts_of(shown, bases, row)
+               Stretch(Track(len(bases) - 1, -later, bases[-1]), half, len(cues))]
+        return fit_parts(shown, bases, row)
 
     def test_each_part_has_its_frames_and_agreeing_cues(self) -> None:
         shown = self.shown
@@ -266,7 +274,8 @@ class Parts(unittest.TestCase):
         into = [*shown[:2], shown[2]._replace(end=401), *shown[3:]]
         two = [shown[0], shown[1]._replace(end=230), shown[1]._replace(begin=240, end=405),
                *shown[3:]]
-        rows: list[tuple[list[Shown], list[tuple[int, bytes]], list[tuple[int, ...]]]] = [
+        rows: list[tuple[list[ExpectedSubtitle], list[tuple[int, bytes]],
+                         list[tuple[int, ...]]]] = [
             (shown, [], [(100, 350, 6, 6, 0), (400, 650, 6, 6, 0)]),
             (shown, [(351, b"x"), (4399, b"y")], [(100, 350, 6, 6, 0), (400, 650, 6, 6, 0)]),
             (up_to, [(400, b"")], [(100, 400, 6, 6, 0), (400, 650, 6, 6, 0)]),
@@ -274,7 +283,7 @@ class Parts(unittest.TestCase):
             (two, [], [(100, 230, 4, 4, 1), (400, 650, 5, 6, 0)])]
         for (some, extra, wanted), is_anew in itertools.product(rows, (False, True)):
             found = self.parts(some, 4000, is_anew, extra)
-            self.assertEqual([(*one[:2], one.best.agree, one.best.among, len(one.over))
+            self.assertEqual([(*one[:2], one.best.matches, one.best.total, len(one.overlapping))
                               for one in found], wanted, some)
             self.assertEqual([(one.best.start, one.base, one.early) for one in found],
                              [(0, 0, None), (-4000, int(is_anew), None)], some)
@@ -286,45 +295,45 @@ class Parts(unittest.TestCase):
                     [one for one in beside if one > last] + [4400])), some)
 
     def test_each_part_has_its_own_delays(self) -> None:
-        edges = edges_of(self.shown)
+        cues = find_expected_cues(self.shown)
         late = Lateness({0: 1}, {0: 1})
         for delays in itertools.product((0, 1), repeat=2):
-            sent = [(TICKS * (edge.frame + by + (edge.frame in (100, 400)) * -by + 4000 * part),
-                     edge.letters) for part, by in enumerate(delays)
-                    for edge in edges[6 * part:6 * part + 6]]
-            base = base_with(edges, sent, 6000, 1)
+            sent = [(TICKS * (cue.frame + by + (cue.frame in (100, 400)) * -by + 4000 * part),
+                     cue.letters) for part, by in enumerate(delays)
+                    for cue in cues[6 * part:6 * part + 6]]
+            base = base_with(cues, sent, 6000, 1)
             row = [Stretch(Track(0, 0, base), 0, 6), Stretch(Track(0, -4000, base), 6, 12)]
             for shares in (None, late):
-                found = parts_of(self.shown, [base], row, shares)
+                found = fit_parts(self.shown, [base], row, shares)
                 self.assertEqual([(one.best.start, one.early) for one in found], [
-                    (start - by, None if shares or not by else Early(1, 6, 1))
+                    (start - by, None if shares or not by else EarlyCues(1, 6, 1))
                     for start, by in zip((0, -4000), delays)], (delays, shares))
 
     def test_takes_the_time_base_with_the_most_agreeing_cues(self) -> None:
-        edges = edges_of(self.shown)
-        own = [(TICKS * edge.frame, edge.letters) for edge in edges]
-        none = base_with(edges, [(0, b"x")]).limited([], -1, 9)
-        strange = base_with(edges, [(TICKS * at * at, b"x") for at in range(30)])
-        for bases, number in (([base_with(edges, own[:2]), base_with(edges, own[:5])], 1),
-                              ([base_with(edges, own[:5]), base_with(edges, own[:4])], 0),
-                              ([none, base_with(edges, own[:3]), none], 1),
-                              ([base_with(edges, own[:5]), strange], 0),
-                              ([strange, base_with(edges, own[:5])], 1)):
-            [part] = parts_of(self.shown[::-1], bases, [])  # in any order
-            self.assertEqual((part.base, part[:2], part.best.start, part.over), (
+        cues = find_expected_cues(self.shown)
+        own = [(TICKS * cue.frame, cue.letters) for cue in cues]
+        none = base_with(cues, [(0, b"x")]).copy_between([], -1, 9)
+        strange = base_with(cues, [(TICKS * at * at, b"x") for at in range(30)])
+        for bases, number in (([base_with(cues, own[:2]), base_with(cues, own[:5])], 1),
+                              ([base_with(cues, own[:5]), base_with(cues, own[:4])], 0),
+                              ([none, base_with(cues, own[:3]), none], 1),
+                              ([base_with(cues, own[:5]), strange], 0),
+                              ([strange, base_with(cues, own[:5])], 1)):
+            [part] = fit_parts(self.shown[::-1], bases, [])  # in any order
+            self.assertEqual((part.base, part[:2], part.best.start, part.overlapping), (
                 number, (100, 650), 0, []), number)
             self.assertIs(part.sent, bases[number], (bases, number))
             self.assertEqual([fit for fit in bases[number].fits if fit.start], part.others,
                              (bases, number))
-        self.assertEqual(parts_of(self.shown, [none], []), [])
+        self.assertEqual(fit_parts(self.shown, [none], []), [])
         ends = [(ticks + 3 * TICKS * (not text), text) for ticks, text in own]
         begins = [(ticks + 3 * TICKS * bool(text), text) for ticks, text in own]
         for some, start in ((ends, 0), (begins, -3)):
-            [part] = parts_of(self.shown, [base_with(edges, some)], [])
+            [part] = fit_parts(self.shown, [base_with(cues, some)], [])
             self.assertEqual(part.best.start, start, (some, start))
 
     def test_begins_a_stretch_where_it_gains_the_most(self) -> None:
-        edges = [Edge(50 * at, b"", True) for at in range(15)]
+        cues = [ExpectedCue(50 * at, b"", True) for at in range(15)]
         for before, own, start, wanted in (
                 ([3] * 6 + [0] * 9, [0] * 10 + [3] * 5, -9, 10),
                 ([3] * 6 + [0] * 9, [0] * 8 + [3, 0] + [3] * 5, -9, 8),
@@ -339,16 +348,17 @@ class Parts(unittest.TestCase):
             base = base_with([], [])
             tracks = [Track(0, 0, base), Track(0, start, base)]
             tracks[0].points, tracks[1].points = before, own
-            self.assertEqual(border_of(edges, Stretch(tracks[0], 0, 10), Stretch(
+            self.assertEqual(find_border(cues, Stretch(tracks[0], 0, 10), Stretch(
                 tracks[1], 10, 15)), wanted, (before, own, start))
 
 
 class Runs(unittest.TestCase):
-    due = [Shown(at * at * 7 + 90 * at, at * at * 7 + 90 * at + 60 + at, at, b"%d" % at)
+    due = [ExpectedSubtitle(at * at * 7 + 90 * at, at * at * 7 + 90 * at + 60 + at, at, b"%d" % at)
            for at in range(12)]
-    grid = [Shown(100 * at, 100 * at + 50, at, b"%d" % at) for at in range(12)]
+    grid = [ExpectedSubtitle(100 * at, 100 * at + 50, at, b"%d" % at) for at in range(12)]
 
-    def run_frames(self, shown: Sequence[Shown], kinds: str, step: int, has_clock: bool = False
+    def run_frames(self, shown: Sequence[ExpectedSubtitle], kinds: str, step: int,
+                   has_clock: bool = False
               ) -> list[tuple[int, int]]:
         """Return the first and last frame of each run.
 
@@ -356,13 +366,13 @@ class Runs(unittest.TestCase):
         """
         sendings = []
         for number, kind in enumerate(kinds):
-            for at, edge in enumerate(edges_of(shown)[:{"h": 12, "l": 11}.get(kind, 24)]):
-                is_text = kind in "rhl" or kind == "f" and at % 8 < 2 or not edge.letters
-                sendings.append((TICKS * (edge.frame + step * number),
-                                 edge.letters if is_text else b"wrong %d" % at))
-        bases = bases_of(shown, packets_of(sendings), 0)
+            for at, cue in enumerate(find_expected_cues(shown)[:{"h": 12, "l": 11}.get(kind, 24)]):
+                is_text = kind in "rhl" or kind == "f" and at % 8 < 2 or not cue.letters
+                sendings.append((TICKS * (cue.frame + step * number),
+                                 cue.letters if is_text else b"wrong %d" % at))
+        bases = find_time_bases(shown, packets_of(sendings), 0)
         return [(first[1] + EACH * first[0], last[1] + EACH * last[0])
-                for first, last in runs_of(bases, has_clock)]
+                for first, last in find_airings(bases, has_clock)]
 
     def test_finds_each_run_whichever_is_the_best(self) -> None:
         for step, kinds in itertools.product((EACH, -10 ** 6), (
@@ -383,22 +393,22 @@ class Runs(unittest.TestCase):
                 ((-1, 0), (1, 0), [[0, 1, 2, 3, 4], [], []]), ((1, 4), (1 << 40, 0), [
                     [], [], [0, 1, 2, 3, 4]]), ((0, 4), (2, 2), [[], [0, 1, 2, 3, 4], [0, 1]]),
                 ((1, 2), (1, 3), [[], [], []]), ((-1, 0), (0, 1), [[0], [], []])):
-            self.assertEqual([[*base.changes] for base in sent_between(bases, low, high)], wanted,
+            self.assertEqual([[*base.changes] for base in limit_bases(bases, low, high)], wanted,
                              (low, high))
 
     def test_finds_a_run_by_its_times_alone(self) -> None:
-        edges = edges_of(self.due[:10])
+        cues = find_expected_cues(self.due[:10])
         for within, (count, changes, is_told) in itertools.product((0, 1), (
                 (20, 20, True), (20, 18, True), (20, 17, False), (16, 15, True), (10, 15, True),
                 (10, 14, False), (9, 20, False), (19, 20, True))):
             reported = is_told and count >= 10 * (1 + within)
-            base = base_with(edges, [(TICKS * (edge.frame + within * at % 2), b"%d" % at)
-                                     for at, edge in enumerate(edges[:changes])], 9999, within)
-            for bases in ([base], [base.limited(edges, -1, -1), base],
-                          [base.limited(edges, -1, 300), base]):
-                wanted = {at: (len(bases) - 1, edge.frame + within * at % 2)
-                          for at, edge in enumerate(edges[:changes])}
-                self.assertEqual(by_times(bases, count), wanted if reported else {},
+            base = base_with(cues, [(TICKS * (cue.frame + within * at % 2), b"%d" % at)
+                                    for at, cue in enumerate(cues[:changes])], 9999, within)
+            for bases in ([base], [base.copy_between(cues, -1, -1), base],
+                          [base.copy_between(cues, -1, 300), base]):
+                wanted = {at: (len(bases) - 1, cue.frame + within * at % 2)
+                          for at, cue in enumerate(cues[:changes])}
+                self.assertEqual(find_changes_by_time(bases, count), wanted if reported else {},
                                  (within, count, changes))
 
 
@@ -407,34 +417,34 @@ class Choices(unittest.TestCase):
         late = Lateness({0: 1, 1: 1}, {0: 1})
         for delays, by in (([-1, -1, 0, 0, 0, 1], -1), ([-1, 0, 0, 0, 1, 1], 0),
                            ([0, 1, 1, 2, 2, 2], 1), ([0, 0, 0, 1, 1, 2], 0), ([2] * 6, 1)):
-            edges = [Edge(100 * at, b"%d" % at, True) for at in range(1, 7)]
-            base = base_with(edges, [(TICKS * (edge.frame + one), edge.letters)
-                                     for edge, one in zip(edges, delays)], 900, 1)
-            self.assertEqual(likeliest(base, base.fit_at(0), late).start, -by, delays)
-            wrong = base_with(edges, [(TICKS * (edge.frame + one), b"x")
-                                      for edge, one in zip(edges, delays)], 900, 1)
-            self.assertEqual(likeliest(wrong, wrong.fit_at(0), late).start, -1, delays)
+            cues = [ExpectedCue(100 * at, b"%d" % at, True) for at in range(1, 7)]
+            base = base_with(cues, [(TICKS * (cue.frame + one), cue.letters)
+                                    for cue, one in zip(cues, delays)], 900, 1)
+            self.assertEqual(find_likeliest_clock(base, base.compare(0), late).start, -by, delays)
+            wrong = base_with(cues, [(TICKS * (cue.frame + one), b"x")
+                                     for cue, one in zip(cues, delays)], 900, 1)
+            self.assertEqual(find_likeliest_clock(wrong, wrong.compare(0), late).start, -1, delays)
         base = self.base_of_delays([1, None, 1, 0, 2, None])
-        self.assertEqual(likeliest(base, base.fit_at(0), late).start, 0)
+        self.assertEqual(find_likeliest_clock(base, base.compare(0), late).start, 0)
 
-    def base_of_delays(self, delays: Sequence[int | None]) -> Base:
+    def base_of_delays(self, delays: Sequence[int | None]) -> TimeBase:
         """Return the time base of subtitles with these delays."""
-        edges = edges_of([Shown(100 * at, 100 * at + 50, at, b"%d" % at)
-                          for at in range(1, len(delays) // 2 + 1)])
-        return base_with(edges, [(TICKS * (edge.frame + by), edge.letters) for edge, by in zip(
-            edges, delays) if by is not None], 9999, 1)
+        cues = find_expected_cues([ExpectedSubtitle(100 * at, 100 * at + 50, at, b"%d" % at)
+                                   for at in range(1, len(delays) // 2 + 1)])
+        return base_with(cues, [(TICKS * (cue.frame + by), cue.letters) for cue, by in zip(
+            cues, delays) if by is not None], 9999, 1)
 
     def test_ignores_repeated_texts_for_a_drift(self) -> None:
-        edges = [Edge(100 * at, b"%d" % at, True) for at in range(12)]
-        sent = {100 * at + at // 2: Agreed(0, b"%d" % at, 0) for at in range(12)}
-        twice = {5000 + at: Agreed(0, b"%d" % at, 0) for at in (0, 1, 5)}
-        self.assertEqual((drift_of(edges, sent), drift_of(edges, {**sent, **twice})),
+        cues = [ExpectedCue(100 * at, b"%d" % at, True) for at in range(12)]
+        sent = {100 * at + at // 2: MatchedChange(0, b"%d" % at, 0) for at in range(12)}
+        twice = {5000 + at: MatchedChange(0, b"%d" % at, 0) for at in (0, 1, 5)}
+        self.assertEqual((find_drift(cues, sent), find_drift(cues, {**sent, **twice})),
                          (Drift(0, 1100, 5), Drift(200, 1100, 4)))
 
     def test_reports_early_ends(self) -> None:
-        for delays, wanted in (([1, 1] * 9 + [1, 0], (-1, Early(1, 20, 1))),
-                               ([1, 1] * 9 + [0, 0], (-1, Early(2, 20, 1))),
+        for delays, wanted in (([1, 1] * 9 + [1, 0], (-1, EarlyCues(1, 20, 1))),
+                               ([1, 1] * 9 + [0, 0], (-1, EarlyCues(2, 20, 1))),
                                ([1, 0] * 10, (0, None)), ([0, 1] * 10, (0, None))):
             base = self.base_of_delays(delays)
-            best, early = settled(base, base.fit(0), None)
+            best, early = choose_clock(base, base.fit(0), None)
             self.assertEqual((best.start, early), wanted, delays)

@@ -10,7 +10,7 @@ from typing import Any, Sequence
 from developing.pes import data_field, pes_packet, pts_in, teletext_packets
 from subtitles.cli.main import make_parser
 from subtitles.cli.measure import (
-    Delays, Measured as Shown, explain_omission, measure, profile_lines, propose_every,
+    Delays, Measured as ExpectedSubtitle, explain_omission, measure, profile_lines, propose_every,
     propose_pace)
 from subtitles.common.program import TOP, read
 from subtitles.common.times import TICKS, time_of
@@ -380,7 +380,7 @@ class Profiles(Case):
         self.must("one", "--every 25" in alone and "--layout after=0A" not in alone, alone)
 
     def test_proposes_only_what_all_recordings_show(self) -> None:
-        one = Shown("0x101", [], [Repeats(9, 25, 7, 25)], [Pace(REGULAR, 1, 3)], [Delays(
+        one = ExpectedSubtitle("0x101", [], [Repeats(9, 25, 7, 25)], [Pace(REGULAR, 1, 3)], [Delays(
             Counter({0: 3}), Counter({0: 3}), [], [])], (9, 0), True, {"english"}, [])
         request = request_for("a.stl", "a.ts", "--origin", "0")
         same = ["--page 888", "--pid 0x101", "--option english", "--every 25", "--pace 2"]

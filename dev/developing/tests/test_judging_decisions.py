@@ -12,7 +12,7 @@ from unittest import mock
 from developing.pes import pes_packet
 from developing.stl import gsi_block, tti_block
 from subtitles.cli.batch import FolderWatch, Sighting
-from subtitles.clock.origin import Origin
+from subtitles.clock.origin import OriginEstimate
 from subtitles.clock.start import Clock, RECORDING, START, TimedPart
 from subtitles.common.times import Between, Span, TICKS
 from subtitles.formats.stl import Subtitle, SubtitleFile
@@ -205,33 +205,38 @@ class EstimatedOrigins(Case):
                 (TICKS // 2 - 1, 0, 0, "1799 ticks late"),
                 (5 - 2 * TICKS, 0, -2, "1 frame and 3595 ticks early"), (TICKS, 1, None, None),
                 (None, 0, None, None)):
-            found, lines = add_delay(clock, Origin(status, away=away, printed=["--origin 5"]))
+            found, lines = add_delay(clock, OriginEstimate(status, ticks_late=away,
+                                                           printed=["--origin 5"]))
             self.must(f"{away} {status}", found == clock._replace(delay_frames=wanted) and lines ==
                       ([f"all subtitles are {printed}"] if printed else []), (found, lines))
         for away, is_whole in ((0, True), (2 * TICKS, True), (2 * TICKS + 1, False)):
-            found, _ = add_delay(clock, Origin(0, away=away, is_each=True, printed=["--origin 5"]))
+            found, _ = add_delay(clock, OriginEstimate(0, ticks_late=away, matches_every_cue=True,
+                                                       printed=["--origin 5"]))
             self.check(f"{away}: whole frames", found.is_delay_of_all, is_whole)
 
     def test_reports_which_subtitles_are_delayed(self) -> None:
-        for are_all, shifted, printed, words in (
+        for has_all_cues, shifted, printed, words in (
                 (True, None, 1, "all"), (False, None, 1, "most"),
                 (True, None, 2, "up to the first break all"),
                 (False, None, 3, "up to the first break most"), (False, 50, 1, "up to 00:00:02:00"),
                 (True, 50, 2, "up to 00:00:02:00"), (True, 0, 1, "up to 00:00:00:00")):
-            origin = Origin(0, away=TICKS, are_all=are_all, shifted_from=shifted,
-                            printed=["--origin 5"] * printed)
+            origin = OriginEstimate(0, ticks_late=TICKS, has_all_cues=has_all_cues,
+                                    first_shift=shifted,
+                                    printed=["--origin 5"] * printed)
             self.must(words, add_delay(Clock(5, START), origin)[1] ==
                       [f"{words} subtitles are 1 frame late"])
 
     def test_asks_about_a_delay_as_long_as_to_another_picture(self) -> None:
         for away, is_asked in ((TICKS, True), (TICKS + 5, False), (2 * TICKS, False)):
-            printed = add_delay(Clock(5, START, away=1), Origin(0, away=away, printed=["one"]))[1]
+            printed = add_delay(Clock(5, START, away=1),
+                                OriginEstimate(0, ticks_late=away, printed=["one"]))[1]
             self.must(f"{away}", bool(printed[1:]) == is_asked, printed)
 
     def test_prints_no_advice_for_several_runs_or_breaks(self) -> None:
         for runs, breaks, is_alone in ((0, None, False), (2, None, True), (0, 0, True),
                                        (0, 2, True), (3, 2, True)):
-            why = make_unclear_origin(Origin(runs=[(0, 9)] * runs, breaks=breaks, lines=["one"]),
+            why = make_unclear_origin(OriginEstimate(airings=[(0, 9)] * runs, breaks=breaks,
+                                                     lines=["one"]),
                                       [])
             self.must(f"{runs} {breaks}", (why.reason == "one") == is_alone)
 

@@ -6,13 +6,13 @@ from typing import Any, Sequence
 from unittest import mock
 
 from developing.pes import MARK, pes_packet
-from subtitles.clock.start import FITTED_LATER, GIVEN, RECORDING
+from subtitles.clock.start import ESTIMATED_LATER_NOTE, GIVEN, RECORDING
 from subtitles.common.command_line import counted
 from subtitles.common.times import CLOCK, EARLY, TICKS, pts_of, time_of
 from subtitles.formats.listing import NamedFault, NOT_SHOWN, PICTURES_LEFT
 from subtitles.judging import pair
 from subtitles.judging.pages import HIDDEN, HiddenRows
-from subtitles.clock.origin import Sought, find
+from subtitles.clock.origin import OriginSearch, estimate_origin
 from subtitles.judging.timing import DesyncFindings
 from subtitles.recording import notices
 from subtitles.recording.notices import Notice
@@ -40,17 +40,17 @@ class SeveralParts(ProgrammeCase):
         super().setUp()
         self.at = {pts // TICKS: number for number, (pts, _) in enumerate(self.sent)}
 
-    def judge_parts(self, shifts: tuple[int, ...], changes: dict[int, int], *words: str,
+    def judge_parts(self, shift_texts: tuple[int, ...], changes: dict[int, int], *words: str,
                     marks: Sequence[int] = ()) -> JudgedPair:
         """Judge parts with shifted PTS, delayed subtitles, and gap markers before some PES packets.
         """
         sent = self.sent
         for number, by in changes.items():
             sent = delay_subtitle(number, by)(sent)
-        pes = [pes_packet(pts % CLOCK, some) for pts, some in with_pauses(sent, *shifts)]
+        pes = [pes_packet(pts % CLOCK, some) for pts, some in with_pauses(sent, *shift_texts)]
         data = b"".join(MARK * (number in marks) + one for number, one in enumerate(pes))
         return judge_files(self, self.stl, self.write("one.pes", data), "--breaks",
-                           str(len(shifts)),
+                           str(len(shift_texts)),
                       *words)
 
     def test_judges_each_part_by_its_own_clock(self) -> None:
@@ -59,40 +59,42 @@ class SeveralParts(ProgrammeCase):
         given = ["--origin", str(ORIGIN)]
         rows: list[tuple[tuple[int, ...], list[str]]] = [
             ((1000, 3000), []), ((-5000, 2000), given), ((1000,), given), ((-1000,), [])]
-        for shifts, words in rows:
-            found = self.judge_parts(shifts, {}, *words)
-            count = len(shifts) + 1
+        for shift_texts, words in rows:
+            found = self.judge_parts(shift_texts, {}, *words)
+            count = len(shift_texts) + 1
             ends = [*(end for _, end in edges[:count - 1]), 2460]
-            origins = [ORIGIN + TICKS * shift for shift in (0, *shifts)]
+            origins = [ORIGIN + TICKS * shift for shift in (0, *shift_texts)]
             members = found.parts("part", "from", "to", "origin", "pes", "verdict")
-            self.must(f"{shifts}", members == [
+            self.must(f"{shift_texts}", members == [
                 (at + 1, time_of(edges[at][0]), time_of(ends[at]), origins[at],
                  f"{self.at[begins[at]]}-{self.at[ends[at]]}", "accepted") for at in range(count)],
-                members)
-            self.must(f"{shifts}: clocks", [
+                      members)
+            self.must(f"{shift_texts}: clocks", [
                 (one["source"], one["delay_frames"]) for one, in found.parts("clock")] == [
                 (GIVEN, 0) if words and not at else (RECORDING, None) for at in range(count)])
             printed = [line for line in found.said if not line.endswith(FEW)]
-            word, later = ("accepted", [FITTED_LATER]) if words else ("relative", list[str]())
+            word, later = ("accepted", [ESTIMATED_LATER_NOTE]) if words else \
+                ("relative", list[str]())
             at = -3 - count - len(later)
-            self.must(f"{shifts}: said", [*printed[at:-2], printed[-1]] == [
+            self.must(f"{shift_texts}: said", [*printed[at:-2], printed[-1]] == [
                 *(f"part {at + 1}, from {time_of(edges[at][0])} to {time_of(ends[at])}: accepted "
                   f"{ends[at] - begins[at] + 1} frames "
                   f"{self.at[ends[at]] - self.at[begins[at]] + 1} transmissions"
                   for at in range(count)), WARNING, *later,
                 f"{word} {sum(ends) - sum(begins[:count]) + count} frames {len(self.sent)} "
                 f"transmissions in {count} parts"],
-                found.said)
+                      found.said)
             ranges = [pes for pes, in found.parts("pes")]
-            self.must(f"{shifts}: commands", [
+            self.must(f"{shift_texts}: commands", [
                 line.partition(" --pes ")[2].split()[0] for line in found.lines("+ ")
                 if " check " in line] == ranges, found.lines("+ "))
             each = [tuple(one[name] for name in ("part", "number", "complete_after"))
                     for one in found.result["subtitles"]]
-            self.must(f"{shifts}: each", each == [(1 + (at > 8) + (at > 16) * (count > 2), at, 0)
-                                                  for at in range(1, 25)])
-            of_all = self.judge_parts(shifts, {}, *words, "--pes", f"0-{len(self.sent) - 1}")
-            self.must(f"{shifts}: all PES packets", of_all.parts(
+            self.must(f"{shift_texts}: each", each == [(1 + (at > 8) + (at > 16) * (count > 2), at,
+                                                        0)
+                                                       for at in range(1, 25)])
+            of_all = self.judge_parts(shift_texts, {}, *words, "--pes", f"0-{len(self.sent) - 1}")
+            self.must(f"{shift_texts}: all PES packets", of_all.parts(
                 "part", "from", "to", "origin", "pes", "verdict") == members, of_all.said)
 
     def test_refuses_a_fault_in_any_part(self) -> None:
@@ -264,7 +266,7 @@ class Tolerances(ProgrammeCase):
         for name, change, least, off in ways:
             packets = survey_packets(self, pes_file(change(self.sent)))
             for within in (least, 5, 50):
-                origin = find(Sought(self.stl, "one.pes", within=within), packets)
+                origin = estimate_origin(OriginSearch(self.stl, "one.pes", within=within), packets)
                 found = origin.parts[0].origin - ORIGIN
                 self.must(f"{name} {within}", origin.status == 0 and
                           (abs(found) < EARLY if off is None else found == off), origin)
@@ -277,7 +279,7 @@ class Tolerances(ProgrammeCase):
             (in_three_frames, 7200, "2 frames")]
         for change, ticks, early in at_once:
             packets = survey_packets(self, pes_file(change(self.sent)))
-            origin = find(Sought(self.stl, "one.pes"), packets)
+            origin = estimate_origin(OriginSearch(self.stl, "one.pes"), packets)
             self.must(f"{ticks}: within 0", origin.parts[0].origin == ORIGIN + ticks and
                       any(f"all out-cues are {early} early compared with" in line
                           for line in origin.lines), origin)

@@ -4,7 +4,7 @@ from __future__ import annotations
 from typing import Sequence
 
 from developing.pes import address_of, header_of, packet, pes_packet
-from subtitles.clock.origin import other_words
+from subtitles.clock.origin import explain_mismatch
 from subtitles.common.times import Span, TICKS, time_of
 from subtitles.formats.listing import CONTENT
 from subtitles.formats.stl import Subtitle
@@ -156,7 +156,7 @@ class Reasons(ProgrammeCase):
         once = sent(*("11", "12") * 3, *("11",) * 6)
         for inside, count in (((0, 5), 2), ((0, 11), 2), ((2, 11), 0), ((6, 11), 0)):
             self.assertEqual(len(turns_of(once, inside)), count, inside)
-        self.assertEqual([*other_words(sent("11", "12"), PAGE)], [])
+        self.assertEqual([*explain_mismatch(sent("11", "12"), PAGE)], [])
 
     def test_estimates_losses_by_the_pcr(self) -> None:
         stl = write_programme(self, [(2000 + 25 * at, 2020 + 25 * at) for at in range(40)],

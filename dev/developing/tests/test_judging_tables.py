@@ -12,9 +12,9 @@ from unittest import mock
 
 from developing.pes import pes_packet
 from developing.stl import gsi_block, subtitle_blocks, tti_block
-from subtitles.clock.origin import OfPart, Origin, Sought
+from subtitles.clock.origin import OriginEstimate, OriginSearch, PartOrigin
 from subtitles.clock.start import (
-    Clock, GIVEN, RECORDING, START, TCP, TimedPart, most_off, start_frame)
+    Clock, GIVEN, RECORDING, START, TCP, TimedPart, find_largest_offset, read_start_frame)
 from subtitles.common.command_line import HIDDEN
 from subtitles.common.times import CLOCK, TICKS
 from subtitles.formats.stl import SubtitleFile
@@ -56,9 +56,10 @@ def said(warned: Iterable[Notice]) -> list[tuple[str, str, str | None]]:
 class PartClocks(unittest.TestCase):
     def test_takes_parts_only_if_the_origin_is_clear(self) -> None:
         whole = TimedPart(3, 9, Clock(7, GIVEN))
-        self.assertEqual(list_timed_parts(Origin(1, [OfPart(5)]), whole), [])
+        self.assertEqual(list_timed_parts(OriginEstimate(1, [PartOrigin(5)]), whole), [])
         reported = Selection("origin", "5", "clock: 3 of 4", 3, 4)
-        self.assertEqual(list_timed_parts(Origin(0, [OfPart(5, (1, 2), None, 3, 4, "3 of 4")]),
+        self.assertEqual(list_timed_parts(OriginEstimate(0, [PartOrigin(5, (1, 2), None, 3, 4,
+                                                                        "3 of 4")]),
                                           whole),
                          [TimedPart(3, 9, Clock(5, RECORDING, evidence=reported), (1, 2))])
 
@@ -67,9 +68,9 @@ class PartClocks(unittest.TestCase):
                           "--every 30 --from 00:00:01:00 --late 0:9,3:1/0:12".split())
         programme = PartSearch(request, TimedPart(3, 9, Clock(7, GIVEN)), (2, 8), frozenset({4}))
         recording: Any = SimpleNamespace(packets="packets", shown="name", has_picture=lambda: True)
-        with mock.patch.object(timing, "find", return_value=Origin(0)) as sought:
+        with mock.patch.object(timing, "estimate_origin", return_value=OriginEstimate(0)) as sought:
             report_estimated_origin(programme, recording, Clock(5, GIVEN), mock.Mock())
-        self.assertEqual(sought.call_args.args, (Sought(
+        self.assertEqual(sought.call_args.args, (OriginSearch(
             request.stl_path, "name", (1, 0x50), "german", 5, 3, 2, (2, 8), request.between,
             frozenset({4}), request.late, True), "packets"))
         with mock.patch.object(timing, "cut_of") as cut:
@@ -208,7 +209,7 @@ class FrameGrids(Case):
                 for hours in (0, 1, 13, 14, 23):  # 2^32 ticks are 13 h 15 min
                     several = [(origin + TICKS * (90_000 * hours + 5 + at) + off) % CLOCK
                                for at, off in enumerate(offs)]
-                    self.assertEqual(most_off(several, origin), most, (offs, hours))
+                    self.assertEqual(find_largest_offset(several, origin), most, (offs, hours))
 
     def test_reads_start_times(self) -> None:
         for code, frame in ((b"00000000", 0), (b"10000001", 900_001), (b"23595924", 2_159_999),
@@ -218,15 +219,15 @@ class FrameGrids(Case):
             stl = self.write("one.stl", data[:256] + code + data[264:])
             request = request_for(stl, "one.ts", "--start", "tcp")
             try:
-                found: int | None = start_frame(request)
+                found: int | None = read_start_frame(request)
             except Unclear:
                 found = None
             self.assertEqual(found, frame, code)
         request = request_for(stl, "one.ts", "--start", "10:00:00:01")
-        self.assertEqual(start_frame(request), 900_001)
+        self.assertEqual(read_start_frame(request), 900_001)
         short = request_for(self.write("two.stl", data[:260]), "one.ts", "--start", "tcp")
         with self.assertRaises(Unclear):
-            start_frame(short)
+            read_start_frame(short)
 
 
 # Names of files, calls, differences of pages.

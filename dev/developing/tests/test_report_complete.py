@@ -6,7 +6,7 @@ import re
 from typing import Any
 
 from developing.pes import pes_packet
-from subtitles.clock.start import FITTED, GIVEN, RECORDING
+from subtitles.clock.start import ESTIMATED_NOTE, GIVEN, RECORDING
 from subtitles.common.markup import escape
 from subtitles.common.times import TICKS
 from subtitles.formats.listing import NamedFault
@@ -38,7 +38,7 @@ class CompletePage(Case):
         self.packets = survey_packets(self, b"".join(pes_packet(
             TICKS * frame, [HEADER, CLOSING]) for frame in (75, 85, 87, 90)))
 
-    def verdict(self, kinds: str, is_fitted: bool = False, is_read: bool = True) -> Verdict:
+    def verdict(self, kinds: str, is_estimated: bool = False, is_read: bool = True) -> Verdict:
         """Return a verdict with losses, notes and warnings on parts, the last with an estimated
         clock."""
         parts = []
@@ -49,7 +49,7 @@ class CompletePage(Case):
                     Timeline(Packets(PES), (0, 0x88), 0))} if is_read else {}
             part = make_part(75, 99, 0,
                              make_answer(self.KINDS[kind], path=self.path(f"{number}.txt")),
-                             number, RECORDING if is_fitted and number == len(kinds) else GIVEN,
+                             number, RECORDING if is_estimated and number == len(kinds) else GIVEN,
                              delays=[0], drawing_differences=f"drawn {number}", **given)
             part.names.given = example("story.stl")
             parts.append(part)
@@ -66,11 +66,11 @@ class CompletePage(Case):
         typed = CommandWords("tools/qc", self.bench.program)
         cases: list[tuple[bool, int, str | None]] = [
             (False, 0, None), (True, 0, None), (False, 1, None), (True, 3, None), (False, 1, "why")]
-        for kinds, (is_fitted, named, why) in itertools.product(
+        for kinds, (is_estimated, named, why) in itertools.product(
                 ("", "a", "r", "b", "ar", "rar", "bb"), cases):
-            if not kinds and (is_fitted or not named and not why):
+            if not kinds and (is_estimated or not named and not why):
                 continue
-            verdict = self.verdict(kinds, is_fitted, "b" not in kinds)
+            verdict = self.verdict(kinds, is_estimated, "b" not in kinds)
             verdict.named_faults = [NamedFault("not shown", f"row {at}", block=at)
                                     for at in range(1, named + 1)]
             verdict.unjudged = Unjudged(why, ("type <this>",)) if why else None
@@ -83,20 +83,20 @@ class CompletePage(Case):
                 verdict.worst_line or "",
                 *(f"{one.line}: {one.words}" for one in verdict.named_faults),
                 *[gap.format_line() for gap in verdict.gaps] * bool(kinds)]
-            reported += [FITTED[1:]] * (is_fitted and len(kinds) == 1 and not why)
-            each = [] if why else [DELAY] * is_fitted
+            reported += [ESTIMATED_NOTE[1:]] * (is_estimated and len(kinds) == 1 and not why)
+            each = [] if why else [DELAY] * is_estimated
             each += [BETWEEN] * (len(kinds) > 1 and not why)
             for number, kind in enumerate("" if why else kinds, 1):
                 each += [f"drawn {number}", *(line.partition(" ")[2] for line in self.KINDS[kind]
                                               if line.startswith("refused"))]
             self.assertEqual([one for some, where in ((reported, box), (each, text)) for one in some
-                              if escape(one) not in where], [], (kinds, is_fitted, named, why))
+                              if escape(one) not in where], [], (kinds, is_estimated, named, why))
             colour = re.findall('<div class="verdict ([a-z]+)">', page)[0]
             self.assertTrue(why or (colour == "refused") == (verdict.word == REFUSED), kinds)
             counts = [f"{len(self.KINDS[kind]) - 1}" for kind in kinds]
             self.assertEqual(re.findall('data-name="Faults">([0-9]+)</td><td data-name="Causes',
                                         page), counts if len(kinds) > 1 and not why else [],
-                             (kinds, is_fitted, named))
+                             (kinds, is_estimated, named))
             self.assertEqual(page.count('data-name="From">00:00:03:00</td><td data-name="To">00:00:'
                                         '03:24<'), len(kinds) if len(counts) > 1 and not why else 0,
-                             (kinds, is_fitted, named))
+                             (kinds, is_estimated, named))

@@ -6,9 +6,9 @@ import unittest
 from types import SimpleNamespace
 from typing import Any, Sequence
 
-from subtitles.clock.alignment import Apart, Early, Fit, MOST_APART
-from subtitles.clock.origin import as_good, is_clear
-from subtitles.clock.start import Began, Clock, TCP, after_frame, refuse_outside
+from subtitles.clock.alignment import CueOffset, EarlyCues, MOST_CUE_OFFSET, OriginFit
+from subtitles.clock.origin import find_equal_origins, is_clear
+from subtitles.clock.start import Clock, StartClock, TCP, find_frame_offset, refuse_outside
 from subtitles.common.times import CLOCK, EARLY, FRAMES_A_SECOND, NO_FRAME, Span, TICKS
 from subtitles.recording.recording import Recording
 from subtitles.request.request import Unclear
@@ -82,11 +82,11 @@ class Silences(unittest.TestCase):
             ([*steady], None, [], (10, 10, 0, 10)), ([*steady], 99, [20, 50], (10, 10, 0, 10)),
             ([*steady], None, [20, 40, 60, 80], (10, 10, 0, None))]
         origins = *ORIGINS, *(CLOCK - TICKS * one for one in (5, 10, 19, 39, 40, 99))
-        for origin, (frames, last, edges, wanted) in itertools.product(origins, rows):
+        for origin, (frames, last, cues, wanted) in itertools.product(origins, rows):
             pts = [round(origin + TICKS * one) % CLOCK for one in frames]
             end = None if last is None else round(origin + TICKS * last) % CLOCK
-            found = repeats_in(pts, end, origin, [*zip(edges, edges[1:])])
-            self.assertEqual(found and (*found[:4],), wanted, (origin, frames, last, edges))
+            found = repeats_in(pts, end, origin, [*zip(cues, cues[1:])])
+            self.assertEqual(found and (*found[:4],), wanted, (origin, frames, last, cues))
 
     def test_prints_twenty_losses_and_counts_the_others(self) -> None:
         for count in (0, 1, TOLD - 1, TOLD, TOLD + 1, TOLD + 2):
@@ -125,7 +125,7 @@ class FirstPictures(unittest.TestCase):
                 ([-EARLY - 1, 1800, 1800], 1800, 1800))):
             packets = Packets(5, [Run(at, 1, (origin + TICKS * (at + 3) + one) % CLOCK, 0, "", "")
                                   for at, one in enumerate(times)])
-            found = [after_frame(packets, origin, within) for within in (0, 1)]
+            found = [find_frame_offset(packets, origin, within) for within in (0, 1)]
             self.assertEqual(found, [exact, near], (origin, times))
 
     def test_refuses_subtitles_before_and_after_the_recording(self) -> None:
@@ -135,7 +135,7 @@ class FirstPictures(unittest.TestCase):
                 (100, last + FRAMES_A_SECOND, True, False),
                 (100, last + FRAMES_A_SECOND + 1, True, True),
                 (100, last + FRAMES_A_SECOND + 1, False, False), (99, 200, True, True))):
-            began = Began(Clock(origin, TCP), [], 100)
+            began = StartClock(Clock(origin, TCP), [], 100)
             pts = (origin + TICKS * last) % CLOCK if is_told else None
             try:
                 refuse_outside(request, began, begin, end, pts)
@@ -291,36 +291,37 @@ class ReceivedFrames(unittest.TestCase):
 
 class ClearOrigins(unittest.TestCase):
     @staticmethod
-    def fit(agree: int, letters: int, texts: int = 0, among: int = 5, start: int = 0) -> Fit:
-        return Fit(9, agree, letters, texts, agree, among, None, None, start)
+    def fit(matches: int, letters: int, texts: int = 0, total: int = 5,
+            start: int = 0) -> OriginFit:
+        return OriginFit(9, matches, letters, texts, matches, total, None, None, start)
 
-    def part(self, best: Fit, *others: Fit, early: Early | None = None,
+    def part(self, best: OriginFit, *others: OriginFit, early: EarlyCues | None = None,
              apart: object = None) -> Any:
         return SimpleNamespace(best=best, others=others, early=early,
-                               sent=SimpleNamespace(apart=lambda _: apart))
+                               sent=SimpleNamespace(find_cue_offset=lambda _: apart))
 
     def test_compares_origins_by_cues_and_characters(self) -> None:
-        five, four, apart = self.fit(5, 5, 2), self.fit(4, 4, 2), Apart(True, 3, 5, 5)
+        five, four, apart = self.fit(5, 5, 2), self.fit(4, 4, 2), CueOffset(True, 3, 5, 5)
         for best, other, is_apart, wanted in (
                 (five, self.fit(5, 4, 9), False, False), (five, self.fit(5, 5), False, True),
                 (five, self.fit(6, 4), False, True), (four, self.fit(4, 3, 1), False, False),
                 (four, self.fit(4, 3, 2), False, True), (four, self.fit(4, 4, 0), False, True),
-                (five, self.fit(5, 5, 2, start=MOST_APART), True, False),
-                (five, self.fit(5, 5, 2, start=-MOST_APART), True, False),
-                (five, self.fit(5, 5, 2, start=MOST_APART + 1), True, True),
-                (five, self.fit(5, 5, 0, start=MOST_APART + 1), True, False)):
+                (five, self.fit(5, 5, 2, start=MOST_CUE_OFFSET), True, False),
+                (five, self.fit(5, 5, 2, start=-MOST_CUE_OFFSET), True, False),
+                (five, self.fit(5, 5, 2, start=MOST_CUE_OFFSET + 1), True, True),
+                (five, self.fit(5, 5, 0, start=MOST_CUE_OFFSET + 1), True, False)):
             part = self.part(best, self.fit(1, 1), other, apart=apart if is_apart else None)
-            self.assertEqual(as_good(part), [other] * wanted, (best, other))
+            self.assertEqual(find_equal_origins(part), [other] * wanted, (best, other))
             self.assertEqual([is_clear(part), is_clear(part, True)], [not wanted] * 2,
                              (best, other, is_apart))
 
     def test_accepts_an_origin_with_which_half_of_the_cues_agree(self) -> None:
-        for agree, among, is_apart, wanted in ((5, 10, False, True), (5, 11, False, False),
-                                               (5, 11, True, True), (0, 0, False, True)):
-            part = self.part(self.fit(agree, agree, among=among),
-                             apart=Apart(True, 3, 5, 5) if is_apart else None)
-            self.assertEqual([is_clear(part), is_clear(part, True)], [wanted] * 2, (agree, among))
-        for early, wanted, known in ((None, True, True), (Early(1, 21, 2), True, True),
-                                     (Early(1, 20, 2), False, True)):
+        for matches, total, is_apart, wanted in ((5, 10, False, True), (5, 11, False, False),
+                                                 (5, 11, True, True), (0, 0, False, True)):
+            part = self.part(self.fit(matches, matches, total=total),
+                             apart=CueOffset(True, 3, 5, 5) if is_apart else None)
+            self.assertEqual([is_clear(part), is_clear(part, True)], [wanted] * 2, (matches, total))
+        for early, wanted, known in ((None, True, True), (EarlyCues(1, 21, 2), True, True),
+                                     (EarlyCues(1, 20, 2), False, True)):
             part = self.part(self.fit(5, 5), early=early)
             self.assertEqual((is_clear(part), is_clear(part, True)), (wanted, known), early)

@@ -13,7 +13,7 @@ from subtitles.common.times import CLOCK, TICKS
 from subtitles.stream.pace import (
     BY_EVERY, FEW, IRREGULAR, Lull, PAUSED, Pauses, REGULAR, TOO_FEW, each_of, frame_rows, pace_of,
     pauses_of, silences_in, unseen_from, usual_in)
-from subtitles.stream.repeats import edges_of
+from subtitles.stream.repeats import cue_frames
 from subtitles.stream.packets import Packets, Run
 from .bench import Case
 from .judged import JudgedPair, ProgrammeCase, judge_files
@@ -273,7 +273,7 @@ class PaceDecisions(Case):
         self.must("one a frame", not [*silences_in(range(9), 1, 3)])
 
     def test_finds_the_pauses_between_subtitles(self) -> None:
-        self.must("edges", edges_of([(5, 9), (9, 30), (2, 5)]) == [2, 5, 9, 30])
+        self.must("edges", cue_frames([(5, 9), (9, 30), (2, 5)]) == [2, 5, 9, 30])
         self.must("none", not pauses_of([]))
         self.must("two", pauses_of([(5, 9), (20, 30)]) ==
                   [(None, 5), (9, 20), (30, None)])

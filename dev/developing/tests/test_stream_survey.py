@@ -584,12 +584,12 @@ class PesLines(Case):
             "cut": ([whole, pes_packet(LAST, [CLOSING] * 4)], 1, 1),
             "the same PTS": ([whole, long], 1, 1), "no PTS": ([whole, untimed], 1, 1),
             "not cut, no PTS": ([long, untimed], 0, 0)}
-        for name, (several, left_out, cut) in rows.items():
+        for name, (several, count_skipped, cut) in rows.items():
             maker = Maker(components())
             maker.put_tables()
             for pes in several:
                 maker.put(TELETEXT_PID, pes)
-            data = b"".join(maker.packets[:-1] if left_out else maker.packets)
+            data = b"".join(maker.packets[:-1] if count_skipped else maker.packets)
             self.check(name, lines_of_kinds(self, data, "end")[0].split()[7], str(cut))
         maker = Maker(components())
         maker.put_tables()

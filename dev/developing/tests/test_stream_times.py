@@ -7,9 +7,10 @@ import unittest
 from types import SimpleNamespace
 from typing import Any, Iterator, Sequence
 
-from subtitles.clock.alignment import MOST_BASES, Shown, bases_of
-from subtitles.clock.start import after_frame, left_out, most_off
-from subtitles.clock.stretches import LACKED, LEAST_BREAK, Stretch, by_breaks, find_row
+from subtitles.clock.alignment import ExpectedSubtitle, MOST_BASES, find_time_bases
+from subtitles.clock.start import count_skipped, find_frame_offset, find_largest_offset
+from subtitles.clock.stretches import (
+    LEAST_BREAK, LEAST_GAP, Stretch, find_stretches, split_at_breaks)
 from subtitles.common.times import (
     CLOCK, EARLY, FRAMES_OF_A_DAY, NO_FRAME, Spans, TICKS, frame_at, frame_in, frames_at,
     joined_spans, pts_of, ticks_after, ticks_between, ticks_within, wrapped)
@@ -34,7 +35,7 @@ def clocked(before: int, ticks: int, counters: str, packets: int = 100) -> Clock
     return Clocked(before, before + 1, ticks, packets, SECOND // 10, 100, counters)
 
 
-def runs_of(numbers: set[int]) -> list[tuple[int, int]]:
+def find_airings(numbers: set[int]) -> list[tuple[int, int]]:
     """Join consecutive numbers into (first, last)."""
     firsts = sorted(one for one in numbers if one - 1 not in numbers)
     return list(zip(firsts, sorted(one for one in numbers if one + 1 not in numbers)))
@@ -74,8 +75,8 @@ class ClockTables(unittest.TestCase):
                      [[None if one == NO_FRAME else one for one in frames_at([pts], origin, within)]
                       for within in (0, 1)],
                      ticks_between(origin, pts), ticks_within(origin, DAY, pts),
-                     ticks_after(origin, pts), most_off([pts], origin),
-                     after_frame(packets_with([pts]), origin, 0))
+                     ticks_after(origin, pts), find_largest_offset([pts], origin),
+                     find_frame_offset(packets_with([pts]), origin, 0))
             wanted = (pts, (pts - rest) % CLOCK, frame, later, frames, [[one] for one in frames],
                       ticks if ticks < CLOCK // 2 else ticks - CLOCK, after, after,
                       min(after % TICKS, -after % TICKS), after % TICKS)
@@ -87,7 +88,7 @@ class ClockTables(unittest.TestCase):
             for missing in range(4):
                 pts = [(origin + TICKS * (at + missing * (at > 7))) % CLOCK
                        for at in chance.sample(range(20), 20)]
-                self.assertEqual(left_out(pts, False), missing, (origin, pts))
+                self.assertEqual(count_skipped(pts, False), missing, (origin, pts))
 
     def test_answers_questions_on_spans_as_a_plain_list_does(self) -> None:
         chance = random.Random(7)
@@ -99,12 +100,12 @@ class ClockTables(unittest.TestCase):
             begin, end = sorted((chance.randrange(45), chance.randrange(45)))
             spans = several[0]
             self.assertEqual((list(spans), spans.total(), len(spans)), (
-                runs_of(one), len(one), len(runs_of(one))))
+                find_airings(one), len(one), len(find_airings(one))))
             self.assertEqual(list(spans.between(begin, end)), [
                 span for span in spans if span[1] >= begin and span[0] < end])
             self.assertEqual(list(spans.without([*several[1], *several[2]])),
-                             runs_of(one - other - third))
-            self.assertEqual(list(joined_spans(several)), runs_of(one | other | third))
+                             find_airings(one - other - third))
+            self.assertEqual(list(joined_spans(several)), find_airings(one | other | third))
         falling = Spans([(7, 9), (1, 3), (4, 8)])
         self.assertEqual((list(falling), falling.is_rising()), ([(7, 9), (1, 8)], False))
         self.assertEqual(list(joined_spans([falling])), [(1, 9)])
@@ -160,17 +161,17 @@ class ClockTables(unittest.TestCase):
                              pts)
 
     def test_selects_the_time_bases_with_the_most_changes(self) -> None:
-        edges = [Shown(100 * at, 100 * at + 50, at, b"%d" % at) for at in range(400)]
+        edges = [ExpectedSubtitle(100 * at, 100 * at + 50, at, b"%d" % at) for at in range(400)]
         for count, wanted in ((MOST_BASES, MOST_BASES), (5000, MOST_BASES)):
             packets = packets_with([10 ** 9 - TICKS * at for at in range(count + 2)])
             packets.changes = [Change(run.pts or 0, b"x", run.first) for run in packets.runs]
-            bases = bases_of(edges, packets, 0)
-            self.assertEqual((len(bases), find_row(bases)), (wanted, []), count)
+            bases = find_time_bases(edges, packets, 0)
+            self.assertEqual((len(bases), find_stretches(bases)), (wanted, []), count)
         long = [*range(9000, 9400, 10), *range(5000, 0, -1)]
         packets = packets_with([TICKS * at for at in long])
         packets.changes = [Change(run.pts or 0, b"x%d" % run.first, run.first)
                            for run in packets.runs]
-        self.assertEqual(bases_of(edges, packets, 0)[0].packets, (0, 39))
+        self.assertEqual(find_time_bases(edges, packets, 0)[0].packets, (0, 39))
 
     def test_takes_the_pcr_before_each_pmt(self) -> None:
         survey = read_survey("pcr 513 7", *(f"programme 1 {512 + at % 2}" for at in range(200)))
@@ -182,7 +183,7 @@ class ClockTables(unittest.TestCase):
         for tracks, ends in (
                 ([(0, 0)], [9]), ([(0, 0), (0, -five)], [9, 18]), ([(0, 0), (0, 1 - five)], [18]),
                 ([(0, 0), (0, -1)], [18]), ([(0, 0), (0, 1)], [18]),
-                ([(0, 0), (0, LACKED - 1)], [18]), ([(0, 0), (0, LACKED)], [9, 18]),
+                ([(0, 0), (0, LEAST_GAP - 1)], [18]), ([(0, 0), (0, LEAST_GAP)], [9, 18]),
                 ([(0, 0), (1, 1)], [9, 18]), ([(0, 0), (1, -1)], [9, 18]),
                 ([(0, 0), (0, -five), (0, -2 * five)], [9, 18, 27]),
                 ([(0, 0), (0, -75), (0, -150)], [27]),  # two delays of three seconds
@@ -192,7 +193,7 @@ class ClockTables(unittest.TestCase):
                 ([(0, 0), (0, 5), (0, 0)], [27]), ([(0, 0), (0, 5), (0, -five)], [18, 27])):
             row: Any = [Stretch(SimpleNamespace(base=base, start=start),  # type: ignore[arg-type]
                                 9 * at, 9 * at + 9) for at, (base, start) in enumerate(tracks)]
-            self.assertEqual([one.end for one in by_breaks(row)], ends, tracks)
+            self.assertEqual([one.end for one in split_at_breaks(row)], ends, tracks)
 
     def test_takes_the_pcr_pid_of_the_last_programme(self) -> None:
         self.assertIsNone(Survey().clock_of(257))

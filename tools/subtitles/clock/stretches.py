@@ -1,4 +1,4 @@
-"""Origins in sequence: the parts between breaks, and repeated airings."""
+"""Find the parts between breaks, and repeated airings, each with its own origin."""
 from __future__ import annotations
 
 import collections
@@ -9,89 +9,92 @@ from typing import Mapping, NamedTuple, Sequence
 
 from ..common.command_line import Lateness
 from ..common.times import FRAMES_A_SECOND, FRAMES_OF_A_DAY
-from .alignment import Base, Early, Edge, Fit, Shown, TRIED, edges_of, settled
+from .alignment import (
+    EarlyCues, ExpectedCue, ExpectedSubtitle, OriginFit, TRIED, TimeBase, choose_clock,
+    find_expected_cues)
 
-LEADERS = 8  # the best ways up to a cue, which may change track
-IN_A_ROW = 5  # cues that must agree with another origin
-NEW_TRACK = IN_A_ROW - 1  # points that a change of track costs
-LEAST_BREAK = 5 * FRAMES_A_SECOND  # frames; less is a delay
-LACKED = 60 * FRAMES_A_SECOND  # frames at least by which the file's clock jumps forward at a break
-OF_TEXT = 3  # points of a cue with its text
-ALIKE = 500  # frames at most to compare with each other
-TRIED_TIMES = 8  # origins to compare with the times of all cues
-AS_MANY = 10  # cues at least for an airing by times alone; twice as many with --within N
-Place = tuple[int, int]  # a time base of a recording, and frames after its first PTS
+LEADERS = 8  # best sequences of tracks that may change track at a cue
+LEAST_ROW = 5  # consecutive cues that must match by another origin
+NEW_TRACK = LEAST_ROW - 1  # cost of a change of track, in points
+LEAST_BREAK = 5 * FRAMES_A_SECOND  # shortest break; anything shorter is a delay
+LEAST_GAP = 60 * FRAMES_A_SECOND  # shortest jump of the file's time codes at a break
+TEXT_POINTS = 3  # points of a cue whose expected text comes
+MOST_COMPARED = 500  # most cues to compare with each other
+TRIED_TIMES = 8  # most origins to compare by the times of cues alone
+LEAST_CUES = 10  # fewest cues of an airing by times alone; twice as many with --within N
+Place = tuple[int, int]  # number of a time base, and frames after its first PTS
 
 
 class Track:
-    """A possible origin in the time base `base`: for each cue its place and points: 1 if the page
-    changes, 2 if it is erased as expected, 3 if the expected text comes."""
+    """A possible origin in the time base number `base`, with the place and the points of each cue:
+    1 if the page changes, 2 if it is erased as expected, 3 if the expected text comes."""
 
-    def __init__(self, number: int, start: int, base: Base) -> None:
-        self.base, self.start, self.within, self.edges = number, start, base.within, base.edges
-        agreed = [base.agreed(edge, start) for edge in base.edges]
-        self.points = [0 if not one else 1 if one.letters != edge.letters else
-                       OF_TEXT if edge.letters else 2 for edge, one in zip(base.edges, agreed)]
-        self.late = sum(one.late for one in agreed if one)
-        self.places = [edge.frame - start + (one.late if one else 0)
-                       for edge, one in zip(base.edges, agreed)]
+    def __init__(self, number: int, start: int, base: TimeBase) -> None:
+        self.base, self.start, self.within, self.cues = number, start, base.within, base.cues
+        matched = [base.find_match(cue, start) for cue in base.cues]
+        self.points = [0 if not one else 1 if one.letters != cue.letters else
+                       TEXT_POINTS if cue.letters else 2 for cue, one in zip(base.cues, matched)]
+        self.late = sum(one.late for one in matched if one)
+        self.places = [cue.frame - start + (one.late if one else 0)
+                       for cue, one in zip(base.cues, matched)]
 
     @functools.cached_property
-    def in_a_row(self) -> list[int]:
-        """Return how many consecutive cues agree, from each one on."""
+    def row_lengths(self) -> list[int]:
+        """Return for each cue how many consecutive cues match from it on."""
         rows = itertools.accumulate(reversed(self.points), lambda row, one: row + 1 if one else 0,
                                     initial=0)
         return list(rows)[:0:-1]
 
     def rank(self) -> tuple[int, int, int]:
-        """Return the sort key, best first: of equals, the one with the earliest text."""
-        first = self.points.index(OF_TEXT) if OF_TEXT in self.points else len(self.edges)
+        """Return the sort key, best first: by points, delay, and first text."""
+        first = self.points.index(TEXT_POINTS) if TEXT_POINTS in self.points else len(self.cues)
         return -sum(self.points), self.late, first
 
     def may_follow(self, before: Track, frames: int) -> bool:
-        """Return whether what is expected `frames` later is sent later."""
+        """Return whether a cue that is expected `frames` later is also sent later."""
         return self.base > before.base or \
             self.base == before.base and frames > self.start - before.start
 
 
 class Stretch(NamedTuple):
-    """The cues from number `first` up to `end`, and their track."""
+    """The cues from number `first` to before `end`, and their track."""
 
     track: Track
     first: int
     end: int
 
-    def agreeing(self) -> list[int]:
-        """Return the places of the cues that agree."""
+    def matching_places(self) -> list[int]:
+        """Return the places of the cues that match."""
         return [self.track.places[at] for at in range(self.first, self.end)
                 if self.track.points[at]]
 
 
-def find_row(bases: Sequence[Base]) -> list[Stretch]:
-    """Return the stretches of all cues, or none if no origin has five agreeing cues in a row."""
-    long = [(number, base) for number, base in enumerate(bases) if len(base.changes) >= IN_A_ROW]
-    for number, base in long:
-        best = base.by_beginnings(base.fits[0]) if base.fits else None
-        if best and len(base.edges) >= IN_A_ROW and (
-                best.letters == len(base.edges) or base.apart(best)):
-            return [Stretch(Track(number, best.start, base), 0, len(base.edges))]
+def find_stretches(bases: Sequence[TimeBase]) -> list[Stretch]:
+    """Return the stretches of all cues, or none if no origin has five consecutive matches."""
+    candidates = [(number, base) for number, base in enumerate(bases)
+                  if len(base.changes) >= LEAST_ROW]
+    for number, base in candidates:
+        first_fit = base.align_in_cues(base.fits[0]) if base.fits else None
+        if first_fit and len(base.cues) >= LEAST_ROW and (
+                first_fit.content_matches == len(base.cues) or base.find_cue_offset(first_fit)):
+            return [Stretch(Track(number, first_fit.start, base), 0, len(base.cues))]
     tracks: list[Track] = []
-    for number, base in long:
+    for number, base in candidates:
         starts = {fit.start for fit in base.fits[:TRIED]}
-        starts.update(start for start, _ in base.alike().most_common(TRIED))
+        starts.update(start for start, _ in base.count_equal_texts().most_common(TRIED))
         tracks += [track for start in sorted(starts) if max(
-            (track := Track(number, start, base)).in_a_row, default=0) >= IN_A_ROW]
-    kept: list[Track] = []
+            (track := Track(number, start, base)).row_lengths, default=0) >= LEAST_ROW]
+    distinct: list[Track] = []
     for track in sorted(tracks, key=Track.rank):
         if not track.within or not any(other.base == track.base and abs(
-                other.start - track.start) <= track.within for other in kept):
-            kept.append(track)
-    return best_row(bases[0].edges, kept[:TRIED]) if kept else []
+                other.start - track.start) <= track.within for other in distinct):
+            distinct.append(track)
+    return find_best_stretches(bases[0].cues, distinct[:TRIED]) if distinct else []
 
 
-class Way(NamedTuple):
-    """A sequence of tracks up to a cue. `nearness` is less the farther apart its tracks are;
-    `turns` has the number of the cue from which each track is used."""
+class TrackSequence(NamedTuple):
+    """A sequence of tracks up to a cue. `nearness` falls with the distance between its tracks;
+    `turns` has the first cue of each track."""
 
     points: int
     nearness: int
@@ -99,249 +102,257 @@ class Way(NamedTuple):
 
     @property
     def rank(self) -> tuple[int, int]:
-        """Return the sort key, worst first."""
+        """Return the points and the nearness, by which sequences are compared."""
         return self[:2]
 
-    def turned(self, edge: int, track: Track) -> Way:
-        """Return the way that continues with another track from a cue on."""
+    def switch_track(self, cue: int, track: Track) -> TrackSequence:
+        """Return the sequence that continues with another track from a cue on."""
         before = self.turns[-1][1]
-        apart = abs(track.start - before.start) + FRAMES_OF_A_DAY * (track.base - before.base)
-        return Way(self.points - NEW_TRACK, self.nearness - apart, (*self.turns, (edge, track)))
+        distance = abs(track.start - before.start) + FRAMES_OF_A_DAY * (track.base - before.base)
+        return TrackSequence(self.points - NEW_TRACK, self.nearness - distance,
+                             (*self.turns, (cue, track)))
 
 
-def best_row(edges: Sequence[Edge], tracks: Sequence[Track]) -> list[Stretch]:
-    """Return the stretches of the way through all cues with the most points, and among equals with
-    the nearest tracks.
+def find_best_stretches(cues: Sequence[ExpectedCue], tracks: Sequence[Track]) -> list[Stretch]:
+    """Return the stretches of the sequence of tracks with the most points, or of equals the one
+    with the nearest tracks.
 
-    Another track begins with five agreeing cues. For each cue the best way that ends on each track
-    is known, and only the best of these change track. Where two stretches meet, the second gets as
-    many cues as agree with it.
+    A change of track needs five consecutive matches. At each cue, keep the best sequence that ends
+    with each track, and let only the best of these change track. Where two stretches meet, the
+    second gets as many cues as match in it.
     """
-    best: dict[Track, Way] = {}  # by its last track
-    for at, edge in enumerate(edges):
-        gap = edge.frame - edges[at - 1].frame if at else 0
+    best: dict[Track, TrackSequence] = {}  # by its last track
+    for at, cue in enumerate(cues):
+        gap = cue.frame - cues[at - 1].frame if at else 0
         leaders = heapq.nlargest(LEADERS, best.items(), key=lambda item: item[1].rank)
-        longer: dict[Track, Way] = {}
+        extended: dict[Track, TrackSequence] = {}
         for track in tracks:
-            ways = [best[track]] if track in best else []
-            if track.in_a_row[at] >= IN_A_ROW:
-                ways = ways or [Way(sum(track.points[:at]), 0, ((0, track),))]
-                ways += [way.turned(at, track) for before, way in leaders
-                         if before is not track and track.may_follow(before, gap)]
-            if ways:
-                way = max(ways, key=lambda way: way.rank)
-                longer[track] = way._replace(points=way.points + track.points[at])
-        best = longer
-    turns = max(best.values(), key=lambda way: way.rank).turns
-    row = [Stretch(track, edge, end) for (edge, track), end in zip(
-        turns, [*(edge for edge, _ in turns[1:]), len(edges)])]
+            sequences = [best[track]] if track in best else []
+            if track.row_lengths[at] >= LEAST_ROW:
+                sequences = sequences or [TrackSequence(sum(track.points[:at]), 0, ((0, track),))]
+                sequences += [sequence.switch_track(at, track) for before, sequence in leaders
+                              if before is not track and track.may_follow(before, gap)]
+            if sequences:
+                sequence = max(sequences, key=lambda sequence: sequence.rank)
+                extended[track] = sequence._replace(points=sequence.points + track.points[at])
+        best = extended
+    turns = max(best.values(), key=lambda sequence: sequence.rank).turns
+    row = [Stretch(track, cue, end) for (cue, track), end in zip(
+        turns, [*(cue for cue, _ in turns[1:]), len(cues)])]
     for number in range(1, len(row)):
         before, own = row[number - 1:number + 1]
-        border = border_of(edges, before, own)
+        border = find_border(cues, before, own)
         row[number - 1:number + 1] = before._replace(end=border), own._replace(first=border)
     return row
 
 
-def border_of(edges: Sequence[Edge], before: Stretch, own: Stretch) -> int:
-    """Return the number of the first cue of the second of two stretches. A cue that agrees with
+def find_border(cues: Sequence[ExpectedCue], before: Stretch, own: Stretch) -> int:
+    """Return the number of the first cue of the second of two stretches. A cue that matches in
     neither belongs to the first."""
     best, most, gained = own.first, 0, 0
-    for border in range(own.first - 1, before.first + IN_A_ROW - 1, -1):
+    for border in range(own.first - 1, before.first + LEAST_ROW - 1, -1):
         gained += own.track.points[border] - before.track.points[border]
         if gained > most and own.track.may_follow(
-                before.track, edges[border].frame - edges[border - 1].frame):
+                before.track, cues[border].frame - cues[border - 1].frame):
             best, most = border, gained
     return best
 
 
 # ---- parts of a programme
 
-class FittedPart(NamedTuple):
-    """A part: the first TCI and the last TCO of its subtitles, its origin and alternatives, and the
-    time base that was sent in its time. `over` are subtitles that reach into the next part, `early`
-    cues before its origin."""
+class EstimatedPart(NamedTuple):
+    """A part: the first TCI and the last TCO of its subtitles, its best and other origins, and its
+    time base. `overlapping` subtitles reach into the next part; `early` cues are before the origin.
+    """
 
     begin: int
     end: int
-    best: Fit
-    others: list[Fit]
-    sent: Base
+    best: OriginFit
+    others: list[OriginFit]
+    sent: TimeBase
     base: int
-    over: list[Shown]
-    early: Early | None = None
+    overlapping: list[ExpectedSubtitle]
+    early: EarlyCues | None = None
 
     @property
     def origin(self) -> int:
         return self.best.origin
 
 
-def parts_of(subtitles: Sequence[Shown], bases: Sequence[Base], row: Sequence[Stretch],
-             late: Lateness | None = None) -> list[FittedPart]:
-    """Return the parts of a row of stretches. An empty row gives one part with all subtitles, or
-    none if no cue agrees with any origin. `late` are the shares of delays, if configured."""
+def fit_parts(subtitles: Sequence[ExpectedSubtitle], bases: Sequence[TimeBase],
+              row: Sequence[Stretch],
+              late: Lateness | None = None) -> list[EstimatedPart]:
+    """Return the parts of a sequence of stretches. Without stretches, return one part with all
+    subtitles, or none if no cue matches. `late` are the shares of delays, if configured."""
     if len(row) > 1:
-        return [part_of(subtitles, bases, row, number, late) for number in range(len(row))]
+        return [fit_part(subtitles, bases, row, number, late) for number in range(len(row))]
     number = row[0].track.base if row else max(
-        range(len(bases)), key=lambda one: bases[one].fits[0].agree if bases[one].fits else 0)
+        range(len(bases)), key=lambda one: bases[one].fits[0].matches if bases[one].fits else 0)
     own = bases[number]
     if not own.fits:
         return []
-    fitted = own.fit(row[0].track.start) if row else own.by_beginnings(own.fits[0])
-    best, early = settled(own, fitted, late)
-    return [FittedPart(min(shown.begin for shown in subtitles),
-                       max(shown.end for shown in subtitles), best,
-                       others_of(own, fitted.start, best.start), own, number, [], early)]
+    estimate = own.fit(row[0].track.start) if row else own.align_in_cues(own.fits[0])
+    best, early = choose_clock(own, estimate, late)
+    return [EstimatedPart(min(shown.begin for shown in subtitles),
+                          max(shown.end for shown in subtitles), best,
+                       select_other_origins(own, estimate.start, best.start), own, number, [],
+                          early)]
 
 
-def others_of(base: Base, *starts: int) -> list[Fit]:
-    """Return the origins other than some."""
+def select_other_origins(base: TimeBase, *starts: int) -> list[OriginFit]:
+    """Return the origins of a time base except those near some starts."""
     return [fit for fit in base.fits if all(
         abs(fit.start - start) > base.within for start in starts)]
 
 
-def part_of(subtitles: Sequence[Shown], bases: Sequence[Base], row: Sequence[Stretch],
-            number: int, late: Lateness | None) -> FittedPart:
-    """Return one of several parts, from the changes between those of its neighbours."""
+def fit_part(subtitles: Sequence[ExpectedSubtitle], bases: Sequence[TimeBase],
+             row: Sequence[Stretch],
+             number: int, late: Lateness | None) -> EstimatedPart:
+    """Return one of several parts, from the page changes between those of its neighbours."""
     track, first, end = row[number]
     whole = bases[track.base]
-    begin = whole.edges[first].frame if number else 0
-    stop = whole.edges[end].frame if number + 1 < len(row) else FRAMES_OF_A_DAY
+    begin = whole.cues[first].frame if number else 0
+    stop = whole.cues[end].frame if number + 1 < len(row) else FRAMES_OF_A_DAY
     low, high = -1, whole.length + 1
     if number and row[number - 1].track.base == track.base:
-        low = row[number - 1].agreeing()[-1]
+        low = row[number - 1].matching_places()[-1]
     if number + 1 < len(row) and row[number + 1].track.base == track.base:
-        high = row[number + 1].agreeing()[0]
+        high = row[number + 1].matching_places()[0]
     inside = [shown for shown in subtitles if begin <= shown.begin and shown.end <= stop]
-    over = [shown for shown in subtitles if begin <= shown.begin < stop < shown.end]
-    # Even if the next part's first subtitle adjoins, the last one is erased there.
-    own = whole.limited(edges_of(inside) or whole.edges[first:end], low, high)
-    best, early = settled(own, own.fit(track.start), late)
-    return FittedPart(min((shown.begin for shown in inside), default=begin),
-                      max((shown.end for shown in inside), default=stop), best,
-                      others_of(own, track.start, best.start), own, track.base, over, early)
+    overlapping = [shown for shown in subtitles if begin <= shown.begin < stop < shown.end]
+    # The last subtitle is erased even if the first one of the next part adjoins it.
+    own = whole.copy_between(find_expected_cues(inside) or whole.cues[first:end], low, high)
+    best, early = choose_clock(own, own.fit(track.start), late)
+    return EstimatedPart(min((shown.begin for shown in inside), default=begin),
+                         max((shown.end for shown in inside), default=stop), best,
+                         select_other_origins(own, track.start, best.start), own, track.base,
+                         overlapping, early)
 
 
-def by_breaks(row: Sequence[Stretch]) -> list[Stretch]:
-    """Return the row divided at breaks.
+def split_at_breaks(row: Sequence[Stretch]) -> list[Stretch]:
+    """Join the stretches between which there is no break.
 
-    At a break PTS go back, the origin is at least five seconds later than before the part and just
-    before, or the file's clock jumps. Shorter delays, and subtitles that are early for a while,
-    stay in the part before: a delay looks like a break, and two delays of three seconds are not
-    one.
+    At a break PTS go back, the origin is at least five seconds later than at the begin of the part
+    and in the stretch before, or the file's time codes jump forward. Shorter delays, and subtitles
+    that are early for a while, stay in their part.
     """
-    parted = list(row[:1])
+    parts = list(row[:1])
     for before, stretch in zip(row, row[1:]):
         track = stretch.track
-        away = track.start - parted[-1].track.start
+        away = track.start - parts[-1].track.start
         is_break = max(away, track.start - before.track.start) <= -LEAST_BREAK
-        if track.base != parted[-1].track.base or is_break or away >= LACKED:
-            parted.append(stretch)
+        if track.base != parts[-1].track.base or is_break or away >= LEAST_GAP:
+            parts.append(stretch)
         else:
-            parted[-1] = parted[-1]._replace(end=stretch.end)
-    return parted
+            parts[-1] = parts[-1]._replace(end=stretch.end)
+    return parts
 
 
 # ---- the programme more than once
 
 class Airing(NamedTuple):
-    """One airing of the programme: the places of its first and last change."""
+    """An airing of the programme: the places of its first and last change."""
 
     first: Place
     last: Place
 
 
-def runs_of(bases: Sequence[Base], has_clock: bool = False) -> list[Airing]:
+def find_airings(bases: Sequence[TimeBase], has_clock: bool = False) -> list[Airing]:
     """Return the airings of the programme, in order.
 
-    First comes the one with which most cues agree. Others lie outside of its time and have enough
-    agreeing cues, or as many by their times alone, whose texts may all be wrong: else another
-    airing would be judged and this one missed. Times alone do not count if the clock is known, or
-    if the cues are regular, so that any part looks like another.
+    Begin with the airing in which most cues match. Each other airing lies outside of its time and
+    has enough matching texts, or enough changes at the times of cues: all its texts may be wrong.
+    Times alone do not count if the clock is known or cues are regular, since then they match
+    anywhere.
     """
-    row = find_row(bases)
-    has_times = not has_clock and not are_alike([edge.frame for edge in bases[0].edges])
+    row = find_stretches(bases)
+    uses_times = not has_clock and not have_equal_steps([cue.frame for cue in bases[0].cues])
     if len(row) > 1:  # the end of another airing may look like that of the first
         whole, *others = sorted((Stretch(track, 0, row[-1].end) for track in dict.fromkeys(
             stretch.track for stretch in row)), key=lambda one: -sum(one.track.points))
-        if places := sightings([whole]):
-            first, last = airing_of(places)
-            sides = (side for found in (sightings([other]) for other in others) for side in (
+        if places := find_text_places([whole]):
+            first, last = make_airing(places)
+            sides = (side for found in (find_text_places([other]) for other in others) for side in (
                 {at: place for at, place in found.items() if place < first},
                 {at: place for at, place in found.items() if place > last}))
-            row = [whole] if any(is_again(bases, places, side) for side in sides) else row
-    own = sightings(row)
-    if not own:
+            row = [whole] if any(is_repeated_airing(bases, places, side) for side in sides) else row
+    first_places = find_text_places(row)
+    if not first_places:
         return []
-    airings = [airing_of(own)]
+    airings = [make_airing(first_places)]
     windows = [((-1, 0), airings[0].first), (airings[0].last, (1 << 40, 0))]
     while windows:
         low, high = windows.pop()
-        others_in = sent_between(bases, low, high)
-        some = sightings(find_row(others_in)) if any(base.changes for base in others_in) else {}
-        if not is_again(bases, own, some):
-            some = by_times(others_in, len(own)) if has_times else {}
-        if some:
-            airings.append(run := airing_of(some))
+        other_bases = limit_bases(bases, low, high)
+        again = find_text_places(find_stretches(other_bases)) \
+            if any(base.changes for base in other_bases) else {}
+        if not is_repeated_airing(bases, first_places, again):
+            again = find_changes_by_time(other_bases, len(first_places)) if uses_times else {}
+        if again:
+            airings.append(run := make_airing(again))
             windows += [(low, run.first), (run.last, high)]
     return sorted(airings)
 
 
-def sightings(row: Sequence[Stretch]) -> dict[int, Place]:
-    """Return where the cues of a row with the right characters are."""
+def find_text_places(row: Sequence[Stretch]) -> dict[int, Place]:
+    """Return the places of the cues whose expected page comes."""
     return {at: (stretch.track.base, stretch.track.places[at]) for stretch in row
             for at in range(stretch.first, stretch.end) if stretch.track.points[at] > 1}
 
 
-def airing_of(places: Mapping[int, Place]) -> Airing:
-    """Return the first and the last of some places."""
+def make_airing(places: Mapping[int, Place]) -> Airing:
+    """Return the airing from the first to the last of some places."""
     return Airing(min(places.values()), max(places.values()))
 
 
-def is_again(bases: Sequence[Base], first: dict[int, Place], some: dict[int, Place]) -> bool:
-    """Return whether cues outside of the first airing are the programme again: half of all, and
-    half of those with a text; or a quarter of these, spread over half of the programme. Most of
-    them are in the first airing too."""
-    edges = bases[0].edges
-    texts = [at for at in some if edges[at].letters]
-    count = sum(1 for edge in edges if edge.letters)
+def is_repeated_airing(bases: Sequence[TimeBase], first: dict[int, Place],
+                       again: dict[int, Place]) -> bool:
+    """Return whether cues outside of the first airing are a repeat of the programme.
+
+    Half of all cues and half of the texts must match, or a quarter of the texts, spread over half
+    of the programme. Most of them must match in the first airing too.
+    """
+    cues = bases[0].cues
+    texts = [at for at in again if cues[at].letters]
+    count = sum(1 for cue in cues if cue.letters)
     if not texts or sum(at in first for at in texts) * 2 < len(texts):
         return False
-    is_half = len(some) * 2 >= len(edges) and len(texts) * 2 >= count
-    return is_half or len(texts) * 4 >= count and (max(texts) - min(texts)) * 2 >= len(edges)
+    is_half = len(again) * 2 >= len(cues) and len(texts) * 2 >= count
+    return is_half or len(texts) * 4 >= count and (max(texts) - min(texts)) * 2 >= len(cues)
 
 
-def are_alike(frames: Sequence[int]) -> bool:
-    """Return whether half of the first frames are other ones of them, moved by one distance."""
-    frames = frames[:ALIKE]
+def have_equal_steps(frames: Sequence[int]) -> bool:
+    """Return whether half of the first frames have another frame at the same distance."""
+    frames = frames[:MOST_COMPARED]
     counts = collections.Counter(second - first for first, second in itertools.combinations(
         frames, 2))
     return max(counts.values(), default=0) * 2 >= len(frames)
 
 
-def by_times(bases: Sequence[Base], count: int) -> dict[int, Place]:
-    """Return where the page changes at nine in ten of `count` cues and three quarters of all,
-    whatever its characters, or nothing."""
+def find_changes_by_time(bases: Sequence[TimeBase], count: int) -> dict[int, Place]:
+    """Return the places of page changes with any text at nine in ten of `count` cues and three
+    quarters of all cues, or an empty result."""
     for number, base in enumerate(bases):
-        if not base.changes or count < AS_MANY * (2 if base.within else 1):
+        if not base.changes or count < LEAST_CUES * (2 if base.within else 1):
             continue
         for start, _ in base.votes().most_common(TRIED_TIMES):
-            changed = changes_at(base, number, start)
-            if len(changed) * 10 >= count * 9 and len(changed) * 4 >= len(base.edges) * 3:
+            changed = find_changes(base, number, start)
+            if len(changed) * 10 >= count * 9 and len(changed) * 4 >= len(base.cues) * 3:
                 return changed
     return {}
 
 
-def changes_at(base: Base, number: int, start: int) -> dict[int, Place]:
-    """Return for each cue the place of a change within the allowed delay, by an origin."""
-    return {at: (number, place) for at, edge in enumerate(base.edges)
+def find_changes(base: TimeBase, number: int, start: int) -> dict[int, Place]:
+    """Return for each cue the place of a change within the allowed delay."""
+    return {at: (number, place) for at, cue in enumerate(base.cues)
             for place in [next((place for place in range(
-                edge.frame - start, edge.frame - start + base.within + 1)
+                cue.frame - start, cue.frame - start + base.within + 1)
                 if place in base.changes), None)] if place is not None}
 
 
-def sent_between(bases: Sequence[Base], low: Place, high: Place) -> list[Base]:
-    """Return the parts of time bases between two places."""
-    return [base.limited(base.edges,
+def limit_bases(bases: Sequence[TimeBase], low: Place, high: Place) -> list[TimeBase]:
+    """Return the time bases with only the changes between two places."""
+    return [base.copy_between(base.cues,
                          -1 if number > low[0] else low[1] if number == low[0] else base.length + 1,
                          base.length + 1 if number < high[0] else high[1] if number == high[0]
                          else 0)

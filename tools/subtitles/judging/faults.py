@@ -4,7 +4,7 @@ from __future__ import annotations
 import itertools
 from typing import Iterator, NamedTuple, Sequence
 
-from ..clock.start import most_off, off_words
+from ..clock.start import find_largest_offset, largest_offset_text
 from ..common.command_line import counted
 from ..common.shapes import Members
 from ..common.times import frame_at, frame_of, time_of
@@ -17,7 +17,7 @@ from ..formats.teletext import BY_WORD, character_of, letter_at, letters
 from ..request.request import Request
 from ..stream.gaps import why_refused
 from ..stream.pace import frame_rows
-from ..stream.repeats import edges_of, longest_gap, repeat_distance
+from ..stream.repeats import cue_frames, longest_gap, repeat_distance
 from ..stream.packets import HEADER, Packets, Run
 from ..stream.receiver import HIT, OLD, Rows, Timeline
 from .causes import CauseDescriber
@@ -127,7 +127,7 @@ def describe_hint(fault: FaultLine, part: Part, verdict: Verdict) -> str:
     if part.pes is None or part.origin is None:
         return ""
     if fault.number == OFF_FRAME:
-        return off_words(most_off(part.list_pts(), part.origin))
+        return largest_offset_text(find_largest_offset(part.list_pts(), part.origin))
     if fault.number == SILENT:
         return describe_silence(fault, part)
     if fault.number == GAP:
@@ -265,7 +265,7 @@ def describe_longest_gap(sent: tuple[Sequence[int], Sequence[int]], origin: int,
     if gap <= request.every or numbers & PASSED_OVER:
         return ""
     words = f"the page had no header for up to {counted(gap, 'frame')}"
-    usual = repeat_distance(headers, edges_of(times))
+    usual = repeat_distance(headers, cue_frames(times))
     return f"{words} ({usual} are usual)" if usual and usual <= request.every else words
 
 

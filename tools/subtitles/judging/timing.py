@@ -6,9 +6,10 @@ import dataclasses
 import os
 from typing import Iterable, Iterator, NamedTuple, Sequence
 
-from ..clock.origin import OfPart, Origin, Sought, find
+from ..clock.origin import OriginEstimate, OriginSearch, PartOrigin, estimate_origin
 from ..clock.start import (
-    Clock, GIVEN, NoFirst, RECORDING, START, TCP, TimedPart, began, refuse_outside, start_frame)
+    Clock, GIVEN, NoFirstPicture, RECORDING, START, TCP, TimedPart, compute_start_clock,
+    read_start_frame, refuse_outside)
 from ..common.command_line import Stop, counted, error_line, pid_name
 from ..common.times import (
     FRAMES_A_SECOND, FRAMES_OF_A_DAY, TICKS, duration_text, pts_of, ticks_after, ticks_between,
@@ -62,9 +63,9 @@ def find_parts(search: PartSearch, recording: Recording, listener: Listener) -> 
     request, whole = search.request, search.full_range
     given = get_given_clock(request) or find_start_clock(search, recording, listener)
     origin = report_estimated_origin(search, recording, given, listener)
-    listener.noted(*origin.shifts)
+    listener.noted(*origin.shift_texts)
     alignments = list_timed_parts(origin, whole)
-    if not alignments and (given is None or request.breaks or origin.runs):
+    if not alignments and (given is None or request.breaks or origin.airings):
         raise make_unclear_origin(origin, suggest_options(recording, origin))
     alignments, delay = alignments or [whole], list[str]()
     if given:
@@ -88,9 +89,9 @@ def find_start_clock(search: PartSearch, recording: Recording, listener: Listene
         return None
     try:
         if not recording.is_stream:
-            raise NoFirst("a file of Teletext PES packets has no pictures")
-        begin = began(request, recording.survey, recording.packets)
-    except NoFirst as reason:
+            raise NoFirstPicture("a file of Teletext PES packets has no pictures")
+        begin = compute_start_clock(request, recording.survey, recording.packets)
+    except NoFirstPicture as reason:
         raise recording.no_picture_error(reason) from None
     for line in begin.lines:
         listener.said(line)
@@ -102,25 +103,25 @@ def find_start_clock(search: PartSearch, recording: Recording, listener: Listene
 # The clock that is estimated
 
 def report_estimated_origin(search: PartSearch, recording: Recording, clock: Clock | None,
-                            listener: Listener) -> Origin:
+                            listener: Listener) -> OriginEstimate:
     """Estimate the origin of a recording, compare the origin with a given clock, and report both.
     """
     request = search.request
-    origin_search = Sought(request.stl_path, recording.shown, request.page, request.option,
-                           clock and clock.origin, request.within, request.breaks,
-                           search.allowed_packets,
-                           request.between, search.skipped_positions, request.late,
-                           recording.has_picture())
+    origin_search = OriginSearch(request.stl_path, recording.shown, request.page, request.option,
+                                 clock and clock.origin, request.within, request.breaks,
+                                 search.allowed_packets,
+                                 request.between, search.skipped_positions, request.late,
+                                 recording.has_picture())
     try:
-        origin = find(origin_search, recording.packets)
+        origin = estimate_origin(origin_search, recording.packets)
     except (Stop, OSError) as reason:
-        origin = Origin(2, lines=[error_line(reason)])
+        origin = OriginEstimate(2, lines=[error_line(reason)])
     for line in [*origin.printed, *(CLOCK_PREFIX + line for line in origin.lines)]:
         listener.said(line)
     return origin
 
 
-def list_timed_parts(origin: Origin, full_range: TimedPart) -> list[TimedPart]:
+def list_timed_parts(origin: OriginEstimate, full_range: TimedPart) -> list[TimedPart]:
     """Return the parts with their clocks, or no parts if the origin is not clear."""
     if origin.status:
         return []
@@ -129,26 +130,26 @@ def list_timed_parts(origin: Origin, full_range: TimedPart) -> list[TimedPart]:
             for part in origin.parts]
 
 
-def make_estimated_clock(part: OfPart) -> Clock:
+def make_estimated_clock(part: PartOrigin) -> Clock:
     """Return the estimated clock of a part."""
     return Clock(part.origin, RECORDING, evidence=Selection(
-        ORIGIN_CHOICE, str(part.origin), f"{CLOCK_PREFIX}{part.line}", part.agree, part.among))
+        ORIGIN_CHOICE, str(part.origin), f"{CLOCK_PREFIX}{part.line}", part.matches, part.total))
 
 
-def add_delay(clock: Clock, origin: Origin) -> tuple[Clock, list[str]]:
+def add_delay(clock: Clock, origin: OriginEstimate) -> tuple[Clock, list[str]]:
     """Return a given clock with the delay of the cues of the first part, and notes on the delay."""
-    if origin.away is None or origin.status:
+    if origin.ticks_late is None or origin.status:
         return clock, []
-    frames, ticks = divmod(abs(origin.away), TICKS)
-    sign = -1 if origin.away < 0 else 1
+    frames, ticks = divmod(abs(origin.ticks_late), TICKS)
+    sign = -1 if origin.ticks_late < 0 else 1
     clock = clock._replace(delay_frames=sign * round(frames + ticks / TICKS),
-                           is_delay_of_all=origin.is_each and not ticks)
-    if not origin.away:
+                           is_delay_of_all=origin.matches_every_cue and not ticks)
+    if not origin.ticks_late:
         return clock, []
     words = " and ".join([counted(frames, "frame")] * (frames > 0)
                          + [counted(ticks, "tick")] * (ticks > 0))
-    which = "all" if origin.are_all else "most"
-    where = f"up to {time_of(origin.shifted_from)}" if origin.shifted_from is not None else \
+    which = "all" if origin.has_all_cues else "most"
+    where = f"up to {time_of(origin.first_shift)}" if origin.first_shift is not None else \
         which if len(origin.printed) == 1 else f"up to the first break {which}"
     line = f"{where} subtitles are {words} {'early' if sign < 0 else 'late'}"
     question = clock.question() if which == "all" and not ticks else ""
@@ -170,7 +171,7 @@ def describe_wrong_clock(request: Request, clock: Clock, delay: int) -> str:
     if clock.source == GIVEN:
         return f"by --origin {clock.origin} all subtitles are {duration_text(abs(delay))} " \
             f"{'late' if delay > 0 else 'early'}: none is in the recording at its time"
-    given = start_frame(request)
+    given = read_start_frame(request)
     estimated = wrapped(clock.origin + TICKS * delay)
     begins = round(ticks_after(estimated, pts_of(given, clock.origin)) / TICKS)
     name = "the TCP" if clock.source == TCP else "--start"
@@ -181,17 +182,17 @@ def describe_wrong_clock(request: Request, clock: Clock, delay: int) -> str:
         "time of day"
 
 
-def make_unclear_origin(origin: Origin, again: Iterable[str]) -> Unclear:
+def make_unclear_origin(origin: OriginEstimate, again: Iterable[str]) -> Unclear:
     """Return an error that says why the origin is not clear, with the commands `again`."""
-    is_said = origin.runs or origin.breaks is not None
+    is_said = origin.airings or origin.breaks is not None
     reason = "\n".join(origin.lines) if is_said else \
         f"the clock is not clear: {'; '.join(origin.lines)}"
     return Unclear(reason, *again)
 
 
-def suggest_options(recording: Recording, origin: Origin) -> Iterator[str]:
+def suggest_options(recording: Recording, origin: OriginEstimate) -> Iterator[str]:
     """Yield commands that the operator may type if the origin is not clear."""
-    if origin.runs:
+    if origin.airings:
         yield recording.again("--pes", "I-J")
     elif origin.breaks is None:
         yield recording.again("--origin", "T")

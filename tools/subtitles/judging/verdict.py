@@ -5,7 +5,7 @@ import collections
 import dataclasses
 from typing import Callable, Collection, Iterable, NamedTuple, Sequence
 
-from ..clock.start import FITTED, FITTED_LATER, clock_advice
+from ..clock.start import ESTIMATED_LATER_NOTE, ESTIMATED_NOTE, clock_advice
 from ..common.command_line import range_words
 from ..common.files import SummedFile
 from ..common.times import time_in
@@ -205,9 +205,10 @@ class Verdict:
     def estimated_clock_note(self) -> str | None:
         """Return a note that the clock, or the clock after a break, was estimated; `None` if a
         clock was given."""
-        if not any(part.clock and part.clock.is_fitted for part in self.parts):
+        if not any(part.clock and part.clock.is_estimated for part in self.parts):
             return None
-        return FITTED_LATER if self.has_clock else f"{FITTED}: {clock_advice(self.has_picture)}"
+        return ESTIMATED_LATER_NOTE if self.has_clock else \
+            f"{ESTIMATED_NOTE}: {clock_advice(self.has_picture)}"
 
     @property
     def has_picture(self) -> bool:
@@ -219,7 +220,7 @@ class Verdict:
     def has_clock(self) -> bool:
         """Return whether the clock of the recording was given, or there is no recording."""
         clocks = [part.clock for part in self.parts if part.clock]
-        return self.request.has_clock and not (clocks and clocks[0].is_fitted)
+        return self.request.has_clock and not (clocks and clocks[0].is_estimated)
 
     def collect_grounds(self) -> Grounds:
         """Return everything that decides the verdict."""

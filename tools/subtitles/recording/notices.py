@@ -6,7 +6,7 @@ import contextlib
 import itertools
 from typing import Collection, Iterator, NamedTuple, Sequence
 
-from ..clock.start import NoFirst, first_picture, start_frame
+from ..clock.start import NoFirstPicture, find_first_picture, read_start_frame
 from ..common.command_line import counted, pid_name, shown
 from ..common.files import first_bytes
 from ..common.times import (
@@ -17,7 +17,7 @@ from ..formats.stl import SubtitleFile
 from ..formats.teletext import BY_WORD, OTHER_REGIONS, Page, as_sent, of_track, page_name
 from ..request.request import LC, Request, Unclear
 from ..stream.gaps import SAID, SECOND, jumps_of, strange_of, why_refused
-from ..stream.repeats import edges_of, repeat_distance
+from ..stream.repeats import cue_frames, repeat_distance
 from ..stream.packets import HEADER, PES, Packets
 from ..stream.receiver import FEW, PAUSE
 from ..stream.survey import ANY, Announced, KINDS, ProgramMap, SUBTITLE_KINDS, Survey, names_of
@@ -184,7 +184,7 @@ def repeat_notices(headers: Sequence[int], request: Request, origin: int,
     """Yield a warning if the page is repeated so often that `--every` would not notice a missing
     repeat."""
     every = repeat_distance((frame_in(pts, origin, request.within) for pts in headers),
-                            edges_of(times))
+                            cue_frames(times))
     if every is not None and every * 2 < request.every:
         yield Notice("repeat", f"the page is repeated every "
                      f"{'frame' if every == 1 else counted(every, 'frame')}: give --every {every} "
@@ -305,8 +305,8 @@ def refuse_unsent(request: Request, survey: Survey, times: Sequence[tuple[int, i
 def find_origin(request: Request, survey: Survey, pid: int) -> int | None:
     """Return the given origin, or that of the first picture of a PID's programme."""
     if request.start is not None:
-        with contextlib.suppress(NoFirst, Unclear):
-            return wrapped(first_picture(survey, pid).pts - TICKS * start_frame(request))
+        with contextlib.suppress(NoFirstPicture, Unclear):
+            return wrapped(find_first_picture(survey, pid).pts - TICKS * read_start_frame(request))
     return request.origin
 
 

@@ -9,7 +9,7 @@ import stat
 import subprocess
 from typing import Collection, Iterable, Iterator, Sequence
 
-from ..clock.start import NoFirst, has_first_picture
+from ..clock.start import NoFirstPicture, has_first_picture
 from ..common.command_line import PACKET_SIZES, Stop, counted, pid_name, shown, stream_words
 from ..common.files import (
     BackgroundSum, STANDARD, SummedFile, first_bytes, naming, pieces_of)
@@ -310,7 +310,7 @@ class Recording:
         """Return whether `--start` can give its clock."""
         return self.is_stream and has_first_picture(self.survey, self.packets.pid)
 
-    def no_picture_error(self, reason: NoFirst) -> Unclear:
+    def no_picture_error(self, reason: NoFirstPicture) -> Unclear:
         return Unclear(f"{self.name}: no first picture for --start: {reason}",
                        self.again("--origin", "T"))
 

@@ -46,7 +46,7 @@ class CueRow(NamedTuple):
     look: str
     kinds: Sequence[str]
     cells: Sequence[Value]
-    is_again: bool = False  # equal to the row before it, so that paper needs only one
+    is_repeated_airing: bool = False  # equal to the row before it, so that paper needs only one
 
 
 class CueList:
@@ -216,8 +216,8 @@ class CueList:
         printed = 0
         rows = []
         for row in self.rows:
-            printed += row.look != LOOKS[RIGHT] and not row.is_again
-            classes = [row.look, *row.kinds, *["again"] * row.is_again,
+            printed += row.look != LOOKS[RIGHT] and not row.is_repeated_airing
+            classes = [row.look, *row.kinds, *["again"] * row.is_repeated_airing,
                        *["more"] * (printed > MOST_PRINTED)]
             cells = joined(markup("<td>{}</td>", cell) for cell in row.cells[1:])
             rows.append(markup('<tr id="s{}" class="{}"><th scope="row">{}</th>{}</tr>',
@@ -246,7 +246,7 @@ class CueList:
             "Actual: the first frame at whose end a receiver has the page, and the first without."
         if self.start is not None:
             words += " Into recording: counted from its first PCR."
-        if self.part.clock and self.part.clock.is_fitted:
+        if self.part.clock and self.part.clock.is_estimated:
             words += " The clock is estimated: a delay that all subtitles share is not in these " \
                 "times."
         return words

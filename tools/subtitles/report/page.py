@@ -353,7 +353,7 @@ def parts_table(parts: Sequence[Part]) -> Markup:
     for part in parts:
         assert part.clock
         name, delay = f"#part{part.number}", part.clock.delay_frames
-        clock = "estimated" if part.clock.is_fitted else clock_source(part.clock)
+        clock = "estimated" if part.clock.is_estimated else clock_source(part.clock)
         clock += f" All {counted(abs(delay), 'frame')} {'late' if delay > 0 else 'early'}." \
             if delay else ""
         cells: list[Value] = [*(time or "" for time in part.time_codes()), part.first_text,

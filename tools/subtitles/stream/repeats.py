@@ -21,7 +21,7 @@ def longest_gap(frames: Iterable[int]) -> int:
     return max((second - first for first, second in zip(known, known[1:])), default=0)
 
 
-def edges_of(times: Iterable[tuple[int, int]]) -> list[int]:
+def cue_frames(times: Iterable[tuple[int, int]]) -> list[int]:
     """Return the frames of all cues."""
     return sorted({frame for pair in times for frame in pair})
 
@@ -78,7 +78,7 @@ def repeats_in(pts: Sequence[int], last: int | None, origin: int,
     gaps = [(frame, other - frame) for frame, other in zip(known, known[1:])]
     if not gaps:
         return None
-    usual = repeat_distance(frames, edges_of(times))
+    usual = repeat_distance(frames, cue_frames(times))
     longer = [gap for gap in gaps if usual and gap[1] > LONGER * usual]
     exceptions = longer if len(longer) * UNUSUAL < len(gaps) else []
     since, longest = max((gap for gap in gaps if gap not in exceptions), key=lambda gap: gap[1])
