@@ -96,7 +96,7 @@ pub record IsFirst {X : Type 0} (p : X → Bool) (xs : List X) (place : ℕ) (d 
   pub before : (k : ℕ) → k < place → p (get_or xs k d) ≡ false
 
 -- If the mask of a block is not zero and no item before the block passes the test, its lowest set
--- bit is the first item that passes.
+-- bit gives the first item that passes.
 pub first_so_far : {X : Type 0} (p : X → Bool) (xs : List X) (a m : ℕ) (d : X)
     → a + 16 ≤ length xs
     → m ≡ mask_l (map p (chunk a 16 xs))
