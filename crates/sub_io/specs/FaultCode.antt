@@ -1,4 +1,4 @@
--- The number and the name of a fault in reports.
+-- The number and the name of a fault in reports (own).
 use Rattle.std.specs.Prelude.{ℕ, List}
 
 -- The code of a fault in reports: its number, and the characters of its name.
