@@ -371,7 +371,8 @@ last_good_unchanged : (v w : JoiningValue) (o : Option (List ℕ))
     → KeepsLast w o
 last_good_unchanged v w o h1 h2 h3 h4 = grind (arith, nat_tests)
 
--- By induction over the events of the PID.
+-- The output of the events of a PID is the output of the good packets among them, by induction over
+-- the events.
 pub notes_joined : (v : JoiningValue) (s : PacketHistory) (all : List Note)
     → Knows v s
     → AreSound all

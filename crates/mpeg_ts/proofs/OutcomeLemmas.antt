@@ -1,4 +1,4 @@
--- The output of parts, packet by packet.
+-- The output of parts, as it is determined packet by packet.
 use Rattle.std.proofs.Common.{◌≡◌, ℕ, ◌+◌, ◌-◌, ◌≤◌, ◌<◌, List, [], ◌∷◌, ◌++◌, length, take}
 use Rattle.std.proofs.Common.{Bool, true, false, refl, ap, ◌∙◌, arith, append_assoc}
 use Rattle.std.proofs.Common.{length-append, Result, Ok, Err}

@@ -1,4 +1,4 @@
--- The pending items.
+-- Lemmas about the pending items of the reassembly.
 use Rattle.std.proofs.lemmas.Bool.Decides.{nat_tests}
 use Rattle.std.proofs.Common.{◌≡◌, ℕ, ◌≤◌, ◌<◌, List, [], ◌++◌, length, take, Ok}
 use Rattle.std.proofs.Common.{refl, sym, ap, ◌∙◌, arith, length-append}

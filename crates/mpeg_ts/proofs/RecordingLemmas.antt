@@ -1,4 +1,4 @@
--- Reading the PES packets of a recording.
+-- Lemmas about reading the PES packets of a recording.
 use Rattle.std.proofs.Common.{◌≡◌, ◌≢◌, ℕ, List, [], ◌++◌, length, take, Option, Some, None}
 use Rattle.std.proofs.Common.{true, refl, sym, ap, ◌∙◌, arith, inl, subst}
 use Rattle.std.proofs.lemmas.Bool.Decides.{nat_tests}

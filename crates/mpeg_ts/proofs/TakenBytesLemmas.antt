@@ -1,4 +1,4 @@
--- Consumed bytes of a source and the output still to be returned.
+-- How consumed bytes of a source change the output still to be returned.
 use Rattle.std.proofs.Common.{◌≡◌, ℕ, List, [], ◌++◌, Option, Some, None, refl, sym, ap, ◌∙◌}
 use Rattle.std.proofs.Common.{append_assoc}
 use Rattle.std.proofs.KnownBytes.{Consumes-kept, Consumes-nil, Consumes-trans}

@@ -62,7 +62,7 @@ pub record PacketHistory : Type 0 where
   pub has_wrong : Bool
   pub has_loss : Bool
 
--- The history directly after this good transport packet.
+-- The history of events directly after this good transport packet: no further event.
 abbrev pub empty_history : Option (List ℕ) → PacketHistory
 empty_history good = record {
   good = good;
@@ -102,7 +102,7 @@ link_from (Some q) history p =
     else if counts_on q p then Follows
     else Break
 
--- The good transport packet p with its link.
+-- A good transport packet with its link to the good packet before it.
 abbrev pub linked : PacketHistory → List ℕ → GoodPacket
 linked history p = record { link = link_from history.good history p; packet = p }
 
@@ -112,7 +112,7 @@ pub record GoodPackets : Type 0 where
   pub packets : List GoodPacket
   pub wrong_after : Bool
 
--- Adds a good transport packet in front of a list of good packets.
+-- A list of good transport packets with one more packet at its front.
 abbrev pub with_good : GoodPacket → GoodPackets → GoodPackets
 with_good g more = record { packets = g ∷ more.packets; wrong_after = more.wrong_after }
 

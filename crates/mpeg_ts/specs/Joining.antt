@@ -83,7 +83,7 @@ repeats v p =
 abbrev pub counter_continues : List ℕ → List ℕ → Bool
 counter_continues head p = counter p == (slice_index head 3 % 0x10 + 1) % 0x10
 
--- The link of a good transport packet p to the last good packet.
+-- The link of a good transport packet p to the good packet before it, from the state of reassembly.
 abbrev pub link_after : JoiningValue → List ℕ → List ℕ → PacketLink
 link_after v [] p = First
 link_after v (x ∷ xs) p =
@@ -128,7 +128,7 @@ found_in bytes =
     if nat_lt (length bytes) 6 then found.Unfinished
     else found_by_size (length bytes) (size_at (take 6 bytes))
 
--- The state of reassembly after the collected bytes were examined.
+-- The state of reassembly after the collected bytes were classified.
 abbrev pub settled_as : Found → JoiningValue → JoiningValue
 settled_as found.Unfinished v = v
 settled_as (found.Other f) v = record v { part = Ended; pending = v.pending ++ v.bytes }

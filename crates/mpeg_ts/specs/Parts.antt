@@ -72,7 +72,7 @@ pub data PartOutcome : Type 0 where
   Gap : PartOutcome
   Other : List ℕ → PartOutcome
 
--- A gap if data is missing, otherwise no outcome.
+-- A gap as the outcome if data is missing, otherwise no outcome.
 abbrev pub gap_where : Bool → List PartOutcome
 gap_where true = Gap ∷ []
 gap_where false = []
@@ -81,7 +81,7 @@ gap_where false = []
 abbrev pub part_bytes : Part → List ℕ
 part_bytes part = concat part.payloads
 
--- The first payloads, joined, until they have at least `count` bytes.
+-- The joined bytes of the first payloads that together have at least `count` bytes.
 unfoldable pub up_to : ℕ → List (List ℕ) → List ℕ
 up_to count [] = []
 up_to count (first ∷ more) =

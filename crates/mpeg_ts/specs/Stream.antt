@@ -58,7 +58,7 @@ remaining_output v known_bytes = option_map (output_of v) known_bytes
 abbrev pub has_output : StreamValue → List ℕ → Bool
 has_output v bytes = nat_lt 0 (length (output_of v bytes))
 
--- Bytes are pending.
+-- The reassembly has pending bytes.
 abbrev pub is_some_ready : StreamValue → Bool
 is_some_ready v = nat_lt 0 (length v.joining.pending)
 

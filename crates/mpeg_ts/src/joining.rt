@@ -288,7 +288,7 @@ impl Joining {
         }
     }
 
-    // Starts a new PES packet with a payload.
+    // Begins to collect a new PES packet with this payload.
     #[inline(always)]
     fn begin_part(&mut self, is_break: bool, begins: bool, payload: &[u8])
         requires idle { self.old.pending ≡ [] }

@@ -16,7 +16,7 @@ pub enum PacketSize {
 impl PacketSize {
     ghost use Rattle.mpeg_ts.specs.PacketSize.{bytes_of};
 
-    /// Returns the distance of transport packets in bytes: 188, 192 or 204.
+    /// Returns the packet size of a recording in bytes: 188, 192 or 204.
     pub fn bytes(self) -> usize
         ensures { result ≡ bytes_of self }
     {

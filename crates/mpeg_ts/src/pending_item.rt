@@ -7,7 +7,7 @@ use ttx_pes::PesFault;
 /// The pending items, in order.
 #[derive(Clone, Copy)]
 pub(crate) enum PendingItem {
-    /// No item.
+    /// There is no item.
     Nothing,
     /// A gap marker.
     GapMarker,
@@ -27,7 +27,7 @@ pub(crate) enum PendingItem {
 /// The next item to be returned.
 #[derive(Clone, Copy)]
 pub enum Next {
-    /// No item.
+    /// There is no item.
     Nothing,
     /// A gap marker.
     GapMarker,

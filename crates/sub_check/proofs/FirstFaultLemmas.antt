@@ -1,4 +1,4 @@
--- The stored fault determines the result of `check`.
+-- The fault that the report sink stored determines the result of `check`.
 use Rattle.std.proofs.lemmas.Bool.Decides.{nat_tests}
 use Rattle.std.proofs.Common.{◌≡◌, ◌≤◌, ℕ, zero, suc, List, Option, Some, None, Result, Ok, Err}
 use Rattle.std.proofs.Common.{true, false, is_some, refl, sym, ◌∙◌, subst, arith, length, take}

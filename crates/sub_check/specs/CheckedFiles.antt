@@ -85,7 +85,8 @@ pub record IsAccepted
   pub good : Good (record { drawing = drawing; records = subtitles }) transmission options
   pub complete : IsTrue options.asks_complete → Complete transmission options
 
--- The result for the bytes of both files with the default options, without any delay.
+-- The result of `check_files` for the bytes of both files, with the default options, without any
+-- delay.
 pub record AreAccepted
     (drawing : Drawing) (options : OptionsValue) (stl pes : List ℕ)
     (answer : Result Accepted CheckFault)
@@ -127,7 +128,7 @@ pub record IsAcceptedBy
   pub good :
       GoodBy options.keeps (record { drawing = drawing; records = subtitles }) transmission options
 
--- The result for the bytes of both files with any options.
+-- The result of `check_files` for the bytes of both files, with any options.
 pub record AreAcceptedBy
     (drawing : Drawing) (options : OptionsValue) (stl pes : List ℕ)
     (answer : Result Accepted CheckFault)

@@ -1,4 +1,4 @@
--- Bytes that a device transfers in several calls add up.
+-- The bytes that a device transfers in several calls are joined in order.
 use Rattle.std.proofs.Common.{◌≡◌, ℕ, ◌+◌, ◌-◌, ◌≤◌, List, ◌++◌, length, take, drop, Option, Some}
 use Rattle.std.proofs.Common.{None, Result, Ok, Err, refl, sym, ap, ◌∙◌, subst, le_refl, arith}
 use Rattle.std.proofs.Common.{length-append, drop_at, length-take-le}

@@ -1,4 +1,4 @@
--- Reports add up until the report sink stops.
+-- The lists of items reported in several calls are joined in order, until the report sink stops.
 use Rattle.std.proofs.Common.{◌≡◌, ◌+◌, ◌≤◌, List, [], ◌∷◌, ◌++◌, length, take, Option, None}
 use Rattle.std.proofs.Common.{Result, Ok, Err, refl, sym, subst, le_refl, arith}
 use Rattle.std.proofs.Common.{length-append}

@@ -24,12 +24,12 @@ IsRequestedAfter taken old new =
 pub data Requests {D : Type 0} (IsPull : D → ℕ → Option ℕ → D → Type 0) (borrowed : D → List ℕ)
     (remaining : D → Option (List ℕ))
     : (List ℕ → Bool) → D → Bool → (List ℕ → Bool) → D → Type 0 where
-  -- No calls.
+  -- No call was made.
   requests_nothing :
       (old new : List ℕ → Bool) (source : D)
       → IsRequestedAfter [] old new
       → Requests IsPull borrowed remaining old source true new source
-  -- One call, which returned the bytes `taken`.
+  -- One call was made, and returned the bytes `taken`.
   requests_once :
       (old new : List ℕ → Bool) (before after : D) (count : ℕ) (taken : List ℕ)
       → MayRequest old (borrowed before) count
@@ -37,20 +37,20 @@ pub data Requests {D : Type 0} (IsPull : D → ℕ → Option ℕ → D → Type
       → Consumes (remaining before) (remaining after) taken
       → IsRequestedAfter taken old new
       → Requests IsPull borrowed remaining old before true new after
-  -- One call, which failed.
+  -- One call was made, and failed.
   requests_in_vain :
       (old new : List ℕ → Bool) (before after : D) (count : ℕ)
       → MayRequest old (borrowed before) count
       → IsPull before count None after
       → Requests IsPull borrowed remaining old before false new after
-  -- One call, which found the end of the source.
+  -- One call was made, and found the end of the source.
   asks_at_end :
       (old new : List ℕ → Bool) (before mid after : D) (count : ℕ) (ok : Bool)
       → 0 < count
       → MayRequest old (borrowed before) count
       → IsPull before count (Some 0) mid
       → Requests IsPull borrowed remaining old before ok new after
-  -- Successful calls, followed by more calls.
+  -- Some calls succeeded, and more calls followed.
   requests_on :
       (old between new : List ℕ → Bool) (before mid after : D) (ok : Bool)
       → Requests IsPull borrowed remaining old before true between mid

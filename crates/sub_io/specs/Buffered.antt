@@ -1,4 +1,4 @@
--- Models of buffered devices.
+-- Models of buffered devices: the inner device and the contents of the buffer.
 use Rattle.std.specs.Prelude.{◌≡◌, ℕ, ◌+◌, min, List, [], Bool}
 
 -- The model of a buffered source: the inner source, the buffered bytes, and the buffer's size in

@@ -1,4 +1,4 @@
-//! Numbers and names of faults.
+//! The numbers and names of faults in reports.
 ghost use Rattle.std.specs.Prelude.{◌≡◌, ◌≤◌, length};
 ghost use Rattle.sub_io.specs.FaultCode.{fault_code};
 

@@ -20,12 +20,12 @@ impl Model for Taken {
 /// The bytes that a writer reported as written in one call.
 #[derive(Clone, Copy)]
 pub struct BorrowedChunk<'a> {
-    /// The bytes, in order.
+    /// The written bytes, in order.
     pub bytes: &'a [u8],
 }
 
 impl Taken {
-    /// Returns an empty record.
+    /// Creates an empty record of written bytes.
     pub fn nothing() -> Taken
         ensures { result.bytes ≡ [] }
     {

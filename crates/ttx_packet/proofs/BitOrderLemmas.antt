@@ -1,5 +1,4 @@
--- Reversing the bits of a byte by std's `reverse_bits` agrees with the definition, and reversing
--- twice gives the same byte.
+-- Lemmas about reversing the bits of a byte.
 use Rattle.std.proofs.Common.{◌≡◌, ℕ, ◌<◌, List, length, map, slice_index, arith, sym, ◌∙◌}
 use Rattle.std.proofs.Common.{eqb-true}
 use Rattle.std.proofs.lemmas.Bool.Decides.{nat_tests}
@@ -8,12 +7,12 @@ use Rattle.std.proofs.lemmas.Bool.{agree_below_at}
 use Rattle.std.proofs.lemmas.List.{get_or-map, length-map, ext_get_or}
 use Rattle.ttx_packet.specs.BitOrder.{mirror}
 
--- Checked by computation for all 256 bytes.
+-- The function of std that reverses bits agrees with `mirror`, checked for all 256 bytes.
 pub mirror_is_reversal : (b : ℕ) → b < 0x100 → reverse_bits_onto 8 b 0 ≡ mirror b
 unfolding reverse_bits_onto mirror
 mirror_is_reversal b l = grind (arith, nat_tests, eqb-true, agree_below_at)
 
--- Checked by computation for all 256 bytes.
+-- Reversing the bits of a byte twice gives the same byte, checked for all 256 bytes.
 pub mirror-mirror : (b : ℕ) → b < 0x100 → mirror (mirror b) ≡ b
 unfolding mirror
 mirror-mirror b l = grind (arith, nat_tests, eqb-true, agree_below_at)

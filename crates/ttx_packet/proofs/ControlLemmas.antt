@@ -1,4 +1,4 @@
--- The eleven control bits of a page header, as a number.
+-- A number below 2048 is determined by its eleven control bits.
 use Rattle.std.proofs.Common.{◌≡◌, ℕ, ◌+◌, ◌*◌, ◌<◌, Bool, true, ◌==◌, arith, refl, eqb-true}
 use Rattle.std.proofs.lemmas.Bool.Decides.{nat_tests}
 use Rattle.std.specs.Prelude.{bit_and}

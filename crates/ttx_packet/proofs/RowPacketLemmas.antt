@@ -1,4 +1,4 @@
--- The first data byte of a packet with even parity.
+-- How the first data byte with even parity of a packet is found.
 use Rattle.std.proofs.Common.{◌≡◌, ℕ, ◌<◌, List, Option, Some, None, IsNone, ◌↔◌, true, false}
 use Rattle.std.proofs.Common.{get_or, sym, refl, arith, drop}
 use Rattle.std.proofs.lemmas.Bool.Decides.{nat_tests}

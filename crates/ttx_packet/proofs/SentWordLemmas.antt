@@ -1,4 +1,4 @@
--- The table of code words in the bit order of DVB data units.
+-- The table of code words in DVB bit order agrees with the definition of code words.
 use Rattle.std.proofs.Common.{◌≡◌, ℕ, ◌<◌, Bool, ◌||◌, ◌&&◌, true, nat_eq, nat_le, nat_lt}
 use Rattle.std.proofs.Common.{◌≤◌, get_or}
 use Rattle.std.proofs.Common.{Some}

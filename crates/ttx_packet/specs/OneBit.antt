@@ -4,7 +4,7 @@ use Rattle.std.specs.Prelude.{None, is_some, ◌==◌, if◌then◌else◌, bit_
 use Rattle.std.specs.List.{AllZip}
 use Rattle.std.specs.Option.{option_or}
 
--- The received byte differs from the sent byte in at most one bit.
+-- The received byte differs from the sent byte in at most one of its eight bits.
 abbrev pub IsNear : ℕ → ℕ → Type 0
 IsNear sent got = (got ≡ sent) ⊎ ((bit : ℕ) × (bit < 8) × (got ≡ bit_xor sent (2 ^ bit)))
 

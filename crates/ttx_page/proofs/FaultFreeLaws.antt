@@ -29,7 +29,7 @@ use Rattle.ttx_page.proofs.TextSpan.{beginning-none_keeps, beginning-push, begin
 use Rattle.ttx_page.proofs.TextSpan.{begins_is_header, text_span-push}
 use Rattle.ttx_page.proofs.TextStart.{sends_of_sound}
 
--- How a packet changes a cell of a receiver that keeps its page.
+-- How a packet changes a cell of a receiver that keeps its page at a repeat.
 record AtPacket
     (keeps : Bool) (w : PageIdValue) (row column : ℕ) (packet : List ℕ) (old new : State)
     : Type 0 where

@@ -437,7 +437,8 @@ module _ (keeps anew : Bool) (class : ReceiverClass) (w : PageIdValue) (row colu
     cell_eq = λ holds. grind arith;
   }
 
-  -- Proved by induction over the remaining packets.
+  -- The state of a receiver after all packets, by induction over the packets still to be received
+  -- or lost.
   pub over : (start : State) (items : List Item) (sent : List (List ℕ)) (arrived : List Bool)
       (got : List (List ℕ)) (old new : State)
       → IsCell row column

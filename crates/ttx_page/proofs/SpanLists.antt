@@ -1,4 +1,4 @@
--- The last page transmission (span) in a mapped list and in joined lists.
+-- How mapping and joining lists change the last page transmission (span).
 use Rattle.std.proofs.Common.{◌≡◌, zero, suc, inl, inr, Bool, true, false, ◌||◌, cond, List, []}
 use Rattle.std.proofs.Common.{◌∷◌, ◌++◌, Some, None, map, zip, find, Any, Contains, refl, ap, ◌∙◌}
 use Rattle.std.proofs.Common.{arith}

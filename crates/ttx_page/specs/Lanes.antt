@@ -2,7 +2,7 @@
 use Rattle.std.specs.Prelude.{ℕ, ◌==◌, Bool, not, List}
 use lib.Lanes.{mask_l, zip2}
 
--- Whether two codes differ.
+-- The two character codes differ.
 abbrev pub differ : ℕ → ℕ → Bool
 differ x y = not (x == y)
 

@@ -27,7 +27,7 @@ is_ended old new = old.is_open && not new.is_open
 abbrev pub begins_again : PageIdValue → State → List ℕ → Bool
 begins_again w old packet = old.is_open && is_this_page (kind w packet)
 
--- How a packet changes the screen of a receiver.
+-- How a packet may change the screen of a receiver.
 pub record ShowsAt (w : PageIdValue) (old : Display) (packet : List ℕ) (new : Display) : Type 0
   where
     -- If the packet ends the page, the screen displays the page as it was before the packet.
@@ -38,7 +38,7 @@ pub record ShowsAt (w : PageIdValue) (old : Display) (packet : List ℕ) (new : 
     pub again :
         IsTrue (begins_again w old.held packet)
         → (new.screen ≡ Some old.held.page) ⊎ (new.screen ≡ old.screen)
-    -- At any other packet the screen does not change.
+    -- A packet that neither ends the page nor is a header of it does not change the screen.
     pub stays :
         IsFalse (is_ended old.held new.held)
         → IsFalse (begins_again w old.held packet)

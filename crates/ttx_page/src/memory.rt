@@ -11,7 +11,7 @@ use crate::page::Page;
 use bitflags::Flags;
 use ttx_packet::{Control, Header, Packet, PageId, is_odd};
 
-/// What a receiver stores in a cell if the received byte has even parity.
+/// The receiver's choice for a cell if the received byte has even parity.
 #[derive(Clone, Copy, Debug, PartialEq, Eq)]
 pub enum EvenByte {
     /// The cell keeps its code.

@@ -1,4 +1,4 @@
--- Data fields whose data units have the same headers.
+-- Data fields with equal data unit headers have their Teletext units at the same offsets.
 use Rattle.std.proofs.Common.{◌≡◌, ℕ, zero, suc, ◌+◌, ◌-◌, ◌*◌, ◌/◌, ◌%◌, ◌<◌, ◌≤◌, List, []}
 use Rattle.std.proofs.Common.{◌∷◌, ◌++◌}
 use Rattle.std.proofs.Common.{length, take, drop, get_or, cond, Ok, refl, sym, ap, subst, ◌∙◌}

@@ -1,4 +1,4 @@
--- Reading a limited number of PES packets, and skipping PES packets.
+-- How a limited number of PES packets is read, and how PES packets are skipped.
 use Rattle.std.proofs.Common.{◌≡◌, ℕ, zero, suc, ◌+◌, ◌-◌, ◌*◌, ◌≤◌, ◌<◌, List, [], ◌++◌, true}
 use Rattle.std.proofs.Common.{false, length, take, drop, Option, Some, None, Result, Ok, Err, refl}
 use Rattle.std.proofs.Common.{sym, ap, ◌∙◌, subst, inl, inr, arith, append_assoc, length-append}

@@ -1,4 +1,4 @@
--- The PES packets that a reader consumes.
+-- A reader consumes complete PES packets.
 use Rattle.std.proofs.Common.{◌≡◌, ◌≤◌, ℕ, List, [], ◌++◌, length, take, drop, Option, Ok, Err}
 use Rattle.std.proofs.Common.{refl, sym, ap, ◌∙◌, arith, length-take}
 use Rattle.std.proofs.lemmas.List.{append-nil, take-append-drop}

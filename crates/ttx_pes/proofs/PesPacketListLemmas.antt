@@ -255,7 +255,8 @@ next_pes_packet : (room given : ℕ) (bytes : List ℕ) (r : Result (Option PesV
 unfolding pes_packets_from
 next_pes_packet room given bytes r value e is = rw e is
 
--- By induction over the packets that may still be read.
+-- Bytes split into the PES packets read from them, by induction over the packets that may still be
+-- read.
 splits_from : (room given : ℕ) (bytes : List ℕ)
     → AreBytes bytes
     → given + room ≡ most_packets

@@ -1,4 +1,4 @@
--- The bytes of a range of a file that splits into PES packets.
+-- The bytes of a range are the PES packets with the indices in the range.
 use Rattle.std.proofs.lemmas.Bool.Decides.{nat_tests}
 use Rattle.std.proofs.Common.{◌≡◌, ℕ, zero, suc, ◌+◌, ◌-◌, ◌*◌, ◌≤◌, List, [], ◌∷◌, ◌++◌, cond}
 use Rattle.std.proofs.Common.{length, take, drop, Option, Some, None, Ok, refl, sym, ap, ◌∙◌, arith}

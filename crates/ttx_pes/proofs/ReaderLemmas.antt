@@ -1,4 +1,4 @@
--- The remaining bytes of a source after a PES packet or a fault.
+-- Which bytes of a source remain after a PES packet or a fault.
 use Rattle.std.proofs.Common.{◌≡◌, ℕ, true, List, [], ◌∷◌, ◌++◌, Option, Some, None, Result, Ok}
 use Rattle.std.proofs.Common.{Err, refl, ap, ◌∙◌, arith}
 use Rattle.std.proofs.lemmas.Bool.Decides.{nat_tests}

@@ -1,4 +1,4 @@
--- Comparing slices in blocks.
+-- Two slices are equal exactly if all their blocks are equal.
 use Rattle.std.proofs.Common.{◌≡◌, ◌↔◌, ℕ, ◌+◌, ◌*◌, ◌≤◌, ◌^◌, ◌%◌, ◌-◌, Bool, true, List, []}
 use Rattle.std.proofs.Common.{◌∷◌, ◌++◌, map, length, take, drop, cond, nat_eq, refl, sym, ap}
 use Rattle.std.proofs.Common.{ap₂, ◌∙◌, ◌/◌, ◌<◌, ◌&&◌, arith, not, w8, eqb-true, eq-eqb}

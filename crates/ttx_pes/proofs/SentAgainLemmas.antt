@@ -1,4 +1,4 @@
--- The parsed fields of a PES packet that repeats the packet before it.
+-- A PES packet that repeats the packet before it has the same parsed fields, except for its PTS.
 use Rattle.std.proofs.Common.{◌≡◌, ℕ, ◌+◌, ◌%◌, ◌≤◌, List, length, drop, Ok, refl, sym, ap, subst}
 use Rattle.std.proofs.Common.{◌∙◌, arith, length-drop}
 use Rattle.std.proofs.lemmas.List.{drop-drop}

@@ -80,7 +80,7 @@ fn is_kept(kept: &[u8], field: &[u8]) -> bool
 }
 
 impl BufferedPacket {
-    // Creates the fields for an empty buffer.
+    // Creates the parsed fields for an empty buffer.
     pub(crate) fn new() -> Self
         ensures { result ≡ no_packet }
     {
@@ -92,7 +92,7 @@ impl BufferedPacket {
         }
     }
 
-    // Resets the fields to those of an empty buffer.
+    // Resets the parsed fields to those of an empty buffer.
     pub(crate) fn clear(&mut self)
         ensures { self.new ≡ no_packet }
     {
@@ -175,7 +175,7 @@ impl BufferedPacket {
         SentUnits::new(self.field(room), self.places.as_slice())
     }
 
-    // Replaces the fields by those of a new packet, parsed from its bytes from byte 6 on. Returns
+    // Replaces the parsed fields by those of a new packet, given its bytes from byte 6 on. Returns
     // whether its data field equals that of the packet in the buffer `before`.
     #[inline(always)]
     #[tactic(auto, unfolding(crate::specs::Reading::value_at))]

@@ -226,7 +226,7 @@ impl ComparingReader {
         }
     }
 
-    // Clears the stored frame, and returns `answer`.
+    // Removes the stored PES packet, and returns `answer`.
     #[inline(always)]
     fn give_none(&mut self, answer: Result<Compared, PesFault>) -> Result<Compared, PesFault>
         ensures answer { result ≡ answer }

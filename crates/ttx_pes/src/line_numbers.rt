@@ -28,7 +28,7 @@ fn unit_of_number(i: usize, packet: &Packet) -> Unit
     }
 }
 
-// Returns the frame with these Teletext packets.
+// Returns the contents of a PES packet with these Teletext packets.
 pub(crate) fn frame_of(pts: u64, packets: &[Packet]) -> PesFrame
     requires pts { pts < 2 ^ 33 }
     requires few { length packets.now ≤ 32 }

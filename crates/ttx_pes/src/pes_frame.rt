@@ -107,7 +107,7 @@ impl PesFrame {
         Ok(())
     }
 
-    // Appends a unit that fits in the frame.
+    // Appends a unit to a frame. The unit must fit in it.
     #[tactic(auto, using(crate::proofs::LineOrderLemmas::order))]
     pub(crate) fn push(&mut self, unit: Unit)
         requires room { length self.old.units < most_units }

@@ -59,7 +59,7 @@ impl TakePesPacket for PesFrame {
 
     ghost is_take = { ReadsValue };
 
-    // Parses a PES packet into the frame.
+    // Parses a PES packet into a `PesFrame`.
     fn take(&mut self, pes_packet: &[u8]) -> Result<(), PesFault> {
         read_value(body_of_pes_packet(pes_packet), self)
     }

@@ -17,7 +17,7 @@ use ttx_packet::Packet;
 #[derive(Drop)]
 pub struct RepeatedPacket {
     frame: PesFrame,
-    // The bytes of the canonical packet of the frame.
+    // The bytes of the canonical packet.
     bytes: Bytes,
 }
 

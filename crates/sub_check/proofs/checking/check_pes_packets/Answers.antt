@@ -1,4 +1,4 @@
--- The stored fault determines the result.
+-- The fault that the report sink stored determines the result of the check.
 use Rattle.std.proofs.Common.{◌≡◌, Err, Option, Result, ap}
 use Rattle.ttx_pes.specs.declared.fault.PesFault.TheVariants.{Read}
 use Rattle.sub_check.proofs.FirstFaultLemmas.{fails_at_packet, fault_kept, nothing_kept}

@@ -1,4 +1,4 @@
--- The result of a comparing reader, for each result of receiving a PES packet.
+-- A comparing reader returns the specified result for each result of receiving a PES packet.
 use Rattle.std.proofs.Common.{◌∙◌, Bool, Err, Ok, Result, false, rules, sym, true}
 use Rattle.std.proofs.lemmas.Bool.{true≢false}
 use Rattle.sub_io.specs.declared.source.Failed.{Failed}

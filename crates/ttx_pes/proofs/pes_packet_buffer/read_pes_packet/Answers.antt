@@ -1,4 +1,4 @@
--- The bytes that `read_pes_packet` has read for a packet, at each return.
+-- At each return of `read_pes_packet`, the bytes read so far agree with the result.
 use Rattle.std.proofs.Common.{◌≡◌, ◌∙◌, ℕ, ◌++◌, Ok, ap, arith, inl, inr, refl, rules, sym, take}
 use Rattle.std.proofs.lemmas.Bool.{true≢false}
 use Rattle.std.proofs.lemmas.List.{length-take-le}

@@ -1,4 +1,4 @@
--- The result of `read_packet`, for each result of receiving a PES packet.
+-- `read_packet` returns the specified result for each result of receiving a PES packet.
 use Rattle.std.proofs.Common.{Err, Ok, Result, rules}
 use Rattle.sub_io.specs.declared.source.Failed.{Failed}
 use Rattle.ttx_pes.specs.declared.fault.PesFault.{PesFault}

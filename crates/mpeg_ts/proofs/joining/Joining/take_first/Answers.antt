@@ -1,4 +1,4 @@
--- `take_first` takes a PES packet, the rest, or nothing.
+-- `take_first` returns a PES packet, a gap marker, bytes that are no PES packet, or no item.
 use Rattle.mpeg_ts.proofs.ReadyLemmas.{pes_packet_first}
 use Rattle.mpeg_ts.proofs.joining.Joining.take_first.Goals as goal
 

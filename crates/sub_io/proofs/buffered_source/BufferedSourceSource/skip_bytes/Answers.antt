@@ -1,4 +1,4 @@
--- Skipping bytes of a buffered source drops the first of its buffered bytes.
+-- Skipping bytes of a buffered source drops bytes from the front of its buffer.
 use Rattle.std.proofs.Common.{◌+◌, ◌≤◌, length, slice_range, refl, arith}
 use Rattle.sub_io.proofs.BufferLemmas.{buffered_length, buffered_skipped, buffered_past}
 use Rattle.sub_io.proofs.BufferLemmas.{buffered_read}

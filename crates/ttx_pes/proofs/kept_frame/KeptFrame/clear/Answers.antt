@@ -1,4 +1,4 @@
--- A cleared frame stores no PES packet.
+-- After `clear`, no PES packet is stored.
 use Rattle.ttx_pes.proofs.KeptFrameLemmas.{no_packet_facts}
 use Rattle.ttx_pes.proofs.kept_frame.KeptFrame.clear.Goals as goal
 

@@ -1,4 +1,4 @@
--- A new frame stores no PES packet.
+-- A new value stores no PES packet.
 use Rattle.ttx_pes.proofs.KeptFrameLemmas.{no_packet_facts}
 use Rattle.ttx_pes.proofs.kept_frame.KeptFrame.new.Goals as goal
 

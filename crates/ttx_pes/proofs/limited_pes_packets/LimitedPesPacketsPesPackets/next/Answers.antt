@@ -1,4 +1,4 @@
--- The effect of reading the next PES packet if the number of packets is limited.
+-- Reading the next PES packet has the specified effect if the number of packets is limited.
 use Rattle.std.proofs.Common.{◌∙◌, ℕ, Option, Result, Ok, subst, sym}
 use Rattle.sub_io.specs.declared.source.Failed.{Failed}
 use Rattle.ttx_pes.specs.Advancing.{Advances, limited_remaining, limited_known}

@@ -1,4 +1,4 @@
--- The contents of the buffer after each result, and the taker's answer.
+-- For each result, the contents of the buffer and the taker's answer are as specified.
 use Rattle.std.proofs.Common.{List, [], ℕ, arith, refl, rules, subst, sym, take}
 use Rattle.std.specs.Io.KnownBytes.{Consumes, prepend_known}
 use Rattle.ttx_pes.proofs.DataUnitLemmas.{AreBytes-take}
