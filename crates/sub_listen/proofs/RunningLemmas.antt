@@ -1,4 +1,4 @@
--- The receiver that `listen` simulates follows the models of receivers in `ttx_page`.
+-- The receiver that `listen` simulates follows the models of receivers to which the laws apply.
 use Rattle.std.proofs.lemmas.Bool.Decides.{nat_tests}
 use Rattle.std.proofs.Common.{◌≡◌, ◌∙◌, ℕ, Bool, true, false, List, [], ◌∷◌, ap, arith}
 use Rattle.ttx_packet.specs.PageId.{PageIdValue}

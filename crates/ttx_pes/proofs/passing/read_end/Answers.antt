@@ -1,4 +1,4 @@
--- After as many PES packets as a day has frames, further bytes give the fault `TooMany`.
+-- After as many PES packets as a day has frames, further bytes give the fault TooMany.
 use Rattle.ttx_pes.proofs.PesPacketReportingLemmas.{reports_none, reports_pes_packet_more}
 use Rattle.ttx_pes.proofs.PesPacketReportingLemmas.{reports_rest_more}
 use Rattle.ttx_pes.proofs.passing.read_end.Goals as goal
