@@ -1,4 +1,4 @@
--- Each TS packet with payload that a multiplexer sends is read as a good packet.
+-- Each TS packet with payload that a multiplexer sends is accepted by the reader.
 use Rattle.std.proofs.Common.{◌≡◌, ℕ, ◌+◌, ◌%◌, ◌<◌, inl, inr, Bool, true, false, ◌||◌, ◌==◌, List}
 use Rattle.std.proofs.Common.{[], ◌∷◌, ◌++◌, Option, Some, refl, sym, ap, ◌∙◌}
 use Rattle.std.proofs.Common.{arith, append_assoc}
@@ -123,7 +123,7 @@ module _ {A : Type 0} (packet_of : A → List ℕ) (number : ℕ) where
       ≡ good_after (record (empty_history (Some p)) { has_repeat = is_some again }) ns
   good-again p again ns h1 = grind (arith, nat_tests, append-nil, good-repeat, is_repeat-again)
 
-  -- Each TS packet with payload is read as a good packet, whatever packets follow.
+  -- Each TS packet with payload is accepted by the reader, whatever packets follow.
   pub good-carrier : (history : PacketHistory) (c : Carrier A) (ns : List Note) (first : Bool)
       → IsCarrier packet_of number first c
       → is_repeat history (packet_of c.packet) ≡ false
@@ -190,7 +190,7 @@ module _ {A : Type 0} (packet_of : A → List ℕ) (number : ℕ) where
   abbrev pub IsSomeCarrier : Carrier A → Type 0
   IsSomeCarrier c = (first : Bool) × IsCarrier packet_of number first c
 
-  -- All TS packets with payload that a multiplexer sends are read as good packets, in order.
+  -- All TS packets with payload that a multiplexer sends are accepted by the reader, in order.
   pub good-carriers : (c : Carrier A) (more : List (Carrier A))
       → AllByRecursion IsSomeCarrier more
       → AreNextCarriers packet_of number c more

@@ -1,4 +1,4 @@
--- Lemmas for the good packets of a recording with losses, and for the links between them.
+-- Lemmas for the accepted packets of a recording with losses, and for the links between them.
 use Rattle.std.proofs.Common.{◌≡◌, ℕ, ◌+◌, ◌%◌, ◌<◌, Bool, true, false, not, ◌||◌, ◌==◌, List, []}
 use Rattle.std.proofs.Common.{◌∷◌, Option, Some, None, arith, if◌then◌else◌, length, length-drop}
 use Rattle.std.proofs.Common.{length-take, drop, nat_lt}
@@ -86,8 +86,8 @@ abbrev pub IsCounter : Option (List ℕ) → ℕ → Type 0
 IsCounter None i = ⊤
 IsCounter (Some g) i = counter g ≡ i % 16
 
--- A later TS packet is not a repeat of the last good packet, if fewer than 15 packets with payload
--- are missing between them.
+-- A later TS packet is not a repeat of the last accepted packet, if fewer than 15 packets with
+-- payload are missing between them.
 pub fresh-later : (good : Option (List ℕ)) (again wrong : Bool) (h : List ℕ) (i n : ℕ)
     → IsCounter good i
     → counter h ≡ (i + 1 + n) % 16
@@ -95,7 +95,7 @@ pub fresh-later : (good : Option (List ℕ)) (again wrong : Bool) (h : List ℕ)
     → is_repeat (history_after_loss good again wrong) h ≡ false
 fresh-later good again wrong h i n h1 h2 h3 = grind (arith, nat_tests, counter-far, counter-same)
 
--- The link of a TS packet to the good packet before it, given whether a packet between them was
+-- The link of a TS packet to the accepted packet before it, given whether a packet between them was
 -- damaged.
 abbrev pub link_left : Option (List ℕ) → Bool → List ℕ → PacketLink
 link_left None wrong h = First
@@ -109,7 +109,7 @@ pub linked-left : (good : Option (List ℕ)) (again wrong : Bool) (h : List ℕ)
     → linked (history_after_loss good again wrong) h ≡ good_left good wrong h
 linked-left good again wrong h h1 = grind (arith, nat_tests)
 
--- Data is lost between two good packets exactly if a TS packet between them was damaged or is
+-- Data is lost between two accepted packets exactly if a TS packet between them was damaged or is
 -- missing.
 pub break-left : (i n : ℕ) (g h : List ℕ) (wrong : Bool)
     → counter g ≡ i % 16

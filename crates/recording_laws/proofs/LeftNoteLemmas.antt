@@ -1,4 +1,4 @@
--- If a TS packet with payload or its repeat is recorded, one of the two is read as a good packet.
+-- If a TS packet with payload or its repeat is recorded, the reader accepts one of the two.
 use Rattle.std.proofs.Common.{◌≡◌, ℕ, Bool, true, false, ◌||◌, List, [], ◌∷◌, ◌++◌, Option, Some}
 use Rattle.std.proofs.Common.{None, sym, ap, ◌∙◌, arith, append_assoc}
 use Rattle.std.specs.List.{AllByRecursion, flat_map}
@@ -19,7 +19,7 @@ use Rattle.recording_laws.proofs.CarrierLemmas.{is_repeat-again}
 use Rattle.recording_laws.proofs.CarrierLemmas.{history_after_irrelevant}
 use Rattle.recording_laws.proofs.RecordingLemmas.{noted}
 
--- The history of a PID since a good packet, without announced jumps and skipped bytes.
+-- The history of a PID since an accepted packet, without announced jumps and skipped bytes.
 abbrev pub history_after_loss : Option (List ℕ) → Bool → Bool → PacketHistory
 history_after_loss good again wrong = record {
   good = good;
@@ -148,7 +148,7 @@ module _ (distance number : ℕ) where
       any_unit_damaged c)
   wrong-of_three a b c = grind (arith, nat_tests, list_any-append, or-assoc)
 
-  -- If a TS packet with payload is recorded, it is read as a good packet.
+  -- If a TS packet with payload is recorded, it is accepted by the reader.
   pub good-first : (good : Option (List ℕ)) (again wrong first : Bool) (c : Carrier Fated)
       (ns : List Note)
       → IsLeftCarrier first c
@@ -186,7 +186,7 @@ module _ (distance number : ℕ) where
   good-no_first good again wrong first c ns h1 h2 =
       grind (arith, nat_tests, heard-carrier, good-lost, good-quiets-left, or-assoc)
 
-  -- If only the repeat of a TS packet is recorded, the repeat is read as a good packet.
+  -- If only the repeat of a TS packet is recorded, the repeat is accepted by the reader.
   pub good-second : (good : Option (List ℕ)) (again wrong : Bool) (p : List ℕ) (o : Option Fated)
       (after : List Fated) (ns : List Note)
       → AllByRecursion (λ f. IsRepetition number p (sent_packet distance f)) (option_to_list o)

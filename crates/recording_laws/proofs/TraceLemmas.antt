@@ -1,6 +1,6 @@
--- Lemmas for any number of missing TS packets: each good packet is a copy of a packet that was
--- sent, and the next good packet continues it only if the number of missing packets between them is
--- a multiple of 16.
+-- Lemmas for any number of missing TS packets: each accepted packet is a copy of a packet that was
+-- sent, and the next accepted packet continues it only if the number of missing packets between
+-- them is a multiple of 16.
 use Rattle.std.proofs.Common.{◌<◌, nat_lt, ◌≡◌, ℕ, ◌+◌, ◌%◌, ◌⊎◌, inl, inr, Bool, true, false, ◌||◌}
 use Rattle.std.proofs.Common.{List, [], ◌∷◌, ◌++◌, Option, Some, None, refl, sym, ap, arith, ◌∙◌}
 use Rattle.std.proofs.Common.{subst}
@@ -29,8 +29,8 @@ use Rattle.recording_laws.proofs.LeftNoteLemmas.{good-second, heard-carrier, hea
 use Rattle.recording_laws.proofs.LeftNoteLemmas.{notes_of_unit}
 use Rattle.recording_laws.proofs.LeftNoteLemmas.{history_after_loss}
 
--- If a good packet has the next continuity counter, the number of TS packets with payload that are
--- missing before it is a multiple of 16.
+-- If an accepted packet has the next continuity counter, the number of TS packets with payload that
+-- are missing before it is a multiple of 16.
 gone-between : (i n a b : ℕ)
     → a ≡ i % 16
     → b ≡ (i + 1 + n) % 16
@@ -74,7 +74,7 @@ module _ (distance number : ℕ) (few : Bool) where
   Steps good wrong c goods ns = Stays good c goods ns ⊎ CopyComesFirst good wrong c goods ns
 
   -- If fewer than 15 consecutive TS packets with payload are missing, the next packet is never
-  -- taken for a repeat of the last good packet.
+  -- taken for a repeat of the last accepted packet.
   abbrev pub IsFresh : Option (List ℕ) → Carrier Fated → Type 0
   IsFresh good c =
       few ≡ true
@@ -230,8 +230,8 @@ module _ (distance number : ℕ) (few : Bool) where
       copy : IsCopy p (copy_of distance number c.again p)
       copy = copy-again distance number p c.again none h.again h.is_carrier.again
 
-  -- The link of a good packet to the good packet before it, given the number of TS packets with
-  -- payload missing between them and whether a packet was damaged.
+  -- The link of an accepted packet to the accepted packet before it, given the number of TS packets
+  -- with payload missing between them and whether a packet was damaged.
   pub record IsLinked (n : ℕ) (wrong : Bool) (c : Carrier Fated) (g : GoodPacket) : Type 0 where
     pub cut : is_unlinked g.link ≡ is_break g.link
     pub far : is_break g.link ≡ false → n % 16 ≡ 0
@@ -247,9 +247,9 @@ module _ (distance number : ℕ) (few : Bool) where
     pub first : following ≡ false → is_unlinked g.link ≡ true
     pub linked : following ≡ true → IsLinked n wrong c g
 
-  -- The good packets of a recording come from the TS packets with payload that were sent, given the
-  -- number of packets missing since the last good packet and whether a packet was damaged since
-  -- then.
+  -- The accepted packets of a recording come from the TS packets with payload that were sent, given
+  -- the number of packets missing since the last accepted packet and whether a packet was damaged
+  -- since then.
   abbrev pub Traced : Bool → ℕ → Bool → List (Carrier Fated) → List GoodPacket → Type 0
   Traced following n wrong [] goods = goods ≡ []
   Traced following n wrong (c ∷ cs) goods =
