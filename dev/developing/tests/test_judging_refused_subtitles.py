@@ -128,6 +128,9 @@ class RefusedSubtitles(Case):
                              ((self.write_stl(3),), None)):
             result = judge_files(self, *more).result
             self.must(f"{more}", result["subtitle_counts"] == counts, result)
+        found = self.judge(self.write("near.stl", stl_of(self.blocks, {4: {7: 14}})), self.pes)
+        self.must("overlapped", [one["verdict"] for one in found.result["subtitles"]][1:5] ==
+                  ["right", "not known", "wrong", "right"], found.said)
 
     def test_waives_faults_of_the_subtitle_file_and_78_by_number(self) -> None:
         slow = self.write("slow.pes", pes_file(delayed(5, 3600 * 600, 3600 * 650)(self.sent)))
