@@ -416,6 +416,9 @@ class Pages(Case):
         box = markup_text(report_page.verdict_box(verdict))
         self.must("box", box.startswith('<div class="verdict refused">') and verdict.sentence in
                   box and box.count("3 TS packets lost") == 1 and "strange" in box, box)
+        for verdict.gaps, count in ((verdict.gaps, 1), (verdict.gaps[:1], 0)):
+            found = [*report_page.not_checked(verdict)]
+            self.must("outside", "".join(found).count("3 TS packets lost, outside") == count, found)
         scope = markup_text(report_page.scope_section(verdict))
         self.must("scope", "00:00:00:00 to 00:00:05:24, " in scope, scope)
         verdict.request = request_for("piped.stl", "one.pes")  # a pipe is stored under another name
