@@ -480,3 +480,5 @@ class Pages(Case):
         six = collection.pair_row(self.folder, one("f", "refused", 1, "refused 72", 9, 6)).source
         self.must("all causes", six.count("&times;") == 6 and "&hellip;" not in six, six)
         self.must("name", "d&lt;" in lines["d<"] and 'class="not-judged"' in lines["b"])
+        found = [collection.worst_fault(one("g", "relative", 3, "72 a", count)) for count in (0, 1)]
+        self.must("relative", found == ["no clock was given", "72 a"], found)
