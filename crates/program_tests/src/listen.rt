@@ -80,7 +80,7 @@ fn shows_what_a_receiver_got(rt: HostRuntime) {
     assert_both_hear(&rt, "10:00:00:10", &["--skip", "1"], NOTHING);
     assert_both_hear(&rt, "10:00:01:00", &["--skip", "1"], HI);
     assert_both_hear(&rt, "10:00:00:10", &["--flip", "1:21:1"], HIT);
-    assert_both_hear(&rt, "10:00:01:00", &["--flip", "1:21:1"], HI); // it comes again
+    assert_both_hear(&rt, "10:00:01:00", &["--flip", "1:21:1"], HI); // the row is sent again
     assert_both_hear(&rt, "10:00:00:10", &["--flip", HEADER_FLIPS], HI); // corrected
 }
 

@@ -1,4 +1,4 @@
--- Lemmas for copying a PES packet, or bytes that are no PES packet, to a file.
+-- Lemmas for copying a PES packet, or bytes that are not a PES packet, to a file.
 use Rattle.std.proofs.Common.{◌≡◌, ◌∙◌, ap, sym, subst, arith, ℕ, ◌+◌, ◌<◌, ◌≤◌, ◌++◌, List}
 use Rattle.std.proofs.Common.{[], Bool, Option, Some, None, Ok, length, take, drop}
 use Rattle.std.proofs.Common.{length-append, take-add, take-append-drop}

@@ -1,4 +1,4 @@
--- Lemmas for copying PES packets one after another, and then any bytes that are no PES packet.
+-- Lemmas for copying PES packets one after another, and then any bytes that are not a PES packet.
 use Rattle.std.proofs.lemmas.Bool.Decides.{nat_tests}
 use Rattle.std.proofs.Common.{◌≡◌, ◌∙◌, ap, refl, sym, subst, arith, ℕ, zero, suc, ◌+◌, ◌<◌, ◌≤◌}
 use Rattle.std.proofs.Common.{◌++◌, List, [], Option, Some, None, length, take, drop}

@@ -1,4 +1,5 @@
--- Lemmas for a source of which no byte was consumed while its first PES packet was searched.
+-- Lemmas for a source of which no byte was consumed while the source was searched for its first PES
+-- packet.
 use Rattle.std.proofs.lemmas.Bool.Decides.{nat_tests}
 use Rattle.std.proofs.Common.{◌≡◌, refl, sym, inr, arith, ℕ, ◌+◌, ◌≤◌, List, [], Bool}
 use Rattle.std.proofs.Common.{Option, Some, None}

@@ -40,7 +40,7 @@ count_gap_markers (suc n) b =
     by_pes_packet (pes_packet_size b)
     (λ size. (if begins_with_gap_marker size b then 1 else 0) + count_gap_markers n (drop size b)) 0
 
--- The reason why the bytes begin with no PES packet; `None` if there are no bytes.
+-- The reason why the bytes do not begin with a PES packet; `None` if there are no bytes.
 unfoldable pub refusal_at : List ℕ → Option PesFault
 refusal_at b = if length b == 0 then None else rest_fault b
 
@@ -55,7 +55,7 @@ abbrev pub is_extract_read : ExtractFault → Bool
 is_extract_read (Read pes) = true
 is_extract_read _ = false
 
--- The source failed, but the fault reports bytes that are no PES packet instead. Contracts rule
+-- The source failed, but the fault reports bytes that are not a PES packet instead. Contracts rule
 -- this case out.
 abbrev pub reports_refused_read : ExtractFault → Bool
 reports_refused_read (Refused f pes) = is_read f
@@ -86,7 +86,7 @@ pub record AreRefused
       length bytes < most_pes_packets → refusal_at (rest_after_pes_packets pes bytes) ≡ Some f
 
 -- The source failed after `pes` PES packets, which were written to the file. If the bytes after
--- them are no PES packet, a prefix of these bytes was written too.
+-- them are not a PES packet, a prefix of these bytes was written too.
 pub record AreCut (bytes : List ℕ) (old new : Option (List ℕ)) (pes : ℕ) : Type 0 where
   pub pes_packets : count_pes_packets pes bytes ≡ pes
   pub following : Option (List ℕ)
@@ -115,7 +115,7 @@ written_line e =
     codes "written " ++ decimal e.pes ++ codes " pes " ++ decimal e.gaps ++ codes " gaps\n"
 
 -- The line for a fault of `extract`: the source or the file failed, or the bytes after a PES packet
--- are no PES packet.
+-- are not a PES packet.
 abbrev pub extract_line : ExtractFault → FaultLine
 extract_line (Read n) = counted_from n (check_line (check.Pes 0 pes.Read))
 extract_line Write = line_as kind.Fault (pes_code pes.Write) Nowhere

@@ -1,5 +1,5 @@
-//! Copies PES packets to a file, each as soon as it has arrived, and then any bytes that are no PES
-//! packet.
+//! Copies PES packets to a file, each as soon as it has arrived, and then any bytes that are not a
+//! PES packet.
 ghost use Rattle.std.specs.Prelude.{◌≡◌, Err, IfOk, OnErr, OnOk, false, length, true};
 ghost use Rattle.std.specs.Io.KnownBytes.{Appends};
 ghost use Rattle.sub_io.specs.Device.{AppendsPrefix, CanFail, CountsIf, failed};
@@ -138,8 +138,8 @@ pub fn copy_next<P: PesPackets, F: Flush>(
     }
 }
 
-/// Copies all remaining bytes, which are no PES packet, and flushes the file after each read. Reads
-/// at most 2^64 - 1 times.
+/// Copies all remaining bytes, which are not a PES packet, and flushes the file after each read.
+/// Reads at most 2^64 - 1 times.
 ///
 /// # Errors
 ///

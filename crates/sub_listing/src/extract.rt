@@ -41,9 +41,9 @@ pub enum ExtractFault {
     Write,
     /// The recording contains no PES packet.
     Empty,
-    /// The bytes after the last PES packet are no PES packet.
+    /// The bytes after the last PES packet are not a PES packet.
     Refused {
-        /// The reason why these bytes are no PES packet.
+        /// The reason why these bytes are not a PES packet.
         fault: PesFault,
         /// The number of PES packets written before these bytes, gap markers included.
         pes: u64,
@@ -52,7 +52,7 @@ pub enum ExtractFault {
 
 /// Writes the PES packets of a source to a file, one after another. PES packets of a recording
 /// (ISO/IEC 13818-1) come with gap markers. Prints the number of PES packets and of gap markers, or
-/// the reason why the output is no complete file of PES packets.
+/// the reason why the output is not a complete file of PES packets.
 ///
 /// Each PES packet is flushed as soon as it has arrived, and the line is printed after the system
 /// has stored the file. Bytes that are no PES packet are also written. Returns `Fault` if a device
@@ -125,7 +125,7 @@ fn write_pes_packets<P: PesPackets, F: Close>(
     }
 }
 
-// Copies all PES packets, and then any bytes that are no PES packet.
+// Copies all PES packets, and then any bytes that are not a PES packet.
 fn copy_pes_packets<P: PesPackets, F: Flush>(
     pes_packets: &mut P,
     file: &mut F,

@@ -84,7 +84,7 @@ fn assert_stored(rt: &impl Abort, errno: i32, answer: Result<(), Failed>, failur
 #[test]
 fn a_file_is_stored_where_nothing_is_lost(rt: HostRuntime) {
     // With EINVAL, ENOSYS and ENOTSUP the file is a pipe, a terminal or a device, which stores
-    // nothing. This is no failure.
+    // nothing. This is not a failure.
     for errno in [0, 22, 38, 95] {
         assert_stored(&rt, errno, Ok(()), 0);
     }
