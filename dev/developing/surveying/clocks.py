@@ -80,14 +80,6 @@ class Clock:
         return None
 
 
-class Break(NamedTuple):
-    """A counter break between two TS packets of a PID."""
-
-    pid: int
-    first: int
-    last: int
-
-
 class Counters:
     """The counters of all PIDs, with the places of TS packets with a payload."""
 
@@ -95,7 +87,7 @@ class Counters:
         self.first: dict[int, int] = {}
         self.last: dict[int, tuple[int, int]] = {}  # counter and place
         self.announced: set[int] = set()
-        self.breaks: list[Break] = []
+        self.breaks: list[tuple[int, int, int]] = []  # PID, and places of two TS packets
 
     def take(self, packet: Packet, place: int) -> None:
         pid = packet.pid
@@ -106,15 +98,15 @@ class Counters:
         counter, before = self.last.get(pid, (packet.counter, place))
         is_break = packet.counter not in (counter, (counter + 1) % 16)
         if is_break and pid not in self.announced:
-            self.breaks = (self.breaks + [Break(pid, before, place)])[-MOST_BREAKS:]
+            self.breaks = (self.breaks + [(pid, before, place)])[-MOST_BREAKS:]
         self.first.setdefault(pid, place)
         self.last[pid] = packet.counter, place
         self.announced.discard(pid)
 
     def word(self, jump: Jump, pid: int) -> str:
         """Return what the counters of other PIDs show about a jump."""
-        if any(one.pid != pid and one.first < jump.last and one.last > jump.first
-               for one in self.breaks):
+        if any(other != pid and first < jump.last and last > jump.first
+               for other, first, last in self.breaks):
             return "broken"
         return "whole" if any(other != pid and first <= jump.first < self.last[other][1]
                               for other, first in self.first.items()) else "unknown"

@@ -1,7 +1,7 @@
 """All lines about a recording, in order."""
 from __future__ import annotations
 
-from typing import NamedTuple
+from collections import defaultdict
 
 from developing.every_place.recordings import TIME_STAMP, UNSEEN, Skipped, packets_of
 from developing.every_place.reading import HEAD
@@ -54,13 +54,6 @@ def pes_file_lines(data: bytes, page: Page) -> list[str]:
     return [*lines, "over 0 0"]
 
 
-class Named(NamedTuple):
-    """What a PMT says of a PID: the PCR_PID of its programme, and its stream_type."""
-
-    clock: int
-    kind: int
-
-
 class Stream:
     """A transport stream."""
 
@@ -71,8 +64,9 @@ class Stream:
         self.place = 0  # of a TS packet
         self.counters = Counters()
         self.sections = {0: Sections()}
-        self.printed: dict[tuple[int, int], bytes] = {}  # sections of PMTs
-        self.named: dict[int, Named] = {}  # by the last PMT that names the PID
+        self.printed: dict[tuple[bytes, int], bytes] = {}  # sections of PMTs
+        # For each PID, PCR_PID and stream_type in the last PMT that names the PID.
+        self.named: dict[int, tuple[int, int]] = defaultdict(lambda: (NO_PCR, 0))
         self.clocks: dict[int, Clock] = {}
         self.teletext: dict[int, Teletext] = {}
         self.video: dict[int, Video] = {}
@@ -145,7 +139,7 @@ class Stream:
         if is_video(data):
             self.others.add(packet.pid)
             if len(self.video) < MOST:
-                self.video[packet.pid] = Video(packet.pid, self.say, self.kind_of)
+                self.video[packet.pid] = Video(packet.pid, self.say, self.named)
         elif not data.startswith(START):
             self.others.add(packet.pid)
         elif len(data) > 9 and len(data) > 9 + data[8]:
@@ -161,16 +155,12 @@ class Stream:
             for one in pids_in(section):
                 if len(self.sections) < MOST_TABLES:
                     self.sections.setdefault(one, Sections())
-        elif pid != 0 and section[0] == PMT and self.is_new(section):
-            programme = programme_of(section)
+        elif section[0] == PMT:
+            name = section[3:5], section[6]  # program_number, section_number
+            programme = programme_of(section) if section != self.printed.get(name) else None
+            self.printed[name] = section
             if programme:
                 self.take_programme(programme)
-
-    def is_new(self, section: bytes) -> bool:
-        key = int.from_bytes(section[3:5], "big"), section[6]
-        old = self.printed.get(key)
-        self.printed[key] = section
-        return old != section
 
     def take_programme(self, programme: Programme) -> None:
         self.say(f"programme {programme.number} {programme.clock}")
@@ -178,19 +168,11 @@ class Stream:
             self.clocks.setdefault(programme.clock, Clock(programme.clock, self.say))
         for stream in programme.streams:
             self.say(f"stream {stream.pid} {stream.kind}")
-            self.named[stream.pid] = Named(programme.clock, stream.kind)
+            self.named[stream.pid] = programme.clock, stream.kind
             for page in stream.announced:
                 self.say(f"announce {stream.pid} {page}")
             if stream.announced and self.asked is None:
                 self.follow(stream.pid)
-
-    def clock_of(self, pid: int) -> int:
-        """Return the PCR_PID of the programme of a PID."""
-        return self.named[pid].clock if pid in self.named else NO_PCR
-
-    def kind_of(self, pid: int) -> int | None:
-        """Return the stream_type of a PID."""
-        return self.named[pid].kind if pid in self.named else None
 
     # Clocks
 
@@ -201,15 +183,15 @@ class Stream:
             return
         jump = clock.take(packet.pcr, self.place)
         for pid, teletext in self.teletext.items():
-            if self.clock_of(pid) == clock.pid:
+            if self.named[pid][0] == clock.pid:
                 teletext.note_pcr(jump)
 
     def compare(self, teletext: Teletext, pts: int) -> None:
         """Compare a PTS with the programme's pictures and PCR."""
-        pcr_pid = self.clock_of(teletext.pid)
+        pcr_pid = self.named[teletext.pid][0]
         if pcr_pid == NO_PCR:
             return
-        video = next((one for pid, one in self.video.items() if self.clock_of(pid) == pcr_pid), None)
+        video = next((one for pid, one in self.video.items() if self.named[pid][0] == pcr_pid), None)
         if video and video.decoding is not None and (video, video.number) != teletext.picture:
             if video != teletext.picture[0]:
                 teletext.leads = Seconds()

@@ -1,8 +1,6 @@
 """The lines about a PID with video: pictures, and the group that begins with random access."""
 from __future__ import annotations
 
-from typing import Callable
-
 from developing.every_place.recordings import Stretch
 from developing.pes import pts_in
 from subtitles.common.times import ticks_between
@@ -22,7 +20,7 @@ def is_video(data: bytes) -> bool:
     return data[:3] == START[:len(data)] and (len(data) < 4 or data[3] & 0xF0 == VIDEO)
 
 
-def form_of(kind: int | None, data: bytes) -> str | None:
+def form_of(kind: int, data: bytes) -> str | None:
     """Return the form of a group from the bytes of its first picture, `None` if unknown."""
     if kind == H264:
         return "open"
@@ -44,8 +42,8 @@ def form_of(kind: int | None, data: bytes) -> str | None:
 class Video:
     """A PID with video."""
 
-    def __init__(self, pid: int, say: Say, kind_of: Callable[[int], int | None]) -> None:
-        self.pid, self.say, self.kind_of = pid, say, kind_of
+    def __init__(self, pid: int, say: Say, named: dict[int, tuple[int, int]]) -> None:
+        self.pid, self.say, self.named = pid, say, named  # PCR_PID and stream_type of each PID
         self.stretch = Stretch(None)
         self.header: bytes | None = None  # of a picture with unknown times
         self.is_flagged = False  # a random_access_indicator came for the next picture
@@ -58,7 +56,7 @@ class Video:
         self.flagged: int | None = None
         self.least: int | None = None
         self.lost = self.scrambled = 0
-        self.kind: int | None = None
+        self.kind = 0
         self.first: bytes | None = None  # of its first picture, after the header
         self.form: str | None = None
 
@@ -134,7 +132,7 @@ class Video:
         if is_first:
             self.say(f"video {self.pid} {self.passed}")
             self.has_begun, self.flagged = True, pts
-            self.kind = self.kind_of(self.pid)
+            self.kind = self.named[self.pid][1]
             self.form = form_of(self.kind, b"")  # known before any byte if H.264
         self.passed += not self.has_begun
         if decoding is not None:

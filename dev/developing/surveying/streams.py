@@ -373,10 +373,8 @@ class Recording(NamedTuple):
     @property
     def words(self) -> list[str]:
         """Return the options."""
-        given = {"--pid": self.pid, "--packet-size": self.size}
-        return ["--page", page_name(*self.page)] + [
-            word for name, value in given.items() if value is not None
-            for word in (name, str(value))]
+        given = {"--page": page_name(*self.page), "--pid": self.pid, "--packet-size": self.size}
+        return [str(word) for option in given.items() if option[1] is not None for word in option]
 
 
 def random_pes_file(chance: Random) -> bytes:

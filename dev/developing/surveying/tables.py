@@ -32,21 +32,14 @@ class Sections:
     """The sections in the TS packets of a PID."""
 
     def __init__(self) -> None:
-        self.before: Packet | None = None
         self.part: bytes | None = None  # of a section that has begun
 
     def take(self, packet: Packet) -> Iterator[bytes]:
         """Return the sections that end in a packet."""
         if packet.is_wrong or not packet.has_payload:
             return
-        before, self.before = self.before, packet
-        if before and before.data[:4] == packet.data[:4] and before.payload == packet.payload:
-            return
         payload = packet.payload
         if packet.begins:
-            if not payload:
-                self.part = None
-                return
             pointer = payload[0]
             if self.part is not None:
                 self.part += payload[1:1 + pointer]

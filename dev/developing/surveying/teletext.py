@@ -198,6 +198,7 @@ class Teletext:
             if self.has_seam:
                 self.say(f"seam {self.pid} {self.lines.count}")
             self.has_seam, self.has_gap = False, len(self.part) > length
+            self.is_behind_gap |= self.has_gap
             self.lines.read(self.part[:length])
 
     def mark(self) -> None:
