@@ -19,7 +19,7 @@ def number(value: int | None) -> str:
 
 
 class Seconds:
-    """Times of which one each second is printed, and one before the last printed one."""
+    """Select the times to print: one each second, and each one before the last."""
 
     def __init__(self) -> None:
         self.last: int | None = None

@@ -2,6 +2,7 @@
 from __future__ import annotations
 
 from collections import defaultdict
+from math import inf
 
 from developing.every_place.recordings import TIME_STAMP, UNSEEN, Skipped, packets_of
 from developing.every_place.reading import HEAD
@@ -15,7 +16,7 @@ from .teletext import PesLines, Teletext
 
 HEAD_BYTES = 11
 TIMED = 192  # size of packets with a time stamp
-READ = 65_536  # bytes
+READ = 65_536  # bytes that the program reads at once
 MOST, MOST_TABLES = 64, 128  # PIDs
 NO_PCR = NULL = 0x1FFF  # PCR_PID of a programme without PCR; PID of null packets
 DATA_IDENTIFIERS = range(0x10, 0x20)
@@ -33,7 +34,7 @@ def survey(data: bytes, page: Page, pid: int | None = None, size: int | None = N
 
 
 def pes_file_lines(data: bytes, page: Page) -> list[str]:
-    """Yield the lines about a file of PES packets."""
+    """Return the lines about a file of PES packets."""
     lines = ["size 0"]
     pes = PesLines(0, page, lines.append)
     place, damage = 0, ""
@@ -82,6 +83,8 @@ class Stream:
                 skipped += one.length
                 for teletext in self.teletext.values():
                     teletext.stretch.is_hurt |= one.length >= UNSEEN * self.size
+            elif one.pid == NULL:
+                self.place += 1
             else:
                 self.take(Packet(one.data))
         if not is_short and len(data) % READ:
@@ -93,7 +96,7 @@ class Stream:
 
     def end(self) -> None:
         for teletext in self.teletext.values():
-            teletext.print_jumps()
+            teletext.print_jumps(inf)
         for video in self.video.values():
             video.end()
         for _, teletext in sorted(self.teletext.items()):
@@ -110,8 +113,6 @@ class Stream:
     def take(self, packet: Packet) -> None:
         pid = packet.pid
         self.place += 1
-        if pid == NULL:
-            return
         self.counters.take(packet, self.place)
         if pid in self.clocks:
             self.take_pcr(self.clocks[pid], packet)
@@ -148,8 +149,6 @@ class Stream:
             elif self.asked is None:
                 self.follow(packet.pid)
 
-    # Tables
-
     def take_section(self, pid: int, section: bytes) -> None:
         if pid == 0 and section[0] == PAT:
             for one in pids_in(section):
@@ -173,8 +172,6 @@ class Stream:
                 self.say(f"announce {stream.pid} {page}")
             if stream.announced and self.asked is None:
                 self.follow(stream.pid)
-
-    # Clocks
 
     def take_pcr(self, clock: Clock, packet: Packet) -> None:
         if packet.is_discontinuity:

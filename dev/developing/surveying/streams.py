@@ -15,8 +15,7 @@ from subtitles.formats.teletext import START, Page, page_name
 from .tables import checked
 
 FULL = PACKET - 4
-BEGINS = 0x40
-RANDOM_ACCESS, PCR_FLAG = 0x40, 0x10
+BEGINS, RANDOM_ACCESS, PCR_FLAG = 0x40, 0x40, 0x10
 MPEG_1, MPEG_2, H264, HEVC = 0x01, 0x02, 0x1B, 0x24  # stream_type
 NO_PCR = 0x1FFF
 FIRST_PCR = 0x11F  # PCR_PID of the first programme, if it has a PID of its own
@@ -178,7 +177,7 @@ def picture_pes(chance: Random, kind: int, pts: int, dts: int, is_first: bool, i
         changed[place] = chance.choice(values)
         head = bytes(changed)
     codes = [code for code in BEFORE_PICTURE[kind] if is_first and chance.random() < 0.8]
-    for code in [*codes, chance.choice(OF_PICTURE[kind]), *codes[:chance.choice([0, 0, 0, 4])]]:
+    for code in [*codes, chance.choice(OF_PICTURE[kind]), *BEFORE_PICTURE[kind][:chance.choice([0, 0, 4])]]:
         head += b"\0" * chance.choice([2, 2, 3]) + bytes([1, code]) \
             + chance.randbytes(chance.choice([4, 8, 60, 200]))
     return head
@@ -199,7 +198,7 @@ class Programme:
         self.chance, self.mux, self.number, self.length = chance, mux, number, length
         self.pmt_pid, first, self.version = 0x20 + number, 0x100 + 16 * number, 0
         self.origin = chance.choice([900_000, CLOCK - 200_000, chance.randrange(CLOCK)])
-        self.jumps = self.random_jumps(JUMPS, chance.choice([0, 0, 0, 1, 2]))
+        self.jumps = self.random_jumps(JUMPS, chance.choice([0, 0, 0, 1, 2, 5]))
         self.events: list[Event] = []
         self.streams: list[tuple[int, int, bool]] = []  # stream_type, PID, whether it is announced
         videos, teletexts = chance.choice([0, 1, 1, 1, 2]), chance.choice([0, 1, 1, 1, 2, 3])
@@ -301,7 +300,8 @@ class Programme:
         """Make another version of the PMT."""
         self.version = (self.version + 1) % 32
         info = random_descriptors(self.chance, False)
-        self.pmt = struct.pack(">HH", 0xE000 | self.clock, 0xF000 | len(info)) + info
+        clock = self.clock if self.chance.random() < 0.9 else FIRST_PCR
+        self.pmt = struct.pack(">HH", 0xE000 | clock, 0xF000 | len(info)) + info
         for kind, pid, is_announced in self.streams:
             if self.chance.random() < 0.15:
                 continue
@@ -352,7 +352,8 @@ def announce_jump(chance: Random, units: list[Unit]) -> None:
     if chance.random() < 0.3:
         place, bit = chance.choice([(1, 0x80), (3, 0x40), (3, 0x10), (5, 0x80)])
         announcing[place] ^= bit
-    units[at:at + chance.choice([0, 1])] = [Unit(bytes(announcing), 0)]
+    one, made = units[at], Unit(bytes(announcing), 0)
+    units[at:at + 1] = chance.choice([[made], [made, one], [made, made], [one, made, one]])
     for place in range(at + 1, len(units)):
         data = units[place].packet
         if is_packet(units[place]) and pid_of(units[place]) == pid:
@@ -403,11 +404,12 @@ def random_recording(seed: int) -> Recording:
                 change(chance, units, size)
             else:
                 announce_jump(chance, units)
-    for _ in range(4 if chance.random() < 0.05 else 0):
+    for _ in range(4 if chance.random() < 0.08 else 0):  # null packets
         many = (NULL + bytes(size - PACKET)) * 1700
         units.insert(chance.randrange(len(units) + 1), Unit(many + NULL))
-    if chance.random() < 0.03:
-        units = [one for one in units if chance.random() < 0.7]
+    if chance.random() < 0.05:  # as many breaks as are kept, or one more
+        units += [Unit(bytes([SYNC, 0x1F, 0xF0, 0x10 + 8 * (at % 2)]).ljust(PACKET, b"\xff"))
+                  for at in range(chance.choice([256, 257]))]
     data = stream_of(chance, units, size)
     if chance.random() < 0.05:  # a few packets of another size
         data = stream_of(chance, units[:4], chance.choice(SIZES)) + data

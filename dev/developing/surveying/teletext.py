@@ -220,19 +220,16 @@ class Teletext:
         """Note a PCR of the programme."""
         if jump:
             self.waiting.append((jump, self.settled, None))
-            if len(self.waiting) > MOST_JUMPS:
-                self.print_jump()
+            self.print_jumps(jump.last)
         self.settled = self.last_pts
 
-    def print_jumps(self, place: int | None = None) -> None:
-        """Print the jumps that have waited long enough, or all."""
-        while self.waiting and (place is None or place - self.waiting[0][0].last > MOST_PACKETS):
-            self.print_jump()
-
-    def print_jump(self) -> None:
-        jump, before, after = self.waiting.pop(0)
-        self.say(f"clock {self.pid} {number(before)} {number(after)} {jump.fields} "
-                 f"{self.counters.word(jump, self.pid)}")
+    def print_jumps(self, place: float) -> None:
+        """Print the jumps that need not wait at a TS packet."""
+        while len(self.waiting) > MOST_JUMPS or self.waiting \
+                and place - self.waiting[0][0].last > MOST_PACKETS:
+            jump, before, after = self.waiting.pop(0)
+            self.say(f"clock {self.pid} {number(before)} {number(after)} {jump.fields} "
+                     f"{self.counters.word(jump, self.pid)}")
 
     def end(self) -> None:
         self.has_gap |= self.is_wrong_last and self.stretch.before is not None
