@@ -6,7 +6,7 @@ use std::io::{self, ErrorKind, Read, Write};
 use sub_files::{FileSystem, Found};
 use sub_io::{FromRead, IntoFile};
 
-/// The name of the entry for the file to which standard output goes.
+/// The name of the entry for the file that receives standard output.
 pub const STANDARD_OUTPUT: &str = "standard output";
 
 /// A name in the file system, with its file.

@@ -147,9 +147,9 @@ IsEmptySource input = input.call.known ≡ Some []
 abbrev pub IsEmptyFile : InputCall → SinkCall → Type 0
 IsEmptyFile first call = call.old ≡ Some []
 
--- An output file with a buffer, and its use by the answer to a request. The file was closed in the
--- state in which the answer left it. Its device is given by the functions for its contents and its
--- number of failed calls, and by the relation for closing.
+-- An output file with a buffer, and its use by the answer to a request. The file was closed in its
+-- state after the answer. Its device is given by the functions for its contents and its number of
+-- failed calls, and by the relation for closing.
 pub record IsClosedAfter
     {D : Type 0} (contents : D → Option (List ℕ)) (failure_count : D → ℕ) (IsClose : D → D → Type 0)
     (request : Request) (old new : BufferState D) (first : InputCall) (call : SinkCall)
@@ -180,9 +180,9 @@ pub record IsReadFrom
       new
       input
 
--- An output file that was written through an initially empty buffer, and then closed in the state
--- in which the answer left it. If the run ends with `Done`, the buffer is empty, no call has
--- failed, and the file is stored.
+-- An output file that was written through an initially empty buffer, and then closed in its state
+-- after the answer. If the run ends with `Done`, the buffer is empty, no call has failed, and the
+-- file is stored.
 pub record IsWrittenTo
     {O : Type 0} (contents : O → Option (List ℕ)) (failure_count : O → ℕ) (is_stored : O → Bool)
     (IsClose : O → O → Type 0) (request : Request) (result : Status) (file left : O)
@@ -283,7 +283,7 @@ Fits (names.Write name other) (Write stl output) = Unit {0}
 Fits (names.Extract name other) (Extract recording output) = Unit {0}
 Fits names opened = ⊥
 
--- The files of a request, in the states in which the answer left them.
+-- The files of a request, in their states after the answer.
 pub record FilesLeft (I O : Type 0) : Type 0 where
   pub first : Option I
   pub second : Option I
@@ -300,7 +300,7 @@ abbrev pub output_alone : {I O : Type 0} → Option O → List (FileCall I O)
 output_alone (Some file) = ReleaseOutput file ∷ []
 output_alone None = []
 
--- The calls that release each file of a request once, in the state in which the answer left it.
+-- The calls that release each file of a request once, in its state after the answer.
 abbrev pub release : {I O : Type 0} → FilesLeft I O → List (FileCall I O)
 release left = input_before left.first (input_before left.second (output_alone left.file))
 
@@ -316,8 +316,8 @@ EndsOverFiles known IsClose request devices left IsAlone old new result =
     (left.second ≡ devices.second)
     (IsSinkOf known IsClose request result devices.file left.file) IsAlone old new result
 
--- A request was answered with its files, and then the files were released, in the states in which
--- the answer left them.
+-- A request was answered with its files, and then the files were released, in their states after
+-- the answer.
 pub record EndsAndReleases
     {I O : Type 0} (AreMade : List (FileCall I O) → Type 0) (known : FileObservations I O)
     (IsClose : O → O → Type 0) (request : Request) (devices : Devices I O)
@@ -328,7 +328,7 @@ pub record EndsAndReleases
   pub ends : EndsOverFiles known IsClose request devices left IsAlone old new result
 
 -- The files that a request names were opened; the request was answered; the output was flushed; and
--- the files were released, in the states in which the answer left them. No other calls were made.
+-- the files were released, in their states after the answer. No other calls were made.
 pub record Ends
     {I O : Type 0} (AreMade : List (FileCall I O) → Type 0) (known : FileObservations I O)
     (IsClose : O → O → Type 0) (request : Request) (IsAlone : Lines → Type 0) (old new : Lines)

@@ -21,8 +21,8 @@ use sub_listing::Status;
 use sub_request::{Request, UsageFault};
 
 /// Opens the files that the request names, allocates their buffers, and answers the request. Then
-/// flushes the output, and releases the files in the states in which the answer left them. `files`
-/// is called only for files that the request names.
+/// flushes the output, and releases the files in their states after the answer. `files` is called
+/// only for files that the request names.
 ///
 /// # Errors
 ///

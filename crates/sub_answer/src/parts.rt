@@ -24,7 +24,7 @@ use ttx_pes::{
 };
 
 /// Answers a request that reads a part of one source and may write a file. Returns the source in
-/// the state in which the answer left it.
+/// its state after the answer.
 pub fn answer_part<S: Source + Drop, F: Close, O: FlushPending<F>>(
     alloc: Global,
     request: &Request<'_>,
@@ -106,7 +106,7 @@ fn answer_range<P: NumberedPesPackets, F: Close, O: FlushPending<F>>(
 }
 
 /// Answers a request that reads a source and a part of a second source. Returns the second source
-/// in the state in which the answer left it.
+/// in its state after the answer.
 pub fn answer_second_part<S: Source, T: Source + Drop, K: Sink>(
     alloc: Global,
     request: &Request<'_>,

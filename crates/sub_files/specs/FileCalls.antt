@@ -8,15 +8,15 @@ use Rattle.sub_files.specs.declared.apart.Found.{Found}
 pub data FileCall (I O : Type 0) : Type 0 where
   -- Looks up a file by its name.
   LookUp : (name : List ℕ) → Found → FileCall I O
-  -- Looks up the file to which standard output goes.
+  -- Looks up the file that receives standard output.
   LookUpStandardOutput : Found → FileCall I O
   -- Opens a file for reading; `None` if the file can't be opened.
   Open : (name : List ℕ) → Option I → FileCall I O
   -- Creates a file for writing; `None` if the file can't be created.
   Create : (name : List ℕ) → Option O → FileCall I O
-  -- Releases a file that was read, in the state in which it was left.
+  -- Releases a file that was read, in its final state.
   ReleaseInput : I → FileCall I O
-  -- Releases a file that was written, in the state in which it was left.
+  -- Releases a file that was written, in its final state.
   ReleaseOutput : O → FileCall I O
 
 -- The call relation of a device about which nothing is known: a call may change any state into any

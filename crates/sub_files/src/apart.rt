@@ -1,5 +1,5 @@
-//! Checks that the output file differs from the input file and from the file to which standard
-//! output goes.
+//! Checks that the output file differs from the input file and from the file that receives standard
+//! output.
 ghost use Rattle.std.specs.Prelude.{◌≡◌};
 ghost use Rattle.sub_files.specs.Apart.{are_other_files, is_apart};
 
@@ -29,7 +29,7 @@ pub fn is_apart(input: Found, output: Found) -> bool
     }
 }
 
-/// Returns `true` unless standard output goes to the output file: both were found, with the same
+/// Returns `true` unless the output file receives standard output: both were found, with the same
 /// device and inode.
 pub fn are_other_files(standard_output: Found, output: Found) -> bool
     ensures { result ≡ are_other_files standard_output output }

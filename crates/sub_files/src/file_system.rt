@@ -2,8 +2,8 @@
 //! in memory.
 //!
 //! No contract of std says which file the system opens for a name, so clauses specify the calls of
-//! a `FileSystem`, their names and their order. Each file is released at the end, in the state in
-//! which the command left it, so clauses also cover a file after the command's result.
+//! a `FileSystem`, their names and their order. Each file is released at the end, in its state
+//! after the command, so clauses also cover a file after the command's result.
 ghost use Rattle.std.specs.Prelude.{◌≡◌, IfSome, Option};
 ghost use Rattle.sub_files.specs.FileCalls.{FileCall, any_file_call};
 
@@ -26,7 +26,7 @@ pub trait FileSystem {
     fn look_up(&mut self, name: &str) -> Found
         ensures { is_call self.old (FileCall.LookUp name.now result) self.new };
 
-    /// Looks up the file to which standard output goes. Returns `Nothing` if standard output is a
+    /// Looks up the file that receives standard output. Returns `Nothing` if standard output is a
     /// pipe, a terminal or another device, or unknown.
     fn look_up_standard_output(&mut self) -> Found
         ensures { is_call self.old (FileCall.LookUpStandardOutput result) self.new };
@@ -42,8 +42,8 @@ pub trait FileSystem {
         ensures call { is_call self.old (FileCall.Create name.now result) self.new }
         ensures unused { IfSome result (λ file. Self.Output.failure_count file ≡ 0) };
 
-    /// Drops a file that was opened for reading. The argument shows the state in which the command
-    /// left the file.
+    /// Drops a file that was opened for reading. The argument is the file's state after the
+    /// command.
     fn release_input(&mut self, file: Self::Input)
         ensures { is_call self.old (FileCall.ReleaseInput file) self.new };
 

@@ -111,7 +111,7 @@ pub struct LookedUp {
 }
 
 /// Creates a file for writing, if the lookups show that this empties neither the input nor the file
-/// to which standard output goes. Otherwise returns `None` without a call.
+/// that receives standard output. Otherwise returns `None` without a call.
 pub fn create_other_file<D: FileSystem>(
     files: &mut D,
     output: &Output<'_>,

@@ -132,7 +132,7 @@ fn open_and_extract<D: FileSystem>(
     }
 }
 
-// Looks up the names of the input and the output, and the file to which standard output goes.
+// Looks up the names of the input and the output, and the file that receives standard output.
 fn look_up_all<D: FileSystem>(files: &mut D, name: &str, output: &Output<'_>) -> LookedUp
     ensures { CallsInOrder D.is_call files.old files.new
         (FileCall.LookUp name.now result.input ∷ FileCall.LookUp output.now result.output

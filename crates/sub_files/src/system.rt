@@ -18,7 +18,7 @@ use sub_io::{FromRead, IntoFile, Store};
 /// The number of bytes for the names of a request's files: Linux opens no file with a longer name.
 pub const NAMES: usize = 2 * 4096;
 
-// The path of the link to the file to which standard output goes.
+// The path of the link to the file that receives standard output.
 const STANDARD_OUTPUT: &str = "/proc/self/fd/1";
 
 /// The files of the operating system.
