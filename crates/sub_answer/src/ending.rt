@@ -129,8 +129,7 @@ pub fn answer_pes_packets<P: NumberedPesPackets, F: Close, O: FlushPending<F>>(
     answer_and_flush(alloc, request, &mut nothing, pes, file, out)
 }
 
-// Answers a request with these devices, closes the output file, and
-// then flushes the output.
+// Answers a request with these devices, closes the output file, and then flushes the output.
 //
 // If the status is `Done`, the buffers of the file and of the output are empty, and no call of
 // either sink has failed: the devices have received all bytes, and the output file is stored.
