@@ -1,4 +1,4 @@
--- What the answers of `check` and of `check --all` have in common.
+-- Common parts of the answers of `check` and `check --all`.
 use Rattle.std.specs.Prelude.{◌≡◌, ◌≢◌, ◌↔◌, ℕ, Bool, true, IsFalse, Result, Err}
 use Rattle.sub_io.specs.Device.{CountRisesIf, failed}
 use Rattle.sub_io.specs.Reading.{IfKnown}
@@ -15,7 +15,7 @@ use Rattle.sub_listing.specs.DeviceCall.{SinkCall, SourceCall}
 use Rattle.sub_listing.specs.declared.status.Status.{Status}
 use Rattle.sub_listing.specs.declared.status.Status.TheVariants.{Done, Fault}
 
--- How an answer reports failures of the two sources, a subtitle file and a PES file. `FailsAtBlock`
+-- An answer reports the failures of the two sources, a subtitle file and a PES file. `FailsAtBlock`
 -- and `FailsAtPes` specify at which block or PES packet a source failed.
 pub record ReportsSources
     {Counts : Type 0} (FailsAtBlock FailsAtPes : ℕ → Type 0) (Untouched : Type 0)

@@ -161,7 +161,7 @@ pub record ReportsPes
       → IsAnswer programme options bytes (first_answer events a))
   pub listed : IfKnown pes.known (λ bytes. AreListedOfPes judged options bytes events answer)
 
--- How the answer reports failures of the two sources: it names the block or the PES packet at which
+-- The answer reports the failures of the two sources: it names the block or the PES packet at which
 -- a source failed. If the subtitle file is rejected or can't be read, no byte of the PES file is
 -- read.
 abbrev pub ReportsBothSources :

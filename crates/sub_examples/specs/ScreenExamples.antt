@@ -1,5 +1,5 @@
--- When a receiver shows a page on its screen, and a good transmission that some receivers do not
--- show.
+-- Examples of the time at which a receiver shows a page on its screen, and of a good transmission
+-- that some receivers do not show.
 use Rattle.std.specs.Prelude.{◌≡◌, [], ◌∷◌, false, Option, Some, None}
 use Rattle.ttx_page.specs.Page.{Rows, blank}
 use Rattle.ttx_page.specs.Receiver.ReceiverClass.{Storing}

@@ -1,5 +1,5 @@
-//! When a receiver shows a page on its screen, and a good transmission that some receivers do not
-//! show.
+//! Examples of the time at which a receiver shows a page on its screen, and of a good transmission
+//! that some receivers do not show.
 //!
 //! The examples test the definitions of `specs/`. The functions have no body.
 ghost use Rattle.sub_examples.specs.ScreenExamples.{ExampleOfEndedPage, ExampleOfNoEnd};

@@ -1,5 +1,5 @@
--- Which files `check` accepts with options that require the expected page at the end of each frame,
--- and each header of the page to erase the page.
+-- The files that `check` accepts with options that require the expected page at the end of each
+-- frame, and each header of the page to erase the page.
 use Rattle.std.specs.Prelude.{◌≡◌, ◌↔◌, ℕ, List, IsFalse}
 use Rattle.stl_rows.specs.Layout.{default_layout, drawing_by}
 use Rattle.stl_rows.specs.declared.layout.Drawing.{Drawing}

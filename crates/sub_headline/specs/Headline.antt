@@ -1,4 +1,4 @@
--- What the exit code of `check` implies for the contents of the subtitle file and the recording.
+-- The statements about the subtitle file and the recording that the exit code of `check` implies.
 use Rattle.std.specs.Prelude.{◌≡◌, ◌≢◌, ◌↔◌, ℕ, List, [], ◌∷◌, Option, Some, Ok, Result, codes}
 use Rattle.std.specs.Prelude.{IsTrue}
 use Rattle.std.specs.List.{flat_map}
