@@ -10,7 +10,7 @@ import time
 from typing import Iterator, NamedTuple
 from unittest import mock
 
-from subtitles.air import check
+from subtitles.air import check, main
 from subtitles.air.check import Checker, Outcome
 from subtitles.air.schedule import read_schedule
 from subtitles.air.segments import Unbroken, segment_name, segments_between, stretches_in
@@ -224,6 +224,11 @@ class Calls(Feeds):
         for line, message in rows.items():
             done = self.tool("air", *line.split())
             self.check(line or "none", (done.status, done.told), (2, [f"air: {message}"]))
+
+    def test_records_with_limits_in_seconds_and_bytes(self) -> None:
+        with mock.patch.object(main, "record") as record:
+            main.main("", ["record", self.path("feed"), *"--length 7 --keep 3 --free 5".split()])
+        self.check("limits", record.call_args[0][2], (7, 3 * 3600, 5_000_000))
 
     def test_refuses_a_folder_that_another_call_writes(self) -> None:
         self.write("schedule", b"")
