@@ -162,7 +162,9 @@ class Judged(Air):
         self.put_segments(0, 900)
         os.rename(self.path("one.stl"), self.path("later.stl"))
         checker = FakeChecker({NAME: Sent(600, 660)})
-        judge = self.run_judge(checker, 2000)
+        judge = self.run_judge(checker, 725)
+        self.check("it is not late yet", judge.monitor.late, [])
+        judge.look(DAY + 725)
         self.check("it is late", judge.monitor.late, [NAME])
         os.rename(self.path("later.stl"), self.path("one.stl"))
         self.run_judge(checker, 2100, 2000)
@@ -222,6 +224,9 @@ class Judged(Air):
         judge.look(DAY + 700)
         self.check("results", self.verdicts(), {NAME: "relative"})
         self.check("alarms", "schedule" in judge.monitor.alarms(), True)
+        self.write_schedule("2026-12-01T08:10:00Z one.stl")
+        judge.look(DAY + 705)
+        self.check("it is there again", "schedule" in judge.monitor.alarms(), False)
 
     def test_judges_two_pages_on_the_same_segments(self) -> None:
         self.write_schedule("2026-12-01T08:10:00Z one.stl",
