@@ -38,9 +38,10 @@ TOP = os.path.join(os.path.dirname(os.path.realpath(__file__)), "..")
 TOOLS = os.path.join(TOP, "tools")
 sys.path[:0] = [TOOLS, os.path.join(TOP, "dev")]
 from developing.pes import (  # noqa: E402
-    DATA, FIRST_LINE, MIRROR, STUFFING_UNIT, UNIT, mirrored, odd, packet, pts_bytes)
+    DATA, FIRST_LINE, MIRROR, STUFFING_UNIT, UNIT, reverse_bits, add_odd_parity, make_packet,
+    encode_pts)
 from developing.stl import (  # noqa: E402
-    DOUBLE_HEIGHT, END_BOX, START_BOX, boxed, gsi_block, subtitle_blocks)
+    DOUBLE_HEIGHT, END_BOX, START_BOX, box_line, make_gsi_block, make_subtitle_blocks)
 from subtitles.common.program import built_program  # noqa: E402
 from subtitles.common.times import FRAMES_A_SECOND, FRAMES_OF_A_DAY, TICKS  # noqa: E402
 from subtitles.formats.stl import NEW_LINE, TTI  # noqa: E402
@@ -57,9 +58,9 @@ Shown = tuple[int, int, int, bytes]  # first frame, end frame, row and text
 
 
 def stl_file(subtitles: list[Shown]) -> bytes:
-    made = [subtitle_blocks(number, begin, end, row, 2, text)
+    made = [make_subtitle_blocks(number, begin, end, row, 2, text)
             for number, (begin, end, row, text) in enumerate(subtitles)]
-    return gsi_block(b"Measured", sum(map(len, made)) // TTI, len(made)) + b"".join(made)
+    return make_gsi_block(b"Measured", sum(map(len, made)) // TTI, len(made)) + b"".join(made)
 
 
 def subtitles_of(kind: str, count: int) -> Iterator[Shown]:
@@ -88,12 +89,12 @@ def break_pes(kind: str, data: bytearray) -> bytearray:
     """Return the transmission of day with faults."""
     if kind == "cells":
         for number, begin in enumerate(range(0, len(data), SENDING)):
-            data[begin + FIRST_LETTER + number % LETTERS] = MIRROR[odd(ord("*"))]
+            data[begin + FIRST_LETTER + number % LETTERS] = MIRROR[add_odd_parity(ord("*"))]
     elif kind == "passed":
         data[DATA - 1::2 * SENDING] = bytes([0x20]) * len(data[DATA - 1::2 * SENDING])
         data[SENDING + DATA + 1::2 * SENDING] = bytes(len(data[SENDING + DATA + 1::2 * SENDING]))
     else:
-        both = [data[:9] + pts_bytes(TICKS * frame) + data[14:SENDING]
+        both = [data[:9] + encode_pts(TICKS * frame) + data[14:SENDING]
                 for frame in (0, FRAMES_OF_A_DAY - 1)]
         return bytearray().join(both) * (len(data) // SENDING // 2)
     return data
@@ -110,8 +111,8 @@ AFTER_PTS = b"\xff" * 31 + b"\x10"
 OTHER, SUBTITLE = 2, 3  # data_unit_id
 PLACES = {kind: [bytes([kind, 0x2C, 0xE0 | FIRST_LINE + unit, 0xE4]) for unit in range(UNITS)]
           for kind in (OTHER, SUBTITLE)}
-CLOSING = mirrored(packet(0, 0, [15, 15, 15, 7, 15, 3, 0, 0], b" " * 32))
-HEADER = mirrored(packet(0, 0, [8, 8, 0, 8, 0, 8, 1, 0], b" " * 32))
+CLOSING = reverse_bits(make_packet(0, 0, [15, 15, 15, 7, 15, 3, 0, 0], b" " * 32))
+HEADER = reverse_bits(make_packet(0, 0, [8, 8, 0, 8, 0, 8, 1, 0], b" " * 32))
 Texts = list[tuple[bytes, bytes]]  # of each round in which a subtitle ends
 
 
@@ -124,11 +125,11 @@ def page(chance: random.Random, magazine: int, number: int) -> list[bytes]:
     """Return the packets of a page: header, rows, packet X/27."""
     title = b"%d%02d Page of the carousel" % (magazine or 8, number)
     numbers = [number % 10, number // 10, 0, 0, 0, 0, 2, 0]  # C8, update indicator
-    made = [packet(magazine, 0, numbers, title.ljust(32))]
-    made += [packet(magazine, row, (), letters(chance, 40)) for row in range(1, 24)]
+    made = [make_packet(magazine, 0, numbers, title.ljust(32))]
+    made += [make_packet(magazine, row, (), letters(chance, 40)) for row in range(1, 24)]
     links = bytes([CODE_WORDS[0]]) + chance.randbytes(39)
-    made.append(packet(magazine, 27, (), b"") + links)
-    return [mirrored(one) for one in made]
+    made.append(make_packet(magazine, 27, (), b"") + links)
+    return [reverse_bits(one) for one in made]
 
 
 class Carousel:
@@ -154,7 +155,7 @@ class Service:
         self.magazines = [Carousel(chance, magazine, 90) for magazine in (1, 2, 3)]
         self.magazines.append(Carousel(chance, 0, 88))
         self.turns = itertools.cycle(self.magazines)
-        self.service_data = mirrored(packet(0, 30, [0], b"") + chance.randbytes(39))
+        self.service_data = reverse_bits(make_packet(0, 30, [0], b"") + chance.randbytes(39))
 
     def turn(self, is_waiting: bool) -> Carousel:
         """Return the next magazine; while rows wait, none of their own magazine."""
@@ -172,7 +173,7 @@ class Service:
             units.append(self.service_data)
         units += [self.turn(is_waiting).next() for _ in range(UNITS - len(units))]
         data = b"".join(map(bytes.__add__, heads, units))
-        return HEAD + pts_bytes(TICKS * frame) + AFTER_PTS + data + STUFFING_UNIT * 3
+        return HEAD + encode_pts(TICKS * frame) + AFTER_PTS + data + STUFFING_UNIT * 3
 
 
 def rows_of(texts: Texts, frame: int) -> list[bytes]:
@@ -180,7 +181,7 @@ def rows_of(texts: Texts, frame: int) -> list[bytes]:
     number, place = divmod(frame, ROUND)
     if place >= SHOWN or number >= len(texts):
         return []
-    return [mirrored(packet(0, row, (), (b"  " + boxed(line)).ljust(40)))
+    return [reverse_bits(make_packet(0, row, (), (b"  " + box_line(line)).ljust(40)))
             for row, line in zip(ROWS, texts[number])]
 
 
@@ -205,7 +206,7 @@ def make(program: str, kind: str, count: int, stl: str, pes: str) -> None:
         texts = [(letters(chance, LINE), letters(chance, LINE))
                  for _ in range(SHOWN, count, ROUND)]
         data = stl_file([(ROUND * number, ROUND * number + SHOWN, ROWS[0],
-                          (NEW_LINE * 2).join(map(boxed, lines)))
+                          (NEW_LINE * 2).join(map(box_line, lines)))
                          for number, lines in enumerate(texts)])
         with open(pes, "wb") as file:
             write_service(file, count, texts, kind == "late")

@@ -7,11 +7,11 @@ import sys
 
 sys.dont_write_bytecode = True
 sys.path.insert(0, os.path.dirname(os.path.realpath(__file__)))
-from developing.compiled import compiled  # noqa: E402
+from developing.compiled import use_compiled_tools  # noqa: E402
 from developing.tests.bench import BENCH  # noqa: E402
 from subtitles.common.program import built_program  # noqa: E402
 
-COMPILED = compiled()
+COMPILED = use_compiled_tools()
 
 
 def pytest_configure() -> None:

@@ -42,7 +42,7 @@ TOOLS = os.path.join(os.path.dirname(DEV), "tools")
 sys.path.insert(1, TOOLS)  # after the script's own folder
 
 
-def counts_in(said: str, status: int) -> tuple[int, int] | None:
+def read_counts(said: str, status: int) -> tuple[int, int] | None:
     """Return the counts of a script's last line, `N passed, M failed`.
 
     Return `None` if there is no such line, or if the exit status contradicts it.

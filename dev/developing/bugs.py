@@ -9,10 +9,10 @@ MODULE = "<module>"  # name for code outside of functions
 LONG_TABLE = 12  # elements; the numbers of longer tables are not changed
 OPERATORS = ((ast.Lt, ast.LtE), (ast.Gt, ast.GtE), (ast.Eq, ast.NotEq), (ast.In, ast.NotIn),
              (ast.Is, ast.IsNot), (ast.And, ast.Or), (ast.Add, ast.Sub))
-OTHER: dict[type[ast.AST], type[Any]] = {
+OPPOSITE_OPERATORS: dict[type[ast.AST], type[Any]] = {
     old: new for pair in OPERATORS for old, new in (pair, pair[::-1])}
 PAIRS = (("any", "all"), ("min", "max"), ("first", "last"), ("begin", "end"), ("before", "after"))
-TWINS = {old: new for pair in PAIRS for old, new in (pair, pair[::-1])}
+SIMILAR_NAMES = {old: new for pair in PAIRS for old, new in (pair, pair[::-1])}
 Changes = Iterator[tuple[str, ast.AST]]
 
 
@@ -28,7 +28,7 @@ class Bug(NamedTuple):
     text: str
 
 
-def constant(value: object) -> ast.Constant:
+def make_constant(value: object) -> ast.Constant:
     return ast.Constant(value)
 
 
@@ -42,65 +42,66 @@ def drop_item(items: list[Any], at: int) -> list[Any]:
     return items[:at] + items[at + 1:]
 
 
-def of_compare(node: Any) -> Changes:
+def change_comparison(node: Any) -> Changes:
     for at, operator in enumerate(node.ops):
-        if type(operator) in OTHER:
-            ops = [*node.ops[:at], OTHER[type(operator)](), *node.ops[at + 1:]]
+        if type(operator) in OPPOSITE_OPERATORS:
+            ops = [*node.ops[:at], OPPOSITE_OPERATORS[type(operator)](), *node.ops[at + 1:]]
             yield "comparison", replace_part(node, "ops", ops)
 
 
-def of_bool(node: Any) -> Changes:
-    yield "and, or", replace_part(node, "op", OTHER[type(node.op)]())
+def change_boolean(node: Any) -> Changes:
+    yield "and, or", replace_part(node, "op", OPPOSITE_OPERATORS[type(node.op)]())
     for at in range(len(node.values)):
         rest = drop_item(node.values, at)
         yield "condition dropped", rest[0] if len(rest) == 1 else replace_part(node, "values", rest)
 
 
-def of_unary(node: Any) -> Changes:
+def change_unary(node: Any) -> Changes:
     if isinstance(node.op, (ast.Not, ast.USub)):
         yield "sign", node.operand
 
 
-def of_binary(node: Any) -> Changes:
+def change_binary(node: Any) -> Changes:
     operands = (node.left, node.right)
     is_text = any(isinstance(operand, ast.JoinedStr)
                   or isinstance(getattr(operand, "value", 0), str) for operand in operands)
-    if type(node.op) in OTHER and not is_text:
-        yield "sign", replace_part(node, "op", OTHER[type(node.op)]())
+    if type(node.op) in OPPOSITE_OPERATORS and not is_text:
+        yield "sign", replace_part(node, "op", OPPOSITE_OPERATORS[type(node.op)]())
     if isinstance(node.op, ast.Mod) and not is_text:
         yield "wrap dropped", node.left
 
 
-def of_name(node: Any) -> Changes:
+def change_name(node: Any) -> Changes:
     name = node.id if isinstance(node, ast.Name) else node.attr
-    if name in TWINS and isinstance(node.ctx, ast.Load):
-        yield "other one", replace_part(node, node._fields[-2], TWINS[name])
+    if name in SIMILAR_NAMES and isinstance(node.ctx, ast.Load):
+        yield "other one", replace_part(node, node._fields[-2], SIMILAR_NAMES[name])
 
 
-def of_constant(node: Any) -> Changes:
+def change_constant(node: Any) -> Changes:
     if isinstance(node.value, bool):
-        yield "truth", constant(not node.value)
+        yield "truth", make_constant(not node.value)
     elif isinstance(node.value, int):
-        yield "off by one", constant(node.value + 1)
+        yield "off by one", make_constant(node.value + 1)
         if node.value:
-            yield "off by one", constant(node.value - 1)
+            yield "off by one", make_constant(node.value - 1)
 
 
-def of_subscript(node: Any) -> Changes:
+def change_subscript(node: Any) -> Changes:
     if isinstance(node.slice, ast.Constant) and node.slice.value == 0:
-        yield "last for first", replace_part(node, "slice", constant(-1))
+        yield "last for first", replace_part(node, "slice", make_constant(-1))
     if ast.unparse(node.slice) == "-1":
-        yield "first for last", replace_part(node, "slice", constant(0))
+        yield "first for last", replace_part(node, "slice", make_constant(0))
 
 
-def of_slice(node: Any) -> Changes:
+def change_slice(node: Any) -> Changes:
     for name in ("lower", "upper"):
         bound = getattr(node, name)
         if bound and not isinstance(bound, (ast.Constant, ast.UnaryOp)):
-            yield "off by one", replace_part(node, name, ast.BinOp(bound, ast.Add(), constant(1)))
+            yield "off by one", replace_part(node, name,
+                                             ast.BinOp(bound, ast.Add(), make_constant(1)))
 
 
-def of_call(node: Any) -> Changes:
+def change_call(node: Any) -> Changes:
     for at in range(len(node.keywords)):
         yield "default", replace_part(node, "keywords", drop_item(node.keywords, at))
     for at, pair in enumerate(zip(node.args, node.args[1:])):
@@ -110,12 +111,12 @@ def of_call(node: Any) -> Changes:
     if isinstance(node.func, ast.Name) and node.func.id == "range":
         for at, argument in enumerate(node.args):
             if not isinstance(argument, ast.Constant):
-                changed = ast.BinOp(argument, ast.Add(), constant(1))
+                changed = ast.BinOp(argument, ast.Add(), make_constant(1))
                 args = [*node.args[:at], changed, *node.args[at + 1:]]
                 yield "off by one", replace_part(node, "args", args)
 
 
-def of_loop(node: Any) -> Changes:
+def change_loop(node: Any) -> Changes:
     first = ast.parse("__import__('itertools').islice(0, 1)", mode="eval").body
     assert isinstance(first, ast.Call)
     first.args[0] = node.iter
@@ -124,32 +125,36 @@ def of_loop(node: Any) -> Changes:
         yield "condition dropped", replace_part(node, "ifs", drop_item(node.ifs, at))
 
 
-def of_choice(node: Any) -> Changes:
+def change_choice(node: Any) -> Changes:
     is_of_types = ast.unparse(node.test) == "TYPE_CHECKING"  # never true at run time
     for value in () if is_of_types else (True, False):
-        yield "condition made " + str(value).lower(), replace_part(node, "test", constant(value))
+        yield (f"condition made {value}".lower(),
+               replace_part(node, "test", make_constant(value)))
 
 
-def of_statement(node: Any) -> Changes:
+def change_statement(node: Any) -> Changes:
     is_text = isinstance(getattr(node, "value", None), ast.Constant)
     if not is_text and not (isinstance(node, ast.Assign) and isinstance(node.targets[0], ast.Name)):
         yield "statement dropped", ast.copy_location(ast.Pass(), node)
-    if isinstance(node, ast.AugAssign) and type(node.op) in OTHER:
-        yield "sign", replace_part(node, "op", OTHER[type(node.op)]())
+    if isinstance(node, ast.AugAssign) and type(node.op) in OPPOSITE_OPERATORS:
+        yield "sign", replace_part(node, "op", OPPOSITE_OPERATORS[type(node.op)]())
 
 
-def of_jump(node: Any) -> Changes:
+def change_jump(node: Any) -> Changes:
     is_break = isinstance(node, ast.Break)
     yield "loop ends", ast.copy_location(ast.Continue() if is_break else ast.Break(), node)
 
 
 RULES: dict[type[ast.AST], Callable[[Any], Changes]] = {
-    ast.Compare: of_compare, ast.BoolOp: of_bool, ast.UnaryOp: of_unary, ast.BinOp: of_binary,
-    ast.Name: of_name, ast.Attribute: of_name, ast.Constant: of_constant, ast.Slice: of_slice,
-    ast.Subscript: of_subscript, ast.Call: of_call, ast.For: of_loop,
-    ast.comprehension: of_loop, ast.If: of_choice, ast.IfExp: of_choice, ast.Expr: of_statement,
-    ast.Assign: of_statement, ast.AugAssign: of_statement, ast.Break: of_jump,
-    ast.Continue: of_jump}
+    ast.Compare: change_comparison, ast.BoolOp: change_boolean, ast.UnaryOp: change_unary,
+    ast.BinOp: change_binary,
+    ast.Name: change_name, ast.Attribute: change_name, ast.Constant: change_constant,
+    ast.Slice: change_slice,
+    ast.Subscript: change_subscript, ast.Call: change_call, ast.For: change_loop,
+    ast.comprehension: change_loop, ast.If: change_choice, ast.IfExp: change_choice,
+    ast.Expr: change_statement,
+    ast.Assign: change_statement, ast.AugAssign: change_statement, ast.Break: change_jump,
+    ast.Continue: change_jump}
 SKIPPED = ("annotation", "returns", "decorator_list", "exc", "cause", "msg")  # parts of nodes
 
 
@@ -183,18 +188,18 @@ def set_part(node: ast.AST, name: str, at: int | None, new: ast.AST) -> None:
         getattr(node, name)[at] = new
 
 
-def nested_codes(code: CodeType) -> Iterator[CodeType]:
+def list_nested_codes(code: CodeType) -> Iterator[CodeType]:
     """Yield a code object and all those inside, as of functions and classes."""
     yield code
     for constant_value in code.co_consts:
         if isinstance(constant_value, CodeType):
-            yield from nested_codes(constant_value)
+            yield from list_nested_codes(constant_value)
 
 
 def compile_comparable(text: str) -> list[tuple[bytes, str]] | None:
     """Compile a text to values that can be compared; return `None` for invalid text."""
     try:
-        made = nested_codes(compile(text, "", "exec"))
+        made = list_nested_codes(compile(text, "", "exec"))
         return [(code.co_code, repr([value for value in code.co_consts
                                      if not isinstance(value, CodeType)]) + repr(code.co_names)
                  + repr(code.co_varnames)) for code in made]
@@ -207,8 +212,8 @@ def shorten(node: ast.AST) -> str:
     return text if len(text) <= 60 else f"{text[:57]}..."
 
 
-def make_bugs(text: str, one_of: int = 1, at: int = 0) -> Iterator[Bug]:
-    """Yield the bugs of a module that change its code, or each `one_of`th of them from `at` on."""
+def make_bugs(text: str, interval: int = 1, at: int = 0) -> Iterator[Bug]:
+    """Yield the bugs that change a module's code: every `interval`th, from index `at` on."""
     tree = ast.parse(text)
     seen = [compile_comparable(ast.unparse(tree)), None]
     count = 0
@@ -217,7 +222,7 @@ def make_bugs(text: str, one_of: int = 1, at: int = 0) -> Iterator[Bug]:
         old = value if place is None else value[place]
         for kind, new in RULES.get(type(old), lambda _: iter(()))(old):
             count += 1
-            if count % one_of != at:
+            if count % interval != at:
                 continue
             set_part(node, name, place, new)
             made = ast.unparse(ast.fix_missing_locations(tree))

@@ -11,9 +11,9 @@ import re
 from typing import Iterator, Mapping, Optional
 
 from subtitles.common.program import read
-from .definitions import Library, count_reading
-from .promises import ROW as INDEX, index_of
-from .proved import parsed
+from .definitions import Library, count_lines_to_read
+from .promises import ROW as INDEX, find_index
+from .proved import parse_proved
 
 # The documents, and the beginning of the lines that are checked.
 DOCUMENTS = {"docs/HEADLINE.md": "", "docs/ASSURANCE.md": "", "docs/CLAUSES.md": "",
@@ -38,7 +38,7 @@ WORD = re.compile(r"[A-Za-z_]\w*")
 COMMENT = {".rt": re.compile(r"//.*"), ".antt": re.compile(r"(?:^|(?<=\s))--.*", re.M)}
 
 
-class Sources:
+class SourceNames:
     """All words in the sources, and the names of all files and folders."""
 
     def __init__(self, top: str) -> None:
@@ -47,9 +47,9 @@ class Sources:
         for place, folders, names in os.walk(top):
             folders[:] = [name for name in folders if name not in LEFT_OUT]
             for name in [*folders, *names]:
-                self.take(top, os.path.relpath(os.path.join(place, name), top))
+                self.add_path(top, os.path.relpath(os.path.join(place, name), top))
 
-    def take(self, top: str, path: str) -> None:
+    def add_path(self, top: str, path: str) -> None:
         """Add the path of a file or folder, from the top and from its crate, and its words."""
         parts = path.split(os.sep)
         for start in {0, *((1, 2) if parts[0] == "crates" else ())}:
@@ -69,7 +69,7 @@ class Sources:
             text = COMMENT[ending].sub("", text) if ending in COMMENT else text
             self.words.update(WORD.findall(text))
 
-    def lacks(self, quoted: str) -> list[str]:
+    def find_missing_names(self, quoted: str) -> list[str]:
         """Return the names in a quoted text that the sources do not have.
 
         A word in capitals in a path matches any name. A word before `=`, as in a line of the
@@ -91,51 +91,52 @@ class Sources:
         return path in self.paths or any(map(form.fullmatch, self.paths))
 
 
-def unknown_names(top: str) -> dict[str, list[str]]:
+def find_unknown_names(top: str) -> dict[str, list[str]]:
     """Return by document `DOCUMENT:LINE: NAME` of each quoted name that no source has."""
-    sources = Sources(top)
+    sources = SourceNames(top)
     found: dict[str, list[str]] = {}
     for name, start in DOCUMENTS.items():
         with open(os.path.join(top, name), encoding="utf-8") as file:
             text = file.read()
         text = BLOCK.sub(lambda block: "\n" * block[0].count("\n"), text)
-        index = index_of(text)  # its clauses have a test of their own
+        index = find_index(text)  # its clauses have a test of their own
         text = text.replace(index, INDEX.sub(lambda row: row[0].replace(row[2], ""), index))
         if start:
             text = "\n".join(line if line.startswith(start) else "" for line in text.split("\n"))
         found[name] = [f"{name}:{text.count(chr(10), 0, quoted.start()) + 1}: {word}"
-                       for quoted in QUOTED.finditer(text) for word in sources.lacks(quoted[1])]
+                       for quoted in QUOTED.finditer(text)
+                       for word in sources.find_missing_names(quoted[1])]
     return found
 
 
-def rows_of_counts(top: str) -> Iterator[tuple[str, str]]:
+def correct_count_rows(top: str) -> Iterator[tuple[str, str]]:
     """Yield the rows of the table in ASSURANCE, each with the correct row."""
     with open(os.path.join(top, "docs", "ASSURANCE.md"), encoding="utf-8") as file:
         rows, library = list(ROW.finditer(file.read())), Library(top)
     for row in rows:
-        found = count_reading(*library.reading_list(row[2]))
+        found = count_lines_to_read(*library.reading_list(row[2]))
         yield row[0], f"| {row[1]} | `{row[2]}` | {found[0]} | {found[1]} |"
 
 
-def counts_of_readme(top: str) -> Iterator[tuple[str, str]]:
+def correct_readme_counts(top: str) -> Iterator[tuple[str, str]]:
     """Yield the numbers of lines to be read in README, each with the correct one."""
     text, library = read(os.path.join(top, "README.md")) or "", Library(top)
     for name, form in IN_README.items():
         shown = form.search(text)
         yield (f"README: {name} {shown[1] if shown else 'is missing'}",
-               f"README: {name} {count_reading(*library.reading_list(name))[1]}")
+               f"README: {name} {count_lines_to_read(*library.reading_list(name))[1]}")
 
 
-def too_long(top: str, most_lines: Mapping[str, int]) -> Iterator[Optional[str]]:
+def find_long_readings(top: str, most_lines: Mapping[str, int]) -> Iterator[Optional[str]]:
     """Yield for each promise `None`, or a message if too many lines have to be read."""
     library = Library(top)
     for name, most in most_lines.items():
-        lines = count_reading(*library.reading_list(name))[1]
+        lines = count_lines_to_read(*library.reading_list(name))[1]
         yield f"{name} needs {lines} lines to be read, at most {most} are allowed" \
             if lines > most else None
 
 
-def numbers_of(top: str) -> list[int]:
+def count_proof_numbers(top: str) -> list[int]:
     """Count what the rows of ASSURANCE on the proof in numbers name, in their order."""
     def files(*names: str) -> list[str]:
         return glob.glob(os.path.join(glob.escape(top), *names), recursive=True)
@@ -143,7 +144,8 @@ def numbers_of(top: str) -> list[int]:
     def values(key: str) -> list[int]:
         return [int(number) for line in lines for number in re.findall(rf"\b{key}=(\d+)", line)]
 
-    lines = [line for _, line in parsed(read(os.path.join(top, "dist", "PROVED"))).crates.values()]
+    proved = parse_proved(read(os.path.join(top, "dist", "PROVED")))
+    lines = [line for _, line in proved.crates.values()]
     code = [COMMENT[".rt"].sub("", read(path) or "") for path in files("crates", "*", "src", "**",
                                                                        "*.rt")]
     return [sum("logic=proved" in line for line in lines), sum(values("functions")),
@@ -153,10 +155,10 @@ def numbers_of(top: str) -> list[int]:
             len(files("crates", "*", "release-edits", "*.edit"))]
 
 
-def rows_of_numbers(top: str) -> Iterator[tuple[str, str]]:
+def correct_number_rows(top: str) -> Iterator[tuple[str, str]]:
     """Yield the rows of that table, each with the correct row."""
     found = NUMBERS.search(read(os.path.join(top, "docs", "ASSURANCE.md")) or "")
-    rows, numbers = list(NUMBER.finditer(found[0] if found else "")), numbers_of(top)
+    rows, numbers = list(NUMBER.finditer(found[0] if found else "")), count_proof_numbers(top)
     assert len(rows) == len(numbers), f"{len(rows)} rows of numbers in docs/ASSURANCE.md"
     for row, number in zip(rows, numbers):
         yield row[0], f"| {row[1]} | {number:,} |"

@@ -21,10 +21,10 @@ for module in pkgutil.walk_packages(subtitles.__path__, "subtitles."):
 """
 
 
-def compile_beside(folder: str) -> None:
-    """Compile the modules of a folder in place, for calls in `plain_environment` of its copies."""
+def compile_in_place(folder: str) -> None:
+    """Compile the modules of a folder in place, for calls of its copies."""
     subprocess.run([sys.executable, "-m", "compileall", "-q", folder], check=False,
-                   env=plain_environment())
+                   env=make_plain_environment())
 
 
 def share_compiled(folder: str) -> None:
@@ -35,13 +35,13 @@ def share_compiled(folder: str) -> None:
         os.symlink(os.environ[PREFIX] + TOOLS, place)
 
 
-def plain_environment() -> dict[str, str]:
+def make_plain_environment() -> dict[str, str]:
     """Return the environment without the variables about compiled modules."""
     return {name: value for name, value in os.environ.items() if name not in (PREFIX, WRITES_NONE)}
 
 
 @contextlib.contextmanager
-def compiled() -> Iterator[None]:
+def use_compiled_tools() -> Iterator[None]:
     """Let calls inside this context use modules compiled into a temporary folder.
 
     Python compiles a module again if it has changed since.
@@ -52,7 +52,7 @@ def compiled() -> Iterator[None]:
     with tempfile.TemporaryDirectory() as folder:
         os.chmod(folder, 0o755)  # tests run as another user read it
         subprocess.run([sys.executable, "-c", IMPORT_ALL], check=False,
-                       env={**plain_environment(), PREFIX: folder, "PYTHONPATH": TOOLS})
+                       env={**make_plain_environment(), PREFIX: folder, "PYTHONPATH": TOOLS})
         os.environ[PREFIX] = folder
         try:
             yield

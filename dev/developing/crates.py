@@ -23,12 +23,13 @@ def read_lines(path: str = LIST) -> Lines:
     return lines
 
 
-def below(crate: str, lines: Lines) -> list[str]:
+def list_dependencies(crate: str, lines: Lines) -> list[str]:
     """Return the crates of this repository that a crate uses, lowest first."""
     found: list[str] = []
     for name in lines[crate]:
         if name in lines:
-            found += [lower for lower in [*below(name, lines), name] if lower not in found]
+            found += [lower for lower in [*list_dependencies(name, lines), name]
+                      if lower not in found]
     return found
 
 

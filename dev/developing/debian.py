@@ -39,7 +39,7 @@ SCRIPTS = {
 OVERRIDES = f"{NAME}: unstripped-binary-or-object [usr/bin/subttx]\n"
 
 
-def maintainer() -> str:
+def find_maintainer() -> str:
     """Return the maintainer, from the variables that Debian's tools read."""
     address = os.environ.get("DEBEMAIL", "")
     if "<" in address:
@@ -47,19 +47,19 @@ def maintainer() -> str:
     return f"{os.environ.get('DEBFULLNAME') or NAME} <{address}>" if address else NOBODY
 
 
-def write_packed(path: str, data: bytes) -> None:
+def write_gzip(path: str, data: bytes) -> None:
     """Write a gzip file; the same data give the same bytes."""
     os.makedirs(os.path.dirname(path), exist_ok=True)
     with open(path, "wb") as file, gzip.GzipFile("", "wb", 9, file, 0) as packed:
         packed.write(data)
 
 
-def pack_man_pages(root: str) -> None:
+def compress_man_pages(root: str) -> None:
     """Compress the man pages, as Debian requires."""
     for page in PAGES:
         path = os.path.join(root, "usr", "share", "man", "man1", page)
         with open(path, "rb") as file:
-            write_packed(path + ".gz", file.read())
+            write_gzip(path + ".gz", file.read())
         os.remove(path)
 
 
@@ -73,17 +73,17 @@ def add_documents(root: str, version: str, proved: str, date: str) -> None:
     copy(proved, os.path.join(folder, "PROVED"))
     write(os.path.join(folder, "copyright"), COPYRIGHT.format(summary=SUMMARY))
     log = (f"{NAME} ({version}) stable; urgency=medium\n\n  * Version {version}.\n\n"
-           f" -- {maintainer()}  {date}\n")
-    write_packed(os.path.join(folder, "changelog.gz"), log.encode())
+           f" -- {find_maintainer()}  {date}\n")
+    write_gzip(os.path.join(folder, "changelog.gz"), log.encode())
     write(os.path.join(root, "usr", "share", "lintian", "overrides", NAME), OVERRIDES)
 
 
 def add_control(root: str, version: str) -> None:
     """Write the description of the package, and a checksum of each of its files."""
-    size = sum(os.path.getsize(os.path.join(root, name)) for name in files_below(root))
-    sums = sums_of(root, "md5")
+    size = sum(os.path.getsize(os.path.join(root, name)) for name in list_files_below(root))
+    sums = list_checksums(root, "md5")
     fields = {"Package": NAME, "Version": version, "Section": "video", "Priority": "optional",
-              "Architecture": MACHINE, "Depends": DEPENDS, "Maintainer": maintainer(),
+              "Architecture": MACHINE, "Depends": DEPENDS, "Maintainer": find_maintainer(),
               "Installed-Size": str(size // 1024 + 1), "Description": SUMMARY}
     lines = "".join(f"{name}: {value}\n" for name, value in fields.items())
     write(os.path.join(root, "DEBIAN", "control"), f"{lines}{DESCRIPTION}\n")
@@ -115,7 +115,7 @@ def make_package(program: str, proved: str, version: str, work: str, path: str, 
         raise Stop(f"{version} is not a version that a package may have")
     root = os.path.join(work, NAME)
     install(program, os.path.join(root, "usr"))
-    pack_man_pages(root)
+    compress_man_pages(root)
     add_documents(root, version, proved, "Sat, 01 Jan 2000 00:00:00 +0000")
     add_control(root, version)
     set_modes_and_times(root, time)
@@ -131,7 +131,7 @@ def make_package(program: str, proved: str, version: str, work: str, path: str, 
         os.replace(path + ".new", path)
 
 
-def files_below(folder: str) -> list[str]:
+def list_files_below(folder: str) -> list[str]:
     """Return the files of a folder, except links, by their relative paths."""
     files = []
     for place, _, names in os.walk(folder):
@@ -140,10 +140,10 @@ def files_below(folder: str) -> list[str]:
     return sorted(files)
 
 
-def sums_of(folder: str, kind: str) -> str:
+def list_checksums(folder: str, kind: str) -> str:
     """Return a line with path and checksum (md5 or sha256) for each file of a folder."""
     lines = []
-    for name in files_below(folder):
+    for name in list_files_below(folder):
         with open(os.path.join(folder, name), "rb") as file:
             lines.append(f"{hashlib.new(kind, file.read()).hexdigest()}  {name}\n")
     return "".join(lines)

@@ -13,7 +13,7 @@ import re
 from typing import Iterable, Iterator, NamedTuple, Union
 
 from subtitles.common.command_line import Stop
-from .crates import below, read_lines
+from .crates import list_dependencies, read_lines
 
 BEGINS = ("abbrev ", "unfoldable ", "pub record ", "pub data ", "record ", "data ")
 BETWEEN = ("use ", "pub use ", "mod ", "pub mod ", "infix")
@@ -31,7 +31,7 @@ CLAUSE = re.compile(r"^ *ensures (\w+)? ?\{", re.M)
 class Definition:
     """A definition: its comment, and its text from `line` on, with the comments in it."""
 
-    def __init__(self, file: Specs, line: int, comment: list[str], first: str) -> None:
+    def __init__(self, file: SpecsFile, line: int, comment: list[str], first: str) -> None:
         self.file, self.line, self.comment, self.text = file, line, comment, [first]
         head = HEAD.match(first)
         assert head
@@ -57,7 +57,7 @@ class Definition:
         return CONSTRUCTOR.findall("\n".join(self.code())) if self.is_data else []
 
 
-class Outside(NamedTuple):
+class ExternalName(NamedTuple):
     """Anything that specs/ does not define.
 
     It is a name of another library, as std, or a type that a module of a crate's code declares.
@@ -68,7 +68,7 @@ class Outside(NamedTuple):
     name: str
 
 
-Meaning = Union[Definition, Outside]
+Meaning = Union[Definition, ExternalName]
 
 
 class File:
@@ -95,7 +95,7 @@ class File:
                 self.reexported.append(source)
 
 
-class Specs(File):
+class SpecsFile(File):
     """A file of specs/, with definitions."""
 
     def __init__(self, crate: str, path: str, module: str) -> None:
@@ -137,22 +137,22 @@ class Library:
 
     def __init__(self, top: str) -> None:
         self.top = top
-        self.files: dict[str, Specs] = {}
+        self.files: dict[str, SpecsFile] = {}
         self.crates = list(read_lines(os.path.join(top, "crates.txt")))
         for crate in self.crates:
             for path, module in list_files(top, crate, "specs", ".antt"):
                 if not path.endswith("/Lib.antt"):
-                    self.files[module] = Specs(crate, path, module)
+                    self.files[module] = SpecsFile(crate, path, module)
 
     def resolve(self, module: str, name: str) -> Meaning:
         """Return the meaning of a name in a module."""
         crate, _, inner = module.removeprefix("Rattle.").partition(".")
         if crate not in self.crates:
-            return Outside(crate, None, name)
+            return ExternalName(crate, None, name)
         if inner.startswith("specs.declared."):
             path = inner.removeprefix("specs.declared.").removesuffix(".TheVariants")
             where, _, kind = path.rpartition(".")
-            return Outside(crate, where, kind)
+            return ExternalName(crate, where, kind)
         file = self.files.get(module)
         if not file:
             above, _, kind = module.rpartition(".")  # a constructor belongs to its type
@@ -182,14 +182,14 @@ class Library:
         return [meaning for meaning in found if meaning]
 
     @functools.lru_cache(None)
-    def uses_of(self, definition: Definition) -> list[Meaning]:
+    def list_meanings_used(self, definition: Definition) -> list[Meaning]:
         """Return what a definition names."""
         first, *equations = definition.parts()
-        found = self.list_uses(definition.file, first, bound_names(first))
+        found = self.list_uses(definition.file, first, find_bound_names(first))
         for text in equations:
             left, *right = re.split(r" =(?=\s)", text, maxsplit=1)
-            bound = bound_names(text) | {token for token in TOKEN.findall(left)
-                                         if not self.is_constructor(definition.file, token)}
+            bound = find_bound_names(text) | {token for token in TOKEN.findall(left)
+                                              if not self.is_constructor(definition.file, token)}
             found += self.list_uses(definition.file, " ".join([left, *right]), bound)
         return [other for other in dict.fromkeys(found) if other is not definition]
 
@@ -203,7 +203,7 @@ class Library:
     def resolve_clauses(self, name: str) -> list[Meaning]:
         """Return what the clause FUNCTION.CLAUSE, or all clauses of FUNCTION, name."""
         return [meaning for file, _, text in self.find_clauses(name)
-                for meaning in self.list_uses(file, text, bound_names(text))]
+                for meaning in self.list_uses(file, text, find_bound_names(text))]
 
     def find_clauses(self, name: str) -> list[tuple[File, str, str]]:
         """Return the file, name and text of a clause, or of all clauses of a function."""
@@ -213,7 +213,7 @@ class Library:
         for crate_name in [crate] if slash else self.crates:
             for path, module in list_files(self.top, crate_name, "src", ".rt"):
                 file = File(crate_name, path, module)
-                found += [(file, *part) for part in clauses(file.text, function, clause)]
+                found += [(file, *part) for part in list_clauses(file.text, function, clause)]
         if not slash and len({file.path for file, *_ in found}) > 1:
             places = ", ".join(sorted({file.crate for file, *_ in found}))
             raise Stop(f"{name} is a function of {places}: put the crate before it, as CRATE/NAME")
@@ -241,7 +241,7 @@ class Library:
             raise Stop(f"{name} is no definition of specs/ and no function or clause of src/")
         return roots
 
-    def find_type(self, outside: Outside) -> tuple[str, int]:
+    def find_type(self, outside: ExternalName) -> tuple[str, int]:
         """Return the file and line where the code declares a type."""
         form = re.compile(rf"^ *(?:pub(?:\(\w+\))? )?(?:struct|enum|trait) {outside.name}\b", re.M)
         for path, _ in list_files(self.top, outside.crate, "src", ".rt"):
@@ -258,7 +258,8 @@ class Library:
         while left:
             meaning = left.popleft()
             if meaning not in used:
-                used[meaning] = self.uses_of(meaning) if isinstance(meaning, Definition) else []
+                used[meaning] = (self.list_meanings_used(meaning)
+                                 if isinstance(meaning, Definition) else [])
                 left += used[meaning]
         return used
 
@@ -279,16 +280,17 @@ class Library:
         for root in reversed(self.find_roots(name)):
             visit(root)
         lines = read_lines(os.path.join(self.top, "crates.txt"))
-        ranks = {crate: (-len(below(crate, lines)), at) for at, crate in enumerate(lines)}
+        ranks = {crate: (-len(list_dependencies(crate, lines)), at) for at,
+                 crate in enumerate(lines)}
         return sorted(reversed(last_first), key=lambda definition: ranks[definition.file.crate])
 
-    def reading_list(self, name: str) -> tuple[list[Definition], list[Outside]]:
+    def reading_list(self, name: str) -> tuple[list[Definition], list[ExternalName]]:
         """Return the definitions that a name depends on, lowest first, and what is outside, sorted.
         """
         used = self.dependencies(name)
         needs = {definition: {meaning for meaning in names if isinstance(meaning, Definition)}
                  for definition, names in used.items() if isinstance(definition, Definition)}
-        outside = sorted(meaning for meaning in used if isinstance(meaning, Outside))
+        outside = sorted(meaning for meaning in used if isinstance(meaning, ExternalName))
         return self.lowest_first(needs), outside
 
     def lowest_first(self, needs: dict[Definition, set[Definition]]) -> list[Definition]:
@@ -341,13 +343,13 @@ def list_names(file: File, own: Iterable[str], text: str, bound: Iterable[str] =
             yield None, name
 
 
-def bound_names(text: str) -> set[str]:
+def find_bound_names(text: str) -> set[str]:
     """Return the names that a text binds."""
     groups = [found for form in BINDS for found in form.findall(text)]
     return {name for group in groups for name in group.split()}
 
 
-def clauses(text: str, function: str, clause: str) -> Iterator[tuple[str, str]]:
+def list_clauses(text: str, function: str, clause: str) -> Iterator[tuple[str, str]]:
     """Yield the name and text of each clause of a function, or of the clause of that name."""
     for found in FUNCTION.finditer(text):
         if found[2] != function:
@@ -356,10 +358,10 @@ def clauses(text: str, function: str, clause: str) -> Iterator[tuple[str, str]]:
         head = text[found.end():end.start() if end else len(text)]
         for start in CLAUSE.finditer(head):
             if not clause or start[1] == clause:
-                yield start[1] or "", braced(head, start.end())
+                yield start[1] or "", read_braced_text(head, start.end())
 
 
-def braced(text: str, start: int) -> str:
+def read_braced_text(text: str, start: int) -> str:
     """Return the text from `start` up to the brace that closes the one before it."""
     depth = 1
     for at in range(start, len(text)):
@@ -369,7 +371,7 @@ def braced(text: str, start: int) -> str:
     return text[start:]
 
 
-def count_reading(definitions: list[Definition], outside: Iterable[Outside]
+def count_lines_to_read(definitions: list[Definition], outside: Iterable[ExternalName]
                   ) -> tuple[int, int, int]:
     """Count the definitions, their lines, and the names of std."""
     lines = sum(len(item.code()) for item in definitions)

@@ -16,10 +16,10 @@ from subtitles.common.command_line import Stop
 from subtitles.common.program import read
 from .crates import CRATES
 
-TRIED_BY_GATE = "must-fail"
-TRIED_BEFORE_RELEASE = "release-edits"
-TRIED_BY_TESTS = "test-edits"  # the contracts accept these
-FOLDERS = (TRIED_BY_GATE, TRIED_BEFORE_RELEASE, TRIED_BY_TESTS)
+GATE_FOLDER = "must-fail"
+RELEASE_FOLDER = "release-edits"
+TEST_FOLDER = "test-edits"  # the contracts accept these
+FOLDERS = (GATE_FOLDER, RELEASE_FOLDER, TEST_FOLDER)
 NAME = re.compile(r"[A-Za-z0-9_-]+\.edit")
 PARTS = ("src/", "specs/", "proofs/")  # folders of a crate that an edit may change
 # A test with its body, which ends with a brace at the start of a line.
@@ -157,7 +157,7 @@ def find_stored_tests() -> dict[str, tuple[str, str]]:
     return {name: places[0] for name, places in found.items() if len(places) == 1}
 
 
-def count_applying() -> tuple[int, int]:
+def count_applicable_edits() -> tuple[int, int]:
     """Print each edit that can't be applied; return how many can be and how many can't."""
     edits = [edit for folder in FOLDERS for edit in list_edits(folder)]
     tests = find_stored_tests()

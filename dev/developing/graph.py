@@ -10,9 +10,10 @@ import collections
 import os
 import re
 
-from .crates import below, read_lines
+from .crates import list_dependencies, read_lines
 from .definitions import list_names, list_files
-from .sources import Node, Source, clauses, names_at_head, read_definitions, read_functions
+from .sources import (
+    Node, Source, find_head_names, list_contract_clauses, read_definitions, read_functions)
 
 USING = re.compile(r"using\(([^)]*)\)")
 CALL = re.compile(r"(\.|\b\w+::)?\b([a-z_]\w*)(?:::<[^()]*?>)?\(")
@@ -22,12 +23,12 @@ LAW = re.compile(r"(?:law|laws|example|examples)_of_\w+$")
 PROOF_FILES = ("Answers", "Invariants", "Given", "Walk", "Proof")  # in the folder of a function
 
 
-class Graph:
+class UseGraph:
     """All that the folder crates/ of a repository defines."""
 
     def __init__(self, top: str) -> None:
         lines = read_lines(os.path.join(top, "crates.txt"))
-        self.below = {crate: below(crate, lines) for crate in lines}
+        self.below = {crate: list_dependencies(crate, lines) for crate in lines}
         self.files: dict[str, Source] = {}
         self.nodes: list[Node] = []  # without functions
         self.functions: list[Node] = []
@@ -93,7 +94,7 @@ class Graph:
             body = self.bodies[function] = Node("body", file, function.name, function.line, [])
             body.add(of_file)
             is_law = function.is_promise = function.is_public and bool(LAW.match(function.name))
-            for keyword, name, inner, end in clauses(text):
+            for keyword, name, inner, end in list_contract_clauses(text):
                 if keyword == "requires":
                     self.link(body, inner)
                     continue
@@ -180,7 +181,7 @@ class Graph:
         """Return, for each file of proofs/, the names in its first comment that nothing has."""
         names = {part for node in [*self.nodes, *self.functions]  # a clause also without function
                  for part in (node.name, node.name.partition(".")[2])}
-        return {file: sorted(names_at_head(file.text) - names)
+        return {file: sorted(find_head_names(file.text) - names)
                 for file in self.files.values() if ".proofs." in file.module}
 
     def find_promises(self, node: Node) -> list[Node]:

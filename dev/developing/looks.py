@@ -88,19 +88,19 @@ addEventListener("message", event => {{
 """
 
 
-def luminance(colour: str) -> float:
+def compute_luminance(colour: str) -> float:
     parts = [int(colour[at:at + 2], 16) / 255 for at in (0, 2, 4)]
     linear: list[float] = [part / 12.92 if part <= 0.04045 else ((part + 0.055) / 1.055) ** 2.4
                            for part in parts]
     return sum(weight * part for weight, part in zip((0.2126, 0.7152, 0.0722), linear))
 
 
-def contrast(text_colour: str, ground_colour: str) -> float:
-    low, high = sorted((luminance(text_colour), luminance(ground_colour)))
+def compute_contrast(text_colour: str, ground_colour: str) -> float:
+    low, high = sorted((compute_luminance(text_colour), compute_luminance(ground_colour)))
     return (high + 0.05) / (low + 0.05)
 
 
-def colour_schemes() -> dict[str, dict[str, str]]:
+def read_colour_schemes() -> dict[str, dict[str, str]]:
     """Return the variables of the style, light and dark."""
     path = os.path.join(TOP, "tools", "subtitles", "report", "style.css")
     with open(path, encoding="utf-8") as file:
@@ -112,11 +112,11 @@ def colour_schemes() -> dict[str, dict[str, str]]:
             for name, scheme in (("light", light), ("dark", dark))}
 
 
-def weak_contrasts() -> list[str]:
+def find_weak_contrasts() -> list[str]:
     """Return the pairs of colours with too little contrast."""
-    return [f"{text} on {ground}, {name}: {contrast(scheme[text], scheme[ground]):.2f}"
-            for name, scheme in colour_schemes().items() for text, ground in PAIRS
-            if contrast(scheme[text], scheme[ground]) < LEAST_CONTRAST]
+    return [f"{text} on {ground}, {name}: {compute_contrast(scheme[text], scheme[ground]):.2f}"
+            for name, scheme in read_colour_schemes().items() for text, ground in PAIRS
+            if compute_contrast(scheme[text], scheme[ground]) < LEAST_CONTRAST]
 
 
 def find_browser() -> str | None:
@@ -124,7 +124,7 @@ def find_browser() -> str | None:
     return next(filter(None, map(shutil.which, BROWSERS)), None)
 
 
-class Look(NamedTuple):
+class BrowserView(NamedTuple):
     """A report in a window of some width, light or dark."""
 
     path: str
@@ -132,7 +132,7 @@ class Look(NamedTuple):
     is_dark: bool
 
 
-def find_defects(looks: Sequence[Look], folder: str) -> list[list[str]]:
+def find_defects(looks: Sequence[BrowserView], folder: str) -> list[list[str]]:
     """Return the defects that a browser finds in each report; all are frames of one page."""
     frames = "".join(f'<iframe src="{write_framed(look, folder, number)}" style="border:0;'
                      f'width:{look.width}px;height:2000px"></iframe>'
@@ -151,7 +151,7 @@ def find_defects(looks: Sequence[Look], folder: str) -> list[list[str]]:
     return [found.get(number, ["the browser reported nothing"]) for number in range(len(looks))]
 
 
-def write_framed(look: Look, folder: str, number: int) -> str:
+def write_framed(look: BrowserView, folder: str, number: int) -> str:
     """Write a report, with all details open and the script that checks it; return the file's name.
     """
     with open(look.path, encoding="utf-8") as file:

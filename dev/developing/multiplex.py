@@ -16,19 +16,19 @@ ADAPTATION_ALONE = 0x20
 COUNTERS = range(16)
 
 
-def head(pid: int, begins: int, control: int) -> bytes:
+def make_head(pid: int, begins: int, control: int) -> bytes:
     """Return the first four bytes of a packet."""
     return bytes([SYNC, begins | pid >> 8, pid & 255, control])
 
 
-def section(table: int, number: int, body: bytes) -> bytes:
+def make_section(table: int, number: int, body: bytes) -> bytes:
     """Return a pointer field and a section: current, version 0, the only one of its table."""
     start = (0xB000 | len(body) + 9).to_bytes(2, "big") + number.to_bytes(2, "big") + b"\xc1\0\0"
     data = bytes([table]) + start + body
-    return b"\0" + data + crc(data).to_bytes(4, "big")
+    return b"\0" + data + compute_crc(data).to_bytes(4, "big")
 
 
-def pmt_body(pid: int, language: bytes, page: Page) -> bytes:
+def make_pmt_body(pid: int, language: bytes, page: Page) -> bytes:
     """Return the body of the PMT: the PID of the PCR, and a component with its Teletext descriptor.
     """
     magazine, number = page
@@ -42,16 +42,17 @@ class Multiplex:
     """Packets of the stream, `size` bytes of them, until they are taken."""
 
     def __init__(self, pid: int, language: bytes, page: Page) -> None:
-        pat = section(0, 1, PROGRAMME.to_bytes(2, "big") + (0xE000 | PMT_PID).to_bytes(2, "big"))
-        pmt = section(2, PROGRAMME, pmt_body(pid, language, page))
+        pat = make_section(0, 1, PROGRAMME.to_bytes(2, "big") +
+                           (0xE000 | PMT_PID).to_bytes(2, "big"))
+        pmt = make_section(2, PROGRAMME, make_pmt_body(pid, language, page))
         # PAT and PMT, and the heads of packets of the PID, by continuity counter.
-        self.tables = [b"".join((head(table_pid, BEGINS, PAYLOAD | counter) + data)
+        self.tables = [b"".join((make_head(table_pid, BEGINS, PAYLOAD | counter) + data)
                                 .ljust(PACKET, b"\xff")
                                 for table_pid, data in ((0, pat), (PMT_PID, pmt)))
                        for counter in COUNTERS]
-        self.first_heads = [head(pid, BEGINS, PAYLOAD | counter) for counter in COUNTERS]
-        self.heads = [head(pid, 0, PAYLOAD | counter) for counter in COUNTERS]
-        self.clock_head = head(PCR_PID, 0, ADAPTATION_ALONE | 15) + b"\xb7\x10"
+        self.first_heads = [make_head(pid, BEGINS, PAYLOAD | counter) for counter in COUNTERS]
+        self.heads = [make_head(pid, 0, PAYLOAD | counter) for counter in COUNTERS]
+        self.clock_head = make_head(PCR_PID, 0, ADAPTATION_ALONE | 15) + b"\xb7\x10"
         self.clock_rest = b"\xff" * (PACKET - len(self.clock_head) - 6)
         self.parts: list[bytes] = []
         self.size = self.count = self.counter = 0
@@ -89,7 +90,7 @@ class Multiplex:
         return data
 
 
-def crc(data: bytes) -> int:
+def compute_crc(data: bytes) -> int:
     """Return the CRC-32 of a section (annex A); 0 if the section ends with its own."""
     value = 0xFFFFFFFF
     for byte in data:

@@ -23,7 +23,7 @@ from subtitles.common.shapes import Member, Record, Shape
 from subtitles.request import request
 from subtitles.results.files import COLUMNS, FILES as FILE_COLUMNS
 from subtitles.results.schema import CAUSE, CUE, LISTED_CAUSE, REQUEST, VERDICT, schema
-from .cited import rows_of_numbers
+from .cited import correct_number_rows
 
 TABLE = os.path.join("docs", "manual", "reference.md")
 PROGRAM_PAGE, QC_PAGE = os.path.join("docs", "subttx.1"), os.path.join("docs", "subttx-qc.1")
@@ -69,7 +69,7 @@ class Option(NamedTuple):
         return values if len(values) > 2 else []
 
 
-def commands(text: str) -> list[Command]:
+def parse_commands(text: str) -> list[Command]:
     """Parse the commands of the usage text."""
     found = []
     lines = re.sub(r"\n {10,}", " ", text)
@@ -84,7 +84,7 @@ def commands(text: str) -> list[Command]:
     return found
 
 
-def options(text: str) -> list[Option]:
+def parse_options(text: str) -> list[Option]:
     """Parse the options of the table."""
     return [Option(row[1], row[2] or "", re.findall(r"`(\w+)`", row[3]), row[4].strip(),
                    row[5].strip()) for row in ROW.finditer(text)]
@@ -128,7 +128,7 @@ def fill_paragraph(text: str) -> str:
     return re.sub(r"^(?=[.'])", "\\&", "\n".join([*lines, line]), flags=re.M)
 
 
-def option_item(name: str, value: str, text: str) -> str:
+def format_option(name: str, value: str, text: str) -> str:
     """Return the entry of an option in a man page."""
     head = f"\\fB{escape_roff(name)}\\fP" + (f" \\fI{escape_roff(value)}\\fP" if value else "")
     return f".TP\n{head}\n{fill_paragraph(text)}\n"
@@ -140,7 +140,7 @@ def to_sentence(text: str) -> str:
     return text[0].upper() + text[1:] + "." * (text[-1] not in ".:") if text else text
 
 
-def synopsis(commands_of_program: list[Command], table: list[Option]) -> str:
+def format_synopsis(commands_of_program: list[Command], table: list[Option]) -> str:
     """Return the calls of all commands."""
     page = ""
     for command in commands_of_program:
@@ -153,7 +153,7 @@ def synopsis(commands_of_program: list[Command], table: list[Option]) -> str:
     return page
 
 
-def program_parts(usage: str, table: str) -> dict[str, str]:
+def make_program_parts(usage: str, table: str) -> dict[str, str]:
     """Return the parts of the program's page."""
     def command_entry(command: Command) -> str:
         return (f".TP\n\\fB{command.name}\\fP \\fI{escape_roff(command.files)}\\fP\n"
@@ -162,21 +162,21 @@ def program_parts(usage: str, table: str) -> dict[str, str]:
     def option_entry(option: Option) -> str:
         names = ", ".join(f"`{name}`" for name in option.commands)
         text = f"{to_sentence(option.means)} Without it: {option.default}. Of {names}."
-        return option_item(option.name, option.value, text)
+        return format_option(option.name, option.value, text)
 
-    program_commands, table_options = commands(usage), options(table)
-    return {"synopsis": synopsis(program_commands, table_options),
+    program_commands, table_options = parse_commands(usage), parse_options(table)
+    return {"synopsis": format_synopsis(program_commands, table_options),
             "commands": "".join(map(command_entry, program_commands)),
             "options": "".join(map(option_entry, table_options))}
 
 
-def tool_parts(text: str, name: str = "qc") -> dict[str, str]:
+def make_tool_parts(text: str, name: str = "qc") -> dict[str, str]:
     """Return the parts of a tool's page, from its help text."""
     def option_entry(name: str, value: str, means: str) -> str:
         if not value.startswith("{"):
-            return option_item(name, value, to_sentence(means))
+            return format_option(name, value, to_sentence(means))
         words = value[1:-1].replace(",", ", ")
-        return option_item(name, "WORD", f"{to_sentence(means)} WORD is {words}.")
+        return format_option(name, "WORD", f"{to_sentence(means)} WORD is {words}.")
 
     prose = re.split(r"\n(?:positional arguments|options):\n", text)[0]
     paragraphs = [part for part in prose.strip().split("\n\n") if part.strip()]
@@ -192,27 +192,28 @@ def tool_parts(text: str, name: str = "qc") -> dict[str, str]:
             "status": "".join(fill_paragraph(part) + "\n" for part in status)}
 
 
-def air_parts(text: str, helps: dict[str, str]) -> dict[str, str]:
+def make_air_parts(text: str, helps: dict[str, str]) -> dict[str, str]:
     """Return the parts of air's page, from its help text and those of its commands.
 
     The options that it shares with qc are in qc's page.
     """
     others = {option.name for option in request.OPTIONS} | {"--help", "--version"}
-    commands = {command: "".join(option_item(name, value, to_sentence(means))
+    commands = {command: "".join(format_option(name, value, to_sentence(means))
                                  for name, value, means in parse_entries(help)
                                  if name not in others)
                 for command, help in helps.items()}
-    return {**{name: part for name, part in tool_parts(text, "air").items() if name != "options"},
+    return {**{name: part for name, part in make_tool_parts(text, "air").items()
+               if name != "options"},
             **commands}
 
 
-def chapter_parts(table: str = "") -> dict[str, str]:
+def make_chapter_parts(table: str = "") -> dict[str, str]:
     """Return the table of options in qc's chapter.
 
     It omits options that take another one back, and those of `check`, which have a table of their
     own.
     """
-    of_check = {option.name for option in options(table) if "check" in option.commands}
+    of_check = {option.name for option in parse_options(table) if "check" in option.commands}
     rows = ["| Option | What it does |", "|---|---|"]
     for option in request.OPTIONS:
         if option.name not in of_check and not option.name.startswith("--no-"):
@@ -226,20 +227,20 @@ PREFIXES = {"verdict": "", "fault": "", "request": "", "subtitle": "subtitle_", 
             "part": "part_", "counts": "subtitle_counts_"}
 
 
-def results_parts() -> dict[str, str]:
+def make_results_parts() -> dict[str, str]:
     """Return the lists of the keys of JSON results, an object each, with a mark after the keys that
     are columns of CSV."""
     lines = list[str]()
-    for record in filter(has_table, records_in(VERDICT)):
+    for record in filter(needs_table, list_records(VERDICT)):
         lines += ["", f"## {to_title(record)}", ""]
         if record.meaning:
             lines += [*textwrap.wrap(record.meaning, WIDTH), ""]
         if record is REQUEST:
-            names = ", ".join(key_of(record, member) for member in record.members)
+            names = ", ".join(format_key(record, member) for member in record.members)
             lines += [textwrap.fill(f"{names}.", WIDTH, break_on_hyphens=False)]
             continue
         for member in record.members:
-            words = [key_of(record, member), meaning_of(member)]
+            words = [format_key(record, member), describe_member(member)]
             lines += textwrap.wrap(": ".join(filter(None, words)), WIDTH, initial_indent="- ",
                                    subsequent_indent="  ", break_on_hyphens=False)
     return {"results": "\n".join(lines) + "\n"}
@@ -250,37 +251,37 @@ def to_title(record: Record) -> str:
     return record.name.replace("_", " ").capitalize()
 
 
-def key_of(record: Record, member: Member) -> str:
+def format_key(record: Record, member: Member) -> str:
     """Return a key, with a link to its object, and a mark if it is a column of CSV."""
-    inner = record_of(member)
-    key = f"`{member.name}`" + "\\*" * (record is not CUE and bool(column_of(record, member)))
-    return f"[{key}](#{inner.name.replace('_', '-')})" if inner and has_table(inner) else key
+    inner = find_record(member)
+    key = f"`{member.name}`" + "\\*" * (record is not CUE and bool(find_column(record, member)))
+    return f"[{key}](#{inner.name.replace('_', '-')})" if inner and needs_table(inner) else key
 
 
-def record_of(member: Member) -> Record | None:
+def find_record(member: Member) -> Record | None:
     """Return the object that is the value of a member, or an item of its list."""
     record = next((shape for shape in (member.shape, *member.shape.inner())
                    if isinstance(shape, Record)), None)
     return CAUSE if record is LISTED_CAUSE else record
 
 
-def records_in(shape: Shape, found: tuple[Record, ...] = ()) -> tuple[Record, ...]:
+def list_records(shape: Shape, found: tuple[Record, ...] = ()) -> tuple[Record, ...]:
     """Return the objects of which a result is made, each behind the first one that has it."""
     if isinstance(shape, Record):
         if shape in found:
             return found
         found = (*found, shape)
     for inner in shape.inner():
-        found = records_in(inner, found)
+        found = list_records(inner, found)
     return found
 
 
-def has_table(record: Record) -> bool:
+def needs_table(record: Record) -> bool:
     """Return whether an object has a table of its own: its keys say more than their names."""
     return record is not LISTED_CAUSE and any(member.meaning for member in record.members)
 
 
-def column_of(record: Record, member: Member) -> str:
+def find_column(record: Record, member: Member) -> str:
     """Return the column of CSV that has a member's value, if one has it."""
     if record is CUE:
         return member.name
@@ -288,17 +289,17 @@ def column_of(record: Record, member: Member) -> str:
     return column if column in (FILE_COLUMNS if record is REQUEST else COLUMNS) else ""
 
 
-def meaning_of(member: Member) -> str:
+def describe_member(member: Member) -> str:
     """Return what a member is: the meaning of its shape, unless that has a list, and its own."""
     shape = next((shape for shape in (member.shape, *member.shape.inner()) if shape.name), None)
-    inner = record_of(member)
-    of_shape = "" if shape is None or inner and has_table(inner) else shape.meaning
+    inner = find_record(member)
+    of_shape = "" if shape is None or inner and needs_table(inner) else shape.meaning
     return " ".join(text for text in (of_shape, member.meaning) if text)
 
 
-def completion_parts(usage: str, table: str, helps: list[str]) -> dict[str, str]:
+def make_completion_parts(usage: str, table: str, helps: list[str]) -> dict[str, str]:
     """Return the parts of the completion."""
-    program_commands, table_options = commands(usage), options(table)
+    program_commands, table_options = parse_commands(usage), parse_options(table)
     choices = {option.name: " ".join(option.choices()) for option in table_options
                if option.choices()}
     values = "".join(f"        {name}) _subttx_words '{words}' \"$2\" ;;\n"
@@ -366,12 +367,13 @@ def make_pages() -> dict[str, str]:
     usage, table = text("subttx").partition("usage: ")[2].partition("\nEND\n")[0], text(TABLE)
     helps = {tool: run_help(tool) for tool in TOOLS}
     of_commands = {command: run_help("air", command) for command in ("record", "judge")}
-    parts = {PROGRAM_PAGE: program_parts(usage, table), QC_PAGE: tool_parts(helps["qc"]),
-             AIR_PAGE: air_parts(helps["air"], of_commands), QC_CHAPTER: chapter_parts(table),
-             RESULTS_CHAPTER: results_parts(),
-             COMPLETION: completion_parts(usage, table, [*helps.values(), *of_commands.values()])}
+    parts = {PROGRAM_PAGE: make_program_parts(usage, table), QC_PAGE: make_tool_parts(helps["qc"]),
+             AIR_PAGE: make_air_parts(helps["air"], of_commands),
+             QC_CHAPTER: make_chapter_parts(table), RESULTS_CHAPTER: make_results_parts(),
+             COMPLETION: make_completion_parts(usage, table,
+                                               [*helps.values(), *of_commands.values()])}
     numbers = text(NUMBERS)
-    for row, counted in rows_of_numbers(TOP):
+    for row, counted in correct_number_rows(TOP):
         numbers = numbers.replace(row, counted)
     return {**{name: replace_parts(text(name), of) for name, of in parts.items()},
             SCHEMA: format_json(schema()) + "\n", NUMBERS: numbers}

@@ -12,8 +12,8 @@ UNIT = 46  # bytes of a data unit
 DATA = 46  # place of the first data unit in PES packets that `subttx` writes
 STUFFING_UNIT = b"\xff\x2c" + b"\xff" * 44
 # Gap marker for missing PES packets, or parts of them, of a recording: `check` refuses it as 45.
-MARK = START + b"\0\xb2" + b"\xff" * 178
-AT_A_TIME = 1 << 18  # bytes of one read
+GAP_MARKER = START + b"\0\xb2" + b"\xff" * 178
+READ_SIZE = 1 << 18  # bytes of one read
 NATIONAL = 12, 13, 14  # control bits
 
 # Each byte with its bits reversed: a data unit sends bit 1 first.
@@ -33,25 +33,25 @@ class Source(Protocol):
         """Return at most `size` bytes."""
 
 
-def odd(code: int) -> int:
+def add_odd_parity(code: int) -> int:
     """Return a 7-bit code with odd parity."""
     return code if is_odd(code) else code | 0x80
 
 
-def mirrored(data: bytes) -> bytes:
+def reverse_bits(data: bytes) -> bytes:
     """Reverse the bits of each byte."""
     return data.translate(MIRROR)
 
 
-def packet(magazine: int, number: int, numbers: Iterable[int], codes: Iterable[int]) -> bytes:
+def make_packet(magazine: int, number: int, numbers: Iterable[int], codes: Iterable[int]) -> bytes:
     """Return a packet: its address, the eight numbers of a header, and text bytes with odd parity.
     """
     address = magazine + 8 * number
     coded = bytes(CODE_WORDS[value] for value in (address & 15, address >> 4, *numbers))
-    return coded + bytes(map(odd, codes))
+    return coded + bytes(map(add_odd_parity, codes))
 
 
-def triplet(value: int) -> bytes:
+def encode_triplet(value: int) -> bytes:
     """Encode a Hamming 24/18 triplet (EN 300 706, 8.3)."""
     word = sum((value >> bit & 1) << at - 1 for bit, at in enumerate(DATA_BITS))
     wrong = 31
@@ -62,57 +62,57 @@ def triplet(value: int) -> bytes:
     return word.to_bytes(3, "little")
 
 
-def address_of(data: bytes) -> tuple[int, int] | None:
+def decode_address(data: bytes) -> tuple[int, int] | None:
     """Return the magazine, 0 for 8, and the packet number; `None` for an undecodable address."""
     low, high = NUMBER[data[0]], NUMBER[data[1]]
     return None if low is None or high is None else (low & 7, low + 16 * high >> 3)
 
 
-def header_of(data: bytes) -> bytes | None:
+def decode_header(data: bytes) -> bytes | None:
     """Return the eight numbers of a page header, `None` if one can't be decoded."""
     numbers = [number for number in map(NUMBER.__getitem__, data[2:10]) if number is not None]
     return bytes(numbers) if len(numbers) == 8 else None
 
 
-def page_in(header: bytes) -> int:
+def get_page_number(header: bytes) -> int:
     """Return the page number, two hexadecimal digits, in a header's eight numbers."""
     return header[0] + 16 * header[1]
 
 
-def headers_in(packets: Iterable[bytes]) -> list[Header]:
+def find_headers(packets: Iterable[bytes]) -> list[Header]:
     """Return the magazine, page number and eight numbers of each page header."""
     found = []
     for packet in packets:
-        address = address_of(packet)
-        header = header_of(packet) if address and address[1] == 0 else None
+        address = decode_address(packet)
+        header = decode_header(packet) if address and address[1] == 0 else None
         if address and header:
-            found.append((address[0], page_in(header), header))
+            found.append((address[0], get_page_number(header), header))
     return found
 
 
-def pts_bytes(pts: int) -> bytes:
+def encode_pts(pts: int) -> bytes:
     """Return the five bytes of a PTS in a PES header."""
     return bytes([0x21 | pts >> 30 << 1, pts >> 22 & 255, pts >> 15 << 1 & 255 | 1,
                   pts >> 7 & 255, pts << 1 & 255 | 1])
 
 
-def pts_in(packet: bytes) -> int:
+def decode_pts(packet: bytes) -> int:
     """Return the PTS of a PES packet that has one."""
     return ((packet[9] >> 1 & 7) << 30 | packet[10] << 22 | packet[11] >> 1 << 15
             | packet[12] << 7 | packet[13] >> 1)
 
 
-def pes_packet(pts: int, packets: Sequence[bytes]) -> bytes:
+def make_pes_packet(pts: int, packets: Sequence[bytes]) -> bytes:
     """Return a PES packet with up to 16 Teletext packets, from line 7 of the first field on."""
     blocks = len(packets) // 4 + 1
-    data = START + (184 * blocks - 6).to_bytes(2, "big") + b"\x84\x80\x24" + pts_bytes(pts)
+    data = START + (184 * blocks - 6).to_bytes(2, "big") + b"\x84\x80\x24" + encode_pts(pts)
     data += b"\xff" * 31 + b"\x10"
     for line, packet in enumerate(packets, FIRST_LINE):
-        data += bytes([3, 0x2C, 0xE0 | line, 0xE4]) + mirrored(packet)
+        data += bytes([3, 0x2C, 0xE0 | line, 0xE4]) + reverse_bits(packet)
     return data + STUFFING_UNIT * (4 * blocks - 1 - len(packets))
 
 
-def begins_in(data: bytes) -> list[int]:
+def find_starts(data: bytes) -> list[int]:
     """Return where the PES packets at the start of `data` begin, and where the last one ends."""
     begins = [0]
     while data.startswith(START, begins[-1]) and len(data) - begins[-1] >= HEAD:
@@ -123,26 +123,26 @@ def begins_in(data: bytes) -> list[int]:
     return begins
 
 
-def complete_packets(data: bytes) -> list[bytes]:
+def split_complete_packets(data: bytes) -> list[bytes]:
     """Return the complete PES packets at the start of `data`."""
-    return slice_at(data, begins_in(data))
+    return cut_at(data, find_starts(data))
 
 
-def slice_at(data: bytes, begins: Sequence[int]) -> list[bytes]:
+def cut_at(data: bytes, begins: Sequence[int]) -> list[bytes]:
     """Cut `data` at these places."""
     return [data[begin:end] for begin, end in zip(begins, begins[1:])]
 
 
-def pes_packets(file: Source) -> Iterator[bytes]:
+def read_pes_packets(file: Source) -> Iterator[bytes]:
     """Yield the PES packets of a file.
 
     Raise `Damaged` at the first other data, after the packets before it.
     """
     unread, count = b"", 0
-    while new_data := file.read(AT_A_TIME):
+    while new_data := file.read(READ_SIZE):
         data = unread + new_data
-        begins = begins_in(data)
-        yield from slice_at(data, begins)
+        begins = find_starts(data)
+        yield from cut_at(data, begins)
         unread, count = data[begins[-1]:], count + len(begins) - 1
         if len(unread) >= HEAD and not unread.startswith(START):
             raise Damaged(f"PES packet {count} does not begin with 00 00 01 BD")
@@ -156,16 +156,16 @@ def has_pts(data: bytes) -> bool:
     return len(data) >= 14 and data[7] & 0x80 != 0 and data[HEAD] != 0xFF
 
 
-def data_field(data: bytes) -> bytes:
+def get_data_field(data: bytes) -> bytes:
     """Return what follows the header of a PES packet: a data_identifier, then data units."""
     return data[9 + data[8]:] if len(data) > 9 else b""
 
 
-def teletext_packets(field: bytes) -> list[bytes]:
+def get_teletext_packets(field: bytes) -> list[bytes]:
     """Return the Teletext packets of a data field, with bits in the order of EN 300 706."""
     at, found = 1, []
     while at + UNIT <= len(field):
         if field[at] in (2, 3) and field[at + 1] == 0x2C:
-            found.append(mirrored(field[at + 4:at + UNIT]))
+            found.append(reverse_bits(field[at + 4:at + UNIT]))
         at += 2 + field[at + 1]
     return found

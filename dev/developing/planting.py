@@ -23,7 +23,7 @@ from typing import Any, Callable, Sequence
 
 from subtitles.common.command_line import Stop
 from subtitles.common.program import TOP, read
-from .bugs import nested_codes
+from .bugs import list_nested_codes
 from .edits import replace_files
 from .tests import bench, runner
 
@@ -63,13 +63,13 @@ class StopAtFailure(runner.Counts):
             self.stop()
 
 
-def unit_name(unit: runner.Several) -> str:
+def get_unit_name(unit: runner.Several) -> str:
     """Return the name of a test, or of the class whose tests share a fixture and run together."""
     name = runner.name_of(unit[0])
     return name.rpartition(".")[0] if runner.has_fixture(type(unit[0])) else name
 
 
-def qualified_name(code: CodeType) -> str:
+def get_qualified_name(code: CodeType) -> str:
     return str(getattr(code, "co_qualname"))
 
 
@@ -78,7 +78,7 @@ def strip_nested(name: str) -> str:
     return ".".join(part for part in name.split(".") if not part.startswith("<"))
 
 
-def module_level_code(codes_of_module: list[CodeType]) -> list[object]:
+def get_module_level_code(codes_of_module: list[CodeType]) -> list[object]:
     """Return the code that runs when a module, or a class in it, is loaded, to compare."""
     return [(code.co_code, code.co_names,
              [repr(value) for value in code.co_consts if not isinstance(value, CodeType)])
@@ -91,17 +91,18 @@ def patch_functions(path: str, before: str, text: str) -> bool:
     `before` is the text that was loaded. Return False if some function can't get its new code, or
     if other code changed.
     """
-    old, others = (list(nested_codes(compile(item, path, "exec"))) for item in (before, text))
-    if sys.version_info < (3, 11) or module_level_code(old) != module_level_code(others):
+    old, others = (list(list_nested_codes(compile(item, path, "exec"))) for item in (before, text))
+    if sys.version_info < (3, 11) or get_module_level_code(old) != get_module_level_code(others):
         return False
     by_name: dict[str, list[CodeType]] = {}
     for code in others:
-        by_name.setdefault(qualified_name(code), []).append(code)
-    places = {(qualified_name(code), code.co_firstlineno): by_name[qualified_name(code)].pop(0)
-              for code in old if by_name.get(qualified_name(code))}
+        by_name.setdefault(get_qualified_name(code), []).append(code)
+    places = {(get_qualified_name(code), code.co_firstlineno):
+              by_name[get_qualified_name(code)].pop(0)
+              for code in old if by_name.get(get_qualified_name(code))}
     for item in gc.get_objects():
         if isinstance(item, FunctionType) and item.__code__.co_filename == path:
-            new = places.get((qualified_name(item.__code__), item.__code__.co_firstlineno))
+            new = places.get((get_qualified_name(item.__code__), item.__code__.co_firstlineno))
             if new is None or new.co_freevars != item.__code__.co_freevars:
                 return False
             item.__code__ = new
@@ -116,7 +117,8 @@ class LoadedCopy:
         tempfile.tempdir = os.environ["TMPDIR"] = os.path.join(top, "temporary")
         os.makedirs(tempfile.tempdir, exist_ok=True)
         bench.BENCH.chosen = program
-        self.units = {unit_name(unit): unit for unit in runner.group_tests(runner.find_tests([]))}
+        self.units = {get_unit_name(unit): unit
+                      for unit in runner.group_tests(runner.find_tests([]))}
 
     def reload(self) -> None:
         """Load the tests, and what they import, again."""

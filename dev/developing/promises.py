@@ -11,21 +11,21 @@ ROW = re.compile(r"^\| (.*) \| (`\w+/[\w.]+`(?:, `\w+/[\w.]+`)*) \|$", re.M)
 HEAD = "\n## The index of clauses\n"
 
 
-def index_of(text: str) -> str:
+def find_index(text: str) -> str:
     """Return the index of a document; the whole text if it has no heading of the index."""
     return text.rpartition(HEAD)[2].partition("\n## ")[0]
 
 
-def clauses_in(text: str) -> list[str]:
+def list_indexed_clauses(text: str) -> list[str]:
     """Return the clauses in the rows, each once: CRATE/FUNCTION.CLAUSE, or the name of a law."""
     return list(dict.fromkeys(
-        clause for row in ROW.finditer(index_of(text)) for clause in CLAUSE.findall(row[2])))
+        clause for row in ROW.finditer(find_index(text)) for clause in CLAUSE.findall(row[2])))
 
 
-def unknown_clauses(text: str, library: Library) -> list[str]:
+def find_unknown_clauses(text: str, library: Library) -> list[str]:
     """Return a message for each clause in a row that the sources do not have."""
     found: list[str] = []
-    for clause in clauses_in(text):
+    for clause in list_indexed_clauses(text):
         try:
             library.find_roots(clause)
         except Stop as reason:

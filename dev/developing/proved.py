@@ -36,7 +36,7 @@ class Proved(NamedTuple):
     crates: Crates
 
 
-def parsed(text: str | None) -> Proved:
+def parse_proved(text: str | None) -> Proved:
     """Parse a file PROVED, or out/lines, which has neither `sources` nor `program`."""
     values: dict[str, str | None] = dict.fromkeys(("sources", "program", "toolchain"))
     crates: Crates = {}
@@ -50,7 +50,7 @@ def parsed(text: str | None) -> Proved:
     return Proved(values["sources"], values["program"], values["toolchain"], crates)
 
 
-def text_of(proved: Proved) -> str:
+def format_proved(proved: Proved) -> str:
     """Return the text of the file."""
     lines = [f"{word} {getattr(proved, word)}" for word in ("sources", "program", "toolchain")
              if getattr(proved, word)]
@@ -58,11 +58,11 @@ def text_of(proved: Proved) -> str:
     return "".join(line + "\n" for line in lines)
 
 
-def proved_in(folder: str) -> Proved:
-    return parsed(read(os.path.join(folder, "PROVED")))
+def read_proved(folder: str) -> Proved:
+    return parse_proved(read(os.path.join(folder, "PROVED")))
 
 
-def crate_sums(text: str | None = None) -> dict[str, str]:
+def list_crate_sums(text: str | None = None) -> dict[str, str]:
     """Return the checksum of each crate's sources by name, lowest crate first.
 
     `text` is the output of `tools/sources --crates`; without it the script is called.
@@ -74,12 +74,12 @@ def crate_sums(text: str | None = None) -> dict[str, str]:
     return {name: digest for name, _, digest in (line.partition(" ") for line in text.splitlines())}
 
 
-def digest_of(path: str) -> str:
+def compute_digest(path: str) -> str:
     with open(path, "rb") as file:
         return hashlib.sha256(file.read()).hexdigest()
 
 
-def toolchain() -> str:
+def read_toolchain_version() -> str:
     """Return the version of the toolchain."""
     try:
         return subprocess.run(["rt", "version"], stdin=subprocess.DEVNULL, check=True,
@@ -88,7 +88,7 @@ def toolchain() -> str:
         raise Stop("the toolchain's rt is not on the PATH, or prints no version") from None
 
 
-def lines_in(log: str) -> dict[str, str]:
+def parse_log(log: str) -> dict[str, str]:
     """Return by name the prover's line of each crate that `rt ci` proved, without its tests."""
     found: dict[str, str] = {}
     crate: str | None = None
@@ -103,39 +103,40 @@ def lines_in(log: str) -> dict[str, str]:
     return found
 
 
-def note(lines: dict[str, str], sums: dict[str, str]) -> None:
+def store_lines(lines: dict[str, str], sums: dict[str, str]) -> None:
     """Store the prover's lines in out/lines; `sums` are the checksums of the proved sources."""
-    version, notes = toolchain(), parsed(read(NOTES))
+    version, notes = read_toolchain_version(), parse_proved(read(NOTES))
     crates = notes.crates if notes.toolchain == version else {}
     crates |= {name: (sums[name], line) for name, line in lines.items() if name in sums}
-    write(NOTES, text_of(Proved(None, None, version, crates)))
+    write(NOTES, format_proved(Proved(None, None, version, crates)))
 
 
-def known_lines(version: str | None) -> dict[tuple[str, str], str]:
+def list_known_lines(version: str | None) -> dict[tuple[str, str], str]:
     """Return the lines of this toolchain's prover, here or in dist/, by crate and checksum."""
     found: dict[tuple[str, str], str] = {}
-    for proved in (proved_in(DIST), parsed(read(NOTES))):
+    for proved in (read_proved(DIST), parse_proved(read(NOTES))):
         if proved.toolchain == version:
             found |= {(name, digest): line for name, (digest, line) in proved.crates.items()}
     return found
 
 
-def with_lines(proved: Proved) -> Proved:
+def add_known_lines(proved: Proved) -> Proved:
     """Add all stored lines that belong to the current sources."""
-    known = known_lines(proved.toolchain)
+    known = list_known_lines(proved.toolchain)
     return proved._replace(crates={name: (digest, known[name, digest])
-                                   for name, digest in crate_sums().items()
+                                   for name, digest in list_crate_sums().items()
                                    if (name, digest) in known})
 
 
-def keep(of_sources: str, program: str = RAW) -> None:
+def keep_built_program(of_sources: str, program: str = RAW) -> None:
     """Copy the program that rt has proved and built to out/, with a file PROVED."""
-    proved = with_lines(Proved(of_sources, digest_of(program), toolchain(), {}))
+    proved = add_known_lines(Proved(of_sources, compute_digest(program), read_toolchain_version(),
+                                    {}))
     copy(program, os.path.join(OUT, "subttx"), 0o755)
-    write(os.path.join(OUT, "PROVED"), text_of(proved))
+    write(os.path.join(OUT, "PROVED"), format_proved(proved))
 
 
-def lacking(proved: Proved) -> list[str]:
+def find_crates_without_line(proved: Proved) -> list[str]:
     """Return the crates whose current sources have no line in a file PROVED."""
-    return [name for name, digest in crate_sums().items()
+    return [name for name, digest in list_crate_sums().items()
             if proved.crates.get(name, ("", ""))[0] != digest]

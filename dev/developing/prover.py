@@ -14,8 +14,8 @@ import shutil
 
 from subtitles.common.command_line import Stop
 from subtitles.common.program import read, write
-from .crates import Lines, below
-from .proved import toolchain
+from .crates import Lines, list_dependencies
+from .proved import read_toolchain_version
 
 PROGRAM = "subttx"
 TARGET = "x86_64-unknown-linux-gnu"
@@ -72,7 +72,7 @@ class Prover:
         return [*words, *(self.of_kit("c", name) for name in ("libos_c.a", "liblibc_c.a"))]
 
 
-def line_in(output: str) -> str | None:
+def parse_prover_line(output: str) -> str | None:
     """Return the prover's line at the end of its output about a crate.
 
     Return `None` if something weakens it: an unknown word, or a warning, such as that no call can
@@ -83,18 +83,18 @@ def line_in(output: str) -> str | None:
     return found[-1] if words and words <= WORDS else None
 
 
-class Made:
+class BuildRecord:
     """The libraries that were built here, each with the checksum of its sources and toolchain."""
 
     def __init__(self, prover: Prover, sums: dict[str, str]) -> None:
-        self.prover, self.sums, self.toolchain = prover, sums, toolchain()
+        self.prover, self.sums, self.toolchain = prover, sums, read_toolchain_version()
 
     def note_of(self, crate: str) -> str:
         return os.path.join(self.prover.made, f"{crate}.of")
 
     def sum_of(self, crate: str) -> str:
         """Return the checksum of the toolchain and the sources of a crate and its crates below."""
-        names = [*below(crate, self.prover.lines), crate]
+        names = [*list_dependencies(crate, self.prover.lines), crate]
         text = "\n".join([self.toolchain, *(self.sums[name] for name in names)])
         return hashlib.sha256(text.encode()).hexdigest()
 
@@ -112,7 +112,7 @@ class Made:
         write(self.note_of(crate), f"{self.sum_of(crate)}\n{line}\n")
 
 
-def work_above(lines: Lines, sizes: dict[str, int]) -> dict[str, int]:
+def compute_remaining_work(lines: Lines, sizes: dict[str, int]) -> dict[str, int]:
     """Return for each crate, highest first, the work on its longest path up to the program."""
     found: dict[str, int] = {}
     for name in reversed(sizes):

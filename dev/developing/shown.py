@@ -14,7 +14,7 @@ class Line:
         self.number, self.command, self.shown = number, command, ""
 
 
-def commands(path: str) -> list[Line]:
+def find_commands(path: str) -> list[Line]:
     """Return the command lines of a document."""
     inside = False
     current: Line | None = None
@@ -35,7 +35,7 @@ def commands(path: str) -> list[Line]:
     return found
 
 
-def has_status(status: int | None, command: str, output: str) -> bool:
+def has_expected_status(status: int | None, command: str, output: str) -> bool:
     """Return whether the exit status agrees with the last line of the output."""
     if "|" in command.rsplit(";", 1)[-1]:
         return True
@@ -46,7 +46,7 @@ def has_status(status: int | None, command: str, output: str) -> bool:
     return status == statuses.get(last.split(" ")[0], 0)
 
 
-def printed_by(command: str, folder: str, env: dict[str, str]) -> tuple[str, int | None]:
+def run_command(command: str, folder: str, env: dict[str, str]) -> tuple[str, int | None]:
     """Run a command line; return its output and its status, `None` if it did not end in time."""
     try:
         done = subprocess.run(["sh", "-c", command], cwd=folder, env=env, check=False,

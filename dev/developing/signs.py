@@ -51,7 +51,7 @@ known; S.failure_count is how often it has failed."""
 WORD = re.compile(r"\.[01]\b|[^\s(){},;.]+")
 
 
-def signs_in(lines: Iterable[str]) -> list[str]:
+def find_signs(lines: Iterable[str]) -> list[str]:
     """Return the meanings of the signs that occur in some lines."""
     words = {word for line in lines for word in WORD.findall(line)}
     rows = [[part.strip() for part in re.split(r" \| ", row, maxsplit=2)]

@@ -11,7 +11,7 @@ import re
 
 from subtitles.common.program import read
 
-from .graph import Graph
+from .graph import UseGraph
 
 KINDS = ("code", "contracts", "specs", "proofs", "tests")
 TESTS = ("tests", "check_tests", "word_tests", "file_tests", "program_tests", "fixtures",
@@ -50,12 +50,12 @@ def count_lines(top: str) -> dict[str, collections.Counter[str]]:
     return found
 
 
-def total(sizes: dict[str, collections.Counter[str]]) -> collections.Counter[str]:
+def add_sizes(sizes: dict[str, collections.Counter[str]]) -> collections.Counter[str]:
     """Return the sizes of all crates together."""
     return sum(sizes.values(), collections.Counter())
 
 
-def promised_definitions(graph: Graph) -> collections.Counter[str]:
+def count_promised_definitions(graph: UseGraph) -> collections.Counter[str]:
     """Count the lines of each crate's definitions that public contracts and laws depend on."""
     lines: collections.Counter[str] = collections.Counter()
     for definition in graph.promised_definitions():

@@ -8,7 +8,7 @@ import re
 from dataclasses import dataclass, field
 from typing import Iterator
 
-from .definitions import USE, File, braced
+from .definitions import USE, File, read_braced_text
 
 HEAD = re.compile(r"((?:(?:pub|abbrev|unfoldable|opaque|record|data|ruleset) )*)"
                   r"([^\s:(){},;]+)(?=[\s:]|$)")
@@ -94,7 +94,7 @@ def read_definitions(file: Source, kind: str) -> Iterator[Node]:
         if is_level and bare.startswith("module "):
             modules.append((depth, [bare], 0))
             is_head, now = not ends_head(bare), None
-        elif is_level and (name := defined_name(bare)):
+        elif is_level and (name := find_defined_name(bare)):
             around = [part for _, parts, _ in modules for part in parts]
             now = Node(kind, file, name, number, [*around, bare])
             yield now
@@ -108,13 +108,13 @@ def ends_head(bare: str) -> bool:
     return bare == "where" or bare.endswith(" where")
 
 
-def defined_name(bare: str) -> str | None:
+def find_defined_name(bare: str) -> str | None:
     """Return the name of the definition that a line begins, `None` for an equation."""
     head = HEAD.match(bare)
     return head[2] if head and (head[1] or re.match(r" *:(?:\s|$)", bare[head.end():])) else None
 
 
-def names_at_head(text: str) -> set[str]:
+def find_head_names(text: str) -> set[str]:
     """Return the names in backquotes in a file's first comment, and its list of main lemmas."""
     lines = itertools.takewhile(lambda line: line.startswith("--"), text.split("\n"))
     head = " ".join(line[2:].strip() for line in lines)
@@ -133,7 +133,7 @@ def read_functions(file: Source) -> list[str]:
     while at < len(lines):
         line, bare = lines[at], lines[at].strip()
         if head := FUNCTION.match(line):
-            last = end_of_function(lines, at, head[1])
+            last = find_end_of_function(lines, at, head[1])
             text = [*attributes, *map(str.strip, lines[at:last + 1])]
             file.functions.append(Node(
                 "function", file, head[3], at + 1, text, owner=owner,
@@ -155,7 +155,7 @@ def read_functions(file: Source) -> list[str]:
     return other_lines
 
 
-def end_of_function(lines: list[str], at: int, indent: str) -> int:
+def find_end_of_function(lines: list[str], at: int, indent: str) -> int:
     """Return the last line of the function that begins at line `at` with this indentation."""
     depth = 0  # of braces in its contract
     for number in range(at, len(lines)):
@@ -171,11 +171,11 @@ def end_of_function(lines: list[str], at: int, indent: str) -> int:
     return len(lines) - 1
 
 
-def clauses(text: str) -> Iterator[tuple[str, str, str, int]]:
+def list_contract_clauses(text: str) -> Iterator[tuple[str, str, str, int]]:
     """Yield the keyword, name, text and end of each clause of a contract."""
     at = 0
     while found := CLAUSE.search(text, at):
-        inner = braced(text, found.end())
+        inner = read_braced_text(text, found.end())
         at = found.end() + len(inner) + 1
         yield found[1], found[2], inner, at
 

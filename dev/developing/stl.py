@@ -7,14 +7,14 @@ from subtitles.formats.stl import GSI, LAST, TEXT, UNUSED
 DOUBLE_HEIGHT, START_BOX, END_BOX = b"\x0d", b"\x0b", b"\x0a"
 
 
-def time_code(frame: int) -> bytes:
+def encode_time_code(frame: int) -> bytes:
     """Return a frame's hours, minutes, seconds and frames, as the four bytes of a TTI block."""
     seconds, frames = divmod(frame, FRAMES_A_SECOND)
     return bytes([seconds // 3600, seconds // 60 % 60, seconds % 60, frames])
 
 
-def gsi_block(title: bytes, blocks: int, subtitles: int, first: int = 0,
-              language: bytes = b"09") -> bytes:
+def make_gsi_block(title: bytes, blocks: int, subtitles: int, first: int = 0,
+                   language: bytes = b"09") -> bytes:
     """Return a GSI block: STL25.01, Teletext of level 1, code table 00.
 
     `language` is 09 for English and 08 for German. `subttx` ignores the counts of blocks and
@@ -36,29 +36,29 @@ def gsi_block(title: bytes, blocks: int, subtitles: int, first: int = 0,
     put(238, b"%05d%05d001" % (blocks, subtitles))  # TNB, TNS, TNG
     put(251, b"4023")  # MNC, MNR: columns and rows
     put(255, b"1")  # TCS: time codes are intended for use
-    put(256, b"00000000%02d%02d%02d%02d" % tuple(time_code(first)))  # TCP, TCF: starts
+    put(256, b"00000000%02d%02d%02d%02d" % tuple(encode_time_code(first)))  # TCP, TCF: starts
     put(272, b"11GBR")  # TND, DSN: disk 1 of 1; CO
     return bytes(block)
 
 
-def tti_block(number: int, begin: int, end: int, row: int, justify: int, text: bytes,
-              ebn: int = LAST, comment: int = 0, group: int = 0) -> bytes:
+def make_tti_block(number: int, begin: int, end: int, row: int, justify: int, text: bytes,
+                   ebn: int = LAST, comment: int = 0, group: int = 0) -> bytes:
     """Return a TTI block. Times are frames of the day; the text has at most 112 bytes."""
     assert len(text) <= TEXT
     head = bytes([group, number & 255, number >> 8 & 255, ebn, 0])
-    head += time_code(begin) + time_code(end) + bytes([row, justify, comment])
+    head += encode_time_code(begin) + encode_time_code(end) + bytes([row, justify, comment])
     return head + text.ljust(TEXT, UNUSED)
 
 
-def subtitle_blocks(number: int, begin: int, end: int, row: int, justify: int,
-                    text: bytes) -> bytes:
+def make_subtitle_blocks(number: int, begin: int, end: int, row: int, justify: int,
+                         text: bytes) -> bytes:
     """Return the TTI blocks of a subtitle, as few as its text needs."""
     fields = [text[at:at + TEXT] for at in range(0, len(text), TEXT)] or [b""]
     numbers = [*range(len(fields) - 1), LAST]
-    return b"".join(tti_block(number, begin, end, row, justify, field, ebn)
+    return b"".join(make_tti_block(number, begin, end, row, justify, field, ebn)
                     for field, ebn in zip(fields, numbers))
 
 
-def boxed(text: bytes, colour: bytes = b"") -> bytes:
+def box_line(text: bytes, colour: bytes = b"") -> bytes:
     """Return a double-height line with its box codes doubled, as most files have it."""
     return DOUBLE_HEIGHT + colour + START_BOX * 2 + text + END_BOX * 2

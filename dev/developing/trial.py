@@ -132,7 +132,7 @@ class Call(NamedTuple):
     number: int
 
 
-class Ran(NamedTuple):
+class RunResult(NamedTuple):
     """A run. `printed` is `None` if it can't be seen, `written` if there is no file.
 
     If the program could not run, `status` is the reason. `error_text` is standard error; `changed`
@@ -148,7 +148,7 @@ class Ran(NamedTuple):
 
 
 # Name, run and faults of a case; a function that runs cases; an expected status and output.
-Found = tuple[str, Union[Ran, Command], list[str]]
+Found = tuple[str, Union[RunResult, Command], list[str]]
 Case = Callable[[], list[Found]]
 End = tuple[int, bytes]
 
@@ -206,15 +206,15 @@ def split_output(printed: bytes, errors: bytes, count: int) -> list[tuple[int, b
 
 
 def collect_run(place: str, command: Command, before: dict[str, bytes | None], status: int,
-                printed: bytes | None, errors: bytes) -> Ran:
+                printed: bytes | None, errors: bytes) -> RunResult:
     """Return the result of a run in a folder; `before` are the files before it."""
     calls = parse_calls(read(os.path.join(place, "calls")) or b"")
     written = read(os.path.join(place, command.out)) if command.out else None
     after, error_text = read_files(place, command), errors.decode("utf-8", "replace")
     names = sorted(before.keys() | after.keys())
-    return Ran(status, printed, written, calls,
-               "\n".join(line for line in error_text.splitlines() if not OTHERS.match(line)),
-               tuple(name for name in names if before.get(name) != after.get(name)))
+    return RunResult(status, printed, written, calls,
+                     "\n".join(line for line in error_text.splitlines() if not OTHERS.match(line)),
+                     tuple(name for name in names if before.get(name) != after.get(name)))
 
 
 class Trial:
@@ -264,7 +264,7 @@ class Trial:
 
     def run(self, command: Command, before: Sequence[str] = (), setup: str = "",
             prepare: Callable[[str], object] | None = None,
-            stdout: int | IO[bytes] = subprocess.PIPE, **more: Any) -> Ran:
+            stdout: int | IO[bytes] = subprocess.PIPE, **more: Any) -> RunResult:
         """Run the program in a new folder; `setup` is for the shell that starts it."""
         with tempfile.TemporaryDirectory(dir=self.folder) as place:
             os.chmod(place, 0o777)
@@ -278,10 +278,10 @@ class Trial:
                                       stdin=subprocess.DEVNULL, timeout=LONGEST, check=False,
                                       **more)
             except (OSError, subprocess.SubprocessError) as error:
-                return Ran(str(error), b"", None, [])
+                return RunResult(str(error), b"", None, [])
             return collect_run(place, command, before_it, done.returncode, done.stdout, done.stderr)
 
-    def run_each(self, command: Command, setups: Sequence[Setup]) -> list[Ran]:
+    def run_each(self, command: Command, setups: Sequence[Setup]) -> list[RunResult]:
         """Run the program with each setup, in new folders. One shell for all takes a third less
         time."""
         places = [tempfile.mkdtemp(dir=self.folder) for _ in setups]
@@ -297,12 +297,12 @@ class Trial:
             return [collect_run(place, command, {}, *ended) for place, ended in zip(
                 places, split_output(done.stdout, done.stderr, len(setups)))]
         except (OSError, ValueError, subprocess.SubprocessError) as error:
-            return [Ran(str(error), b"", None, []) for _ in setups]
+            return [RunResult(str(error), b"", None, []) for _ in setups]
         finally:
             for place in places:
                 shutil.rmtree(place)
 
-    def traced(self, command: Command, injections: Sequence[str]) -> list[Ran]:
+    def traced(self, command: Command, injections: Sequence[str]) -> list[RunResult]:
         """Run a command under strace with each injection."""
         return self.run_each(command, [
             Setup("", [*STRACE, "-o", "calls", *(["-e", injection] if injection else [])])
@@ -315,7 +315,8 @@ class Trial:
         return calls[start + 1:]
 
 
-def find_faults(ran: Ran, status: int | str, printed: bytes, written: bytes | None) -> list[str]:
+def find_faults(ran: RunResult, status: int | str, printed: bytes,
+                written: bytes | None) -> list[str]:
     """Return the differences of a run from the expected status, output and file."""
     faults = []
     if ran.status != status:
@@ -326,10 +327,10 @@ def find_faults(ran: Ran, status: int | str, printed: bytes, written: bytes | No
         faults.append(f"wrote {size(ran.written)}, expected {size(written)}")
     if ran.changed:
         faults.append(f"changed {', '.join(ran.changed)}")
-    return faults + explanation_faults(ran, printed)
+    return faults + find_explanation_faults(ran, printed)
 
 
-def explanation_faults(ran: Ran, printed: bytes) -> list[str]:
+def find_explanation_faults(ran: RunResult, printed: bytes) -> list[str]:
     """Return the faults of standard error.
 
     It must explain each fault of a file and of the arguments, and be empty for status 0 and 1.
@@ -350,12 +351,12 @@ def size(data: bytes | None) -> str:
     return "no file" if data is None else f"these {len(data)} bytes"
 
 
-def as_before(command: Command, ran: Ran) -> list[str]:
+def compare_with_normal_run(command: Command, ran: RunResult) -> list[str]:
     """Compare a run with the one in which nothing fails."""
     return find_faults(ran, command.status, command.printed, command.written)
 
 
-def intact_or_no_memory(command: Command, ran: Ran) -> list[str]:
+def check_memory_failure(command: Command, ran: RunResult) -> list[str]:
     """Return faults unless a run is as if nothing fails, or reports that memory ran out.
 
     Without memory wrong arguments may not be explained, or only in part.
@@ -364,7 +365,7 @@ def intact_or_no_memory(command: Command, ran: Ran) -> list[str]:
     if not found or ran.printed is None:
         if command.status == 2 and (not ran.error_text or ran.error_text.startswith(UNREAD)):
             ran = ran._replace(error_text="error: ")
-        return as_before(command, ran)
+        return compare_with_normal_run(command, ran)
     before = ran.printed[:found.start()]
     faults = find_faults(ran, 2, before + found[0], ran.written)
     if not command.printed.startswith(before):
@@ -374,11 +375,11 @@ def intact_or_no_memory(command: Command, ran: Ran) -> list[str]:
     return faults
 
 
-def fault_of_write(command: Command) -> bytes:
+def expect_write_fault(command: Command) -> bytes:
     return b"fault 29 Write\n" if command.program_args[0] == "normal" else b"fault 42 Write\n"
 
 
-def packets_before(data: bytes, offset: int) -> int:
+def count_packets_before(data: bytes, offset: int) -> int:
     """Count the PES packets that end at or before an offset."""
     count = at = 0
     while at + 6 <= offset:
@@ -387,12 +388,12 @@ def packets_before(data: bytes, offset: int) -> int:
     return count
 
 
-def block_in(line: bytes) -> int:
+def parse_block(line: bytes) -> int:
     """Return the block of a line `refused NN Name block N`."""
     return int(line.split()[4])
 
 
-def read_fault_output(trial: Trial, command: Command, name: str, offset: int) -> bytes:
+def expect_read_fault(trial: Trial, command: Command, name: str, offset: int) -> bytes:
     """Return the expected output if the read at an offset of an input fails."""
     lines = command.printed.splitlines(True)
     if name.endswith(".stl"):
@@ -400,9 +401,9 @@ def read_fault_output(trial: Trial, command: Command, name: str, offset: int) ->
         before = lines[:max(block - 1, 0)] if command.program_args[0] == "show" else []
         if "--all" in command.program_args:
             # Faults of the blocks before do not stop reading.
-            before = [line for line in lines if b" block " in line and block_in(line) < block]
+            before = [line for line in lines if b" block " in line and parse_block(line) < block]
         return b"".join(before) + b"fault 26 Read block %d\n" % block
-    index = packets_before(trial.inputs[name], offset)
+    index = count_packets_before(trial.inputs[name], offset)
     starts = [at for at, line in enumerate(lines) if line.startswith(b"pes ")] + [len(lines) - 1]
     before = lines[:starts[index]] if command.program_args[0] == "packets" else []
     if "--all" in command.program_args:
@@ -419,7 +420,7 @@ def read_fault_output(trial: Trial, command: Command, name: str, offset: int) ->
     return b"".join(before) + b"fault 41 Read pes %d\n" % index
 
 
-def bytes_before(calls: list[Call], call: Call) -> int:
+def count_bytes_before(calls: list[Call], call: Call) -> int:
     """Return the bytes that earlier calls of the same kind moved on its descriptor."""
     return sum(other.result or 0 for other in calls[:calls.index(call)]
                if (other.name, other.on, other.file) == (call.name, call.on, call.file))
@@ -437,37 +438,37 @@ def is_explanation(call: Call) -> bool:
     return call.name == "write" and call.on == "2"
 
 
-def judge(trial: Trial, command: Command, ran: Ran) -> list[str]:
+def judge(trial: Trial, command: Command, ran: RunResult) -> list[str]:
     """Return the faults of a run under strace, by the calls that were made to fail in it.
 
     A failed write to standard error changes nothing else.
     """
     injected = [call for call in ran.calls if call.is_injected]
     if not injected:
-        return ["no call failed"] + as_before(command, ran)
+        return ["no call failed"] + compare_with_normal_run(command, ran)
     if any(is_explanation(call) for call in injected):
         ran = ran._replace(error_text="error: \nsubttx: ")
     failed = {(call.name, call.on): call for call in reversed(injected)
               if not is_explanation(call)}
     if not failed:
-        return as_before(command, ran)
+        return compare_with_normal_run(command, ran)
     first = next(iter(call for call in injected if not is_explanation(call)))
     text, written = command.printed, command.written
     if is_second_look(ran.calls, first):
-        text = fault_of_write(command)
+        text = expect_write_fault(command)
     elif first.name in ("openat", "statx"):
         text, written = b"fault 90 Open\n", None
     elif first.name == "read":
-        text = read_fault_output(trial, command, first.file, bytes_before(ran.calls, first))
+        text = expect_read_fault(trial, command, first.file, count_bytes_before(ran.calls, first))
         written = b"" if command.out else None
     elif first.name == "fsync":
-        text = fault_of_write(command)
+        text = expect_write_fault(command)
     elif first.on != "1":
-        text = fault_of_write(command)
-        written = (command.written or b"")[:bytes_before(ran.calls, first)]
+        text = expect_write_fault(command)
+        written = (command.written or b"")[:count_bytes_before(ran.calls, first)]
     at_output = failed.get(("write", "1"))
     if at_output:
-        text = text[:bytes_before(ran.calls, at_output)]
+        text = text[:count_bytes_before(ran.calls, at_output)]
     faults = find_faults(ran, 2, text, written)
     for (name, on), call in failed.items():
         after = [other for other in ran.calls[ran.calls.index(call) + 1:]

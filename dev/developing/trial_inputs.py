@@ -6,8 +6,8 @@ import sys
 
 from subtitles.common.program import TOP
 from subtitles.formats.stl import GSI, NEW_LINE
-from .pes import DATA, UNIT, begins_in
-from .stl import boxed, tti_block
+from .pes import DATA, UNIT, find_starts
+from .stl import box_line, make_tti_block
 from .trial import Trial, read
 
 SUBTITLES = 1700  # enough to fill each buffer of 64 KiB three times
@@ -38,12 +38,12 @@ COMMANDS = [
 ]
 
 
-def subtitle(number: int) -> bytes:
+def make_subtitle(number: int) -> bytes:
     """Return a TTI block with two double-height lines, in the second of that number."""
-    lines = [boxed((b"%s line %5d " % (word, number)).ljust(34, b"x"))
+    lines = [box_line((b"%s line %5d " % (word, number)).ljust(34, b"x"))
              for word in (b"Upper", b"Lower")]
-    return tti_block(number, 25 * number, 25 * number + 25, 20, 2,
-                     (NEW_LINE * 2).join(lines))
+    return make_tti_block(number, 25 * number, 25 * number + 25, 20, 2,
+                          (NEW_LINE * 2).join(lines))
 
 
 def set_even_parity(sent: bytes) -> bytes:
@@ -62,7 +62,7 @@ def set_even_parity(sent: bytes) -> bytes:
 def make_unreadable(sent: bytes) -> bytes:
     """Make each PES packet of the transmission unreadable, for two reasons in turn."""
     data = bytearray(sent)
-    for number, begin in enumerate(begins_in(sent)[:-1]):
+    for number, begin in enumerate(find_starts(sent)[:-1]):
         data[begin + (DATA - 1 if number % 2 else FLAGS)] ^= 0x40
     return bytes(data)
 
@@ -70,7 +70,7 @@ def make_unreadable(sent: bytes) -> bytes:
 def prepare(trial: Trial) -> None:
     """Write the inputs, and run each command once with nothing failing."""
     gsi = (read(os.path.join(TOP, "examples", "hello.stl")) or b"")[:GSI]
-    blocks = [subtitle(number) for number in range(1, SUBTITLES + 1)]
+    blocks = [make_subtitle(number) for number in range(1, SUBTITLES + 1)]
     trial.add_input("long.stl", gsi + b"".join(blocks))
     blocks[-5] = blocks[-5][:4] + b"\1" + blocks[-5][5:]  # a cumulative subtitle
     trial.add_input("bad.stl", gsi + b"".join(blocks))

@@ -13,9 +13,10 @@ from typing import Callable, Iterable, Iterator
 from subtitles.common.program import TOP
 from subtitles.formats.stl import TTI
 
-from .stl import boxed, gsi_block, tti_block
+from .stl import box_line, make_gsi_block, make_tti_block
 from .trial import (
-    AT_ONCE, REFUSER, Case, Command, Found, Ran, Trial, Setup, as_before, intact_or_no_memory)
+    AT_ONCE, Case, Command, Found, REFUSER, RunResult, Setup, Trial, check_memory_failure,
+    compare_with_normal_run)
 from .trial_inputs import HEADER
 
 KIBIBYTES = [96 * 1024, 64 * 1024, 32 * 1024, 16 * 1024, *range(8192, 1024, -48)]
@@ -54,14 +55,14 @@ listen recording.ts --pid 257 --at 10:00:00:10""".strip().split("\n")]
 
 
 def run_parallel(trial: Trial, command: Command, numbers: Iterable[int], setup: Callable[[int], str]
-                 ) -> Iterator[tuple[int, Ran]]:
+                 ) -> Iterator[tuple[int, RunResult]]:
     """Run a command with each number, AT_ONCE at a time."""
     waiting = iter(numbers)
     while some := list(itertools.islice(waiting, AT_ONCE)):
         yield from zip(some, trial.run_each(command, [Setup(setup(one)) for one in some]))
 
 
-def less_memory(trial: Trial) -> Iterator[Case]:
+def run_with_less_memory(trial: Trial) -> Iterator[Case]:
     def shrink(command: Command) -> list[Found]:
         found: list[Found] = []
         for size, ran in run_parallel(trial, command, KIBIBYTES, lambda size: f"ulimit -v {size};"):
@@ -70,7 +71,7 @@ def less_memory(trial: Trial) -> Iterator[Case]:
             if ran.status in (127, -9, -11) and not ran.printed:
                 found.append((name, ran, [] if size < ENOUGH else ["not started"]))
                 break
-            found.append((name, ran, intact_or_no_memory(command, ran)))
+            found.append((name, ran, check_memory_failure(command, ran)))
         return found
 
     return (partial(shrink, command) for command in trial.commands.values())
@@ -82,7 +83,7 @@ def resolve_examples(program_args: list[str]) -> list[str]:
     return [place if os.path.exists(place) else word for word, place in zip(program_args, places)]
 
 
-def small_stack(trial: Trial) -> Iterator[Case]:
+def run_with_small_stack(trial: Trial) -> Iterator[Case]:
     others = (trial.command(" ".join(program_args), resolve_examples(program_args))
               for program_args in STACKED)
     for command in [*trial.commands.values(), *others]:
@@ -90,11 +91,12 @@ def small_stack(trial: Trial) -> Iterator[Case]:
             size = STACK_OF_SURVEY if command.program_args[0] == "survey" else STACK
             # The environment is on the stack too.
             ran = trial.run(command, before=["env", "-i"], setup=f"ulimit -s {size};")
-            return [(f"{command.name} in a stack of {size} KiB", ran, as_before(command, ran))]
+            return [(f"{command.name} in a stack of {size} KiB", ran,
+                     compare_with_normal_run(command, ran))]
         yield run
 
 
-def refused_memory(trial: Trial) -> Iterator[Case]:
+def run_with_refused_memory(trial: Trial) -> Iterator[Case]:
     library = trial.library("refused memory", REFUSER)
     if not library:
         return
@@ -108,21 +110,22 @@ def refused_memory(trial: Trial) -> Iterator[Case]:
                 f"REFUSE_AT={call} REFUSED={mark}-{call};"):
             if not os.path.exists(f"{mark}-{call}"):
                 break
-            found.append((f"{name}: call {call}", ran, intact_or_no_memory(command, ran)))
-        faults = as_before(command, ran) if found else ["no call is seen: is it linked to libc?"]
+            found.append((f"{name}: call {call}", ran, check_memory_failure(command, ran)))
+        faults = (compare_with_normal_run(command, ran) if found
+                  else ["no memory call was seen: is the program linked to libc?"])
         return [*found, (f"{name}: no more calls", ran, faults)]
 
     for number, program_args in enumerate(REFUSED):
         yield partial(refused, number, program_args)
 
 
-def many_subtitles(trial: Trial) -> Iterator[Case]:
+def run_with_many_subtitles(trial: Trial) -> Iterator[Case]:
     """Check a file with the most subtitles that are allowed: it takes little memory beyond their
     texts."""
-    texts = [boxed(b"Subtitle %05d" % number) for number in range(MANY)]
-    blocks = [tti_block(number & 0xFFFF, 20 * number, 20 * number + 20, 22, 2, text)
+    texts = [box_line(b"Subtitle %05d" % number) for number in range(MANY)]
+    blocks = [make_tti_block(number & 0xFFFF, 20 * number, 20 * number + 20, 22, 2, text)
               for number, text in enumerate(texts)]
-    trial.add_input("many.stl", gsi_block(b"Many", len(blocks), MANY) + b"".join(blocks))
+    trial.add_input("many.stl", make_gsi_block(b"Many", len(blocks), MANY) + b"".join(blocks))
     assert len(trial.inputs["many.stl"]) == 1024 + MANY * TTI
     schedule = trial.command("schedule", ["schedule", "../many.stl", "out.pes", "--every", "25"])
     trial.add_input("many.pes", schedule.written or b"")
@@ -134,11 +137,12 @@ def many_subtitles(trial: Trial) -> Iterator[Case]:
         def run(command: Command = command) -> list[Found]:
             ran, short = (trial.run(command, setup=f"ulimit -d {size // 1024};")
                           for size in (most, TOO_LITTLE))
-            kept = intact_or_no_memory(command, short)
+            kept = check_memory_failure(command, short)
             if short.status != 2:
                 kept.append("the limit has no effect: they fit all the same")
             accepted = [] if command.status == 0 else [f"status {command.status} without a limit"]
             name = f"{command.name} of {MANY} subtitles"
-            return [(f"{name} in {most} bytes", ran, accepted + as_before(command, ran)),
+            return [(f"{name} in {most} bytes", ran,
+                     accepted + compare_with_normal_run(command, ran)),
                     (f"{name} in {TOO_LITTLE} bytes", short, kept)]
         yield run

@@ -9,8 +9,9 @@ import io
 from random import Random
 from typing import NamedTuple
 
-from developing.pes import odd, packet as teletext_packet, pes_packet, pes_packets, pts_in
-from developing.stl import time_code
+from developing.pes import (
+    add_odd_parity, decode_pts, make_packet as teletext_packet, make_pes_packet, read_pes_packets)
+from developing.stl import encode_time_code
 from subtitles.common.times import FRAMES_OF_A_DAY, frame_of_code, time_of
 from subtitles.formats.layout import FLAGS, NUMBERS
 from subtitles.formats.stl import GSI, TTI
@@ -106,7 +107,7 @@ def send_otherwise(chance: Random, teletext: list[bytes]) -> None:
         one[chance.randrange(2, 42)] ^= 0x80
         teletext[at] = bytes(one)
     elif way == 4:
-        one[chance.randrange(10, 42)] = odd(chance.choice(LETTERS))
+        one[chance.randrange(10, 42)] = add_odd_parity(chance.choice(LETTERS))
         teletext[at] = bytes(one)
     elif way == 5:
         text = chance.choice([b" " * 40, bytes(chance.choices(LETTERS, k=40))])
@@ -126,7 +127,7 @@ def without_erasing(chance: Random, pes: bytes) -> bytes:
     repeats = Repeats(chance.choice([0.3, 0.9, 1.0]), chance.choice([0, 0, 0, 0.08, 1.0]),
                       chance.choice([0, 0, 0, 0.04, 0.2]), chance.random() < 0.1)
     subcode = chance.choice([0, 0, 1])
-    for packet in pes_packets(io.BytesIO(pes)):
+    for packet in read_pes_packets(io.BytesIO(pes)):
         teletext = teletext_in(bytearray(packet))
         is_repeat = teletext == before
         before = list(teletext)
@@ -137,7 +138,7 @@ def without_erasing(chance: Random, pes: bytes) -> bytes:
             with_header(chance, teletext, subcode, keeps)
             if keeps and len(teletext) > 1 and chance.random() < repeats.wrong:
                 send_otherwise(chance, teletext)
-        made.append(pes_packet(pts_in(packet), teletext) if len(teletext) < MOST_LINES
+        made.append(make_pes_packet(decode_pts(packet), teletext) if len(teletext) < MOST_LINES
                     else bytes(packet))
     return b"".join(made)
 
@@ -157,7 +158,7 @@ def refuse_some(chance: Random, stl: bytes) -> bytes:
             block[field] = value
         elif way == 3:  # ends within the next one, or after it
             tco = frame_of_code(bytes(block[9:13])) or 0
-            block[9:13] = time_code(min(tco + chance.randrange(1, 90), FRAMES_OF_A_DAY - 1))
+            block[9:13] = encode_time_code(min(tco + chance.randrange(1, 90), FRAMES_OF_A_DAY - 1))
         elif way == 4:
             blocks.insert(at, blocks.pop(chance.randrange(len(blocks))))
         else:

@@ -5,13 +5,13 @@ import io
 from random import Random
 
 from developing.pes import (
-    DATA, MIRROR, STUFFING_UNIT, UNIT, mirrored, odd, packet as teletext_packet, pes_packet,
-    pes_packets, pts_bytes, pts_in)
+    DATA, MIRROR, STUFFING_UNIT, UNIT, add_odd_parity, decode_pts, encode_pts,
+    make_packet as teletext_packet, make_pes_packet, read_pes_packets, reverse_bits)
 from subtitles.common.times import CLOCK, FRAMES_OF_A_DAY, TICKS
 from subtitles.formats.teletext import CODE_WORDS
 
 PACKET = 4  # place of the Teletext packet in a data unit
-MOST_LINES = 16  # Teletext packets that `pes_packet` can hold
+MOST_LINES = 16  # Teletext packets that `make_pes_packet` can hold
 LETTERS = b"ABCDEFGHIJKLMNOPQRSTUVWXYZabcdefghijklmnopqrstuvwxyz 0123456789.,?!'"
 
 
@@ -22,7 +22,7 @@ def units_in(packet: bytes | bytearray) -> list[int]:
 
 def teletext_in(packet: bytes | bytearray) -> list[bytes]:
     """Return the Teletext packets of a PES packet."""
-    return [mirrored(bytes(packet[at + PACKET:at + UNIT])) for at in units_in(packet)]
+    return [reverse_bits(bytes(packet[at + PACKET:at + UNIT])) for at in units_in(packet)]
 
 
 def random_header(chance: Random) -> bytes:
@@ -56,17 +56,18 @@ def change(way: str, chance: Random, packet: bytearray) -> None:
     elif way == "code":  # of an address or a header, or a letter of a row
         at = chance.choice(units) + PACKET
         place = chance.choice([chance.randrange(2, 10), chance.randrange(10, 42)])
-        code = chance.choice([CODE_WORDS[chance.randrange(16)], odd(chance.randrange(128))])
+        code = chance.choice([CODE_WORDS[chance.randrange(16)],
+                              add_odd_parity(chance.randrange(128))])
         packet[at + place] = MIRROR[code]
     elif way == "drop":
         at = chance.choice(units)
         packet[at:at + UNIT] = STUFFING_UNIT
     elif way == "add" and len(teletext) < MOST_LINES:
         add_packet(chance, teletext)
-        packet[:] = pes_packet(pts_in(packet), teletext)
+        packet[:] = make_pes_packet(decode_pts(packet), teletext)
     elif way == "enhancement" and len(teletext) < MOST_LINES:  # X/25 to X/28, at the second place
         teletext[1:1] = [teletext_packet(0, chance.randrange(25, 29), [], b" " * 40)]
-        packet[:] = pes_packet(pts_in(packet), teletext)
+        packet[:] = make_pes_packet(decode_pts(packet), teletext)
     elif way == "swap":  # a row before its header, or rows after the closing header
         one, other = (chance.choice(units) + PACKET for _ in range(2))
         end = UNIT - PACKET
@@ -97,13 +98,13 @@ def add_packet(chance: Random, teletext: list[bytes]) -> None:
         made = chance.choice(teletext)
         if way < 0.3:
             at = chance.randrange(10, 42)
-            made = made[:at] + bytes([odd(chance.choice(LETTERS))]) + made[at + 1:]
+            made = made[:at] + bytes([add_odd_parity(chance.choice(LETTERS))]) + made[at + 1:]
     teletext.insert(chance.randrange(len(teletext) + 1), made)
 
 
 def move(packet: bytearray, ticks: int) -> None:
     """Change the PTS."""
-    packet[9:14] = pts_bytes((pts_in(packet) + ticks) % CLOCK)
+    packet[9:14] = encode_pts((decode_pts(packet) + ticks) % CLOCK)
 
 
 def change_order(chance: Random, packets: list[bytearray]) -> None:
@@ -183,7 +184,7 @@ def damage_head(chance: Random, packets: list[bytearray]) -> None:
 
 def break_pes(chance: Random, data: bytes) -> bytes:
     """Change some packets of a transmission, their order, or its length."""
-    packets = list(map(bytearray, pes_packets(io.BytesIO(data))))
+    packets = list(map(bytearray, read_pes_packets(io.BytesIO(data))))
     for _ in range(chance.choice([0, 1, 1, 2, 3, 6, 12])):
         if packets:
             (change_order if chance.random() < 0.12 else change_some)(chance, packets)

@@ -6,7 +6,7 @@ from __future__ import annotations
 
 from typing import Iterable
 
-from developing.pes import address_of
+from developing.pes import decode_address
 from subtitles.common.times import time_of
 from .due import Due, judge_subtitles
 from .ends import Ends
@@ -94,7 +94,7 @@ class Transmission:
         """Take its Teletext packets; return whether one is a header that erases the page."""
         page, has_erased = self.options.page, False
         for one in teletext:
-            packet = Packet(one, address_of(one), header_of(one))
+            packet = Packet(one, decode_address(one), header_of(one))
             for fault in packet_faults(packet, self.packets, self.options):
                 self.tell(fault, f"frame {time_of(frame)} packet {self.count}", pes, frame)
             self.packets.append(packet)

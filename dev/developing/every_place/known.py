@@ -3,8 +3,8 @@ from __future__ import annotations
 
 import os
 
-from developing.pes import mirrored, pes_packet
-from developing.stl import subtitle_blocks
+from developing.pes import reverse_bits, make_pes_packet
+from developing.stl import make_subtitle_blocks
 from subtitles.common.program import TOP
 from subtitles.common.times import TICKS
 from subtitles.formats.stl import GSI
@@ -29,7 +29,7 @@ HELLO, SENT = example("hello.stl"), example("hello.pes")
 SENT_25 = example("hello-25.pes")  # also at the frame between them
 BLANK = SENT_25[368:]  # the last of these PES packets: a page without rows
 EVEN_H = {117: 0x12}  # the row's H, with even parity
-ROW = mirrored(SENT[96:138])  # row 22
+ROW = reverse_bits(SENT[96:138])  # row 22
 OTHER_ROW = poked(ROW, {21: 0x68})  # with an h instead of the H
 WHOLE = [HEADER, ROW, CLOSING]
 HI = b"\x0d\x0b\x0bHi\x0a\x0a"
@@ -93,7 +93,7 @@ EARLY_WRONG = ["refused 72 Content frame 09:59:59:24 row 22 column 16",
 def of_texts(*texts: tuple[int, int, int, bytes]) -> bytes:
     """Return a file of subtitles by TCI and TCO after 10:00:00:00, row and text."""
     return HELLO[:GSI] + b"".join(
-        subtitle_blocks(number, FIRST + tci, FIRST + tco, row, 2, text)
+        make_subtitle_blocks(number, FIRST + tci, FIRST + tco, row, 2, text)
         for number, (tci, tco, row, text) in enumerate(texts))
 
 
@@ -107,7 +107,8 @@ OF_EIGHT = ["refused 51 Control block 1 at 0", "refused 50 Character block 2 at 
             "refused 54 DoubleRow block 5 at 0", "refused 55 Hidden block 6 at 1",
             "refused 57 Overlap block 7", "refused 51 Control block 7 at 0",
             "refused 56 OutOfOrder block 8"]
-OPEN_NINTH = poked(subtitle_blocks(8, FIRST, FIRST + 50, 22, 2, HI), {3: 0})  # the first of several
+OPEN_NINTH = poked(make_subtitle_blocks(8, FIRST, FIRST + 50, 22, 2, HI),
+                   {3: 0})  # the first of several
 
 
 def after_eight(name: str, blocks: bytes, *last: str) -> KnownCall:
@@ -123,7 +124,7 @@ TEXTS = [after_eight("no more", b""),
 
 def sent_at(*frames: tuple[int, list[bytes]]) -> bytes:
     """Return PES packets with these frames after 10:00:00:00."""
-    return b"".join(pes_packet((FIRST + frame) * TICKS, packets) for frame, packets in frames)
+    return b"".join(make_pes_packet((FIRST + frame) * TICKS, packets) for frame, packets in frames)
 
 
 def of_every_rule() -> bytes:
@@ -145,7 +146,7 @@ def of_ends() -> bytes:
     changes = {19: 0x0B, 20: 0x0B, 21: 0x0D, 23: 0x8A, 24: 0x8A}
     return sent_at((0, [HEADER, ROW]), (24, [poked(coded("15 8C"), {**changes, 22: 0xC1})]),
                    (30, [poked(coded("D0 C7"), {**changes, 22: 0xC2})])
-                   ) + pes_packet(3_240_144_001, [CLOSING])
+                   ) + make_pes_packet(3_240_144_001, [CLOSING])
 
 
 ENDS = [refused("77 Incomplete", "00:00"), refused("72 Content", "00:24", "row 20 column 17"),

@@ -10,7 +10,7 @@ import io
 from random import Random
 from typing import NamedTuple
 
-from developing.pes import odd, pes_packet, pes_packets, pts_bytes, pts_in
+from developing.pes import add_odd_parity, make_pes_packet, read_pes_packets, encode_pts, decode_pts
 from subtitles.common.times import CLOCK, FRAMES_OF_A_DAY, TICKS
 from .broken import LETTERS, MOST_LINES, damage, random_packet, teletext_in
 
@@ -116,7 +116,7 @@ def misspell(chance: Random, parts: list[Part]) -> None:
     if chance.random() < 0.4:
         one[chance.randrange(2, 42)] ^= 0x80
     else:
-        one[chance.randrange(10, 42)] = odd(chance.choice(LETTERS))
+        one[chance.randrange(10, 42)] = add_odd_parity(chance.choice(LETTERS))
     packets[place] = bytes(one)
     time = parts[at].time
     other = parts[at]._replace(packets=packets)
@@ -132,14 +132,14 @@ def misspell(chance: Random, parts: list[Part]) -> None:
 # Transmissions
 
 def parts_in(data: bytes) -> list[Part]:
-    packets = list(pes_packets(io.BytesIO(data)))
-    return [Part((pts_in(packet) - pts_in(packets[0])) % CLOCK, teletext_in(packet))
+    packets = list(read_pes_packets(io.BytesIO(data)))
+    return [Part((decode_pts(packet) - decode_pts(packets[0])) % CLOCK, teletext_in(packet))
             for packet in packets]
 
 
 def joined(parts: list[Part], first: int) -> list[bytearray]:
     """Return the PES packets, from the PTS of the first on."""
-    return [bytearray(pes_packet((first + part.time) % CLOCK, part.packets[:MOST_LINES]))
+    return [bytearray(make_pes_packet((first + part.time) % CLOCK, part.packets[:MOST_LINES]))
             for part in parts]
 
 
@@ -151,7 +151,7 @@ def stand_between(chance: Random, packets: list[bytearray], origin: int) -> None
         one = bytearray(packets[at])
         if chance.random() < 0.2:
             ticks = chance.choice([EARLIEST - 1, -TICKS, TICKS * FRAMES_OF_A_DAY + EARLIEST])
-            one[9:14] = pts_bytes((origin + ticks) % CLOCK)
+            one[9:14] = encode_pts((origin + ticks) % CLOCK)
         else:
             damage(chance, one)
         packets[at:at + (chance.random() < 0.3)] = [bytearray(one) for _ in range(count)]
@@ -162,7 +162,7 @@ def sent_late(chance: Random, data: bytes, within: int, origin: int) -> bytes:
     parts = parts_in(data)
     if not parts:
         return data
-    first = pts_in(data)
+    first = decode_pts(data)
     parts = send(chance, parts, max(0, within + chance.choice([0, 0, 0, 0, -1, 1])))
     for _ in range(chance.choice([0, 0, 0, 0, 1, 1, 2, 3])):
         if parts:

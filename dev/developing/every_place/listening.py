@@ -3,7 +3,7 @@ from __future__ import annotations
 
 from typing import Iterator, NamedTuple
 
-from developing.pes import address_of, pts_in
+from developing.pes import decode_address, decode_pts
 from subtitles.common.times import frame_of, time_of
 from subtitles.formats.teletext import is_odd
 from .definitions import failure_at, read_range
@@ -43,7 +43,7 @@ def packets_lines(data: bytes, options: Options, is_failing: bool) -> Iterator[s
         if number:
             yield refused(number, f"pes {pes}")
             return
-        yield f"pes {pes} pts {pts_in(piece)}"
+        yield f"pes {pes} pts {decode_pts(piece)}"
         yield from unit_lines(piece)
     yield end_fault(read, len(pieces), broken, is_failing) or f"{len(pieces)} pes"
 
@@ -93,7 +93,7 @@ class Receiver:
 
     def receive(self, packet: bytes) -> None:
         """Take a packet (EN 300 706)."""
-        address, header = address_of(packet), header_of(packet)
+        address, header = decode_address(packet), header_of(packet)
         if header and header[0] == self.page:
             self.is_heard = self.is_open = True
             if ERASE in header[1] or self.kind == "anew":
@@ -152,7 +152,7 @@ def listen_lines(data: bytes, options: Options, words: list[str], is_failing: bo
         before = frame
         for packet in packets:
             if number >= heard.skip and number in heard.lost:
-                if (address_of(packet) or (0, 0))[1] == 0:
+                if (decode_address(packet) or (0, 0))[1] == 0:
                     return [f"refused 76 LostHeader frame {time_of(frame)} packet {place}"]
             elif number >= heard.skip:
                 receiver.receive(heard.corrupt(number, packet))

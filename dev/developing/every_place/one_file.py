@@ -8,8 +8,8 @@ from __future__ import annotations
 
 from typing import Iterable, NamedTuple
 
-from developing.pes import packet, pes_packet
-from developing.stl import gsi_block, subtitle_blocks, tti_block
+from developing.pes import make_packet, make_pes_packet
+from developing.stl import make_gsi_block, make_subtitle_blocks, make_tti_block
 from subtitles.common.times import TICKS
 from subtitles.formats.stl import GSI, TEXT, TTI, USER_DATA
 from .calls import KnownCall, known_check
@@ -37,12 +37,12 @@ def a_file() -> bytes:
     Of comments and user data only EBN and CF are read.
     """
     return b"".join([
-        gsi_block(b"One file", 99_999, 88_888),
+        make_gsi_block(b"One file", 99_999, 88_888),
         b"\7\5\1\xff" + b"\x63" * 11 + b"\1" + b"in passing".ljust(TEXT, b"\x8f"),
-        tti_block(0x105, 25, 50, 20, 2, b"AA", ebn=0, group=7),
+        make_tti_block(0x105, 25, 50, 20, 2, b"AA", ebn=0, group=7),
         b"\x09\x09\x09" + bytes([USER_DATA]) + b"\x63" * 12 + b"anything".ljust(TEXT, b"\x8f"),
-        tti_block(0x105, 25, 50, 20, 2, b"BB", group=7),
-        tti_block(0x106, 50, 124, 1, 0, b"Hi", group=7)])
+        make_tti_block(0x105, 25, 50, 20, 2, b"BB", group=7),
+        make_tti_block(0x106, 50, 124, 1, 0, b"Hi", group=7)])
 
 
 WHOLE = a_file()
@@ -88,18 +88,19 @@ def name_of(text: bytes, what: str) -> str:
 
 def of_text(text: bytes, row: int, justify: int) -> bytes:
     """Return a file with one subtitle of one frame."""
-    return gsi_block(b"One text", 1, 1) + subtitle_blocks(1, FIRST, FIRST + 1, row, justify, text)
+    return make_gsi_block(b"One text", 1, 1) + make_subtitle_blocks(1, FIRST, FIRST + 1, row,
+                                                                    justify, text)
 
 
 def row_packet(line: Line) -> bytes:
     codes = b" " * line.column + line.cells
-    return packet(0, line.row, [], codes.ljust(40))
+    return make_packet(0, line.row, [], codes.ljust(40))
 
 
 def pes_of(lines: Iterable[Line]) -> bytes:
     """Return a transmission of exactly these lines in the first frame, and a blank page in the
     next."""
-    return b"".join(pes_packet((FIRST + frame) * TICKS, [HEADER, *rows, CLOSING])
+    return b"".join(make_pes_packet((FIRST + frame) * TICKS, [HEADER, *rows, CLOSING])
                     for frame, rows in enumerate((map(row_packet, lines), [])))
 
 

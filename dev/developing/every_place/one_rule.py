@@ -9,8 +9,8 @@ from __future__ import annotations
 
 from typing import NamedTuple
 
-from developing.pes import pes_packet
-from developing.stl import gsi_block, subtitle_blocks
+from developing.pes import make_pes_packet
+from developing.stl import make_gsi_block, make_subtitle_blocks
 from subtitles.common.times import CLOCK, FRAMES_OF_A_DAY, TICKS
 
 FIRST = 900_000  # the frame 10:00:00:00
@@ -59,7 +59,7 @@ def pes_packets_of(packets: str, meaning: dict[str, bytes]) -> list[bytes]:
     made = []
     for frame, *names in map(str.split, packets.split(",")):
         ticks = (FIRST + int(frame.rstrip("+-"))) * TICKS + TICKS_OFF.get(frame[-1], 0)
-        made.append(pes_packet(ticks, [meaning[name] for name in names]))
+        made.append(make_pes_packet(ticks, [meaning[name] for name in names]))
     return made
 
 
@@ -69,9 +69,9 @@ def programme(text: bytes | None = None, begin: int = 0, end: int = 1) -> bytes:
     in the first frame only, or from one frame to another.
     """
     if text is None:
-        return gsi_block(b"One rule", 0, 0)
-    return gsi_block(b"One rule", 1, 1) + subtitle_blocks(1, FIRST + begin, FIRST + end, 22, 2,
-                                                          text)
+        return make_gsi_block(b"One rule", 0, 0)
+    return make_gsi_block(b"One rule", 1, 1) + make_subtitle_blocks(1, FIRST + begin, FIRST + end,
+                                                                    22, 2, text)
 
 
 NONE, BLANK, HI = programme(), programme(b""), programme(b"Hi")
@@ -86,7 +86,7 @@ def rule(name: str, number: int, packets: str, tried: bytes = b"", words: str = 
 
 def near_the_day(name: str, *ticks: int) -> OneRule:
     """Return a page without rows at two times, one of them just outside the day."""
-    pes = b"".join(pes_packet(one % CLOCK, PAGE) for one in ticks)
+    pes = b"".join(make_pes_packet(one % CLOCK, PAGE) for one in ticks)
     return OneRule(name, 61, NONE, pes, "--every 1")
 
 

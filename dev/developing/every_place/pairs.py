@@ -10,7 +10,7 @@ import shlex
 from random import Random
 from typing import Callable, NamedTuple
 
-from developing.stl import gsi_block, subtitle_blocks
+from developing.stl import make_gsi_block, make_subtitle_blocks
 from subtitles.common.times import FRAMES_OF_A_DAY
 from subtitles.formats.stl import GSI, TTI, USER_DATA
 from .broadcasters import (
@@ -95,9 +95,9 @@ def random_subtitles(chance: Random, option: str) -> list[Shown]:
 
 def stl_file(chance: Random, subtitles: list[Shown]) -> bytes:
     """Return a subtitle file, sometimes with comments or user data among its blocks."""
-    made = gsi_block(b"At random", 0, len(subtitles))
+    made = make_gsi_block(b"At random", 0, len(subtitles))
     for number, one in enumerate(subtitles):
-        made += subtitle_blocks(number, *one)
+        made += make_subtitle_blocks(number, *one)
         if chance.random() < 0.1:
             skipped = bytearray(made[-TTI:])
             at, value = chance.choice([(15, 1), (3, USER_DATA)])

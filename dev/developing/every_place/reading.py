@@ -8,7 +8,7 @@ from __future__ import annotations
 
 from typing import Iterator, NamedTuple
 
-from developing.pes import address_of, mirrored, pts_in
+from developing.pes import decode_address, reverse_bits, decode_pts
 from subtitles.common.times import CLOCK, FRAMES_OF_A_DAY, TICKS, frame_at, frame_of_code
 from subtitles.formats.stl import GSI, LAST, TTI, USER_DATA
 from subtitles.formats.teletext import NUMBER, Page
@@ -196,7 +196,7 @@ def units_of(packet: bytes) -> tuple[list[bytes], int | None]:
         if number:
             return packets, number
         if unit[0] in (2, 3):
-            packets.append(mirrored(unit[4:]))
+            packets.append(reverse_bits(unit[4:]))
             if unit[2] & 31:
                 last_line = line_of(unit)
     return packets, None
@@ -254,7 +254,7 @@ def read_packet(piece: bytes, origin: int, within: int) -> ReadPacket | int:
     packets, number = units_of(piece)
     if number is not None:
         return number
-    frame = frame_near(pts_in(piece), origin) if within else frame_at(pts_in(piece), origin)
+    frame = frame_near(decode_pts(piece), origin) if within else frame_at(decode_pts(piece), origin)
     return 61 if frame is None else (frame, packets)
 
 
@@ -268,7 +268,7 @@ def subcode_of(packet: bytes) -> tuple[int, ...]:
 
 def header_of(packet: bytes) -> Header | None:
     """Return the page and control bits of a corrected packet X/0, `None` for other packets."""
-    address = address_of(packet)
+    address = decode_address(packet)
     numbers = [number for number in map(NUMBER.__getitem__, packet[2:10]) if number is not None]
     if address is None or address[1] != 0 or len(numbers) < 8:
         return None

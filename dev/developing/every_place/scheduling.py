@@ -1,7 +1,7 @@
 """What `schedule` writes, by the definitions: simple and slow."""
 from __future__ import annotations
 
-from developing.pes import STUFFING_UNIT, mirrored, packet, pts_bytes
+from developing.pes import STUFFING_UNIT, reverse_bits, make_packet, encode_pts
 from subtitles.common.times import pts_of
 from subtitles.formats.teletext import Page, START
 from .due import Due, judge_subtitles
@@ -17,25 +17,25 @@ def header(page: Page, option: str, is_serial: bool) -> bytes:
     """Return a header of the page: subcode 0, C4, C6 and C7 set."""
     national = sum(1 << bit - 11 for bit in BITS[option])
     numbers = [page[1] % 16, page[1] // 16, 0, 8, 0, 8, 1, national + is_serial]
-    return packet(page[0], 0, numbers, b" " * 32)
+    return make_packet(page[0], 0, numbers, b" " * 32)
 
 
 def closing_header(page: Page, is_serial: bool) -> bytes:
     """Return a header of page FF, subcode 3F7F, in the same magazine."""
-    return packet(page[0], 0, [15, 15, 15, 7, 15, 3, 0, int(is_serial)], b" " * 32)
+    return make_packet(page[0], 0, [15, 15, 15, 7, 15, 3, 0, int(is_serial)], b" " * 32)
 
 
 def unit(number: int, data: bytes) -> bytes:
     """Return a data unit: lines 7 to 22 of the first field, then of the second."""
     field, line = divmod(number, LAST_LINE - FIRST_LINE + 1)
-    return bytes([3, 0x2C, 0xC0 | (field == 0) << 5 | FIRST_LINE + line, 0xE4]) + mirrored(data)
+    return bytes([3, 0x2C, 0xC0 | (field == 0) << 5 | FIRST_LINE + line, 0xE4]) + reverse_bits(data)
 
 
 def pes_of(pts: int, packets: list[bytes]) -> bytes:
     """Return a PES packet with as few stuffing units as possible."""
     count = len(packets) // 4 + 1
     units = b"".join(unit(number, data) for number, data in enumerate(packets))
-    return START + (184 * count - 6).to_bytes(2, "big") + b"\x84\x80\x24" + pts_bytes(pts) \
+    return START + (184 * count - 6).to_bytes(2, "big") + b"\x84\x80\x24" + encode_pts(pts) \
         + b"\xff" * 31 + b"\x10" + units + STUFFING_UNIT * (4 * count - 1 - len(packets))
 
 
@@ -46,7 +46,7 @@ def sending(page: bytes, options: Options, is_serial: bool) -> list[bytes]:
     for row in range(1, ROWS + 1):
         codes = page[(row - 1) * COLUMNS:row * COLUMNS]
         if codes.strip(bytes([SPACE])):
-            made.append(packet(options.page[0], row, [], codes))
+            made.append(make_packet(options.page[0], row, [], codes))
     return [*made, closing_header(options.page, is_serial)]
 
 

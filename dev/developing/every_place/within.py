@@ -5,7 +5,7 @@ Transmissions are written as in `one_rule`: `o` is row 22 with o for its i, `r2`
 """
 from __future__ import annotations
 
-from developing.pes import pes_packet
+from developing.pes import make_pes_packet
 from subtitles.common.times import CLOCK, FRAMES_OF_A_DAY, TICKS
 from subtitles.formats.stl import GSI
 from .calls import KnownCall, known_check
@@ -35,10 +35,10 @@ ONE = "--within 1"
 # The first and the last PTS of the day, and one tick before and after them.
 DAY = [
     *[known for ticks in (-900, TICKS * FRAMES_OF_A_DAY - 901) for known in of_pair(
-        f"a PTS of {ticks}", pes_packet(ticks % CLOCK, PAGE), (ONE, accepted(1, 1)),
+        f"a PTS of {ticks}", make_pes_packet(ticks % CLOCK, PAGE), (ONE, accepted(1, 1)),
         stl=HELLO[:GSI])],
     *[known for ticks in (-901, TICKS * FRAMES_OF_A_DAY - 900) for known in of_pair(
-        f"a PTS of {ticks}", pes_packet(ticks % CLOCK, PAGE),
+        f"a PTS of {ticks}", make_pes_packet(ticks % CLOCK, PAGE),
         (ONE, "refused 61 OffFrame pes 0"), stl=HELLO[:GSI])],
 ]
 

@@ -1,7 +1,7 @@
 """The requested page, decoded from its packets (EN 300 706)."""
 from __future__ import annotations
 
-from developing.pes import DATA_BITS, address_of, header_of, page_in, triplet
+from developing.pes import DATA_BITS, decode_address, decode_header, get_page_number, encode_triplet
 from subtitles.formats.teletext import ERASE, Page, has_bit, is_odd
 
 SPACE, EVEN_SPACE = 0x20, 0xA0
@@ -31,7 +31,7 @@ def decode_triplet(data: bytes) -> int | None:
     for wrong in (0, *(1 << bit for bit in range(24))):
         word = int.from_bytes(data, "little") ^ wrong
         value = sum((word >> at - 1 & 1) << bit for bit, at in enumerate(DATA_BITS))
-        if triplet(value) == word.to_bytes(3, "little"):
+        if encode_triplet(value) == word.to_bytes(3, "little"):
             return value
     return None
 
@@ -55,11 +55,11 @@ class DecodedPage:
 
     def take(self, data: bytes) -> None:
         """Take a Teletext packet."""
-        address = address_of(data)
+        address = decode_address(data)
         if address is None:
             return
         magazine, number = address
-        header = header_of(data) if number == 0 else None
+        header = decode_header(data) if number == 0 else None
         if header is not None:
             self.take_header(magazine, header)
         elif magazine == self.magazine and 1 <= number <= 24:
@@ -70,7 +70,7 @@ class DecodedPage:
                 store(self.strays, number, codes_of(data))
 
     def take_header(self, magazine: int, header: bytes) -> None:
-        is_own = (magazine, page_in(header)) == (self.magazine, self.number)
+        is_own = (magazine, get_page_number(header)) == (self.magazine, self.number)
         if magazine == self.magazine:
             self.is_last_of_magazine = is_own
         if is_own:

@@ -2,7 +2,7 @@
 from __future__ import annotations
 
 from developing.every_place.recordings import Stretch
-from developing.pes import pts_in
+from developing.pes import decode_pts
 from subtitles.common.times import ticks_between
 from .clocks import Say, number
 from .packets import Packet
@@ -111,9 +111,9 @@ class Video:
         if len(data) < {2: 14, 3: 19}.get(flags, 9):
             return
         has_times = flags >= 2 and data[6] != 0xFF
-        pts = pts_in(data) if has_times else None
+        pts = decode_pts(data) if has_times else None
         self.header = None
-        if self.begin(pts, pts_in(data[5:]) if has_times and flags == 3 else pts):  # the DTS
+        if self.begin(pts, decode_pts(data[5:]) if has_times and flags == 3 else pts):  # the DTS
             self.first = b""
             self.read_first(data[9 + data[8]:])
 

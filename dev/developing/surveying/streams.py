@@ -9,7 +9,8 @@ from typing import Callable, NamedTuple
 from developing.every_place.recordings import PACKET, SIZES, SYNC
 from developing.every_place.streams import (Unit, any_place, change, is_packet, made_wrong,
                                             random_bytes, stream_of, without_payload)
-from developing.pes import packet as teletext_packet, pes_packet, pts_bytes, triplet
+from developing.pes import (
+    encode_pts, encode_triplet, make_packet as teletext_packet, make_pes_packet)
 from subtitles.common.times import CLOCK, wrapped
 from subtitles.formats.teletext import START, Page, page_name
 from .tables import checked
@@ -128,7 +129,7 @@ def with_wrong_bits(chance: Random, data: bytes, places: list[int]) -> bytes:
 
 def enhancement(chance: Random, magazine: int, number: int) -> bytes:
     """Return a packet X/26 to X/29; only its first triplet matters."""
-    first = triplet(chance.choice([0, 0, 0x2380, 0x3FF0, chance.randrange(1 << 18)]))
+    first = encode_triplet(chance.choice([0, 0, 0x2380, 0x3FF0, chance.randrange(1 << 18)]))
     data = teletext_packet(magazine, number, [chance.choice([0, 0, 4, 1, 15])], [])
     data = (data + first).ljust(42, b"\0")
     return with_wrong_bits(chance, data, [3, 4, 5]) if chance.random() < 0.5 else data
@@ -136,7 +137,7 @@ def enhancement(chance: Random, magazine: int, number: int) -> bytes:
 
 def teletext_pes(chance: Random, pts: int, packets: list[bytes]) -> bytes:
     """Return a PES packet, sometimes with a fault."""
-    data = pes_packet(wrapped(pts), packets)
+    data = make_pes_packet(wrapped(pts), packets)
     if chance.random() < 0.02:
         return data[:6] + b"\xff" * (len(data) - 6)  # a gap marker, if it is short
     if chance.random() < 0.04:  # another PTS_DTS_flags
@@ -159,7 +160,7 @@ OF_PICTURE = {MPEG_1: [0], MPEG_2: [0], H264: [0x65], HEVC: [2 * unit for unit i
 
 def time_bytes(prefix: int, ticks: int) -> bytes:
     """Encode a PTS or DTS after its four bits."""
-    data = pts_bytes(wrapped(ticks))
+    data = encode_pts(wrapped(ticks))
     return bytes([data[0] & 0x0F | prefix << 4]) + data[1:]
 
 
@@ -202,8 +203,8 @@ class Programme:
         self.events: list[Event] = []
         self.streams: list[tuple[int, int, bool]] = []  # stream_type, PID, whether it is announced
         videos, teletexts = chance.choice([0, 1, 1, 1, 2]), chance.choice([0, 1, 1, 1, 2, 3])
-        self.clock = chance.choice([first + 15, first + 15, FIRST_PCR, first if videos else first + 15,
-                                    NO_PCR])
+        self.clock = chance.choice([first + 15, first + 15, FIRST_PCR, first if videos else first +
+                                    15, NO_PCR])
         for at in range(min(videos, 1) if is_small else videos):
             self.add_video(first + at)
         for at in range(min(teletexts, 1) if is_small else teletexts):

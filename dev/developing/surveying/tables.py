@@ -4,14 +4,14 @@ from __future__ import annotations
 from functools import lru_cache
 from typing import Iterator, NamedTuple
 
-from developing.multiplex import crc
+from developing.multiplex import compute_crc
 from subtitles.formats.teletext import page_name
 from .packets import Packet
 
 PAT, PMT = 0, 2  # table_id
 CURRENT = 1  # current_next_indicator
 ANNOUNCING = 0x56, 0x46  # Teletext descriptor, VBI Teletext descriptor
-checked = lru_cache(256)(crc)
+checked = lru_cache(256)(compute_crc)
 
 
 class Stream(NamedTuple):

@@ -3,8 +3,9 @@ from __future__ import annotations
 
 from developing.every_place.reading import LENGTH, START, head_fault, length_at, units_of
 from developing.every_place.recordings import Stretch
-from developing.pes import (address_of, data_field, has_pts, header_of, page_in, pts_in,
-                            teletext_packets)
+from developing.pes import (
+    decode_address, decode_header, decode_pts, get_data_field, get_page_number,
+    get_teletext_packets, has_pts)
 from subtitles.common.times import ticks_between
 from subtitles.formats.teletext import NUMBER, START as PES_START, SUBTITLE, Page, has_bit, \
     page_name
@@ -68,7 +69,7 @@ class PesLines:
         if not has_pts(data):
             self.put(None, f"-/ 0 {fault}")
             return
-        pts, page, packets = pts_in(data), self.page, teletext_packets(data_field(data))
+        pts, page, packets = decode_pts(data), self.page, get_teletext_packets(get_data_field(data))
         self.last_pts = pts
         page.begin()
         for one in packets:
@@ -95,10 +96,10 @@ class PesLines:
 
     def note(self, data: bytes) -> None:
         """Note the first subtitle header of each page, and character sets."""
-        address = address_of(data)
-        header = header_of(data) if address and address[1] == 0 else None
+        address = decode_address(data)
+        header = decode_header(data) if address and address[1] == 0 else None
         if address and header and has_bit(header, SUBTITLE):
-            page = address[0], page_in(header)
+            page = address[0], get_page_number(header)
             if page not in self.subtitles:
                 self.say(f"sub {self.pid} {page_name(*page)}")
             self.subtitles[page] = self.subtitles.get(page, 0) + 1
@@ -211,7 +212,7 @@ class Teletext:
         """Return the PTS of the PES packet that began last, once it is known."""
         if self.is_timed or not self.begins or self.part[:4] != PES_START or not has_pts(self.part):
             return None
-        self.is_timed, self.last_pts = True, pts_in(self.part)
+        self.is_timed, self.last_pts = True, decode_pts(self.part)
         self.waiting = [(jump, before, self.last_pts if after is None else after)
                         for jump, before, after in self.waiting]
         return self.last_pts

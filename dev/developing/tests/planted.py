@@ -6,7 +6,7 @@ import random
 import re
 from typing import Callable, NamedTuple, Optional, Sequence
 
-from developing.pes import address_of, odd, packet
+from developing.pes import decode_address, add_odd_parity, make_packet
 from subtitles.common.times import TICKS, time_of
 from subtitles.formats.stl import NEW_LINE
 from .bench import Case
@@ -216,24 +216,24 @@ def with_character(page: Sequence[bytes]) -> list[bytes]:
     """Replace the last character of a page."""
     first = page[0]
     at = max(at for at in range(2, 42) if chr(first[at] & 0x7F).isalnum())
-    return [first[:at] + bytes([odd(0x58)]) + first[at + 1:], *page[1:]]
+    return [first[:at] + bytes([add_odd_parity(0x58)]) + first[at + 1:], *page[1:]]
 
 
 def with_row(page: Sequence[bytes]) -> list[bytes]:
     """Move a page two rows up."""
     made = []
     for one in page:
-        address = address_of(one)
+        address = decode_address(one)
         assert address
-        made.append(packet(PAGE[0], address[1] - 2, (), [code & 0x7F for code in one[2:]]))
+        made.append(make_packet(PAGE[0], address[1] - 2, (), [code & 0x7F for code in one[2:]]))
     return made
 
 
 def with_colour(page: Sequence[bytes]) -> list[bytes]:
     """Make the first row of a page yellow."""
     first = page[0]
-    at = first.index(odd(0x0B)) - 1
-    return [first[:at] + bytes([odd(0x03)]) + first[at + 1:], *page[1:]]
+    at = first.index(add_odd_parity(0x0B)) - 1
+    return [first[:at] + bytes([add_odd_parity(0x03)]) + first[at + 1:], *page[1:]]
 
 
 CHANGES: dict[str, Callable[[Sequence[bytes]], list[bytes]]] = {

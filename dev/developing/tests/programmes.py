@@ -4,8 +4,8 @@ from __future__ import annotations
 import time
 from typing import Callable, Sequence
 
-from developing.pes import pts_bytes
-from developing.stl import boxed, gsi_block, subtitle_blocks
+from developing.pes import encode_pts
+from developing.stl import box_line, make_gsi_block, make_subtitle_blocks
 from subtitles.common.times import CLOCK, FRAMES_A_SECOND, TICKS
 from .bench import Case, SECONDS
 from .transmissions import packets
@@ -18,9 +18,9 @@ SHOWN, EACH = 50, 75  # frames of a subtitle, and from one TCI to the next
 
 def make_subtitles(case: Case, name: str, first: int, texts: Sequence[str]) -> str:
     """Write a subtitle file with a subtitle for each text, from a first frame on."""
-    blocks = [subtitle_blocks(number, first + EACH * number, first + EACH * number + SHOWN, 20, 2,
-                              boxed(text.encode())) for number, text in enumerate(texts)]
-    return case.write(f"{name}.stl", gsi_block(name.encode(), len(texts), len(texts), first)
+    blocks = [make_subtitle_blocks(number, first + EACH * number, first + EACH * number + SHOWN, 20,
+                                   2, box_line(text.encode())) for number, text in enumerate(texts)]
+    return case.write(f"{name}.stl", make_gsi_block(name.encode(), len(texts), len(texts), first)
                       + b"".join(blocks))
 
 
@@ -35,7 +35,7 @@ def make_programme(case: Case, name: str, first: int, words: str, pts: int) -> b
 def repeat_last_page(data: bytes, pts: int, count: int, step: int = SECOND) -> bytes:
     """Repeat the last page transmission `count` times from a PTS on."""
     last = packets(data)[-1]
-    return b"".join(last[:9] + pts_bytes((pts + step * at) % CLOCK) + last[14:]
+    return b"".join(last[:9] + encode_pts((pts + step * at) % CLOCK) + last[14:]
                     for at in range(count))
 
 

@@ -10,8 +10,9 @@ import subprocess
 from typing import NamedTuple
 
 from developing.pes import (
-    data_field, odd, pes_packet, pes_packets, pts_bytes, pts_in, teletext_packets)
-from developing.stl import boxed, gsi_block, subtitle_blocks
+    add_odd_parity, decode_pts, encode_pts, get_data_field, get_teletext_packets, make_pes_packet,
+    read_pes_packets)
+from developing.stl import box_line, make_gsi_block, make_subtitle_blocks
 from subtitles.common.times import CLOCK, FRAMES_OF_A_DAY, TICKS, ticks_between, time_of
 from subtitles.formats.stl import NEW_LINE
 from .streams import (
@@ -39,8 +40,8 @@ class Written(NamedTuple):
 
     def blocks(self) -> bytes:
         """Return the TTI blocks."""
-        return subtitle_blocks(self.number, self.begin, self.end, self.row, self.justify,
-                               (NEW_LINE * 2).join(self.lines))
+        return make_subtitle_blocks(self.number, self.begin, self.end, self.row, self.justify,
+                                    (NEW_LINE * 2).join(self.lines))
 
 
 class Scenario:
@@ -73,7 +74,7 @@ class Scenario:
         return found
 
     def random_line(self) -> bytes:
-        return boxed(self.chance.choice(TEXTS), self.chance.choice((b"", b"", b"\x03")))
+        return box_line(self.chance.choice(TEXTS), self.chance.choice((b"", b"", b"\x03")))
 
     def random_subtitles(self) -> list[Written]:
         """Return the subtitles; rarely with an unsupported character, or with the TCI as TCO."""
@@ -117,8 +118,8 @@ class Scenario:
     def write(self, name: str, subtitles: list[Written]) -> None:
         """Write a subtitle file."""
         blocks = b"".join(one.blocks() for one in subtitles)
-        data = gsi_block(b"At random", len(blocks) // 128 + self.has_chance(5), len(subtitles), 0,
-                         self.chance.choice((b"09", b"09", b"08")))
+        data = make_gsi_block(b"At random", len(blocks) // 128 + self.has_chance(5), len(subtitles),
+                              0, self.chance.choice((b"09", b"09", b"08")))
         code = time_of(self.times[0][0] - 40).replace(":", "").encode()
         with open(name, "wb") as file:
             file.write(data[:256] + code + data[264:] + blocks)
@@ -133,7 +134,7 @@ class Scenario:
         if not os.path.exists(name):
             return []
         with open(name, "rb") as file:
-            return [(pts_in(one), one) for one in pes_packets(file)]
+            return [(decode_pts(one), one) for one in read_pes_packets(file)]
 
     def add_fault(self, sent: Sent) -> Sent:
         """Return the transmission with one more fault."""
@@ -163,7 +164,7 @@ class Scenario:
                     for _ in range(1 + (first <= at < last))]
         if kind > 9:
             return self.split(sent, first, last, kind)
-        place, byte = (chance.randrange(100, 130), odd(chance.randrange(0x41, 0x5B))) \
+        place, byte = (chance.randrange(100, 130), add_odd_parity(chance.randrange(0x41, 0x5B))) \
             if kind == 8 else (chance.choice((6, 7, 8, 45, 47, 49, 50, 95, 96)), 0x15)
         return [(pts, one[:place] + bytes([byte]) + one[place + 1:] if at == first else one)
                 for at, (pts, one) in enumerate(sent)]
@@ -176,12 +177,13 @@ class Scenario:
         later = self.chance.choice((TICKS, TICKS, TICKS // 2, 3 * TICKS))
         found: Sent = []
         for at, (pts, one) in enumerate(sent):
-            packets = teletext_packets(data_field(one))
+            packets = get_teletext_packets(get_data_field(one))
             if kind == 10 and len(packets) > 2:
-                found += [(pts, pes_packet(0, packets[:1])), (pts + later, pes_packet(
+                found += [(pts, make_pes_packet(0, packets[:1])), (pts + later, make_pes_packet(
                     0, packets[1:]))]
             elif kind > 10 and first <= at < last:
-                found.append((pts, pes_packet(0, packets[kind == 11:len(packets) - (kind == 12)])))
+                found.append((pts, make_pes_packet(0, packets[kind == 11:len(packets) -
+                                                              (kind == 12)])))
             else:
                 found.append((pts, one))
         return found
@@ -229,7 +231,7 @@ class Scenario:
         several = (0, 0, 1) if self.has_break else (0, 1, 1, 1, 2)
         for _ in range(self.chance.choice(several) if sent else 0):
             sent = self.add_fault(sent) or sent
-        sent = [(pts % CLOCK, one[:9] + pts_bytes(pts % CLOCK) + one[14:]) for pts, one in sent]
+        sent = [(pts % CLOCK, one[:9] + encode_pts(pts % CLOCK) + one[14:]) for pts, one in sent]
         if self.has_chance(45):
             data, name = b"".join(one for _, one in sent), "one.pes"
             data = data[:len(data) - self.chance.randrange(1, 99)] if self.has_chance(5) else data

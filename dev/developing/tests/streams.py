@@ -3,8 +3,8 @@ from __future__ import annotations
 
 from typing import Callable, Collection, Iterable, Iterator, Mapping, NamedTuple, Sequence
 
-from developing.multiplex import ADAPTATION_ALONE, BEGINS, PACKET, PAYLOAD, head, section
-from developing.pes import pts_bytes, pts_in
+from developing.multiplex import ADAPTATION_ALONE, BEGINS, PACKET, PAYLOAD, make_head, make_section
+from developing.pes import encode_pts, decode_pts
 from subtitles.common.times import CLOCK, TICKS, ticks_between, wrapped
 from subtitles.stream.gaps import SECOND
 from .transmissions import packets
@@ -55,7 +55,7 @@ def video_packet(pts: int | None, data: bytes) -> bytes:
     """Return a PES packet of video, with PES_packet_length 0."""
     if pts is None:
         return b"\0\0\1\xe0\0\0\x80\0\0" + data
-    return b"\0\0\1\xe0\0\0\x80\x80\x05" + pts_bytes(pts % CLOCK) + data
+    return b"\0\0\1\xe0\0\0\x80\x80\x05" + encode_pts(pts % CLOCK) + data
 
 
 Component = tuple[int, int, bytes]  # a PID, its stream_type and its descriptors
@@ -63,13 +63,13 @@ Component = tuple[int, int, bytes]  # a PID, its stream_type and its descriptors
 
 def program_association(pmt_pids: Iterable[tuple[int, int]]) -> bytes:
     """Return a PAT with programme numbers and their PMT PIDs."""
-    return section(0, 1, b"".join(number.to_bytes(2, "big") + (0xE000 | pid).to_bytes(2, "big")
-                                  for number, pid in pmt_pids))
+    return make_section(0, 1, b"".join(number.to_bytes(2, "big") + (0xE000 | pid).to_bytes(2, "big")
+                                       for number, pid in pmt_pids))
 
 
 def program_map(number: int, components: Iterable[Component], pcr_pid: int) -> bytes:
     """Return the PMT of a programme."""
-    return section(2, number, (0xE000 | pcr_pid).to_bytes(2, "big") + b"\xf0\0" + b"".join(
+    return make_section(2, number, (0xE000 | pcr_pid).to_bytes(2, "big") + b"\xf0\0" + b"".join(
         bytes([kind]) + (0xE000 | pid).to_bytes(2, "big")
         + (0xF000 | len(more)).to_bytes(2, "big") + more for pid, kind, more in components))
 
@@ -114,7 +114,7 @@ class Maker:
         counter = self.counters.get(pid, 15 if payload else 0)
         counter = counter + 1 & 15 if payload else counter
         self.counters[pid] = counter
-        made = head(pid, begins, control | counter) + field + payload
+        made = make_head(pid, begins, control | counter) + field + payload
         assert len(made) == PACKET
         self.packets.append(made)
 
@@ -163,7 +163,7 @@ def with_pictures(pes: bytes, first: int, kind: int = MPEG_2, picture: bytes = b
         for place in range(leading + 1, leading + 12):
             maker.put(VIDEO_PID, video_packet(group + TICKS * place, made))
     for one in packets(pes):
-        maker.put_pcr(pts_in(one) - AHEAD)
+        maker.put_pcr(decode_pts(one) - AHEAD)
         maker.put(TELETEXT_PID, one)
     return maker
 
@@ -203,7 +203,7 @@ def multiplex_programmes(programmes: Sequence[Programme], frames: int) -> Maker:
             maker.put_pcr(now - AHEAD)
             maker.put(one.video, video_packet(now + later, mpeg_2_picture()), frame in one.flagged)
             for pid, pes in rest.items():
-                while pes and ticks_between(pts_in(pes[0]), wrapped(now)) >= 0:
+                while pes and ticks_between(decode_pts(pes[0]), wrapped(now)) >= 0:
                     maker.put(pid, pes.pop(0))
     return maker
 
@@ -216,7 +216,7 @@ def multiplex_frames(pes: list[bytes], begin: int, count: int, rounds: int = 66,
     Mbit/s).
     """
     maker = Maker(components(descriptor=teletext_descriptor(page=page)))
-    filler = b"".join(head(VIDEO_PID, 0, PAYLOAD | counter) + b"\x55" * (PACKET - 4)
+    filler = b"".join(make_head(VIDEO_PID, 0, PAYLOAD | counter) + b"\x55" * (PACKET - 4)
                       for counter in range(16)) * rounds
     at = 0
     for frame in range(count):
@@ -224,7 +224,7 @@ def multiplex_frames(pes: list[bytes], begin: int, count: int, rounds: int = 66,
         if frame % 12 == 0:
             maker.put_tables()
         maker.put_pcr(now - AHEAD)
-        while at < len(pes) and ticks_between(pts_in(pes[at]), wrapped(now)) >= 0:
+        while at < len(pes) and ticks_between(decode_pts(pes[at]), wrapped(now)) >= 0:
             maker.put(TELETEXT_PID, pes[at])
             at += 1
         yield b"".join([*maker.taken(), filler])
@@ -252,7 +252,7 @@ def stream_of(pes: list[bytes], begin: int, end: int, rate: int = 200, pid: int 
     maker = Maker(components(pid=pid))
     maker.counters = before.counters if before else maker.counters
     made: list[Packet] = []
-    due = [*map(pts_in, pes), None]
+    due = [*map(decode_pts, pes), None]
     second, at, clock = TICKS * 25, 0, 0
     for number in range((end - begin) * rate // second):
         now = begin + number * second // rate
@@ -278,7 +278,7 @@ def filler(pid: int, counters: dict[int, int]) -> Packet:
     return FILLERS[pid][counter]
 
 
-FILLERS = {pid: [Packet(pid, head(pid, 0, PAYLOAD | counter) + b"\x55" * (PACKET - 4))
+FILLERS = {pid: [Packet(pid, make_head(pid, 0, PAYLOAD | counter) + b"\x55" * (PACKET - 4))
                  for counter in range(16)] for pid in (VIDEO_PID, AUDIO_PID, NULL_PID)}
 
 
@@ -304,7 +304,7 @@ def make_multiplex(pes: list[bytes], shape: Shape) -> list[Packet]:
     maker = Maker(components())
     maker.put_tables()
     made = maker.taken_of(0)
-    begin, end = (pts_in(pes[at]) for at in (0, -1))
+    begin, end = (decode_pts(pes[at]) for at in (0, -1))
     frames, due, waiting = (end - begin) // TICKS + 30, begin - SECOND, list(pes)
     for number in range(frames * shape.rate // 25):
         now = begin - SECOND + number * SECOND // shape.rate
@@ -317,7 +317,7 @@ def make_multiplex(pes: list[bytes], shape: Shape) -> list[Packet]:
                 made += maker.taken_of(VIDEO_PID)
                 if later and shape.is_announced:
                     made[-1] = Packet(VIDEO_PID, announce_jump(made[-1].data))
-        if waiting and pts_in(waiting[0]) <= now:
+        if waiting and decode_pts(waiting[0]) <= now:
             maker.put(TELETEXT_PID, waiting.pop(0))
             made += maker.taken_of(TELETEXT_PID)
         pid = NULL_PID if shape.has_null and number % 3 else \
@@ -338,7 +338,7 @@ def announce_jump(data: bytes) -> bytes:
 
 def teletext_places(made: Sequence[Packet], pts: int) -> list[int]:
     """Return the places of the Teletext packets from the PES packet with a PTS on."""
-    begin = pts_bytes(pts)
+    begin = encode_pts(pts)
     first = next(at for at, one in enumerate(made)
                  if one.pid == TELETEXT_PID and begin in one.data[4:40])
     return [at for at in range(first, len(made)) if made[at].pid == TELETEXT_PID]
@@ -350,7 +350,7 @@ def with_loss(made: Sequence[Packet], pts: int, count: int, is_announced: bool =
     counter jump."""
     missing = teletext_places(made, pts)[:count]
     field = bytes([PACKET - 5, 0x80]).ljust(PACKET - 4, b"\xff")
-    says = Packet(TELETEXT_PID, head(TELETEXT_PID, 0, ADAPTATION_ALONE) + field)
+    says = Packet(TELETEXT_PID, make_head(TELETEXT_PID, 0, ADAPTATION_ALONE) + field)
     return [says if at in missing else one for at, one in enumerate(made)
             if at not in missing or is_announced and at == missing[-1]]
 
@@ -384,7 +384,7 @@ def stream_by_plan(pes: Sequence[bytes], plan: Sequence[tuple[int, int]],
                 maker.tables = Maker(components(MPEG_2, descriptor, pid)).tables
                 maker.put_tables()
         if ahead is not None:
-            maker.put_pcr(pts_in(one) - ahead)
+            maker.put_pcr(decode_pts(one) - ahead)
         for each, data in carried(number) if carried else [(pid, one)]:
             maker.put(each, data)
     return maker.data
@@ -401,7 +401,7 @@ def stream_of_pids(*of_pids: tuple[int, bytes]) -> bytes:
     maker = Maker([(VIDEO_PID, MPEG_2, b""), *(
         (pid, PRIVATE, teletext_descriptor()) for pid, _ in of_pids)])
     maker.put_tables()
-    waiting = sorted((pts_in(one), pid, one) for pid, data in of_pids for one in packets(data))
+    waiting = sorted((decode_pts(one), pid, one) for pid, data in of_pids for one in packets(data))
     for now in range(waiting[0][0], waiting[-1][0] + TICKS, TICKS):
         maker.put_pcr(now - AHEAD)
         while waiting and waiting[0][0] <= now:

@@ -3,7 +3,7 @@ from __future__ import annotations
 
 import os
 
-from developing.stl import boxed, gsi_block, subtitle_blocks
+from developing.stl import box_line, make_gsi_block, make_subtitle_blocks
 from subtitles.air.schedule import length_of, read_schedule
 from .air import Air, DAY
 
@@ -105,9 +105,9 @@ class Lengths(Air):
         return length_of(one.request)
 
     def write_stl(self, *times: tuple[int, int]) -> None:
-        blocks = [subtitle_blocks(number, begin, end, 20, 2, boxed(b"One"))
+        blocks = [make_subtitle_blocks(number, begin, end, 20, 2, box_line(b"One"))
                   for number, (begin, end) in enumerate(times)]
-        self.write("one.stl", gsi_block(b"one", len(times), len(times), 0) + b"".join(blocks))
+        self.write("one.stl", make_gsi_block(b"one", len(times), len(times), 0) + b"".join(blocks))
 
     def test_lasts_from_the_first_tci_to_the_last_tco(self) -> None:
         for name, (times, options, expected) in LENGTHS.items():

@@ -17,8 +17,8 @@ from typing import Any
 from urllib.parse import unquote
 
 from subtitles.common.program import PAGES, TOP, chosen, documents, read, without_dead_links
-from ..compiled import plain_environment
-from ..proved import lacking, parsed
+from ..compiled import make_plain_environment
+from ..proved import find_crates_without_line, parse_proved
 from .bench import Case, Done, SECONDS, example, example_bytes, tool_path
 from .programmes import wait_until
 
@@ -34,7 +34,7 @@ printf '%s\\n' "${COMPREPLY[@]}"
 def check_installation(case: Case, prefix: str) -> None:
     """Check that installed tools judge a recording."""
     def run(name: str, *words: str) -> Done:
-        return case.call([os.path.join(prefix, "bin", name), *words], env=plain_environment())
+        return case.call([os.path.join(prefix, "bin", name), *words], env=make_plain_environment())
 
     stl = example("story.stl")
     stream = case.tool("pes2ts", example("story.pes"), "0x101")
@@ -59,7 +59,7 @@ def proof_file(case: Case) -> str:
     """Return the path of PROVED; skip the test if the gate has not proved the program."""
     program, _ = chosen(TOP)
     proved = os.path.join(os.path.dirname(program), "PROVED")
-    if not program or lacking(parsed(read(proved))):
+    if not program or find_crates_without_line(parse_proved(read(proved))):
         case.skipTest("dev/dist, since the gate has not proved the program here")
     return proved
 

@@ -11,7 +11,7 @@ import random
 import sys
 from collections import Counter
 
-from developing.pes import packet
+from developing.pes import make_packet
 from subtitles.cli.measure import (
     Delays, NAMED, measure_delays, measure_recording, named_lines, propose_keeping,
     propose_lateness, propose_option, remove_unusual)
@@ -32,8 +32,8 @@ from .transmissions import (
 from .test_judging_reasons import KEEPING_HEADER
 
 ENGLISH = BY_WORD["english"]
-GERMAN_HEADER = packet(0, 0, bytes([8, 8, 0, 8, 0, 8, 1, 8]), b" " * 32)
-GERMAN_KEEPING = packet(0, 0, bytes([8, 8, 0, 0, 0, 8, 1, 8]), b" " * 32)
+GERMAN_HEADER = make_packet(0, 0, bytes([8, 8, 0, 8, 0, 8, 1, 8]), b" " * 32)
+GERMAN_KEEPING = make_packet(0, 0, bytes([8, 8, 0, 0, 0, 8, 1, 8]), b" " * 32)
 KINDS = {"missing": b"", "late": b"", "keeping": KEEPING_HEADER, "german": GERMAN_HEADER}
 # Subtitles (begin, end, text); the page from given frames on; the first and last frame received;
 # then the expected delays of begins and of ends, early cues, and subtitles never sent.

@@ -4,7 +4,7 @@ from __future__ import annotations
 import shutil
 import subprocess
 
-from developing.stl import boxed
+from developing.stl import box_line
 from subtitles.common.times import CLOCK, TICKS, time_of
 from .bench import Case, example, example_bytes
 from .judged import JudgedPair, ProgrammeCase, judge_files
@@ -331,7 +331,7 @@ class FfmpegStreams(Case):
         if not (shutil.which("ffmpeg") and shutil.which("ffprobe")):
             self.skipTest("streams of MPEG-2, H.264 and HEVC, since there is no ffmpeg")
         stl = write_programme(self, [(begin, begin + 30) for begin in range(60, 161, 50)],
-                        text=boxed(b"Number %d"), name="own.stl")
+                        text=box_line(b"Number %d"), name="own.stl")
         self.schedule(stl, "own.pes", "--every", "25")
         self.write("own.ts", self.tool("pes2ts", self.path("own.pes"), "0x101").out)
         known = self.call(["ffmpeg", "-v", "quiet", "-encoders"]).out.decode()

@@ -6,7 +6,7 @@ import unittest
 from types import SimpleNamespace
 from typing import Any, Sequence
 
-from developing.pes import packet
+from developing.pes import make_packet
 from subtitles.clock.alignment import EarlyCues
 from subtitles.clock.origin import (
     OriginEstimate, OriginSearch, break_lines, compare_with_known, part_lines, report_sent_pages,
@@ -400,7 +400,7 @@ OWN = [(BEGIN + EACH * at, BEGIN + EACH * at + LENGTH) for at in range(COUNT)]
 LAST = OWN[-1][1]  # its last TCO
 OTHERS = [(LAST + EACH * at, LAST + EACH * at + LENGTH) for at in range(COUNT)]
 NEXT = "unknown: the page sent at the last TCO is the next programme's"
-OTHER = packet(0, 0, [9, 8, 0, 8, 0, 8, 1, 0], b" " * 32)  # a header of page 889
+OTHER = make_packet(0, 0, [9, 8, 0, 8, 0, 8, 1, 0], b" " * 32)  # a header of page 889
 
 
 class LastPages(ProgrammeCase):

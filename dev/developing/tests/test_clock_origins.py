@@ -7,8 +7,9 @@ import unittest
 from collections import Counter
 from typing import Sequence
 
-from developing.pes import MARK, data_field, packet, pes_packet, pts_in, teletext_packets
-from developing.stl import boxed
+from developing.pes import (
+    GAP_MARKER, decode_pts, get_data_field, get_teletext_packets, make_packet, make_pes_packet)
+from developing.stl import box_line
 from subtitles.clock.alignment import (
     ExpectedCue, ExpectedSubtitle as Due, TimeBase, count_delays, find_expected_cues,
     find_time_bases)
@@ -37,8 +38,9 @@ def evenly_spaced(count: int, step: int, lasts: int, text: bytes = b"Number %d",
 class Origins(Case):
     def stl(self, times: Sequence[Shown], name: str = "one.stl") -> str:
         """Write a subtitle file."""
-        return write_subtitle_file(self, [(begin, end, boxed(text)) for begin, end, text in times],
-                             name, 0, 20)
+        return write_subtitle_file(self, [(begin, end, box_line(text)) for begin, end,
+                                          text in times],
+                                   name, 0, 20)
 
     def find(self, stl: str, pes: Sequence[bytes], *words: str) -> OriginEstimate:
         """Find the origin of PES packets."""
@@ -60,9 +62,9 @@ class Origins(Case):
             self.must(f"{between} {missing}", found == wanted, found)
         looks = [one[2:] for row, justify, text in (
             (20, 2, b"a"), (22, 2, b"a"), (20, 1, b"a"), (20, 2, b"b"), (20, 2, b"a"))
-            for one in subtitles_between(write_subtitle_file(self, [(0, 9, boxed(text))],
+            for one in subtitles_between(write_subtitle_file(self, [(0, 9, box_line(text))],
                                                              "look.stl", 0,
-                                                       row, justify), "english", ALL_DAY, ())]
+                                                             row, justify), "english", ALL_DAY, ())]
         self.must("looks", len({*looks}) == 4 and looks[0] == looks[4] and [
             letters for _, letters in looks] == [b"a", b"a", b"a", b"b", b"a"], looks)
         stl = self.stl([(0, 9, b"\xc8a")])
@@ -71,7 +73,7 @@ class Origins(Case):
                 stl, "english", ALL_DAY, ())[0].letters != b"{")
 
     def test_reports_that_no_cue_agrees(self) -> None:
-        pes = [*self.transmission(5000), pes_packet(CLOCK // 2, [])]
+        pes = [*self.transmission(5000), make_pes_packet(CLOCK // 2, [])]
         last = len(pes) - 1
         rows: list[tuple[list[bytes], list[str], str]] = [
             (pes, ["--pes", f"{last}-{last}"], "no cue matches at any origin"),
@@ -120,9 +122,9 @@ class Origins(Case):
             stl = self.stl(evenly_spaced(count, 100, 60))
             made = []
             for one in schedule_pes(self, stl, "--every", "1500"):
-                header, *rest = teletext_packets(data_field(one))
-                made.append(pes_packet(pts_in(one), [header]))
-                made += [pes_packet(pts_in(one) + TICKS, rest)] * (len(rest) > 1)
+                header, *rest = get_teletext_packets(get_data_field(one))
+                made.append(make_pes_packet(decode_pts(one), [header]))
+                made += [make_pes_packet(decode_pts(one) + TICKS, rest)] * (len(rest) > 1)
             for some, which in ((made, "all"), (made[:7] + made[8:], "19 of 20"))[:count // 10 + 1]:
                 found = self.find(stl, some)
                 self.must(f"{count} {which}", found.printed == [f"--origin {TICKS}"] and
@@ -188,9 +190,9 @@ class Origins(Case):
 
     def transmission(self, begin: int, late: Sequence[int] = (0,) * COUNT) -> list[bytes]:
         """Return the PES packets of a programme, some of them delayed."""
-        return [pes_packet((begin + TICKS * (70 * number + frame + by)) % CLOCK, [
+        return [make_pes_packet((begin + TICKS * (70 * number + frame + by)) % CLOCK, [
             HEADER, *[row_packet(20, b"Number %d" % number)] * (not frame), CLOSING])
-            for number, by in enumerate(late) for frame in (0, 40)]
+                for number, by in enumerate(late) for frame in (0, 40)]
 
     def own_stl(self) -> str:
         """Write the subtitle file of the programme."""
@@ -209,7 +211,8 @@ class Origins(Case):
             pes = list[bytes]()
             for number in range(runs):
                 own = self.transmission(gap * number)
-                pes += [*own, pes_packet((pts_in(own[-1]) + 9 * TICKS) % CLOCK, [HEADER, CLOSING])]
+                pes += [*own, make_pes_packet((decode_pts(own[-1]) + 9 * TICKS) % CLOCK,
+                                              [HEADER, CLOSING])]
             count, found = len(own) + 1, self.find(self.own_stl(), pes)
             self.must(f"{gap} {runs}", (found.status, found.airings) == (int(runs > 1), [
                 (count * at - (at > 0), count * (at + 1) - 1)
@@ -241,15 +244,15 @@ class Origins(Case):
     def test_accepts_ends_with_the_same_delay(self) -> None:
         for late, has_all_cues in (([3] * COUNT, True), ([3] * 6 + [9] * 6, False),
                                    ([3] * (COUNT - 1) + [9], False)):
-            pes = [pes_packet(TICKS * (70 * number + frame), [
+            pes = [make_pes_packet(TICKS * (70 * number + frame), [
                 HEADER, *[row_packet(20, b"Number %d" % number)] * (not frame), CLOSING])
-                for number, by in enumerate(late) for frame in (0, 40 + by)]
+                   for number, by in enumerate(late) for frame in (0, 40 + by)]
             found = self.find(self.own_stl(), pes)
             self.must(f"{late}", found.has_all_cues == has_all_cues, found)
 
     def test_counts_cues_that_agree(self) -> None:
         pes, count = self.transmission(5000), 2 * COUNT
-        pes[6] = pes_packet(5000 + TICKS * 210, [HEADER, row_packet(20, b"Another"), CLOSING])
+        pes[6] = make_pes_packet(5000 + TICKS * 210, [HEADER, row_packet(20, b"Another"), CLOSING])
         for some, matches, total, letters in ((pes, count, count, count - 1),
                                               (pes[:-3], count - 3, count - 3, count - 4),
                                               (pes[:10] + pes[11:], count - 2, count, count - 3),
@@ -268,22 +271,23 @@ class Origins(Case):
     def test_reports_missing_pts_gap_markers_and_other_pages(self) -> None:
         good = self.transmission(0)[:3]
         bare = good[0][:7] + b"\0" + good[0][8:]
-        other = [pes_packet(number, [packet(0, 0, [7, 8, 0, 8, 0, 8, 1, 0], b" " * 32), CLOSING,
-                                     *[row_packet(1, b"%d" % number)]]) for number in range(2)]
+        other = [make_pes_packet(number, [make_packet(0, 0, [7, 8, 0, 8, 0, 8, 1, 0], b" " * 32),
+                                          CLOSING,
+                                          *[row_packet(1, b"%d" % number)]]) for number in range(2)]
         rows: list[tuple[str, list[bytes], bool, list[str]]] = [
                 ("good", good, True, []),
                 ("bare", [bare, bare], False, ["none of 2 PES packets in a.pes has a PTS: "]),
-                ("marks", [*good, MARK], True, ["1 gap marker skipped"]),
-                ("some", [*good, MARK, bare, MARK], True, [
+                ("marks", [*good, GAP_MARKER], True, ["1 gap marker skipped"]),
+                ("some", [*good, GAP_MARKER, bare, GAP_MARKER], True, [
                     "2 gap markers skipped", "1 of 6 PES packets have no PTS "]),
                 ("another page", other, False, ["a.pes has no header of page 888; other subtitle "
                                                 "pages: 887"]),
-                ("other pages", [pes_packet(number, [packet(0, 0, [
+                ("other pages", [make_pes_packet(number, [make_packet(0, 0, [
                     one, 8, 0, 8, 0, 8, 1, 0], b" " * 32), CLOSING, row_packet(1, b"%d" % number)])
                     for number, one in enumerate((1, 2, 3, 3, 2, 2, 4, 5, 4, 6))], False, [
                         "a.pes has no header of page 888; other subtitle pages: 882, 883, 884, "
                         "881, 885"]),
-                ("no page", [pes_packet(0, [CLOSING])], False, [
+                ("no page", [make_pes_packet(0, [CLOSING])], False, [
                     "a.pes has no header of page 888; other subtitle pages: none"])]
         for name, pes, is_page, reported in rows:
             found = self.find(self.own_stl(), pes)

@@ -6,7 +6,7 @@ import re
 from typing import Any, Sequence
 
 from developing.multiplex import BEGINS, PACKET
-from developing.pes import pts_in
+from developing.pes import decode_pts
 from subtitles.common.times import CLOCK, TICKS, time_of
 from .bench import Case, example_bytes
 from .judged import judge_files
@@ -94,7 +94,7 @@ class Wraps(Case):
 
     def test_reports_losses_by_the_pcr(self) -> None:
         pes = [pes_file([one]) for one in self.sent]
-        made = b"".join(multiplex_frames(pes, pts_in(pes[0]), len(pes) + 9, 1))
+        made = b"".join(multiplex_frames(pes, decode_pts(pes[0]), len(pes) + 9, 1))
         own = [at for at in range(0, len(made), PACKET)
                if int.from_bytes(made[at + 1:at + 3], "big") & 0x1FFF == TELETEXT_PID]
         place = 3 * EACH + 20 - EACH

@@ -13,7 +13,7 @@ import random
 import sys
 from typing import Callable, Iterator, NamedTuple, Sequence
 
-from developing.pes import pes_packet
+from developing.pes import make_pes_packet
 from subtitles.common.times import TICKS, time_of
 from .bench import BENCH, Case
 from .judged import JudgedPair, judge_files
@@ -224,9 +224,9 @@ def in_stream(sent: Sent, plan: Sequence[tuple[int, Sequence[Service]]] = ((0, (
                 maker.tables = tables_of(services)
                 maker.put_tables()
         maker.put_pcr(pts - AHEAD)
-        maker.put(TELETEXT_PID, pes_packet(pts, some))
+        maker.put(TELETEXT_PID, make_pes_packet(pts, some))
         for pid in beside:
-            maker.put(pid, pes_packet(pts, []))
+            maker.put(pid, make_pes_packet(pts, []))
     return maker.data
 
 
@@ -385,13 +385,13 @@ def lossy(sent: Sent, each: int) -> bytes:
                 sizes[sizes.index(min(sizes))] += 1
             assert max(sizes) <= LARGEST
             for at, size in enumerate(sizes, 1):
-                maker.put(TELETEXT_PID, large(pes_packet(
+                maker.put(TELETEXT_PID, large(make_pes_packet(
                     pts - TICKS // each * at, WRONG * (at == 1)), size))
             del maker.packets[before:]
         if not number:
             maker.put_tables()
         maker.put_pcr(pts - AHEAD)
-        maker.put(TELETEXT_PID, pes_packet(pts, some))
+        maker.put(TELETEXT_PID, make_pes_packet(pts, some))
     return maker.data
 
 

@@ -11,7 +11,7 @@ from typing import Iterable
 
 from subtitles.common.program import TOP, behind_script, read
 from ..compiled import share_compiled
-from ..proved import Proved, digest_of, parsed, text_of
+from ..proved import Proved, compute_digest, parse_proved, format_proved
 from ..trial import ANOTHER_USER, Trial
 from .bench import Case, Done, SECONDS
 
@@ -69,8 +69,8 @@ class Clone:
         shutil.copy(program, self.path(folder, "subttx"))
         os.chmod(self.path(folder, "subttx"), 0o755)
         crates = {name: (digest, line) for name, digest in self.crates.items()}
-        self.write(os.path.join(folder, "PROVED"), text_of(
-            Proved(self.tool("sources")[0], digest_of(program), VERSION, crates)))
+        self.write(os.path.join(folder, "PROVED"), format_proved(
+            Proved(self.tool("sources")[0], compute_digest(program), VERSION, crates)))
 
     def write(self, name: str, text: str) -> None:
         os.makedirs(os.path.dirname(self.path(name)), exist_ok=True)
@@ -267,7 +267,7 @@ class Clones(Case):
         self.must("no dist/ yet", done.status == 0 and done.out.endswith(NEITHER), done)
         done = clone.release()
         self.must("taken", done.status == 0, done)
-        reported = parsed(read(clone.path("dist", "PROVED")))
+        reported = parse_proved(read(clone.path("dist", "PROVED")))
         self.must("each crate's own line", reported.crates == {
             name: (digest, f"{LINE} of={name}") for name, digest in clone.crates.items()}, reported)
         done = clone.release("--compare")
@@ -282,7 +282,7 @@ class Clones(Case):
         clone.write("log", a_log(clone, kept=clone.crates))
         clone.release("--note", clone.path("log"))
         done = clone.release("--keep")
-        reported = parsed(read(clone.path("out", "PROVED"))).crates
+        reported = parse_proved(read(clone.path("out", "PROVED"))).crates
         self.must("all but one", set(clone.crates) - set(reported) == {"ttx_packet"}, reported)
         done = clone.release("--compare")
         self.must("other sources are told", done.status == 0 and b"other sources" in done.out, done)
@@ -362,8 +362,8 @@ class ProvingClones(Case):
                   and [int(it[2]) for it in reported
                        if it] == [*reversed(range(len(clone.crates)))],
                   done)
-        kept = parsed(read(clone.path("out", "PROVED")))
-        self.must("what is kept", kept.program == digest_of(self.bench.program)
+        kept = parse_proved(read(clone.path("out", "PROVED")))
+        self.must("what is kept", kept.program == compute_digest(self.bench.program)
                   and kept.sources == clone.tool("sources")[0], kept)
         self.must("with its lines", kept.crates == {
             name: (digest, LINE) for name, digest in clone.crates.items()}, kept)

@@ -18,8 +18,8 @@ from subtitles.judging.status import Severity
 from .. import pages
 from ..definitions import Library
 from ..looks import find_browser
-from ..promises import clauses_in, unknown_clauses
-from ..sizes import KINDS, count_lines, total
+from ..promises import list_indexed_clauses, find_unknown_clauses
+from ..sizes import KINDS, count_lines, add_sizes
 from .bench import Case, import_script
 
 
@@ -142,23 +142,24 @@ class GeneratedFiles(Case):
             self.must(f"dev/make-pages: {name}", read(os.path.join(TOP, name)) == text)
 
     def test_the_table_has_each_option_of_the_program(self) -> None:
-        known = {one.name for one in pages.options(read(os.path.join(TOP, pages.TABLE)) or "")}
+        known = {one.name for one in pages.parse_options(read(os.path.join(TOP, pages.TABLE))
+                                                         or "")}
         self.must("options", {"--page", "--within", "--pes", "--receiver"} < known, known)
 
 
 class GeneratedParts(unittest.TestCase):
     def test_reads_the_usage(self) -> None:
-        found = pages.commands(USAGE)
+        found = pages.parse_commands(USAGE)
         self.assertEqual([(one.name, one.files, one.needed) for one in found],
                          [("check", "STL PES", []), ("listen", "PES", ["--at"]),
                           ("packet", "HEX", [])])
         self.assertEqual(found[0].does,
                          "accepts a transmission, or names its place; --all lists all")
         with self.assertRaises(Stop):
-            pages.commands("usage: none")
+            pages.parse_commands("usage: none")
 
     def test_reads_the_table(self) -> None:
-        found = pages.options(TABLE)
+        found = pages.parse_options(TABLE)
         self.assertEqual([(one.name, one.value, one.commands) for one in found],
                          [("--page", "P", ["check", "listen"]), ("--all", "", ["check"]),
                           ("--at", "TIME", ["listen"]), ("--kind", "K", ["listen"])])
@@ -170,23 +171,23 @@ class GeneratedParts(unittest.TestCase):
             ("--kind", "{a,b}", "which one"), ("-o", "OUT", "the file to write")])
 
     def test_makes_pages(self) -> None:
-        made = pages.program_parts(USAGE, TABLE)
+        made = pages.make_program_parts(USAGE, TABLE)
         self.assertIn(".B listen\n.I PES\n.B \\-\\-at TIME\n.OP \\-\\-page P\n", made["synopsis"])
         self.assertIn("\\fB\\-\\-page\\fP \\fIP\\fP\nThe page: one. Without it: \\fB888\\fP.",
                       made["options"])
-        made = pages.tool_parts(HELP)
+        made = pages.make_tool_parts(HELP)
         self.assertEqual(made["status"], "Status 0 or 2.\n")
         self.assertIn("Which one. WORD is a, b.", made["options"])
         self.assertIn("[\\-\\-from TIME] [\\-o OUT]", made["synopsis"])
 
     def test_makes_the_table_of_a_chapter(self) -> None:
-        made = pages.chapter_parts("| `--page P` | `check` | the page | 888 |\n")["options"]
+        made = pages.make_chapter_parts("| `--page P` | `check` | the page | 888 |\n")["options"]
         for name, is_there in (("--page P", False), ("--every N", True), ("--strict", True),
                                ("--no-keeping", False)):
             self.assertEqual(f"| `{name}` | " in made, is_there, name)
 
     def test_makes_a_completion(self) -> None:
-        made = pages.completion_parts(USAGE, TABLE, [HELP])
+        made = pages.make_completion_parts(USAGE, TABLE, [HELP])
         self.assertIn("--kind) _subttx_words 'a b c'", made["values"])
         self.assertIn("        --at | --from | --page)\n", made["values"])
         self.assertIn("check) options='--page --all' ;;", made["options"])
@@ -255,10 +256,10 @@ class ModuleLists(Case):
 
     def test_the_index_names_existing_clauses(self) -> None:
         text = read(os.path.join(TOP, "docs", "CLAUSES.md")) or ""
-        unknown = unknown_clauses(text, Library(TOP))
+        unknown = find_unknown_clauses(text, Library(TOP))
         self.must("docs/CLAUSES.md", not unknown, unknown)
-        self.must("rows", "sub_check/check_files.accepted" in clauses_in(text)
-                  and len(clauses_in(text)) > 80, len(clauses_in(text)))
+        self.must("rows", "sub_check/check_files.accepted" in list_indexed_clauses(text)
+                  and len(list_indexed_clauses(text)) > 80, len(list_indexed_clauses(text)))
 
     def test_a_reading_list_describes_each_crate(self) -> None:
         about = import_script("reading-list").first_paragraph
@@ -271,7 +272,7 @@ class ModuleLists(Case):
         _, _, reported = text.partition("(`dev/sizes`): ")
         numbers = [int(one.replace(",", ""))
                    for one in re.findall(r"\d+,\d+", reported)[:len(KINDS)]]
-        counts = total(count_lines(TOP))
+        counts = add_sizes(count_lines(TOP))
         self.must("sizes", len(numbers) == len(KINDS) and all(
             abs(number - counts[kind]) * 10 < counts[kind]
             for number, kind in zip(numbers, KINDS)), (numbers, counts))

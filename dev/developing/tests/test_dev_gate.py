@@ -9,7 +9,7 @@ import subprocess
 import unittest
 from random import Random
 
-from developing import counts_in
+from developing import read_counts
 from developing.every_place.carried_laws import LAWS, random_packets
 from developing.every_place.recordings import UNSEEN
 from developing.every_place.streams import multiplexed, with_losses
@@ -111,7 +111,7 @@ class Counts(unittest.TestCase):
                 ("of 7 passed, 0 failed\n", 0, None), ("", 0, None),
                 ("1 passed, 1 failed\n7 passed, 0 failed\n", 0, (7, 0))):
             with self.subTest(said=printed, status=status):
-                self.assertEqual(counts_in(printed, status), wanted)
+                self.assertEqual(read_counts(printed, status), wanted)
 
 
 # The second implementation: the status of a last line, and properties of recordings.

@@ -32,7 +32,8 @@ class Times(unittest.TestCase):
                             (90_000, "01:00:00:00"), (2_159_999, "23:59:59:24"),
                             (979_331, "10:52:53:06")):
             code = bytes(map(int, text.split(":")))
-            self.assertEqual((times.time_of(frame), times.frame_of(text), stl.time_code(frame),
+            self.assertEqual((times.time_of(frame), times.frame_of(text),
+                              stl.encode_time_code(frame),
                               times.time_of_code(code), times.frame_of_code(code)),
                              (text, frame, code, text, frame), (frame, text))
         self.assertEqual(times.time_of(DAY), "24:00:00:00")
@@ -89,31 +90,31 @@ class Codes(unittest.TestCase):
         for byte in range(256):
             bits = bits_of(byte, 8)
             self.assertEqual(teletext.is_odd(byte), bits.count("1") % 2 == 1, byte)
-            self.assertEqual(pes.mirrored(bytes([byte])), bytes([int(bits[::-1], 2)]), byte)
+            self.assertEqual(pes.reverse_bits(bytes([byte])), bytes([int(bits[::-1], 2)]), byte)
             near = [number for number, code in enumerate(CODES)
                     if sum(one != two for one, two in zip(bits, code)) < 2]
             self.assertEqual(teletext.NUMBER[byte], near[0] if near else None, byte)
         for code in range(128):
-            self.assertIn(pes.odd(code), (code, code + 128), code)
-            self.assertTrue(teletext.is_odd(pes.odd(code)), code)
+            self.assertIn(pes.add_odd_parity(code), (code, code + 128), code)
+            self.assertTrue(teletext.is_odd(pes.add_odd_parity(code)), code)
 
     def test_reads_each_magazine_and_packet_number(self) -> None:
         for magazine, number in itertools.product(range(8), range(32)):
-            made = pes.packet(magazine, number, (), b"a")
-            self.assertEqual(pes.address_of(made), (magazine, number), (magazine, number))
+            made = pes.make_packet(magazine, number, (), b"a")
+            self.assertEqual(pes.decode_address(made), (magazine, number), (magazine, number))
             self.assertEqual(made[2], 0x61, (magazine, number))
             for at in (0, 1):
-                self.assertIsNone(pes.address_of(made[:at] + NOTHING + made[at + 1:]), at)
+                self.assertIsNone(pes.decode_address(made[:at] + NOTHING + made[at + 1:]), at)
         numbers = bytes([8, 7, 0, 9, 1, 14, 2, 15])
-        made = pes.packet(1, 0, numbers, b" " * 32)
-        self.assertEqual((len(made), pes.header_of(made)), (42, numbers))
+        made = pes.make_packet(1, 0, numbers, b" " * 32)
+        self.assertEqual((len(made), pes.decode_header(made)), (42, numbers))
         for at in range(2, 10):
-            self.assertIsNone(pes.header_of(made[:at] + NOTHING + made[at + 1:]), at)
-        self.assertEqual(pes.page_in(numbers), 0x78)
+            self.assertIsNone(pes.decode_header(made[:at] + NOTHING + made[at + 1:]), at)
+        self.assertEqual(pes.get_page_number(numbers), 0x78)
         rows = [row_packet(1, b"a"), made, made[:9] + NOTHING + made[10:], NOTHING + made[1:],
                 HEADER,
                 CLOSING]
-        self.assertEqual([one[:2] for one in pes.headers_in(rows)],
+        self.assertEqual([one[:2] for one in pes.find_headers(rows)],
                          [(1, 0x78), (0, 0x88), (0, 0xFF)])
 
     def test_reads_each_control_bit(self) -> None:
@@ -140,6 +141,6 @@ class Packets(unittest.TestCase):
         for pts in (0, 1, CLOCK - 1, 0x155555555, 0xAAAAAAAA, *(1 << bit for bit in range(33))):
             bits = bits_of(pts, 33)
             wanted = int(f"0010{bits[:3]}1{bits[3:18]}1{bits[18:]}1", 2).to_bytes(5, "big")
-            self.assertEqual(pes.pts_bytes(pts), wanted, pts)
-            data = pes.pes_packet(pts, [])
-            self.assertEqual(pes.pts_in(data), pts, pts)
+            self.assertEqual(pes.encode_pts(pts), wanted, pts)
+            data = pes.make_pes_packet(pts, [])
+            self.assertEqual(pes.decode_pts(data), pts, pts)

@@ -10,9 +10,9 @@ import unittest
 from typing import Any, Iterator, NamedTuple
 
 from developing.pes import (
-    NATIONAL, address_of, data_field, header_of, packet, pes_packet, pts_in, teletext_packets,
-    triplet)
-from developing.stl import END_BOX, START_BOX, gsi_block, tti_block
+    NATIONAL, decode_address, decode_header, decode_pts, encode_triplet, get_data_field,
+    get_teletext_packets, make_packet, make_pes_packet)
+from developing.stl import END_BOX, START_BOX, make_gsi_block, make_tti_block
 from subtitles.common.program import TOP
 from subtitles.common.times import TICKS
 from subtitles.formats.stl import UNUSED
@@ -217,9 +217,9 @@ class Receiver:
 class Transmissions(Case):
     def schedule_of(self, option: NationalOption, several: list[Text]) -> str:
         """Return the last line of `schedule` for adjoining subtitles."""
-        blocks = [tti_block(number, begin, begin + LENGTH, one.row, one.justify, one.text)
+        blocks = [make_tti_block(number, begin, begin + LENGTH, one.row, one.justify, one.text)
                   for number, one in enumerate(several) for begin in [FIRST + LENGTH * number]]
-        self.write("a.stl", gsi_block(b"", len(blocks), len(blocks), FIRST) + b"".join(blocks))
+        self.write("a.stl", make_gsi_block(b"", len(blocks), len(blocks), FIRST) + b"".join(blocks))
         return self.program("schedule", "a.stl", "a.pes", "--every", "1500", "--option",
                             option.word)[1][-1]
 
@@ -230,7 +230,7 @@ class Transmissions(Case):
         line = self.program("check", "a.stl", "a.pes", "--every", "1500", "--option",
                             option.word)[1][-1]
         self.must(f"{option.word}: a check", line.startswith("accepted "), line)
-        by_frame = {pts_in(one) // TICKS: teletext_packets(data_field(one))
+        by_frame = {decode_pts(one) // TICKS: get_teletext_packets(get_data_field(one))
                     for one in packets(self.read("a.pes"))}
         return [by_frame.get(FIRST + LENGTH * number, []) for number in range(len(several))]
 
@@ -243,10 +243,11 @@ class Transmissions(Case):
                 self.must(f"{name}: the same page", one.cells == before)
                 continue
             header, *rows, _ = found
-            bits = [has_bit(header_of(header) or b"", bit) for bit in NATIONAL]
+            bits = [has_bit(decode_header(header) or b"", bit) for bit in NATIONAL]
             self.must(f"{name}: C12 to C14", bits == [
                 bool(option.bits >> at & 1) for at in range(3)], bits)
-            reported = [(address_of(row), bytes(byte & 0x7F for byte in row[2:])) for row in rows]
+            reported = [(decode_address(row), bytes(byte & 0x7F for byte in row[2:]))
+                        for row in rows]
             self.must(f"{name}: the row", reported == [((0, one.row), one.cells)], reported)
             before = one.cells
 
@@ -300,18 +301,18 @@ PAGE = (0, 0x88)
 ASKED = Request(stl="a.stl", recording="a.ts", page=PAGE, every=250, option="english", origin=0,
               is_complete=True, pid=None, is_loss_allowed=False, severity=None, breaks=0, pes=None,
                 start=None)
-HEADER, OTHER, CLOSING = (packet(0, 0, numbers, b" " * 32) for numbers in (
+HEADER, OTHER, CLOSING = (make_packet(0, 0, numbers, b" " * 32) for numbers in (
     (8, 8, 0, 8, 0, 8, 1, 0), (1, 0, 0, 0, 0, 0, 0, 0), (15, 15, 15, 7, 15, 3, 0, 0)))
-ROW = packet(0, 20, (), b"a row".ljust(40))
+ROW = make_packet(0, 20, (), b"a row".ljust(40))
 
 
 def character_set_packet(number: int, character_set: int, designation: int = 0, magazine: int = 0,
            function: int = 0) -> bytes:
     """Return a packet that designates a character set of seven bits."""
-    first = triplet(function | character_set << 7)
+    first = encode_triplet(function | character_set << 7)
     address = magazine + 8 * number
     head = bytes(CODE_WORDS[one] for one in (address & 15, address >> 4, designation))
-    return (head + first).ljust(42, triplet(0)[:1])
+    return (head + first).ljust(42, encode_triplet(0)[:1])
 
 
 def with_bits(data: bytes, *bits: int) -> bytes:
@@ -354,13 +355,14 @@ class Warnings(Case):
             ("the same", character_set_packet(29, 0), []),
             ("another magazine's", character_set_packet(29, 8, magazine=1), [])]
         for name, more, lines in cases:
-            reported = survey_packets(self, pes_packet(0, [HEADER, ROW, CLOSING, more]))
+            reported = survey_packets(self, make_pes_packet(0, [HEADER, ROW, CLOSING, more]))
             found = list(character_set_notices(reported, ASKED))
             self.must(name, [one.line for one in found] == lines, found)
             self.must(f"{name}: kind", {one.kind for one in found} <= {"character_set"}, found)
 
     def test_warns_if_another_option_is_designated(self) -> None:
-        reported = survey_packets(self, pes_packet(0, [HEADER, character_set_packet(29, 0b100)]))
+        reported = survey_packets(self, make_pes_packet(
+            0, [HEADER, character_set_packet(29, 0b100)]))
         for option in OPTIONS:
             request = dataclasses.replace(ASKED, option=option.word)
             self.must(option.word, bool([*character_set_notices(reported, request)]) == (
@@ -368,8 +370,8 @@ class Warnings(Case):
 
     def test_a_warning_changes_the_verdict_only_with_strict(self) -> None:
         pes = packets(example_bytes("story.pes"))
-        sent = [*teletext_packets(data_field(pes[1])), character_set_packet(29, 8)]
-        data = b"".join([pes[0], pes_packet(pts_in(pes[1]), sent), *pes[2:]])
+        sent = [*get_teletext_packets(get_data_field(pes[1])), character_set_packet(29, 8)]
+        data = b"".join([pes[0], make_pes_packet(decode_pts(pes[1]), sent), *pes[2:]])
         path = self.write("one.pes", data)
         done = qc(self, STORY, path, "--origin", "0", "-o", "out", "--json", "one.json")
         self.must("accepted", done.status == 0, done)

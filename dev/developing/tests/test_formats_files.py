@@ -9,7 +9,7 @@ import unittest
 from typing import Callable, NamedTuple, Sequence
 from unittest import mock
 
-from developing.stl import gsi_block, tti_block
+from developing.stl import make_gsi_block, make_tti_block
 from subtitles.common.command_line import Stop
 from subtitles.common.files import Damaged
 from subtitles.common.times import ALL_DAY, Between
@@ -33,7 +33,8 @@ def refusal(call: Callable[[], object], error: type[Exception] = Stop) -> str:
 
 class Blocks(unittest.TestCase):
     def block(self, number: int, ebn: int, comment: int = 0, group: int = 0) -> bytes:
-        return tti_block(number, number, number + 1, 20, 2, b"%d" % number, ebn, comment, group)
+        return make_tti_block(number, number, number + 1, 20, 2, b"%d" % number, ebn, comment,
+                              group)
 
     def test_joins_blocks_into_subtitles(self) -> None:
         last, user = 255, 254
@@ -57,21 +58,22 @@ class Blocks(unittest.TestCase):
             ([(1, last, 0), (2, 0, 0)], [(1, b"1")], "the subtitle of block 2 has no last block"),
             ([(1, 0, 0), (9, user, 0)], [], "the subtitle of block 2 has no last block")]
         for row, wanted, words in of_rows:
-            data = gsi_block(b"", 0, 0) + b"".join(self.block(*one) for one in row)
+            data = make_gsi_block(b"", 0, 0) + b"".join(self.block(*one) for one in row)
             for rest in (b"", b"x" * 127):
                 found: list[stl.StoredSubtitle] = []
                 message = refusal(lambda: found.extend(stl.subtitles_in(data + rest)), Damaged)
                 self.assertEqual([(one.number, one.text) for one in found], wanted, row)
                 self.assertEqual(message, words if words and "no last" not in words or not rest else
                                  f"block {len(row) + 1} is cut", rest)
-        [one] = stl.subtitles_in(gsi_block(b"", 0, 0) + b"".join(
-            tti_block(1, at, at + 2, 20 + at, at, b"x", ebn) for at, ebn in ((0, 0), (1, last))))
+        [one] = stl.subtitles_in(make_gsi_block(b"", 0, 0) + b"".join(
+            make_tti_block(1, at, at + 2, 20 + at, at, b"x", ebn) for at,
+            ebn in ((0, 0), (1, last))))
         self.assertEqual((stl.subtitle_times(one), one.row, one.justify), ((0, 2), 20, 0))
-        group = gsi_block(b"", 0, 0) + self.block(1, 0) + self.block(1, last, group=1)
+        group = make_gsi_block(b"", 0, 0) + self.block(1, 0) + self.block(1, last, group=1)
         self.assertTrue(refusal(lambda: list(stl.subtitles_in(group)), Damaged))
 
     def test_refuses_an_invalid_gsi_block(self) -> None:
-        good = gsi_block(b"", 0, 0)
+        good = make_gsi_block(b"", 0, 0)
         for data, words in ((good, ""), (good[:-1], "not an EBU STL "
                                                     "file"), (b"", "not an EBU STL "
                                                                                   "file"),
@@ -82,7 +84,7 @@ class Blocks(unittest.TestCase):
             self.assertTrue(message.startswith(words) and bool(message) == bool(words), message)
 
     def test_reads_subtitles_before_damage(self) -> None:
-        good = gsi_block(b"", 0, 0)
+        good = make_gsi_block(b"", 0, 0)
         for data, count, is_told in ((good, 0, False), (good + self.block(1, 255), 1, False),
                                      (good + self.block(1, 255) + b"x", 1, True),
                                      (good + b"x", -1, False), (b"", -1, False)):
@@ -123,17 +125,17 @@ class Files(Case):
             last = chance.choice((LAST, LAST, LAST, 3)) if number == 5 else LAST
             for ebn in [*range(chance.choice((0, 0, 1, 2))), last]:
                 for _ in range(chance.choice((0, 0, 1))):
-                    blocks.append(tti_block(number, begin, end, 20, 2, b"no", *chance.choice((
+                    blocks.append(make_tti_block(number, begin, end, 20, 2, b"no", *chance.choice((
                         (USER_DATA, 0), (LAST, 1), (0, 1), (USER_DATA, 1)))))
                 some, later = chance.choice(self.TEXTS), chance.randrange(99) * bool(own)
-                block = bytearray(tti_block(number + (number > 3), begin + later, end + later,
-                                            20 + bool(own), 2, some, ebn))
+                block = bytearray(make_tti_block(number + (number > 3), begin + later, end + later,
+                                                 20 + bool(own), 2, some, ebn))
                 block[5] = 24 if is_none else block[5]
                 blocks.append(bytes(block))
                 own.append(len(blocks))
                 text += some.split(b"\x8f")[0]
             groups.append(PlainSubtitle(own, None if is_none else begin, end, last == LAST, text))
-        return gsi_block(b"", 0, 0) + b"".join(blocks), groups
+        return make_gsi_block(b"", 0, 0) + b"".join(blocks), groups
 
     def test_agrees_with_a_plain_reading_of_random_files(self) -> None:
         chance = random.Random(11)
@@ -175,7 +177,7 @@ class Files(Case):
 
     def test_names_the_byte_and_character_at_a_place(self) -> None:
         for byte in {*range(256)} - {0x8F}:
-            file = SubtitleFile(self.write("one.stl", gsi_block(b"", 1, 1) + tti_block(
+            file = SubtitleFile(self.write("one.stl", make_gsi_block(b"", 1, 1) + make_tti_block(
                 1, 25, 50, 20, 2, b"a" + bytes([byte]))))
             self.assertEqual(file.letter(1, 1), (f"{byte:02X}", None if byte < 0x20 or 0x7F <= byte
                                                  < 0xA0 else letters_of(bytes([byte]))), byte)

@@ -9,8 +9,8 @@ import re
 import subprocess
 from unittest import mock
 
-from developing.pes import pes_packet
-from developing.stl import gsi_block
+from developing.pes import make_pes_packet
+from developing.stl import make_gsi_block
 from subtitles.common.command_line import Stop, Words
 from subtitles.common.times import FRAMES_OF_A_DAY, NO_FRAME, Span, TICKS
 from subtitles.formats.listing import fault_of_line
@@ -200,7 +200,7 @@ class LineOptions(Case):
     def test_auto_takes_the_option_of_the_language_code(self) -> None:
         for code, word in ((b"08", "german"), (b"09", "english"), (b"  ", "english"),
                            (b"0F", "french"), (b"ZZ", "english")):
-            stl = self.write("one.stl", gsi_block(b"", 0, 0, language=code))
+            stl = self.write("one.stl", make_gsi_block(b"", 0, 0, language=code))
             self.assertEqual(request_for(stl, "a.ts", "--option", "auto").option, word, code)
             self.assertEqual(request_for(stl, "a.ts", "--option", "czech").option, "czech",
                              (code, word))
@@ -275,8 +275,8 @@ class Decisions(Case):
             self.must(f"{before} {frames}", [*pauses_in(before, frames)] == wanted)
 
     def test_looks_back_as_far_as_the_repeat_interval(self) -> None:
-        packets = survey_packets(self, b"".join(pes_packet(TICKS * at, [HEADER, CLOSING])
-                                              for at in (0, 600, 1000)))
+        packets = survey_packets(self, b"".join(make_pes_packet(TICKS * at, [HEADER, CLOSING])
+                                                for at in (0, 600, 1000)))
         for every, wanted in ((25, [1000]), (250, [1000]), (399, [1000]), (400, [600, 1000]),
                               (1000, [0, 600, 1000]), (3000, [0, 600, 1000])):
             near = timeline_near(packets, PAGE, 0, 0, Span(1000, 1001), every)

@@ -7,7 +7,7 @@ import os
 from collections import Counter
 from typing import Any, Sequence
 
-from developing.pes import data_field, pes_packet, pts_in, teletext_packets
+from developing.pes import get_data_field, make_pes_packet, decode_pts, get_teletext_packets
 from subtitles.cli.main import make_parser
 from subtitles.cli.measure import (
     Delays, Measured as ExpectedSubtitle, explain_omission, measure, profile_lines, propose_every,
@@ -99,8 +99,8 @@ class Choices(Case):
         self.must("asked", pace == [
             ("pace", "1", pace[0][3], pace[0][3], 1, "pace: at most 1 frame from one PES packet to "
              "the next: --pace 1")] and pace[0][3] > 5_000, found.said)
-        made = make_multiplex([pes_packet(pts + TICKS * 250, some) for pts, some in every
-                        if some or pts // TICKS % 60 < 25], Shape(100))
+        made = make_multiplex([make_pes_packet(pts + TICKS * 250, some) for pts, some in every
+                               if some or pts // TICKS % 60 < 25], Shape(100))
         path = self.write("one.ts", stream_bytes(made))
         for words in ((), ("--pace", "none")):
             found = judge_files(self, stl, path, "--origin", f"{TICKS * 250}", *words)
@@ -163,9 +163,10 @@ class Magazines(Case):
                 self.schedule(stl, "first.pes", "--page", first, "--every", "25")
                 self.schedule(other, "second.pes", "--page", second, "--every", "25")
                 both = zip(packets(self.read("first.pes")), packets(self.read("second.pes")))
-                path = self.write("both.pes", b"".join(pes_packet(pts_in(one), [
-                    *teletext_packets(data_field(one)), *teletext_packets(data_field(two))])
-                    for one, two in both))
+                path = self.write("both.pes", b"".join(make_pes_packet(decode_pts(one), [
+                    *get_teletext_packets(get_data_field(one)),
+                    *get_teletext_packets(get_data_field(two))])
+                                                       for one, two in both))
                 found = judge_files(self, stl, path, "--page", page, *WORDS)
                 self.must(f"{page} {name}", found.word == (
                     "accepted" if name == "right" else "refused") and
@@ -181,7 +182,7 @@ class ForeignPackets(ProgrammeCase):
     def setUp(self) -> None:
         super().setUp()
         last, blank = self.sent[-1]
-        self.pes += [pes_packet(last + 90_000 * at, blank) for at in range(1, 5)]
+        self.pes += [make_pes_packet(last + 90_000 * at, blank) for at in range(1, 5)]
 
     def make_stream(self, first: int, number: int) -> bytes:
         """Return a stream that from a PES packet on has another stream_id or a wrong length."""

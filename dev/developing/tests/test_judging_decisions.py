@@ -9,8 +9,8 @@ from dataclasses import replace
 from typing import Callable
 from unittest import mock
 
-from developing.pes import pes_packet
-from developing.stl import gsi_block, tti_block
+from developing.pes import make_pes_packet
+from developing.stl import make_gsi_block, make_tti_block
 from subtitles.cli.batch import FolderWatch, Sighting
 from subtitles.clock.origin import OriginEstimate
 from subtitles.clock.start import Clock, RECORDING, START, TimedPart
@@ -166,7 +166,7 @@ def subtitle(index: int, begin: int) -> Subtitle:
 
 class SubtitleFiles(Case):
     def test_warns_unless_subtitles_in_the_language_are_announced(self) -> None:
-        stl = self.write("one.stl", gsi_block(b"", 0, 0, language=b"09"))
+        stl = self.write("one.stl", make_gsi_block(b"", 0, 0, language=b"09"))
         request = request_for(stl, "one.ts")
         for kinds, languages, wanted in (
                 ((2,), ("eng",), []), ((1,), ("eng",), ["type"]), ((1, 5), ("eng", "eng"), []),
@@ -191,7 +191,7 @@ class SubtitleFiles(Case):
             self.assertTrue(all(map(str.__contains__, found, reported)), found)
 
     def test_warns_of_missing_counts_in_the_gsi_block(self) -> None:
-        data = gsi_block(b"", 0, 0) + tti_block(1, 25, 45, 20, 2, b"a")
+        data = make_gsi_block(b"", 0, 0) + make_tti_block(1, 25, 45, 20, 2, b"a")
         found = [one.kind for one in count_notices(SubtitleFile(self.write("one.stl", data)))]
         self.must("both", found == ["blocks", "subtitles"], found)
 
@@ -249,16 +249,16 @@ class DecodedPages(Case):
     def test_a_page_must_be_closed_before_its_tco(self) -> None:
         one = Subtitle(1, 1, 100, 150, 20, 2, b"a")
         for closed, wanted in ((100, 0), (101, 1), (149, 49), (150, None), (170, None)):
-            data = pes_packet(TICKS * 100,
-                              [HEADER, row_packet(20, b"a"), *[CLOSING] * (closed == 100)])
-            more = [pes_packet(TICKS * closed, [CLOSING])] * (closed > 100)
-            decoded = self.decode(pes_packet(0, [CLOSING]) + data + b"".join(more))
+            data = make_pes_packet(TICKS * 100,
+                                   [HEADER, row_packet(20, b"a"), *[CLOSING] * (closed == 100)])
+            more = [make_pes_packet(TICKS * closed, [CLOSING])] * (closed > 100)
+            decoded = self.decode(make_pes_packet(0, [CLOSING]) + data + b"".join(more))
             for is_complete, frames in ((True, wanted), (False, 0)):
                 found = measure_delay(one, decoded.page_at(100), decoded, is_complete)
                 self.must(f"{closed} {is_complete}", found == frames, found)
 
     def test_finds_the_first_frame_with_a_closed_page(self) -> None:
-        data = b"".join(pes_packet(TICKS * frame, units) for frame, units in (
+        data = b"".join(make_pes_packet(TICKS * frame, units) for frame, units in (
             (10, [HEADER, row_packet(20, b"a")]), (20, [CLOSING]), (30, [HEADER]), (40, [CLOSING])))
         decoded = self.decode(data)
         for frame, wanted in ((5, 5), (9, 9), (10, 20), (15, 20), (20, 20), (25, 25), (30, 40),
@@ -276,16 +276,16 @@ class DecodedPages(Case):
             ([HEADER, new, CLOSING], b"new"), ([HEADER, CLOSING], b""),
             ([HEADER, CLOSING, HEADER, new], b""), ([CLOSING, HEADER, CLOSING], b"")]
         for units, wanted in rows:
-            screen = self.decode(pes_packet(0, [HEADER, old]) +
-                               pes_packet(TICKS * 10, units)).states[-1].screen
+            screen = self.decode(make_pes_packet(0, [HEADER, old]) +
+                                 make_pes_packet(TICKS * 10, units)).states[-1].screen
             text = screen and screen[0][19].strip(b"\x0b ")
             self.must(f"{units}", text == wanted, text)
-        packets = survey_packets(self, pes_packet(0, [HEADER, old]) + pes_packet(
+        packets = survey_packets(self, make_pes_packet(0, [HEADER, old]) + make_pes_packet(
             TICKS, [CLOSING, HEADER, new]))
         self.must("tuned in later", Timeline(packets, PAGE, 0, 0, (1, 1)).states[-1].screen is None)
 
     def test_doubts_frames_around_unreadable_packets(self) -> None:
-        good = [pes_packet(TICKS * frame, [HEADER, CLOSING]) for frame in range(0, 100, 10)]
+        good = [make_pes_packet(TICKS * frame, [HEADER, CLOSING]) for frame in range(0, 100, 10)]
         broken = [one[:45] + b"\x20" + one[46:] for one in good]
         of_doubts: list[tuple[tuple[int, ...], list[Span]]] = [
             ((), []), ((3,), [Span(20, 40)]), ((3, 4), [Span(20, 50)]),
@@ -299,7 +299,7 @@ class DecodedPages(Case):
                 self.must(f"{numbers}: {first} to {last}", decoded.is_seen(first, last) == is_seen)
 
     def test_decodes_only_the_requested_range(self) -> None:
-        data = b"".join(pes_packet(TICKS * 10 * at, [
+        data = b"".join(make_pes_packet(TICKS * 10 * at, [
             HEADER, row_packet(20, b"%d" % at), *[row_packet(22, b"x")] * (at % 3),
             CLOSING]) for at in range(9))
         packets = survey_packets(self, data)
@@ -336,8 +336,8 @@ class DecodedPages(Case):
         steady = [*range(90), *range(93, 120), *range(124, 200)]
         for frames, wanted in (([*range(50), *range(52, 99)], []), (steady, [Span(90, 92),
                                                                             Span(120, 123)])):
-            decoded = self.decode(b"".join(pes_packet(TICKS * frame, [HEADER, CLOSING])
-                                      for frame in frames))
+            decoded = self.decode(b"".join(make_pes_packet(TICKS * frame, [HEADER, CLOSING])
+                                           for frame in frames))
             self.must(f"{wanted}", decoded.pauses == wanted, decoded.pauses)
         for frame, pause in ((89, None), (90, 0), (92, 0), (93, None), (119, None), (120, 1),
                              (123, 1), (124, None)):
@@ -350,7 +350,7 @@ class DecodedPages(Case):
         for frames, pages, is_lost in (
                 ([100, 200, 310, 350], 4, False), ([200, 250, 150, 310, 350], 3, False),
                 ([200, 310, 305, 350], 2, True), ([310, 350, 320], 2, True)):
-            packets = survey_packets(self, b"".join(pes_packet(TICKS * frame, [
+            packets = survey_packets(self, b"".join(make_pes_packet(TICKS * frame, [
                 HEADER, row_packet(20, b"%d" % frame), CLOSING]) for frame in frames))
             decoded = Timeline(packets, PAGE, 0, begin=300)
             self.must(f"{frames}",

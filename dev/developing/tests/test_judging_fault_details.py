@@ -6,8 +6,8 @@ import itertools
 from typing import Any
 from unittest import mock
 
-from developing.pes import pes_packet
-from developing.stl import gsi_block, tti_block
+from developing.pes import make_pes_packet
+from developing.stl import make_gsi_block, make_tti_block
 from subtitles.common.times import CLOCK, TICKS, time_of
 from subtitles.formats.listing import NamedFault, meanings, plain
 from subtitles.formats.stl import Subtitle
@@ -87,10 +87,11 @@ class FaultDetails(Case):
 
     def test_describes_the_case_instead_of_the_number(self) -> None:
         night = 2_159_990
-        stl = self.write("one.stl", gsi_block(b"", 3, 3).replace(b"STL25.011", b"STL25.010") + \
-                         b"".join(tti_block(at, begin, end, 20, 2, b"\xc8a", comment=at == 9)
-                                    for at, begin, end in ((1, 25, 50), (2, night, 5), (9, 0, 0),
-                                                           (3, 10, 20))))
+        stl = self.write("one.stl", make_gsi_block(b"", 3, 3).replace(b"STL25.011", b"STL25.010")
+                         + \
+                         b"".join(make_tti_block(at, begin, end, 20, 2, b"\xc8a", comment=at == 9)
+                                  for at, begin, end in ((1, 25, 50), (2, night, 5), (9, 0, 0),
+                                                         (3, 10, 20))))
         known = meanings()
         rows: list[tuple[str, str, str]] = [
             ("67 Control frame 00:00:01:00 packet 0", "C4 (erase page) is clear: a repeat that "
@@ -104,7 +105,8 @@ class FaultDetails(Case):
             ("68 Parity frame 00:00:01:00 packet 0", "", "")]
         part = make_part(0, 99, 0, make_answer([*(f"refused {line}" for line, _, _ in rows),
                                            f"{len(rows)} faults"], path=self.path("list")),
-                         packets=survey_packets(self, pes_packet(25 * TICKS, [NO_C4, CLOSING])),
+                         packets=survey_packets(self, make_pes_packet(25 * TICKS,
+                                                                      [NO_C4, CLOSING])),
                          pes=(0, 0), drawing_differences="drawn otherwise")
         part.names.given = stl
         verdict = verdict_of([part])
@@ -129,8 +131,8 @@ class FaultDetails(Case):
             pts = [(origin + TICKS * frame) % CLOCK for frame in (0, 75, 150)]
             part = make_part(0, 150, origin, make_answer(lines, path=self.path("list")), pes=(0, 2),
                              packets=survey_packets(self,
-                                                    b"".join(pes_packet(one, [HEADER, CLOSING])
-                                                                 for one in pts)))
+                                                    b"".join(make_pes_packet(one, [HEADER, CLOSING])
+                                                             for one in pts)))
             part.names.given = write_programme(self, [(0, 50)])
             found = [(one["pes"], one["pes_pts"], one["pes_time"], bool(one["subtitle"]))
                      for one in make_faults(verdict_of([part]))]
@@ -138,7 +140,7 @@ class FaultDetails(Case):
                 at, frame) in enumerate(wanted)), (None, None, None, True)], origin)
 
     def test_gives_the_expected_and_the_decoded_cell(self) -> None:
-        data = pes_packet(25 * TICKS, [HEADER, row_packet(20, b"\x01xyz"), CLOSING])
+        data = make_pes_packet(25 * TICKS, [HEADER, row_packet(20, b"\x01xyz"), CLOSING])
         due = (*BLANK_PAGE[:19], b"  [b".ljust(40), *BLANK_PAGE[20:])
         lines = [f"refused 72 Content frame 00:00:01:00 row 20 column {at}" for at in (2, 3, 4)]
         for within, (option, letter) in itertools.product((0, 3), (

@@ -8,7 +8,7 @@ from types import SimpleNamespace
 from typing import Any
 from unittest import mock
 
-from developing.pes import packet, pes_packet
+from developing.pes import make_packet, make_pes_packet
 from subtitles.common.program import proved_line
 from subtitles.common.times import CLOCK, Span, TICKS
 from subtitles.formats.listing import fault_of_line
@@ -31,7 +31,7 @@ from .transmissions import CLOSING, HEADER, ORIGIN, row_packet
 from .test_judging_verdicts import verdict_of
 
 BEFORE = CLOCK - 60 * TICKS  # an origin whose frames cross the PTS wrap
-NO_C4 = packet(0, 0, [8, 8, 0, 0, 0, 8, 1, 0], b" " * 32)
+NO_C4 = make_packet(0, 0, [8, 8, 0, 0, 0, 8, 1, 0], b" " * 32)
 
 
 def cause(place: int, name: str, frames: int | None = None, words: str = "") -> Cause:
@@ -124,7 +124,7 @@ class Descriptions(Case):
             self.must(wanted, words == f"at 00:00:01:00 a letter{wanted}", words)
 
     def test_ignores_frames_with_losses(self) -> None:
-        data = b"".join(pes_packet(TICKS * frame, [HEADER, CLOSING]) for frame in (0, 50, 100))
+        data = b"".join(make_pes_packet(TICKS * frame, [HEADER, CLOSING]) for frame in (0, 50, 100))
         decoded = decode_packets(self, data)
         decoded.lost, decoded.doubts = Meeting([Span(10, 20)]), [Span(60, 70)]
         for first, last, is_seen in ((0, 9, True), (0, 10, False), (20, 25, False), (21, 59, True),
@@ -134,7 +134,7 @@ class Descriptions(Case):
         self.assertEqual([decoded.is_seen(80, last) for last in (100, 101)], [True, False])
 
     def test_finds_the_pes_packet_of_a_fault(self) -> None:
-        data = b"".join(pes_packet(ticks, [HEADER, CLOSING])
+        data = b"".join(make_pes_packet(ticks, [HEADER, CLOSING])
                         for ticks in (0, 10 * TICKS, 10 * TICKS, 20 * TICKS))
         for line, within, pes in (
                 ("refused 73 Gap frame 00:00:00:10", 0, 1),
@@ -149,7 +149,7 @@ class Descriptions(Case):
             assert fault
             found = find_fault_place(fault, packets, decode_packets(self, data, 0, within))
             self.must(f"{line} {within}", found.pes == pes, found)
-        data = b"".join(pes_packet(10 * TICKS, [HEADER, row_packet(20, text)])
+        data = b"".join(make_pes_packet(10 * TICKS, [HEADER, row_packet(20, text)])
                         for text in (b"a", b"b"))
         fault, decoded = fault_of_line(
             "refused 72 X frame 00:00:00:10 row 20 column 2"), decode_packets(
@@ -159,7 +159,8 @@ class Descriptions(Case):
             due = decoded.state_after(1 - number).rows
             self.must(f"{number}",
                       find_fault_place(fault, decoded.packets, decoded, due).pes == number)
-        decoded = decode_packets(self, pes_packet(0, [HEADER]) + pes_packet(9, [CLOSING]), 0, 1)
+        decoded = decode_packets(self, make_pes_packet(0, [HEADER]) + make_pes_packet(9, [CLOSING]),
+                                 0, 1)
         fault = fault_of_line("refused 67 Control frame 00:00:00:00 packet 0")
         self.must("headers",
                   fault and len(find_fault_place(fault, decoded.packets, decoded).headers) == 1)
@@ -197,7 +198,8 @@ class Descriptions(Case):
 
     def test_gives_a_hint_for_the_first_fault_of_each_number(self) -> None:
         data = b"".join(
-            pes_packet((ORIGIN + TICKS * frame) % CLOCK, [NO_C4 if frame % 50 else HEADER, CLOSING])
+            make_pes_packet((ORIGIN + TICKS * frame) % CLOCK, [NO_C4 if frame % 50 else HEADER,
+                                                               CLOSING])
             for frame in (0, 25, 50, 75, 300))
         lines = ["refused 67 Control frame 00:00:01:00 packet 0",
                  "refused 67 Control frame 00:00:03:00 packet 0",

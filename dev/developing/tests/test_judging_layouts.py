@@ -10,8 +10,8 @@ import random
 import sys
 from typing import Callable, NamedTuple
 
-from developing.pes import pes_packet
-from developing.stl import gsi_block, subtitle_blocks
+from developing.pes import make_pes_packet
+from developing.stl import make_gsi_block, make_subtitle_blocks
 from subtitles.common.command_line import quoted
 from subtitles.common.times import TICKS
 from subtitles.formats.layout import Layout, PLAIN, Refused, drawn, fault_in, layout_of, page_rows
@@ -39,10 +39,10 @@ FAULTS = [
                     "0D"), ("fit,up", None)]
 def file_of(case: Case, texts: list[tuple[bytes, int]], name: str, dsc: bytes = b"1") -> str:
     """Write a subtitle file of texts with justification codes."""
-    blocks = b"".join(subtitle_blocks(
+    blocks = b"".join(make_subtitle_blocks(
         at, FIRST + EACH * at, FIRST + EACH * at + LASTS, 18, justify, text)
                       for at, (text, justify) in enumerate(texts))
-    gsi = bytearray(gsi_block(b"As sent", len(blocks) // 128, len(texts), FIRST))
+    gsi = bytearray(make_gsi_block(b"As sent", len(blocks) // 128, len(texts), FIRST))
     gsi[DSC] = dsc
     return case.write(name, bytes(gsi) + blocks)
 
@@ -88,8 +88,8 @@ class DecodedPages(Case):
                 (50, 80, ((0, 18), (60, 20)), [20]), (0, 50, ((0, 18), (25, 20)), [18]),
                 (0, 50, ((0, 18), (5, 19), (20, 20), (30, 21)), [21]),
                 (0, 50, ((0, 18), (10, None)), [18]), (0, 50, ((50, 18),), [])):
-            pes = [pes_packet(TICKS * frame,
-                              [HEADER, *[row_packet(number or 1, b"ab" if number else b"c"
+            pes = [make_pes_packet(TICKS * frame,
+                                   [HEADER, *[row_packet(number or 1, b"ab" if number else b"c"
                                                             )], CLOSING])
                    for frame, number in (*pages, (200, None))]
             one = Subtitle(1, 0, begin, end, 18, 2, b"ab")
@@ -281,7 +281,7 @@ def recording_of(one: Programme, sent: Sent) -> bytes:
         sent = [*sent[:place], (sent[place][0], WRONG), *sent[place + 1:]]
     if not one.is_stream:
         return pes_file(sent[:place] + sent[place + min(one.lost, 9):])
-    made = make_multiplex([pes_packet(pts, some) for pts, some in sent], Shape(150))
+    made = make_multiplex([make_pes_packet(pts, some) for pts, some in sent], Shape(150))
     return stream_bytes(with_loss(made, sent[place][0], one.lost, one.is_announced))
 
 

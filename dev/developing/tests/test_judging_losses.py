@@ -9,7 +9,7 @@ from types import SimpleNamespace
 from typing import Any
 from unittest import mock
 
-from developing.pes import STUFFING_UNIT, pes_packet
+from developing.pes import STUFFING_UNIT, make_pes_packet
 from subtitles.common.times import TICKS
 from subtitles.judging.timing import UNCHECKED, describe_unchecked_losses
 from subtitles.stream.pace import IRREGULAR, Pace
@@ -45,7 +45,7 @@ class HiddenPages(ProgrammeCase):
 
     def multiplexed(self, sent: Sent, first: int, count: int, size: int) -> list[Packet]:
         """Return a multiplex in which some PES packets take several TS packets."""
-        made = [pes_packet(pts, some) for pts, some in sent]
+        made = [make_pes_packet(pts, some) for pts, some in sent]
         made[first:first + count] = [large(one, size) for one in made[first:first + count]]
         return make_multiplex(made, Shape(400))
 
@@ -134,7 +134,8 @@ class HiddenPages(ProgrammeCase):
             known = [one.replace(self.folder + "/", "") for one in judged.result["notes"]]
             self.must(f"a file, {word}", len(sent) < 101 and judged.word == word and note in known
                       and judged.parts("pace") == [(None,)], judged.said)
-        made = make_multiplex([large(pes_packet(pts, some), 4) for pts, some in sent], Shape(100))
+        made = make_multiplex([large(make_pes_packet(pts, some), 4) for pts, some in sent],
+                              Shape(100))
         note = "not checked for losses of 1.4 s or more on this PID alone: its PES packets are " \
             "too few to measure their interval"
         for count, is_announced, word in ((0, False, "refused"), (16, False, "accepted"),

@@ -7,7 +7,8 @@ from __future__ import annotations
 from typing import Any, Sequence
 from unittest import mock
 
-from developing.pes import DATA, MARK, UNIT, mirrored, pes_packet, pts_bytes, pts_in
+from developing.pes import (
+    DATA, GAP_MARKER, UNIT, decode_pts, encode_pts, make_pes_packet, reverse_bits)
 from subtitles.clock.start import Clock, GIVEN, TimedPart
 from subtitles.common.times import ALL_DAY, Between, CLOCK, TICKS, time_of
 from subtitles.formats.listing import NamedFault, NEVER_SENT, NOT_SHOWN
@@ -37,7 +38,7 @@ NAMES = {33: "Flags", 34: "NoTime", 35: "HeaderLength", 36: "Time", 37: "DataId"
 def broken(packet: bytes, number: int) -> bytes:
     """Damage a PES packet so that this number is reported."""
     if number == 61:
-        return packet[:9] + pts_bytes(pts_in(packet) + 90) + packet[14:]
+        return packet[:9] + encode_pts(decode_pts(packet) + 90) + packet[14:]
     at, bits = BITS[number]
     return packet[:at] + bytes([packet[at] ^ bits]) + packet[at + 1:]
 
@@ -47,7 +48,7 @@ class UnreadablePackets(ProgrammeCase):
 
     def setUp(self) -> None:
         super().setUp()
-        self.frames = [(pts_in(one) - ORIGIN) // TICKS for one in self.pes]
+        self.frames = [(decode_pts(one) - ORIGIN) // TICKS for one in self.pes]
 
     def test_judges_what_follows_unreadable_pes_packets(self) -> None:
         runs = [(number, 5 * at + 1, 5 * at + 2) for at, number in enumerate([*BITS, 61])]
@@ -55,7 +56,7 @@ class UnreadablePackets(ProgrammeCase):
         some = list(self.pes)
         for number, first, last in runs:
             for at in range(first, last + 1):
-                some[at] = MARK if number == 45 else broken(some[at], number)
+                some[at] = GAP_MARKER if number == 45 else broken(some[at], number)
         found = judge_files(self, self.stl, self.write("one.pes", b"".join(some)), *EVERY,
                             "--origin",
                        str(ORIGIN))
@@ -72,7 +73,7 @@ class UnreadablePackets(ProgrammeCase):
         check_schema(self, found.result)
 
     def test_trusts_frames_around_two_gap_markers(self) -> None:
-        some = [*self.pes[:22], MARK, *self.pes[24:61], MARK, *self.pes[62:]]
+        some = [*self.pes[:22], GAP_MARKER, *self.pes[24:61], GAP_MARKER, *self.pes[62:]]
         found = judge_files(self, self.stl, self.write("one.pes", b"".join(some)), *EVERY,
                             "--origin",
                        str(ORIGIN))
@@ -239,7 +240,7 @@ class Sentences(ProgrammeCase):
         early = [(pts - 3000 * TICKS, some) for pts, some in self.sent[-1:]]
         doubt = list(self.sent)
         broken_at = next(at for at, (pts, _) in enumerate(doubt) if pts == 300 * TICKS)
-        pes = [pes_packet(pts % CLOCK, some) for pts, some in doubt]
+        pes = [make_pes_packet(pts % CLOCK, some) for pts, some in doubt]
         pes[broken_at] = broken(pes[broken_at], 37)
         found = judge_files(self, self.stl, self.write("one.pes", b"".join(pes)), "--origin", "0")
         self.must("can't be read", [one["name"] for one in found.result["causes"]] == ["unknown"]
@@ -306,7 +307,7 @@ class Sentences(ProgrammeCase):
                   found.result)
         data = bytearray(example_bytes("hello.pes"))
         at = DATA + 4 + 2 + 7  # in the first PES packet: C11 to C14 of its first header
-        data[at:at + 1] = mirrored(b"\xd0")  # the code word of 8: C12 to C14 are those of German
+        data[at:at + 1] = reverse_bits(b"\xd0")  # the code word of 8: C12 to C14 select German
         found = judge_files(self, HELLO, self.write("one.pes", data))
         words = "the header is German, but --option is english"
         self.must("header", found.result["hints"] == [f"67: {words}"] and found.said[-3::2] == [

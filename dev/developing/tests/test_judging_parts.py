@@ -5,7 +5,7 @@ import random
 from typing import Any, Sequence
 from unittest import mock
 
-from developing.pes import MARK, pes_packet
+from developing.pes import GAP_MARKER, make_pes_packet
 from subtitles.clock.start import ESTIMATED_LATER_NOTE, GIVEN, RECORDING
 from subtitles.common.command_line import counted
 from subtitles.common.times import CLOCK, EARLY, TICKS, pts_of, time_of
@@ -47,8 +47,8 @@ class SeveralParts(ProgrammeCase):
         sent = self.sent
         for number, by in changes.items():
             sent = delay_subtitle(number, by)(sent)
-        pes = [pes_packet(pts % CLOCK, some) for pts, some in with_pauses(sent, *shift_texts)]
-        data = b"".join(MARK * (number in marks) + one for number, one in enumerate(pes))
+        pes = [make_pes_packet(pts % CLOCK, some) for pts, some in with_pauses(sent, *shift_texts)]
+        data = b"".join(GAP_MARKER * (number in marks) + one for number, one in enumerate(pes))
         return judge_files(self, self.stl, self.write("one.pes", data), "--breaks",
                            str(len(shift_texts)),
                       *words)

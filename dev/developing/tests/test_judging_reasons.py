@@ -3,7 +3,7 @@ from __future__ import annotations
 
 from typing import Sequence
 
-from developing.pes import address_of, header_of, packet, pes_packet
+from developing.pes import decode_address, decode_header, make_packet, make_pes_packet
 from subtitles.clock.origin import explain_mismatch
 from subtitles.common.times import Span, TICKS, time_of
 from subtitles.formats.listing import CONTENT
@@ -34,13 +34,13 @@ from .transmissions import (
 # The reported reason is the sender's fault.
 
 WORDS = "--every", "100"
-OTHER_PAGE = packet(0, 0, [0, 0, 0, 8, 0, 0, 0, 0], b" " * 32)  # a header of page 800
+OTHER_PAGE = make_packet(0, 0, [0, 0, 0, 8, 0, 0, 0, 0], b" " * 32)  # a header of page 800
 
 
 def changed(one: bytes, at: int, off: int, on: int) -> bytes:
     """Clear and set bits of one number in a header of page 888; return other packets unchanged."""
-    address = address_of(one)
-    numbers = header_of(one) if address and address[1] == 0 else None
+    address = decode_address(one)
+    numbers = decode_header(one) if address and address[1] == 0 else None
     if numbers is None or numbers[:2] != b"\x08\x08":
         return one
     return one[:2 + at] + bytes([CODE_WORDS[numbers[at] & ~off | on]]) + one[3 + at:]
@@ -194,7 +194,7 @@ class Reasons(ProgrammeCase):
 
 NUMBERS = bytes([8, 8, 0, 8, 0, 8, 1, 0])  # of HEADER
 KEEPS = bytes([8, 8, 0, 0, 0, 8, 1, 0])
-KEEPING_HEADER = packet(0, 0, KEEPS, b" " * 32)
+KEEPING_HEADER = make_packet(0, 0, KEEPS, b" " * 32)
 FIRST, SECOND = row_packet(20, b"One"), row_packet(22, b"Two")
 CLEAR = "C4 (erase page) is clear"
 
@@ -304,7 +304,7 @@ class HeaderCounts(Case):
 
 def packets_at(frames: Sequence[tuple[int, list[bytes]]]) -> bytes:
     """Return the PES packets of some frames."""
-    return b"".join(pes_packet(TICKS * frame, some) for frame, some in frames)
+    return b"".join(make_pes_packet(TICKS * frame, some) for frame, some in frames)
 
 
 WHOLE, AGAIN = [HEADER, FIRST, SECOND, CLOSING], [KEEPING_HEADER, FIRST, SECOND, CLOSING]
@@ -408,7 +408,7 @@ def with_keeping_repeats(sent: Sent, way: str = "", frames: int = 0) -> Sent:
         if is_repeat and way == "left out" and count == 1:
             some = [KEEPING_HEADER, CLOSING]
         if is_repeat and way == "subcode" and count == 1:
-            some = [packet(0, 0, of_subcode(KEEPS, 1), b" " * 32), *some[1:]]
+            some = [make_packet(0, 0, of_subcode(KEEPS, 1), b" " * 32), *some[1:]]
         if is_repeat and frames:
             made += [(pts, some[:1]), (pts + TICKS * frames, some[1:])]
         else:

@@ -8,7 +8,7 @@ import hashlib
 import os
 import re
 
-from developing.pes import pes_packet, pts_in
+from developing.pes import make_pes_packet, decode_pts
 from subtitles.common.times import TICKS
 from .bench import Case, example_bytes
 from .judged import judge_files
@@ -92,7 +92,8 @@ class Recordings(Case):
     def test_handles_truncated_files(self) -> None:
         pes = example_bytes("story.pes")
         stream = stream_of_pids((TELETEXT_PID, pes))
-        later = pes_packet(pts_in(packets(pes)[-1]) + 100 * TICKS, [HEADER] * 5)  # two TS packets
+        later = make_pes_packet(decode_pts(packets(pes)[-1]) + 100 * TICKS,
+                                [HEADER] * 5)  # two TS packets
         for data in (pes + later[:100], stream_of_pids((TELETEXT_PID, pes + later))[:-188], stream):
             found = judge_files(self, STORY, self.write("cut.rec", data), "--origin", "0")
             self.must("cut", found.word == "accepted" and [

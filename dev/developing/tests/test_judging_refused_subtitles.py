@@ -14,8 +14,8 @@ from unittest import mock
 
 from developing.every_place import due as defined
 from developing.every_place.words import parse_options
-from developing.multiplex import BEGINS, PACKET, PAYLOAD, head
-from developing.stl import gsi_block, tti_block
+from developing.multiplex import BEGINS, PACKET, PAYLOAD, make_head
+from developing.stl import make_gsi_block, make_tti_block
 from subtitles.cli.collection import pair_row, summary_table
 from subtitles.common.command_line import counted
 from subtitles.common.times import ALL_DAY, Between
@@ -53,11 +53,11 @@ def stl_of(blocks: Sequence[Shown], changes: dict[int, dict[int, int]] | None = 
     """Return a subtitle file in which some bytes of some blocks are changed."""
     made = []
     for number, (begin, end, text) in enumerate(blocks, 1):
-        one = bytearray(tti_block(number, begin, end, 22, 2, text))
+        one = bytearray(make_tti_block(number, begin, end, 22, 2, text))
         for at, byte in (changes or {}).get(number, {}).items():
             one[at] = byte
         made.append(bytes(one))
-    return gsi_block(b"Beside", len(blocks), len(blocks)) + b"".join(made)
+    return make_gsi_block(b"Beside", len(blocks), len(blocks)) + b"".join(made)
 
 
 class RefusedSubtitles(Case):
@@ -379,7 +379,7 @@ class RandomFiles(Case):
 # Inputs are read completely: a test of what no proof covers for long inputs.
 
 NULL_PID, PID = 0x1FFF, 0x101
-NULL = head(NULL_PID, 0, PAYLOAD).ljust(PACKET, b"\xff")
+NULL = make_head(NULL_PID, 0, PAYLOAD).ljust(PACKET, b"\xff")
 AT_ONCE, TIMES = 1000, 1001  # null packets: over a million in all, 188 MB
 
 
@@ -387,7 +387,7 @@ class LongInputs(Case):
     def test_surveys_a_pes_packet_after_a_million_packets(self) -> None:
         first = packets(example_bytes("hello.pes"))[0]
         parts = [first[at:at + 184] for at in range(0, len(first), 184)]
-        sent = b"".join(head(PID, 0 if number else BEGINS, PAYLOAD | number) + part
+        sent = b"".join(make_head(PID, 0 if number else BEGINS, PAYLOAD | number) + part
                         for number, part in enumerate(parts))
         with subprocess.Popen([self.bench.program, "survey", "/dev/stdin"], stdin=subprocess.PIPE,
                               stdout=subprocess.PIPE) as run:

@@ -10,7 +10,7 @@ import xml.etree.ElementTree as tree
 from types import SimpleNamespace
 from typing import Any, Callable
 
-from developing.pes import packet
+from developing.pes import make_packet
 from subtitles.common.times import CLOCK, TICKS, time_of
 from subtitles.formats.layout import PLAIN, Refused, cell_lines, prepared
 from subtitles.clock.start import clock_advice
@@ -150,7 +150,7 @@ class Sentences(unittest.TestCase):
 
 BEGIN = 900_000
 TIMES = [(BEGIN + 50 * at, BEGIN + 50 * at + 40) for at in range(6)]
-KEEPS = packet(0, 0, [8, 8, 0, 0, 0, 8, 1, 0], b" " * 32)  # a header that does not erase
+KEEPS = make_packet(0, 0, [8, 8, 0, 0, 0, 8, 1, 0], b" " * 32)  # a header that does not erase
 CONTROL, CONTENT = "67 Control frame 10:00:01:00 packet 0", \
     "72 Content frame 10:00:04:00 row 22 column 14"
 
@@ -254,7 +254,7 @@ class NamedPlaces(ProgrammeCase):
         name = 'subtitle 3, "Number 3, Ösl"'
 
         def header(c4: int = 8, c5: int = 8, c7: int = 1, option: int = 8) -> bytes:
-            return packet(0, 0, [8, 8, 0, c4, 0, c5, c7, option], b" " * 32)
+            return make_packet(0, 0, [8, 8, 0, c4, 0, c5, c7, option], b" " * 32)
 
         def even(letter: bytes) -> Callable[[bytes], bytes]:
             """Packets in which the last such letter has a wrong bit."""
@@ -350,7 +350,7 @@ class DrawingReceiver(Receiver):
 
     def letters(self, cells: bytes) -> str:
         """Return the visible characters of a row."""
-        text = self.row([HEADER, packet(0, 20, (), cells.ljust(40)), CLOSING], 20)
+        text = self.row([HEADER, make_packet(0, 20, (), cells.ljust(40)), CLOSING], 20)
         page = ctypes.create_string_buffer(65536)
         self.library.vbi_fetch_vt_page(self.decoder, page, 0x888, ANY_SUBCODE, LEVEL_1, 25, 0)
         found = ""

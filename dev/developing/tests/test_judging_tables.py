@@ -10,8 +10,8 @@ from types import SimpleNamespace
 from typing import Any, Iterable, Sequence
 from unittest import mock
 
-from developing.pes import pes_packet
-from developing.stl import gsi_block, subtitle_blocks, tti_block
+from developing.pes import make_pes_packet
+from developing.stl import make_gsi_block, make_subtitle_blocks, make_tti_block
 from subtitles.clock.origin import OriginEstimate, OriginSearch, PartOrigin
 from subtitles.clock.start import (
     Clock, GIVEN, RECORDING, START, TCP, TimedPart, find_largest_offset, read_start_frame)
@@ -119,7 +119,7 @@ class Notices(Case):
 
     def test_warns_of_pages_that_the_pmt_announces(self) -> None:
         own, other = Announced(PAGE, "eng", 2), Announced((1, 0x50), "ger", 5)
-        stl = self.write("one.stl", gsi_block(b"", 0, 0))
+        stl = self.write("one.stl", make_gsi_block(b"", 0, 0))
         request = request_for(stl, "one.ts")
         of_pages: list[tuple[list[list[Announced]], str]] = [
             ([], ""), ([[own]], ""), ([[other, own]], ""), ([[], [own]], ""),
@@ -138,31 +138,31 @@ class Notices(Case):
 
     def test_warns_of_each_other_character_set(self) -> None:
         for sets, count in (((0,), 0), ((8,), 1), ((0, 8), 1), ((8, 0), 1), ((8, 9), 2)):
-            packets = survey_packets(self, pes_packet(0, [HEADER, *(
+            packets = survey_packets(self, make_pes_packet(0, [HEADER, *(
                 character_set_packet(number, one) for number, one in zip((29, 28), sets)),
-                CLOSING]))
+                                                               CLOSING]))
             found = said(character_set_notices(packets, request_for("one.stl", "one.ts")))
             self.assertEqual([one[0] for one in found], ["character_set"] * count, (sets, found))
 
     def test_warns_of_wrong_counts_in_the_gsi_block(self) -> None:
-        blocks = [subtitle_blocks(at, 25 * at, 25 * at + 20, 20, 2, b"a") for at in (1, 2)]
+        blocks = [make_subtitle_blocks(at, 25 * at, 25 * at + 20, 20, 2, b"a") for at in (1, 2)]
         for told_blocks, told_subtitles in itertools.product((1, 2, 3), repeat=2):
-            data = gsi_block(b"", told_blocks, told_subtitles) + b"".join(blocks)
+            data = make_gsi_block(b"", told_blocks, told_subtitles) + b"".join(blocks)
             found = said(count_notices(SubtitleFile(self.write("one.stl", data))))
             kinds = ["blocks"] * (told_blocks != 2) + ["subtitles"] * (told_subtitles != 2)
             self.assertEqual([one[0] for one in found], kinds, (told_blocks, told_subtitles))
             for _, line, _ in found:
                 self.assertTrue("there are 2" in line, line)
-        data = gsi_block(b"", 1, 1)[:238] + b"  x  00000" + gsi_block(b"", 1, 1)[248:]
+        data = make_gsi_block(b"", 1, 1)[:238] + b"  x  00000" + make_gsi_block(b"", 1, 1)[248:]
         self.assertEqual([one[:2] for one in said(count_notices(SubtitleFile(self.write(
             "one.stl", data + blocks[0]))))], [
                 ("subtitles", "the GSI block counts 0 subtitles (TNS), but there is 1: is the "
                  "subtitle file complete?")])
         self.assertEqual([count_text(one) for one in (0, 1, 2, 1234)],
                          ["there are 0", "there is 1", "there are 2", "there are 1,234"])
-        comment = tti_block(2, 30, 40, 20, 2, b"", comment=1)
+        comment = make_tti_block(2, 30, 40, 20, 2, b"", comment=1)
         for count in (1, 2):
-            data = gsi_block(b"", 2, count) + blocks[0] + comment
+            data = make_gsi_block(b"", 2, count) + blocks[0] + comment
             self.assertEqual(said(count_notices(SubtitleFile(self.write("one.stl", data)))), [],
                              count)
 
@@ -215,7 +215,7 @@ class FrameGrids(Case):
         for code, frame in ((b"00000000", 0), (b"10000001", 900_001), (b"23595924", 2_159_999),
                             (b"24000000", None), (b"        ", None), (b"1000000 ", None),
                             (b"100000\xb90", None), (b"00000025", None)):
-            data = gsi_block(b"", 0, 0)
+            data = make_gsi_block(b"", 0, 0)
             stl = self.write("one.stl", data[:256] + code + data[264:])
             request = request_for(stl, "one.ts", "--start", "tcp")
             try:
@@ -337,8 +337,9 @@ class NamesOfFiles(Case):
 class RecordingKinds(Case):
     def test_recognises_a_recording_by_its_first_bytes(self) -> None:
         for data, is_one in (
-                (pes_packet(0, []), True), (pes_packet(0, [])[:4], True), (b"G" * 400, True),
-                (gsi_block(b"", 0, 0), False), (b"\0\0\1\xbdG" + b"\0" * 300, True),
+                (make_pes_packet(0, []), True), (make_pes_packet(0, [])[:4], True),
+            (b"G" * 400, True),
+                (make_gsi_block(b"", 0, 0), False), (b"\0\0\1\xbdG" + b"\0" * 300, True),
                 (b"\0\0\1\xe0" + b"\0" * 99, False), (b"\0\0\1", False), (b"abcd" * 99, False),
                 (b"", False), (b"G" + b"\0" * 187 + b"G" + b"\0" * 99, True),
                 (b"G" + b"\0" * 203 + b"G" + b"\0" * 99, True),
@@ -412,12 +413,12 @@ class PageDifferences(Case):
                          ["the header is English, but --option is german"])
 
     def test_finds_characters_of_a_subtitle_with_several_blocks(self) -> None:
-        first = tti_block(7, 25, 50, 20, 2, b"a\xc2e\x80", 0)
-        last = tti_block(7, 25, 50, 20, 2, b"\xf9\xff")
-        comment = tti_block(7, 25, 50, 20, 2, b"no", comment=1)
-        user = tti_block(7, 25, 50, 20, 2, b"no", 0xFE)
-        other = tti_block(300, 75, 99, 20, 2, b"$")
-        data = gsi_block(b"", 6, 2) + b"".join([comment, first, user, comment, last, other])
+        first = make_tti_block(7, 25, 50, 20, 2, b"a\xc2e\x80", 0)
+        last = make_tti_block(7, 25, 50, 20, 2, b"\xf9\xff")
+        comment = make_tti_block(7, 25, 50, 20, 2, b"no", comment=1)
+        user = make_tti_block(7, 25, 50, 20, 2, b"no", 0xFE)
+        other = make_tti_block(300, 75, 99, 20, 2, b"$")
+        data = make_gsi_block(b"", 6, 2) + b"".join([comment, first, user, comment, last, other])
         file = SubtitleFile(self.write("one.stl", data + b"x" * 127))
         self.assertEqual((file.count(), file.ended(), list(file.lasts())), (6, (2, 4), [5, 6]))
         self.assertEqual((file.text(5), file.text(6)), (b"a\xc2e\x80\xf9\xff", b"$"))
@@ -436,7 +437,7 @@ class PageDifferences(Case):
         advice = OptionAdvice(file, "english")
         self.assertTrue(advice.advise(5, 4).startswith("ø is in no option"))
         self.assertEqual((advice.advise(5, 6), advice.complete_options), ("", []))
-        german = SubtitleFile(self.write("two.stl", gsi_block(b"", 1, 1) + tti_block(
+        german = SubtitleFile(self.write("two.stl", make_gsi_block(b"", 1, 1) + make_tti_block(
             1, 25, 50, 20, 2, b"\xc8a")))
         self.assertEqual(OptionAdvice(german, "english").advise(1, 0),
                          "--option german, swedish have all characters of the file")

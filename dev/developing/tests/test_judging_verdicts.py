@@ -7,7 +7,7 @@ from types import SimpleNamespace
 from typing import Any, Sequence
 from unittest import mock
 
-from developing.pes import pes_packet
+from developing.pes import make_pes_packet
 from subtitles.clock.start import Clock, GIVEN, RECORDING, TimedPart
 from subtitles.common.files import SummedFile
 from subtitles.common.program import MadeWith
@@ -309,7 +309,7 @@ class PartDecisions(Case):
                   part.find_options())
 
     def test_decodes_the_pages_of_a_part(self) -> None:
-        packets = survey_packets(self, b"".join(pes_packet(TICKS * at - 5, [
+        packets = survey_packets(self, b"".join(make_pes_packet(TICKS * at - 5, [
             HEADER, row_packet(20, b"%d" % at), CLOSING]) for at in range(10, 60, 10)))
         recording: Any = SimpleNamespace(packets=packets)
         request = request_for("a.stl", "a.pes", "--within", "1")

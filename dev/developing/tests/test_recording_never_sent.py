@@ -9,7 +9,7 @@ import json
 from typing import Sequence
 from unittest import mock
 
-from developing.pes import pes_packet, pts_in
+from developing.pes import make_pes_packet, decode_pts
 from subtitles.common.times import CLOCK, TICKS, frame_at
 from subtitles.recording.notices import (
     Announcement, NeverSent, Notice, find_announcements, find_origin, find_unsent, is_page_expected,
@@ -193,7 +193,7 @@ class JudgedStreams(ProgrammeCase):
 
     def bare(self, at: int) -> Sequence[tuple[int, bytes]]:
         """Return a PES packet without the page on the new PID."""
-        return [(NEW, pes_packet(pts_in(self.pes[at]), []))]
+        return [(NEW, make_pes_packet(decode_pts(self.pes[at]), []))]
 
     def check_never_sent(self, name: str, told: JudgedPair, words: str) -> None:
         fault, = told.result["faults"]
@@ -236,7 +236,7 @@ class JudgedStreams(ProgrammeCase):
                 self.must(name, judged.word == "not judged", judged.said)
 
     def test_reports_that_one_of_several_programmes_never_sends_it(self) -> None:
-        first, frames = pts_in(self.pes[0]), frame_at(pts_in(self.pes[-1]), 0) or 0
+        first, frames = decode_pts(self.pes[0]), frame_at(decode_pts(self.pes[-1]), 0) or 0
         made = multiplex_programmes([Programme({OLD: self.pes}, first),
                       Programme({NEW: []}, first, VIDEO_PID + 1)], frames)
         judged = self.judge_stream(made.data)

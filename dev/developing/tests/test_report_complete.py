@@ -5,7 +5,7 @@ import itertools
 import re
 from typing import Any
 
-from developing.pes import pes_packet
+from developing.pes import make_pes_packet
 from subtitles.clock.start import ESTIMATED_NOTE, GIVEN, RECORDING
 from subtitles.common.markup import escape
 from subtitles.common.times import TICKS
@@ -35,7 +35,7 @@ class CompletePage(Case):
 
     def setUp(self) -> None:
         super().setUp()
-        self.packets = survey_packets(self, b"".join(pes_packet(
+        self.packets = survey_packets(self, b"".join(make_pes_packet(
             TICKS * frame, [HEADER, CLOSING]) for frame in (75, 85, 87, 90)))
 
     def verdict(self, kinds: str, is_estimated: bool = False, is_read: bool = True) -> Verdict:

@@ -4,7 +4,7 @@ from __future__ import annotations
 from types import SimpleNamespace
 from typing import Any
 
-from developing.stl import gsi_block
+from developing.stl import make_gsi_block
 from subtitles.common.times import Span, Spans
 from subtitles.formats.stl import NamedSubtitle, Subtitle, SubtitleFile
 from subtitles.judging.causes import Cause, LATE, NEVER, NOT_RECEIVED, UNKNOWN_CAUSE, WRONG_TEXT
@@ -147,7 +147,7 @@ class TextMarkup(Case):
 
 class RefusedFiles(Case):
     def test_shows_the_field_that_a_fault_names(self) -> None:
-        path = self.write("two.stl", gsi_block(b"", 1, 1) + bytes(range(16)) + b"\x8f" * 112)
+        path = self.write("two.stl", make_gsi_block(b"", 1, 1) + bytes(range(16)) + b"\x8f" * 112)
         made = SubtitleFile(path)
         fields = {11: "DFC STL25.01", 12: "DFC STL25.01", 13: "DSC 1", 14: "CCT 00", 15: "EBN 03",
                   16: "CS 04", 17: "CF 0F", 18: "JC 0E", 19: "VP 0D", 22: "SGN and SN 000102"}

@@ -10,8 +10,9 @@ import unittest
 import xml.etree.ElementTree as tree
 from typing import Callable, NamedTuple
 
-from developing.pes import DATA, UNIT, complete_packets, mirrored, packet, pts_bytes, pts_in
-from developing.stl import boxed, gsi_block, subtitle_blocks, tti_block
+from developing.pes import (
+    DATA, UNIT, decode_pts, encode_pts, make_packet, reverse_bits, split_complete_packets)
+from developing.stl import box_line, make_gsi_block, make_subtitle_blocks, make_tti_block
 from subtitles.common.times import CLOCK, FRAMES_OF_A_DAY, TICKS, frame_of, time_of
 from subtitles.formats.listing import (
     BEGIN, ENDS_READING, FaultLine, PASSED_OVER, fault_of_line)
@@ -54,16 +55,16 @@ class RandomPair:
         gaps = (0, 20, 1000) if self.is_long else (0, 0, 5, 40, 120, 700)
         for number in range(1, count + 1):
             end = frame + chance.choice((1, 12, 30, 60, 90))
-            lines = [boxed(chance.choice(TEXTS), chance.choice((b"", b"\3")))
+            lines = [box_line(chance.choice(TEXTS), chance.choice((b"", b"\3")))
                      for _ in range(chance.choice((1, 1, 2)))]
             low = 23 - 2 * len(lines)
-            made.append(subtitle_blocks(number + (number > 2), frame, end, chance.choice(
+            made.append(make_subtitle_blocks(number + (number > 2), frame, end, chance.choice(
                 (low, low, 1)), chance.choice((1, 2, 3)), (NEW_LINE * 2).join(lines)))
             frame = end + chance.choice(gaps)
-        head = gsi_block(b"Title & more", len(made), count)
+        head = make_gsi_block(b"Title & more", len(made), count)
         if self.is_refused_file:
-            made[1:1] = [tti_block(0, 0, 0, 20, 2, b"note", comment=1),
-                         tti_block(1, 0, 0, 20, 2, b"user", USER_DATA)]
+            made[1:1] = [make_tti_block(0, 0, 0, 20, 2, b"note", comment=1),
+                         make_tti_block(1, 0, 0, 20, 2, b"user", USER_DATA)]
             made = [self.wrong_block(one) for one in made]
             at = chance.choice((*[0] * 12, 3, 6, 11, 13))
             head = head[:at] + b"9" * (at > 0) + head[at + (at > 0):]
@@ -85,7 +86,7 @@ class RandomPair:
                        check=False, stdout=subprocess.DEVNULL)
         with open(self.path_of_pes, "rb") as file:
             # An empty subtitle file gives no transmission.
-            pes = complete_packets(file.read() or example_bytes("hello.pes"))
+            pes = split_complete_packets(file.read() or example_bytes("hello.pes"))
         kinds: list[Callable[[list[bytes], int], None]] = [
             self.lose, self.stop_reading, self.move, self.hit, self.swap, self.send_late, self.cut,
             self.send_elsewhere]
@@ -114,7 +115,7 @@ class RandomPair:
 
     @staticmethod
     def shift(pes: list[bytes], at: int, ticks: int, count: int) -> None:
-        pes[at:at + count] = [one[:9] + pts_bytes((pts_in(one) + ticks) % CLOCK) + one[14:]
+        pes[at:at + count] = [one[:9] + encode_pts((decode_pts(one) + ticks) % CLOCK) + one[14:]
                               for one in pes[at:at + count]]
 
     def hit(self, pes: list[bytes], at: int) -> None:
@@ -129,10 +130,10 @@ class RandomPair:
     def send_elsewhere(self, pes: list[bytes], at: int) -> None:
         """Replace the first row."""
         if pes:
-            sent = packet(self.page[0], self.chance.choice((1, 2, 24)), (),
-                          b"\x0b\x0bElsewhere".ljust(40))
+            sent = make_packet(self.page[0], self.chance.choice((1, 2, 24)), (),
+                               b"\x0b\x0bElsewhere".ljust(40))
             place = DATA + UNIT + 4
-            pes[at] = pes[at][:place] + mirrored(sent) + pes[at][place + len(sent):]
+            pes[at] = pes[at][:place] + reverse_bits(sent) + pes[at][place + len(sent):]
 
     def swap(self, pes: list[bytes], at: int) -> None:
         pes[at:at + 2] = pes[at:at + 2][::-1]

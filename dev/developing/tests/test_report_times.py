@@ -5,7 +5,7 @@ import csv
 import random
 from typing import Callable, NamedTuple
 
-from developing.pes import pts_in
+from developing.pes import decode_pts
 from subtitles.common.times import frame_in, time_of
 from .bench import Case
 from .judged import JudgedPair, judge_files
@@ -63,7 +63,7 @@ class ActualTimes(Case):
     def test_gives_no_time_to_what_was_not_recorded(self) -> None:
         subtitles = random_programme(random.Random(1))
         packets = self.sent(subtitles)
-        frames = [frame_in(pts_in(packet), ORIGIN) for packet in packets]
+        frames = [frame_in(decode_pts(packet), ORIGIN) for packet in packets]
         for first, end in ((0, 40), (0, 41), (40, None), (41, None), (30, 50)):
             begin, last = frames[first], frames[:end][-1]
             rows = self.judge(packets[first:end], subtitles).result["subtitles"]

@@ -5,8 +5,8 @@ import os
 import random
 from typing import Iterable
 
-from developing.pes import address_of
-from developing.stl import gsi_block, subtitle_blocks
+from developing.pes import decode_address
+from developing.stl import make_gsi_block, make_subtitle_blocks
 from subtitles.formats.layout import (
     Layout, PLAIN, Refused, drawn, layout_of, layout_text, letters_of_text, letters_on, page_rows,
     simplicity)
@@ -208,7 +208,7 @@ class StoredRows(Case):
 
     def test_the_program_sends_and_accepts_each_row(self) -> None:
         for number, (text, row, justify, layout, want) in enumerate(self.rows()):
-            stl = self.write("one.stl", gsi_block(b"One", 1, 1) + subtitle_blocks(
+            stl = self.write("one.stl", make_gsi_block(b"One", 1, 1) + make_subtitle_blocks(
                 1, 0, 50, int(row), int(justify), bytes.fromhex(text)))
             words = [] if layout == "-" else ["--layout", layout]
             name = f"{number}: {text} {row} {justify} {layout}"
@@ -227,7 +227,7 @@ def sent_in(pes: bytes) -> str:
     page: Page = (0, 0x88)
     sending = read_packet(split_packets(pes)[0][0], 0, 0)
     assert not isinstance(sending, int)
-    packets = [Packet(one, address_of(one), header_of(one)) for one in sending[1]]
+    packets = [Packet(one, decode_address(one), header_of(one)) for one in sending[1]]
     return format_rows(sorted(rows_in(span_of(packets, page)[0], page).items()))
 
 

@@ -8,7 +8,7 @@ import collections
 import itertools
 from typing import NamedTuple, Sequence
 
-from developing.pes import pes_packet
+from developing.pes import make_pes_packet
 from subtitles.common.times import CLOCK, TICKS
 from subtitles.stream.pace import (
     BY_EVERY, FEW, IRREGULAR, Lull, PAUSED, Pauses, REGULAR, TOO_FEW, each_of, frame_rows, pace_of,
@@ -312,7 +312,7 @@ class Losses(ProgrammeCase):
     due = TIMES
 
     def multiplexed(self, sent: Sent, rate: int = 100) -> list[Packet]:
-        return make_multiplex([pes_packet(pts, some) for pts, some in sent], Shape(rate))
+        return make_multiplex([make_pes_packet(pts, some) for pts, some in sent], Shape(rate))
 
     def in_bursts(self, times: Sequence[tuple[int, int]]) -> list[Packet]:
         return self.multiplexed(in_bursts(schedule_pages(self, write_programme(self, times),

@@ -6,7 +6,7 @@ import random
 from types import SimpleNamespace
 from typing import Any, Mapping, Sequence
 
-from developing.pes import pts_in
+from developing.pes import decode_pts
 from subtitles.clock.start import Clock, GIVEN, RECORDING, START, TimedPart
 from subtitles.common.times import CLOCK, TICKS, pts_of, time_of
 from subtitles.formats.listing import PICTURES_LEFT
@@ -206,7 +206,7 @@ class Pairs(Case):
     def test_reports_departures_of_recordings(self) -> None:
         stl = write_programme(self, subtitle_times(20))
         pes = schedule_pes(self, stl, "--every", "10")
-        begin, end = pts_in(pes[0]) // TICKS - 25, pts_in(pes[-1]) // TICKS + 25
+        begin, end = decode_pts(pes[0]) // TICKS - 25, decode_pts(pes[-1]) // TICKS + 25
         rows: list[tuple[int, list[str], str, str]] = [
             (0, [], "accepted", ""), (12, [], "refused", "12 frames early"),
             (-3, [], "refused", "3 frames late"), (-3, ["--within", "3"], "accepted",

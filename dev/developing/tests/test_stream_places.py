@@ -7,8 +7,8 @@ import os
 from typing import Optional, Tuple
 
 from developing.multiplex import PACKET
-from developing.pes import pts_in
-from developing.stl import boxed
+from developing.pes import decode_pts
+from developing.stl import box_line
 from subtitles.cli.main import make_parser
 from subtitles.common.command_line import Stop
 from subtitles.common.program import MadeWith
@@ -22,9 +22,9 @@ from subtitles.stream.gaps import (
     reach_of, what_of)
 from subtitles.stream.packets import Clocked, Mark, Packets, Run
 from subtitles.stream.survey import ProgramMap, Survey, survey
-from ..cited import too_long
-from ..definitions import Library, count_reading
-from ..promises import clauses_in, unknown_clauses
+from ..cited import find_long_readings
+from ..definitions import Library, count_lines_to_read
+from ..promises import list_indexed_clauses, find_unknown_clauses
 from .bench import Case
 from .judged import judge_files
 from .streams import (
@@ -121,7 +121,7 @@ class StreamLosses(Case):
     def programme(self, every: int = 1) -> list[bytes]:
         """Return PES packets of a programme of eight seconds."""
         stl = write_programme(self, [(begin, begin + 20) for begin in range(
-            BEGIN, BEGIN + 25 * COUNT, 25)], text=boxed(b"Number %d"), name="story.stl")
+            BEGIN, BEGIN + 25 * COUNT, 25)], text=box_line(b"Number %d"), name="story.stl")
         return schedule_pes(self, stl, "--every", str(every))
 
     def survey_losses(self, made: list[Packet]) -> tuple[list[Place], list[ClockJump]]:
@@ -136,7 +136,7 @@ class StreamLosses(Case):
                       Shape(jump=(60, 500_000), is_announced=True)):
             places, jumps = self.survey_losses(make_multiplex(pes, shape))
             self.must(f"{shape}", not places and not jumps, (places, jumps))
-        made = b"".join(multiplex_frames(pes, pts_in(pes[0]), 80))
+        made = b"".join(multiplex_frames(pes, decode_pts(pes[0]), 80))
         own = [at for at in range(0, len(made), PACKET)
                if made[at + 1] & 0x1F == TELETEXT_PID >> 8 and made[at + 2] == TELETEXT_PID & 255]
         torn = made[:own[40]] + made[own[56] - 5 * PACKET:]
@@ -153,8 +153,10 @@ class StreamLosses(Case):
                 known = [(one.before, one.after) for one in places]
                 first, last = known[0] if known else (None, None)
                 self.must(f"{shape} {count}", len(known) == 1 and first is not None
-                          and last is not None and pts_in(pes[66]) <= first <= pts_in(pes[69])
-                          and pts_in(pes[70 + count]) <= last <= pts_in(pes[74 + count]), known)
+                          and last is not None and decode_pts(pes[66]) <= first <=
+                          decode_pts(pes[69])
+                          and decode_pts(pes[70 + count]) <= last <= decode_pts(pes[74 + count]),
+                          known)
         places, _ = self.survey_losses(delete_between(made, 70, 17))
         self.must("by its counter", [one.lost for one in places] == [1], places)
         for ticks in (8641 * SECOND, -SECOND, CLOCK // 2 - 10 * SECOND):
@@ -320,7 +322,7 @@ class ReadingLists(Case):
                 "count": "low.size low.pair high.size high.total high.IsSize"}.items():
             found = " ".join(f"{one.file.crate}.{one.name}" for one in them.reading_list(name)[0])
             self.must(name, found == want, found)
-        total = count_reading(*them.reading_list("total"))
+        total = count_lines_to_read(*them.reading_list("total"))
         self.must("counts, with no comment", total == (3, 6, 2), total)
 
     def test_lists_users_before_what_they_use(self) -> None:
@@ -333,7 +335,7 @@ class ReadingLists(Case):
 
     def test_limits_the_lines_to_read(self) -> None:
         library(self)
-        reported = list(too_long(self.folder, {"total": 6, "high/count.other": 2}))
+        reported = list(find_long_readings(self.folder, {"total": 6, "high/count.other": 2}))
         self.must("lines", reported == [
             None, "high/count.other needs 6 lines to be read, at most 2 are allowed"], reported)
 
@@ -350,9 +352,9 @@ class ReadingLists(Case):
     def test_reads_an_index(self) -> None:
         them = library(self)
         text = "| one | two |\n| a | `high/count.other`, `high/law` |\n| b | `high/law` |\n"
-        self.must("clauses", clauses_in(text) == ["high/count.other", "high/law"],
-                  clauses_in(text))
-        self.must("all there", unknown_clauses(text, them) == [])
-        reported = unknown_clauses(text.replace("count.other", "count.gone"), them)
+        self.must("clauses", list_indexed_clauses(text) == ["high/count.other", "high/law"],
+                  list_indexed_clauses(text))
+        self.must("all there", find_unknown_clauses(text, them) == [])
+        reported = find_unknown_clauses(text.replace("count.other", "count.gone"), them)
         self.must("one gone", len(reported) == 1 and "high/count.gone is no" in reported[0],
                   reported)

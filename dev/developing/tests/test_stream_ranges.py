@@ -3,7 +3,7 @@ from __future__ import annotations
 
 import os
 
-from developing.stl import gsi_block, subtitle_blocks, tti_block
+from developing.stl import make_gsi_block, make_subtitle_blocks, make_tti_block
 from subtitles.common.times import Between, FRAMES_OF_A_DAY, TICKS, time_of
 from subtitles.formats.stl import Subtitle, SubtitleFile, subtitles_read
 from subtitles.judging.pair import find_adjoining_end, find_nearest_pauses
@@ -87,7 +87,7 @@ class DayFiles(Case):
                 found = judge_files(self, day, *recording, *words)
                 self.must(f"{words} {recording}", found.word == "not judged" and
                           f"{day} has no subtitle with a TCI" in found.told[-1], found.said)
-        none = self.write("none.stl", gsi_block(b"", 0, 0))
+        none = self.write("none.stl", make_gsi_block(b"", 0, 0))
         found = judge_files(self, none, second)
         self.must("nor has the file one", found.word == "not judged" and
                   found.told[-1] == f"{none} has no subtitle", found.said)
@@ -125,13 +125,14 @@ class DayFiles(Case):
 
 class SkippedSubtitles(Case):
     def test_leaves_out_subtitles_by_their_first_block(self) -> None:
-        made = [tti_block(1, 25, 50, 20, 2, b"one"), tti_block(2, 75, 99, 20, 2, b"tw", 0),
-                tti_block(2, 0, 0, 20, 2, b"o"), tti_block(3, 100, 150, 20, 2, b"three"),
-                tti_block(4, 0, 0, 20, 2, b"note", comment=1),
-                tti_block(5, 200, 225, 20, 2, b"five")]
-        timeless = bytearray(tti_block(6, 0, 0, 20, 2, b"six"))
+        made = [make_tti_block(1, 25, 50, 20, 2, b"one"), make_tti_block(2, 75, 99, 20, 2, b"tw",
+                                                                         0),
+                make_tti_block(2, 0, 0, 20, 2, b"o"), make_tti_block(3, 100, 150, 20, 2, b"three"),
+                make_tti_block(4, 0, 0, 20, 2, b"note", comment=1),
+                make_tti_block(5, 200, 225, 20, 2, b"five")]
+        timeless = bytearray(make_tti_block(6, 0, 0, 20, 2, b"six"))
         timeless[5] = 99
-        path = self.write("one.stl", gsi_block(b"", 7, 5) + b"".join(made) + timeless)
+        path = self.write("one.stl", make_gsi_block(b"", 7, 5) + b"".join(made) + timeless)
         for between, begins, lasts in (
                 (Between(), [25, 75, 100, 200], [1, 3, 4, 6, 7]), (Between(25), [25, 75, 100, 200],
                                                                    [1, 3, 4, 6, 7]),
@@ -149,10 +150,10 @@ class SkippedSubtitles(Case):
         with open(path, "rb") as file:
             self.must("read",
                       subtitles_read(file.read()) == read_subtitles(self.bench.program, path))
-        data = b"".join(subtitle_blocks(at, 50 * at, 50 * at + 9, 20 + at, at % 4, text)
+        data = b"".join(make_subtitle_blocks(at, 50 * at, 50 * at + 9, 20 + at, at % 4, text)
                         for at, text in enumerate((b"one", b"", b"x" * 38 + b"\x8a" + b"y" * 80,
                                                    b"\x8f".join([b"z"] * 60))))
-        path = self.write("long.stl", gsi_block(b"", 6, 4) + data)
+        path = self.write("long.stl", make_gsi_block(b"", 6, 4) + data)
         shown = read_subtitles(self.bench.program, path)
         self.must("long texts", len(shown) == 4 and subtitles_read(self.read(path)) == shown, shown)
 
@@ -170,8 +171,8 @@ class SkippedSubtitles(Case):
             ([], None), ([0, 0, HOUR + 25, 2 * HOUR], "01:00:01:00"), ([0, 9, HOUR], None),
             ([HOUR, 0], None), ([0, 10 * HOUR, 9 * HOUR], "09:00:00:00"), ([0, 0], None)]
         for begins, time in rows:
-            data = b"".join(tti_block(1, begin, begin, 20, 2, b"text") for begin in begins)
-            path = self.write("one.stl", gsi_block(b"", 1, 1) + data)
+            data = b"".join(make_tti_block(1, begin, begin, 20, 2, b"text") for begin in begins)
+            path = self.write("one.stl", make_gsi_block(b"", 1, 1) + data)
             words = advise_on_title(SubtitleFile(path))
             self.must(f"{begins}", words.endswith(f"give --from {time}") if time else words == "",
                       words)

@@ -8,8 +8,9 @@ import os
 import random
 from typing import Callable, Iterable, NamedTuple, Sequence
 
-from developing.multiplex import ADAPTATION_ALONE, BEGINS, PACKET, crc, head, section
-from developing.pes import packet, pes_packet, pts_bytes
+from developing.multiplex import (
+    ADAPTATION_ALONE, BEGINS, PACKET, compute_crc, make_head, make_section)
+from developing.pes import make_packet, make_pes_packet, encode_pts
 from subtitles.common.command_line import Unanswered
 from subtitles.common.times import CLOCK, TICKS
 from subtitles.stream.packets import Change, Clocked, Mark, Packets, Run, Texts
@@ -38,7 +39,7 @@ def lines_of_kinds(case: Case, data: bytes, *kinds: str) -> list[str]:
 
 def each_frame(count: int, first: int = FIRST) -> list[bytes]:
     """Return a PES packet of Teletext for each frame."""
-    return [pes_packet((first + TICKS * frame) % CLOCK, [CLOSING]) for frame in range(count)]
+    return [make_pes_packet((first + TICKS * frame) % CLOCK, [CLOSING]) for frame in range(count)]
 
 
 # The lead of the Teletext over the pictures.
@@ -52,8 +53,8 @@ def lead(frame: int, ticks: int = 0, pid: int = TELETEXT_PID, video: int = VIDEO
 
 def timed_video(pts: int | None, dts: int | None = None, stream_id: int = 0xE0) -> bytes:
     """Return a PES packet of video with these times."""
-    times = [] if pts is None else [pts_bytes(pts)] if dts is None else [
-        pts_bytes(pts), pts_bytes(dts)]
+    times = [] if pts is None else [encode_pts(pts)] if dts is None else [
+        encode_pts(pts), encode_pts(dts)]
     return b"\0\0\1" + bytes([stream_id, 0, 0, 0x80, (0, 0x80, 0xC0)[len(times)], 5 * len(times)]) \
         + b"".join(times) + mpeg_2_picture()
 
@@ -97,7 +98,7 @@ class LeadLines(Case):
 
     def test_leads_the_last_picture_with_a_time(self) -> None:
         def teletext(frame: int) -> tuple[int, bytes]:
-            return TELETEXT_PID, pes_packet(FIRST + TICKS * frame, [CLOSING])
+            return TELETEXT_PID, make_pes_packet(FIRST + TICKS * frame, [CLOSING])
 
         def video(pts: int | None, dts: int | None = None, pid: int = VIDEO_PID
                   ) -> tuple[int, bytes]:
@@ -254,7 +255,7 @@ class PictureLines(Case):
         for counter, lost in ((1, 0), (2, 1), (0, 1), (9, 1)):
             second, = self.split([], timed_video(FIRST + TICKS), counter=counter)
             says = second[:5] + bytes([second[5] | 0x80]) + second[6:]
-            alone = (head(VIDEO_PID, 0, ADAPTATION_ALONE) + bytes([PACKET - 5, 0x80])).ljust(
+            alone = (make_head(VIDEO_PID, 0, ADAPTATION_ALONE) + bytes([PACKET - 5, 0x80])).ljust(
                 PACKET, b"\xff")
             for name, made, wanted in (("not", [second], lost), ("here", [says], 0),
                                        ("before", [alone, second], 0)):
@@ -311,7 +312,7 @@ class TableLines(Case):
     def test_reads_a_pmt_among_other_sections(self) -> None:
         table = program_map(1, [(TELETEXT_PID, PRIVATE, teletext_descriptor())], 0x1FFF)
         rows = {"the rest of a section": [b"\x1e" + b"\x55" * 30 + table[1:]],
-                "a private section": [section(0xFE, 9, bytes(5)) + table[1:]],
+                "a private section": [make_section(0xFE, 9, bytes(5)) + table[1:]],
                 "sent twice": [table, table]}
         for name, several in rows.items():
             maker = Maker([])
@@ -324,7 +325,7 @@ class TableLines(Case):
     def test_ignores_tables_that_are_not_in_force(self) -> None:
         def sent_early(data: bytes) -> bytes:
             body = data[1:6] + bytes([data[6] & 0xFE]) + data[7:-4]
-            return b"\0" + body + crc(body).to_bytes(4, "big")
+            return b"\0" + body + compute_crc(body).to_bytes(4, "big")
 
         pat = Maker([]).tables[0][1]
         table = program_map(1, [(TELETEXT_PID, PRIVATE, teletext_descriptor())], 0x1FFF)
@@ -400,13 +401,13 @@ def with_pcr(intervals: Iterable[tuple[int, int]], behind: int = 1) -> bytes:
     second comes some packets after the last PCR."""
     maker, pcr = Maker(components()), FIRST
     maker.put_tables()
-    maker.put(TELETEXT_PID, pes_packet(FIRST, []))
+    maker.put(TELETEXT_PID, make_pes_packet(FIRST, []))
     for ticks, packets in [(0, 2), *intervals, (0, behind)]:
         pcr += ticks
         maker.packets += [filler(AUDIO_PID, maker.counters).data for _ in range(packets - 1)]
         maker.put_pcr(pcr)
     maker.packets.pop()
-    maker.put(TELETEXT_PID, pes_packet(LAST, []))
+    maker.put(TELETEXT_PID, make_pes_packet(LAST, []))
     return maker.data
 
 
@@ -446,7 +447,7 @@ class ClockLines(Case):
         pcr = f"pcr {VIDEO_PID} {FIRST + 30 * 3600}"
 
         def announcing(error: int, control: int, length: int) -> bytes:
-            plain = head(VIDEO_PID, 0, ADAPTATION_ALONE)
+            plain = make_head(VIDEO_PID, 0, ADAPTATION_ALONE)
             return (bytes([plain[0], plain[1] | error, plain[2], plain[3] | control, length, 0x80])
                     .ljust(PACKET, b"\xff"))
 
@@ -506,7 +507,7 @@ def of_pes(several: Iterable[bytes]) -> bytes:
 
 def pes_packets_with(*several: Sequence[bytes]) -> list[bytes]:
     """Return PES packets with these Teletext packets, one a frame."""
-    return [pes_packet(FIRST + TICKS * frame, some) for frame, some in enumerate(several)]
+    return [make_pes_packet(FIRST + TICKS * frame, some) for frame, some in enumerate(several)]
 
 
 def with_third(place: int, *new: int) -> list[bytes]:
@@ -518,7 +519,7 @@ def with_third(place: int, *new: int) -> list[bytes]:
 
 class PesLines(Case):
     def test_joins_pes_packets_that_differ_in_nothing_but_pts(self) -> None:
-        again = packet(0, 0, [8, 8, 0, 8, 0, 8, 3, 0], b" " * 32)  # the header, with C8
+        again = make_packet(0, 0, [8, 8, 0, 8, 0, 8, 3, 0], b" " * 32)  # the header, with C8
         # FIRST COUNT PTS STEP DOES/CONTROL UNITS FAULT
         begun = f"0 1 {FIRST} 0 heob/88080810 1 0"
         rows: list[tuple[str, list[bytes], list[str]]] = [
@@ -576,12 +577,12 @@ class PesLines(Case):
                 out)
 
     def test_reports_whether_the_last_pes_packet_is_cut(self) -> None:
-        long = pes_packet(FIRST, [CLOSING] * 4)
+        long = make_pes_packet(FIRST, [CLOSING] * 4)
         untimed = long[:7] + bytes([long[7] & 0x3F]) + long[8:]
-        whole = pes_packet(FIRST, [CLOSING])
+        whole = make_pes_packet(FIRST, [CLOSING])
         rows: dict[str, tuple[list[bytes], int, int]] = {
             "not cut": ([whole, long], 0, 0),
-            "cut": ([whole, pes_packet(LAST, [CLOSING] * 4)], 1, 1),
+            "cut": ([whole, make_pes_packet(LAST, [CLOSING] * 4)], 1, 1),
             "the same PTS": ([whole, long], 1, 1), "no PTS": ([whole, untimed], 1, 1),
             "not cut, no PTS": ([long, untimed], 0, 0)}
         for name, (several, count_skipped, cut) in rows.items():
@@ -654,7 +655,7 @@ def scramble_second(packets: list[bytes]) -> list[bytes]:
 def announce_second(packets: list[bytes]) -> list[bytes]:
     """Announce a counter jump in place of the lost second."""
     field = bytes([PACKET - 5, 0x80]).ljust(PACKET - 4, b"\xff")
-    return [packets[0], head(TELETEXT_PID, 0, ADAPTATION_ALONE) + field, *packets[2:]]
+    return [packets[0], make_head(TELETEXT_PID, 0, ADAPTATION_ALONE) + field, *packets[2:]]
 
 
 def with_units(pes: bytes, data_unit_id: int) -> bytes:
@@ -673,7 +674,7 @@ class Listings(Case):
         return lines[2:]
 
     def test_prints_all_lines_of_a_programme(self) -> None:
-        other = packet(7, 0, [0, 5, 0, 8, 0, 8, 1, 0], b" " * 32)  # page 750
+        other = make_packet(7, 0, [0, 5, 0, 8, 0, 8, 1, 0], b" " * 32)  # page 750
         decoded = "0b0b4869" + "20" * 36
         begun = f"pes 257 0 1 {FIRST} 0 heob/88080810 1 0"
         rows: dict[str, tuple[bytes, str]] = {
@@ -736,11 +737,12 @@ class Listings(Case):
                 "seam 257 1; pes 257 0 2 1000000 7200 b/ 1 0; end 257 2 0 3 0 0 0 1007200; "
                 "over 0 5"),
             "half the clock": (
-                of_teletext([pes_packet(pts, [CLOSING]) for pts in (FIRST, FIRST + CLOCK // 2)]),
+                of_teletext([make_pes_packet(pts, [CLOSING]) for pts in (FIRST, FIRST + CLOCK //
+                                                                         2)]),
                 f"pes 257 0 2 1000000 {-CLOCK // 2} b/ 1 0; "
                 f"end 257 2 0 2 0 0 0 {FIRST + CLOCK // 2}; over 0 4"),
             "a tick less": (
-                of_teletext([pes_packet(pts, [CLOSING])
+                of_teletext([make_pes_packet(pts, [CLOSING])
                              for pts in (FIRST, FIRST + CLOCK // 2 - 1)]),
                 f"pes 257 0 2 1000000 {CLOCK // 2 - 1} b/ 1 0; "
                 f"end 257 2 0 2 0 0 0 {FIRST + CLOCK // 2 - 1}; over 0 4")}

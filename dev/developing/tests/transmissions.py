@@ -13,8 +13,9 @@ import time
 from typing import Callable, Iterable, Sequence
 
 from developing.pes import (
-    data_field, packet, pes_packet, pes_packets, pts_bytes, pts_in, teletext_packets)
-from developing.stl import gsi_block, subtitle_blocks
+    decode_pts, encode_pts, get_data_field, get_teletext_packets, make_packet, make_pes_packet,
+    read_pes_packets)
+from developing.stl import make_gsi_block, make_subtitle_blocks
 from subtitles.common.times import CLOCK, TICKS
 from subtitles.formats.stl import NEW_LINE
 from .bench import Case
@@ -23,13 +24,13 @@ Sent = list[tuple[int, list[bytes]]]  # PTS without wraps, and the Teletext pack
 Change = Callable[[Sent], Sent]
 Shown = tuple[int, int, bytes]  # first frame, end frame and text of a subtitle
 PAGE = (0, 0x88)
-HEADER = packet(0, 0, [8, 8, 0, 8, 0, 8, 1, 0], b" " * 32)  # of page 888; with erase_page set
-CLOSING = packet(0, 0, [15, 15, 15, 7, 15, 3, 0, 0], b" " * 32)
+HEADER = make_packet(0, 0, [8, 8, 0, 8, 0, 8, 1, 0], b" " * 32)  # of page 888; with erase_page set
+CLOSING = make_packet(0, 0, [15, 15, 15, 7, 15, 3, 0, 0], b" " * 32)
 
 
 def row_packet(number: int, text: bytes) -> bytes:
     """Return a row packet of the magazine of page 888."""
-    return packet(0, number, (), b"\x0b\x0b" + text.ljust(38))
+    return make_packet(0, number, (), b"\x0b\x0b" + text.ljust(38))
 
 
 # Subtitle files, and transmissions of them by `schedule`.
@@ -38,9 +39,9 @@ def write_subtitle_file(case: Case, subtitles: Iterable[Shown], name: str = "one
                         first: int = 1,
                   row: int = 22, justify: int = 2, language: bytes = b"09") -> str:
     """Write a subtitle file whose subtitle numbers count up from `first`; return its path."""
-    blocks = [subtitle_blocks(number, begin, end, row, justify, text)
+    blocks = [make_subtitle_blocks(number, begin, end, row, justify, text)
               for number, (begin, end, text) in enumerate(subtitles, first)]
-    return case.write(name, gsi_block(b"Judged", len(blocks), len(blocks), language=language)
+    return case.write(name, make_gsi_block(b"Judged", len(blocks), len(blocks), language=language)
                       + b"".join(blocks))
 
 
@@ -62,15 +63,15 @@ def random_subtitles(seed: int) -> tuple[bytes, list[int]]:
         begin = frame + chance.choice([0, chance.randrange(1, 200)])
         end = begin + chance.randrange(12, 150)
         text = b"Number %d" % chance.randrange(20)
-        made.append(subtitle_blocks(number, begin, end, chance.randrange(18, 23), 2, text))
+        made.append(make_subtitle_blocks(number, begin, end, chance.randrange(18, 23), 2, text))
         edges += [begin, end]
         frame = end
-    return gsi_block(b"At random", len(made), len(made), edges[0]) + b"".join(made), edges
+    return make_gsi_block(b"At random", len(made), len(made), edges[0]) + b"".join(made), edges
 
 
 def schedule_pages(case: Case, stl: str, *words: str, origin: int = 0, every: int = 25) -> Sent:
     """Return the transmission that `schedule` makes of a subtitle file."""
-    return [(origin + pts_in(one), teletext_packets(data_field(one)))
+    return [(origin + decode_pts(one), get_teletext_packets(get_data_field(one)))
             for one in schedule_pes(case, stl, "--every", str(every), *words)]
 
 
@@ -91,17 +92,17 @@ def make_two_parts(case: Case) -> tuple[str, bytes]:
 
 def pes_file(sent: Sent) -> bytes:
     """Return a transmission as a file of PES packets."""
-    return b"".join(pes_packet(pts % CLOCK, some) for pts, some in sent)
+    return b"".join(make_pes_packet(pts % CLOCK, some) for pts, some in sent)
 
 
 def packets(data: bytes) -> list[bytes]:
     """Split a file into its PES packets."""
-    return list(pes_packets(io.BytesIO(data)))
+    return list(read_pes_packets(io.BytesIO(data)))
 
 
 def with_new_pts(data: bytes, new_pts: Callable[[int, int], int]) -> bytes:
     """Return the file with new PTS, computed from each packet's number and old PTS."""
-    return b"".join(one[:9] + pts_bytes(new_pts(number, pts_in(one)) % CLOCK) + one[14:]
+    return b"".join(one[:9] + encode_pts(new_pts(number, decode_pts(one)) % CLOCK) + one[14:]
                     for number, one in enumerate(packets(data)))
 
 
