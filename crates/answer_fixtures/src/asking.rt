@@ -41,22 +41,22 @@ pub fn answer_arguments<'a, S: Source, T: Source, F: Close, K: Flush>(
 
 /// Answers the arguments of a check, followed by `--all`, with two files in memory; `None` if there
 /// are too many arguments.
-pub(crate) fn answer_all<'a>(
+pub(crate) fn answer_with_all_option<'a>(
     alloc: Global,
     arguments: &[&'a str],
     first: &[u8],
     second: &[u8],
     buffer: &mut [u8],
 ) -> Option<Status> {
-    let mut all_words = ["--all"; 20];
+    let mut arguments_with_all = ["--all"; 20];
     let len = arguments.len();
     if len >= 20 {
         return None;
     }
-    all_words[..len].copy_from_slice(arguments);
+    arguments_with_all[..len].copy_from_slice(arguments);
     let (mut first, mut second) = (MemSource::new(first), MemSource::new(second));
     let (mut file, mut out) = (MemSink::new(&mut []), MemSink::new(buffer));
-    let arguments = &all_words[..len + 1];
+    let arguments = &arguments_with_all[..len + 1];
     let status = answer_arguments(
         alloc,
         arguments,

@@ -1,8 +1,10 @@
 //! Compares the output and the output file of a command with the expected bytes.
 ghost use Rattle.sub_io.specs.Device.{CanFail};
 
-use crate::asking::{answer_all, answer_arguments};
-use crate::text::{first_lines, is_made_of, reported_in, status_of, text_in};
+use crate::asking::{answer_arguments, answer_with_all_option};
+use crate::text::{
+    first_lines, is_concatenation, status_of, text_after_clean_frames, text_without_zeros,
+};
 use fixtures::Watched;
 use std::alloc::Global;
 use sub_answer::Status;
@@ -25,12 +27,12 @@ pub fn prints<'a, S: Source, T: Source>(
     let mut out = MemSink::new(&mut buffer);
     let mut file = MemSink::new(&mut []);
     let status = answer_arguments(alloc, arguments, first, second, &mut file, &mut out);
-    is_made_of(out.written(), prefix, end) && status == status_of(end)
+    is_concatenation(out.written(), prefix, end) && status == status_of(end)
 }
 
 /// Returns whether a command prints `prefix` followed by `end` for a file in memory, and returns
 /// the status that the last line implies.
-pub fn prints_of<'a>(
+pub fn prints_for_file<'a>(
     alloc: Global,
     arguments: &'a [&'a str],
     file: &[u8],
@@ -43,7 +45,7 @@ pub fn prints_of<'a>(
 
 // Returns whether a command prints `want` for two files in memory, and returns the status that the
 // last line implies.
-fn prints_both<'a>(
+fn prints_for_two_files<'a>(
     alloc: Global,
     arguments: &'a [&'a str],
     first: &[u8],
@@ -57,7 +59,7 @@ fn prints_both<'a>(
 /// Returns whether `check --all` prints `prefix` followed by `end` for two files in memory, and
 /// returns the status that the last line implies; and whether `check` prints the first of these
 /// lines that is not a `trusted` line.
-pub fn reports_all<'a>(
+pub fn reports_every_line<'a>(
     alloc: Global,
     arguments: &'a [&'a str],
     first: &[u8],
@@ -66,24 +68,26 @@ pub fn reports_all<'a>(
     end: &str,
 ) -> bool {
     let mut buffer = [0; 1024];
-    let status = answer_all(alloc, arguments, first, second, &mut buffer);
-    let text = text_in(&buffer);
-    if status != Some(status_of(text)) || !is_made_of(text, prefix.as_bytes(), end.as_bytes()) {
+    let status = answer_with_all_option(alloc, arguments, first, second, &mut buffer);
+    let text = text_without_zeros(&buffer);
+    if status != Some(status_of(text))
+        || !is_concatenation(text, prefix.as_bytes(), end.as_bytes())
+    {
         return false;
     }
-    prints_both(
+    prints_for_two_files(
         alloc,
         arguments,
         first,
         second,
-        first_lines(reported_in(text), 1),
+        first_lines(text_after_clean_frames(text), 1),
     )
 }
 
 // Returns whether `check --all` agrees with the line that `check` prints. If nothing is rejected,
 // the line is the only output. Otherwise it is the first line that starts with `refused`, and the
 // last line is the number of faults.
-fn reports_first<'a>(
+fn reports_first_line<'a>(
     alloc: Global,
     arguments: &[&'a str],
     first: &[u8],
@@ -91,12 +95,14 @@ fn reports_first<'a>(
     line: &[u8],
 ) -> bool {
     let mut buffer = [0; 4096];
-    let status = answer_all(alloc, arguments, first, second, &mut buffer);
-    let text = text_in(&buffer);
+    let status = answer_with_all_option(alloc, arguments, first, second, &mut buffer);
+    let text = text_without_zeros(&buffer);
     let is_refused = line.starts_with(b"refused ");
     let end = if is_refused { b" faults\n" } else { line };
-    let is_whole = is_refused || text == line;
-    let is_right = is_whole && reported_in(text).starts_with(line) && text.ends_with(end);
+    let has_only_line = is_refused || text == line;
+    let is_right = has_only_line
+        && text_after_clean_frames(text).starts_with(line)
+        && text.ends_with(end);
     is_right && status == Some(status_of(text))
 }
 
@@ -113,16 +119,16 @@ pub fn reports<'a>(
     let want = want.as_bytes();
     if arguments.len() > 2
         && arguments[1] == "check"
-        && !reports_first(alloc, arguments, first, second, want)
+        && !reports_first_line(alloc, arguments, first, second, want)
     {
         return false;
     }
-    prints_both(alloc, arguments, first, second, want)
+    prints_for_two_files(alloc, arguments, first, second, want)
 }
 
 // Returns whether an output that is too small receives the start of a text and is not used
 // afterwards, whether the status is `Fault`, and whether the output file is complete.
-fn cuts<'a>(
+fn writes_only_prefix<'a>(
     alloc: Global,
     arguments: &'a [&'a str],
     (first, second): (&[u8], &[u8]),
@@ -145,12 +151,12 @@ fn cuts<'a>(
         &mut file,
         &mut out,
     );
-    let is_left_alone = status == Status::Fault && out.calls_after_failure == 0;
-    is_left_alone && out.inner.written() == text && file.written() == written
+    let stops_after_failure = status == Status::Fault && out.calls_after_failure == 0;
+    stops_after_failure && out.inner.written() == text && file.written() == written
 }
 
 /// Returns whether each output that is smaller than a text receives the start of the text.
-pub fn fills<'a>(
+pub fn writes_every_prefix<'a>(
     alloc: Global,
     arguments: &'a [&'a str],
     read: (&[u8], &[u8]),
@@ -158,7 +164,7 @@ pub fn fills<'a>(
     text: &[u8],
 ) -> bool {
     for len in 0..text.len() {
-        if !cuts(alloc, arguments, read, written, &text[..len]) {
+        if !writes_only_prefix(alloc, arguments, read, written, &text[..len]) {
             return false;
         }
     }

@@ -10,5 +10,5 @@ mod judging;
 mod text;
 
 pub use asking::{ACCEPTED, CHECK, CHECK_ALL, SCHEDULE, answer_arguments};
-pub use judging::{fills, prints, prints_of, reports, reports_all};
+pub use judging::{prints, prints_for_file, reports, reports_every_line, writes_every_prefix};
 pub use text::{first_lines, status_of};

@@ -36,12 +36,12 @@ pub fn status_of(text: &[u8]) -> Status {
 }
 
 /// Returns whether a text is `prefix` followed by `end`.
-pub(crate) fn is_made_of(text: &[u8], prefix: &[u8], end: &[u8]) -> bool {
+pub(crate) fn is_concatenation(text: &[u8], prefix: &[u8], end: &[u8]) -> bool {
     text.len() == prefix.len() + end.len() && text.starts_with(prefix) && text.ends_with(end)
 }
 
 /// Returns the text at the start of a buffer, without the zeros after it.
-pub(crate) fn text_in(buffer: &[u8]) -> &[u8] {
+pub(crate) fn text_without_zeros(buffer: &[u8]) -> &[u8] {
     for (place, byte) in buffer.iter().enumerate() {
         if *byte == 0 {
             return buffer.get(..place).unwrap_or(buffer);
@@ -51,7 +51,7 @@ pub(crate) fn text_in(buffer: &[u8]) -> &[u8] {
 }
 
 /// Returns the text from its first line that is not a `trusted` line.
-pub(crate) fn reported_in(text: &[u8]) -> &[u8] {
+pub(crate) fn text_after_clean_frames(text: &[u8]) -> &[u8] {
     let mut reported = text;
     for (place, byte) in text.iter().enumerate() {
         if !reported.starts_with(b"trusted ") {

@@ -1,12 +1,12 @@
 //! Assertions about the program's answers, with devices in memory.
 ghost use Rattle.sub_io.specs.Device.{CanFail};
 
-use answer_fixtures::{fills, prints, reports, reports_all};
+use answer_fixtures::{prints, reports, reports_every_line, writes_every_prefix};
 use std::alloc::Global;
 use std::process::Abort;
 use sub_io::Source;
 
-fn assert_right(rt: &impl Abort, is_right: bool, arguments: &[&str]) {
+fn assert_is_right(rt: &impl Abort, is_right: bool, arguments: &[&str]) {
     assert!(rt; is_right, "{arguments:?}");
 }
 
@@ -24,7 +24,7 @@ pub fn assert_prints<'a, S: Source, T: Source>(
     requires second { CanFail (T.failure_count second.old) }
 {
     let is_right = prints(rt.alloc(), arguments, first, second, prefix, end);
-    assert_right(rt, is_right, arguments);
+    assert_is_right(rt, is_right, arguments);
 }
 
 /// Asserts the output of `check --all` for two files in memory, and the status; and that `check`
@@ -37,8 +37,8 @@ pub fn assert_all<'a>(
     prefix: &str,
     end: &str,
 ) {
-    let is_right = reports_all(rt.alloc(), arguments, first, second, prefix, end);
-    assert_right(rt, is_right, arguments);
+    let is_right = reports_every_line(rt.alloc(), arguments, first, second, prefix, end);
+    assert_is_right(rt, is_right, arguments);
 }
 
 /// Asserts the output of a command for two files in memory, and the status that the line implies.
@@ -51,7 +51,7 @@ pub fn assert_reports<'a>(
     second: &[u8],
     want: &str,
 ) {
-    assert_right(
+    assert_is_right(
         rt,
         reports(rt.alloc(), arguments, first, second, want),
         arguments,
@@ -66,9 +66,9 @@ pub fn assert_fills<'a>(
     written: &[u8],
     text: &[u8],
 ) {
-    assert_right(
+    assert_is_right(
         rt,
-        fills(rt.alloc(), arguments, read, written, text),
+        writes_every_prefix(rt.alloc(), arguments, read, written, text),
         arguments,
     );
 }

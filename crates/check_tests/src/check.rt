@@ -1,6 +1,6 @@
 //! The verdicts of `check` on transmissions for `Hi` with one change.
 use crate::answers::{assert_fills, assert_reports};
-use crate::asserting::assert_same_in;
+use crate::asserting::assert_same_for_case;
 use answer_fixtures::{ACCEPTED, CHECK};
 use fixtures::{
     CLOSING, HEADER, OTHER_HEADER, ROW, file_of_hi, gsi, in_serial_mode, packet_of, push_pes,
@@ -70,7 +70,7 @@ fn refuses_a_cut_subtitle_file(rt: HostRuntime) {
 fn assert_changed(rt: &(impl Abort + Alloc<A = Global>), want: &str, changes: &[[u8; 3]]) {
     for [place, from, to] in changes {
         let mut pes = schedule_of_hi();
-        assert_same_in(rt, &pes[*place as usize], from, place);
+        assert_same_for_case(rt, &pes[*place as usize], from, place);
         pes[*place as usize] = *to;
         assert_judges(rt, &pes, want);
     }
@@ -132,7 +132,7 @@ fn reports_a_gap_marker_where_all_bytes_from_6_on_are_ff(rt: HostRuntime) {
 }
 
 // Asserts the line of a check for each other value of a byte in the schedule for `Hi`.
-fn assert_judges_others(rt: &(impl Abort + Alloc<A = Global>), place: usize, want: &str) {
+fn assert_judges_other_values(rt: &(impl Abort + Alloc<A = Global>), place: usize, want: &str) {
     let mut pes = schedule_of_hi();
     assert!(rt; place < 368);
     let own = pes[place];
@@ -147,16 +147,16 @@ fn assert_judges_others(rt: &(impl Abort + Alloc<A = Global>), place: usize, wan
 #[test]
 fn judges_every_other_value_of_a_byte(rt: HostRuntime) {
     for place in 0..4 {
-        assert_judges_others(&rt, place, "refused 31 Start pes 0\n");
+        assert_judges_other_values(&rt, place, "refused 31 Start pes 0\n");
     }
     for place in 14..45 {
-        assert_judges_others(&rt, place, ACCEPTED);
+        assert_judges_other_values(&rt, place, ACCEPTED);
     }
 }
 
 // Asserts the line of a check with the packets `first` at 10:00:00:00, and the packets `last` two
 // seconds later.
-fn assert_judges_two(
+fn assert_judges_two_packets(
     rt: &(impl Abort + Alloc<A = Global>),
     first: &[[u8; 42]],
     last: &[[u8; 42]],
@@ -172,19 +172,19 @@ fn assert_judges_two(
 fn judges_packets_between_those_of_a_page(rt: HostRuntime) {
     // A header of another page follows the row, in parallel mode and in serial mode.
     let sent = [HEADER, OTHER_HEADER, ROW, CLOSING];
-    assert_judges_two(&rt, &sent, &[HEADER, CLOSING], ACCEPTED);
+    assert_judges_two_packets(&rt, &sent, &[HEADER, CLOSING], ACCEPTED);
     let (header, closing) = (in_serial_mode(&HEADER), in_serial_mode(&CLOSING));
     let sent = [header, in_serial_mode(&OTHER_HEADER), ROW, closing];
     let refused = "refused 72 Content frame 10:00:00:00 row 22 column 16\n";
-    assert_judges_two(&rt, &sent, &[header, closing], refused);
+    assert_judges_two_packets(&rt, &sent, &[header, closing], refused);
     // Packets after the row: the same row, the row with `h` instead of `H`, and a packet 26.
     let last = [HEADER, CLOSING];
-    assert_judges_two(&rt, &[HEADER, ROW, ROW, CLOSING], &last, ACCEPTED);
+    assert_judges_two_packets(&rt, &[HEADER, ROW, ROW, CLOSING], &last, ACCEPTED);
     let mut row = ROW;
     row[21] = 0x68;
     let refused = "refused 69 RowChanged frame 10:00:00:00 packet 2\n";
-    assert_judges_two(&rt, &[HEADER, ROW, row, CLOSING], &last, refused);
+    assert_judges_two_packets(&rt, &[HEADER, ROW, row, CLOSING], &last, refused);
     let enhancement = packet_of(&[0x15, 0xB6]);
     let refused = "refused 70 Enhancement frame 10:00:00:00 packet 2\n";
-    assert_judges_two(&rt, &[HEADER, ROW, enhancement, CLOSING], &last, refused);
+    assert_judges_two_packets(&rt, &[HEADER, ROW, enhancement, CLOSING], &last, refused);
 }

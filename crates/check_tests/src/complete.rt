@@ -49,12 +49,12 @@ fn assert_checks_changed(
 #[test]
 fn refuses_a_page_that_is_open_at_a_frames_end(rt: HostRuntime) {
     let content = "refused 72 Content frame 10:00:00:00 row 22 column 17\n";
-    let at_the_end = "refused 77 Incomplete frame 10:00:02:00\n";
+    let incomplete_at_end = "refused 77 Incomplete frame 10:00:02:00\n";
     // The schedule for `Hi` without a change, and with a stuffing unit instead of its first or its
     // second header that ends the page.
     assert_checks_changed(&rt, [(138, 0x03), (138, 0x03)], ACCEPTED, ACCEPTED);
     assert_checks_changed(&rt, [(138, 0xFF), (138, 0xFF)], ACCEPTED, OPEN);
-    assert_checks_changed(&rt, [(276, 0xFF), (276, 0xFF)], ACCEPTED, at_the_end);
+    assert_checks_changed(&rt, [(276, 0xFF), (276, 0xFF)], ACCEPTED, incomplete_at_end);
     // A stuffing unit replaces the first header that ends the page, and code 49 replaces the second
     // start box (0B) of row 22.
     assert_checks_changed(&rt, [(138, 0xFF), (115, 0x92)], content, content);
@@ -73,7 +73,7 @@ fn reports_an_open_page_before_an_early_end_and_a_gap_before_it(rt: HostRuntime)
 
 // Asserts the lines of a check without and with `--complete`, with the packets `first` at
 // 10:00:00:00, and the packets `last` two seconds later.
-fn assert_checks_two(
+fn assert_checks_two_packets(
     rt: &(impl Abort + Alloc<A = Global>),
     first: &[[u8; 42]],
     last: &[[u8; 42]],
@@ -90,9 +90,9 @@ fn assert_checks_two(
 fn counts_a_header_that_ends_the_page_alone(rt: HostRuntime) {
     // A header of page 100 follows the row, in parallel mode and in serial mode.
     let sent = [HEADER, ROW, OTHER_HEADER];
-    assert_checks_two(&rt, &sent, &[HEADER, CLOSING], ACCEPTED, OPEN);
+    assert_checks_two_packets(&rt, &sent, &[HEADER, CLOSING], ACCEPTED, OPEN);
     let (header, other) = (in_serial_mode(&HEADER), in_serial_mode(&OTHER_HEADER));
-    assert_checks_two(
+    assert_checks_two_packets(
         &rt,
         &[header, ROW, other],
         &[header, other],
@@ -102,7 +102,7 @@ fn counts_a_header_that_ends_the_page_alone(rt: HostRuntime) {
     // A header of the page follows the header that ended it.
     let again = [HEADER, ROW, CLOSING, HEADER, ROW];
     let three = "accepted 51 frames 3 transmissions\n";
-    assert_checks_two(&rt, &again, &[HEADER, CLOSING], three, OPEN);
+    assert_checks_two_packets(&rt, &again, &[HEADER, CLOSING], three, OPEN);
 }
 
 #[test]
@@ -116,9 +116,9 @@ fn judges_a_page_that_is_spread_over_two_frames(rt: HostRuntime) {
     push_pes(&mut closed_later, TEN + 50, &[HEADER, CLOSING]);
     assert_checks(&rt, &file, closed_later.written(), ACCEPTED, OPEN);
     let mut buffer = [0; 1024];
-    let mut spread = MemSink::new(&mut buffer);
-    push_pes(&mut spread, TEN, &[HEADER, upper]);
-    push_pes(&mut spread, TEN + 1, &[lower, CLOSING]);
+    let mut spread_transmission = MemSink::new(&mut buffer);
+    push_pes(&mut spread_transmission, TEN, &[HEADER, upper]);
+    push_pes(&mut spread_transmission, TEN + 1, &[lower, CLOSING]);
     let content = "refused 72 Content frame 10:00:00:00 row 22 column 17\n";
-    assert_checks(&rt, &file, spread.written(), content, content);
+    assert_checks(&rt, &file, spread_transmission.written(), content, content);
 }

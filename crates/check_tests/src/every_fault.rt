@@ -6,7 +6,7 @@ use std::alloc::Global;
 use std::process::Abort;
 
 /// The lines for the faults in the file of five subtitles.
-pub const OF_FIVE: &str = "refused 57 Overlap block 2\n\
+pub const FAULTS_OF_FIVE: &str = "refused 57 Overlap block 2\n\
     refused 50 Character block 2 at 3\n\
     refused 50 Character block 3 at 3\n\
     refused 56 OutOfOrder block 5\n";
@@ -14,11 +14,18 @@ pub const OF_FIVE: &str = "refused 57 Overlap block 2\n\
 #[test]
 fn reports_every_fault_of_five_subtitles(rt: HostRuntime) {
     let pes = schedule_of_hi();
-    assert_all(&rt, &CHECK, &file_of_five(), &pes, OF_FIVE, "4 faults\n");
+    assert_all(
+        &rt,
+        &CHECK,
+        &file_of_five(),
+        &pes,
+        FAULTS_OF_FIVE,
+        "4 faults\n",
+    );
     let mut cut_file = [0x8F; 1791];
     put(&mut cut_file, 0, &file_of_five());
     let cut = "refused 10 Truncated block 6\n5 faults\n";
-    assert_all(&rt, &CHECK, &cut_file, &pes, OF_FIVE, cut);
+    assert_all(&rt, &CHECK, &cut_file, &pes, FAULTS_OF_FIVE, cut);
 }
 
 // Asserts the lines of `check --all` for a subtitle file of three blocks.

@@ -4,14 +4,15 @@ ghost use Rattle.std.specs.Prelude.{◌≡◌, length};
 use crate::answers::{assert_all, assert_reports};
 use answer_fixtures::{ACCEPTED, CHECK};
 use fixtures::{
-    CLOSING, HEADER, ROW, TEN, every_second, file_of_hi, push_pes, schedule_of_hi, schedule_twice,
+    CLOSING, HEADER, ROW, TEN, file_of_hi, pes_packets_each_second, push_pes, schedule_of_hi,
+    schedule_of_hi_twice,
 };
 use std::alloc::Global;
 use std::process::Abort;
 use sub_io::MemSink;
 
 /// Asserts the output of `check --all` for a subtitle file and a PES file with these options.
-pub fn assert_reported_of<'x>(
+pub fn assert_reported_with_options<'x>(
     rt: &(impl Abort + Alloc<A = Global>),
     stl: &[u8],
     pes: &[u8],
@@ -34,7 +35,7 @@ pub fn assert_reported<'x>(
     options: &[&'x str],
     lines: &str,
 ) {
-    assert_reported_of(rt, &file_of_hi(), pes, options, lines);
+    assert_reported_with_options(rt, &file_of_hi(), pes, options, lines);
 }
 
 #[rattlefmt::skip]
@@ -94,7 +95,7 @@ const OTHER: (usize, u8) = (117, 0x16);
 const NO_ERASE: (usize, u8) = (55, 0xA8);
 
 // Returns the schedule for `Hi` with two bytes changed.
-fn changed(rt: &impl Abort, first: (usize, u8), second: (usize, u8)) -> [u8; 368]
+fn schedule_with_changes(rt: &impl Abort, first: (usize, u8), second: (usize, u8)) -> [u8; 368]
     ensures { length result ≡ 368 }
 {
     let mut pes = schedule_of_hi();
@@ -106,7 +107,7 @@ fn changed(rt: &impl Abort, first: (usize, u8), second: (usize, u8)) -> [u8; 368
 
 #[test]
 fn reports_all_of_a_schedule_with_an_even_byte(rt: HostRuntime) {
-    let even = changed(&rt, EVEN, EVEN);
+    let even = schedule_with_changes(&rt, EVEN, EVEN);
     let lines = "refused 68 Parity frame 10:00:00:00 packet 1\n\
         trusted frames 10:00:02:00 10:00:02:00\n1 faults\n";
     assert_reported(&rt, &even, &[], lines);
@@ -129,14 +130,14 @@ fn doubts_the_last_frame_where_bytes_are_left(rt: HostRuntime) {
         1 faults\n");
     let (cut, _) = pes.split_at(367);
     assert_reported(&rt, cut, &[], "refused 30 Truncated pes 1\n1 faults\n");
-    let even = changed(&rt, NO_ERASE, EVEN);
+    let even = schedule_with_changes(&rt, NO_ERASE, EVEN);
     let (cut, _) = even.split_at(367);
     assert_reported(&rt, cut, &[],
         "refused 67 Control frame 10:00:00:00 packet 0\n\
         refused 68 Parity frame 10:00:00:00 packet 1\n\
         refused 30 Truncated pes 1\n\
         3 faults\n");
-    let three = every_second();
+    let three = pes_packets_each_second();
     let (cut, _) = three.split_at(551);
     assert_reported(&rt, cut, &[],
         "trusted frames 10:00:00:00 10:00:00:24\n\
@@ -148,14 +149,14 @@ fn doubts_the_last_frame_where_bytes_are_left(rt: HostRuntime) {
 #[rattlefmt::skip]
 #[test]
 fn reports_all_of_a_schedule_with_bytes_changed(rt: HostRuntime) {
-    assert_reported(&rt, &changed(&rt, OTHER, OTHER), &[],
+    assert_reported(&rt, &schedule_with_changes(&rt, OTHER, OTHER), &[],
         "refused 72 Content frame 10:00:00:00 row 22 column 19\n\
         ended 72 Content frame 10:00:01:24\n\
         trusted frames 10:00:02:00 10:00:02:00\n\
         1 faults\n");
     // A stuffing unit replaces the first header that ends the page.
-    assert_reported(&rt, &changed(&rt, (138, 0xFF), (138, 0xFF)), &[], ACCEPTED);
-    assert_reported(&rt, &changed(&rt, (138, 0xFF), (138, 0xFF)), &["--complete"],
+    assert_reported(&rt, &schedule_with_changes(&rt, (138, 0xFF), (138, 0xFF)), &[], ACCEPTED);
+    assert_reported(&rt, &schedule_with_changes(&rt, (138, 0xFF), (138, 0xFF)), &["--complete"],
         "refused 77 Incomplete frame 10:00:00:00\n\
         ended 77 Incomplete frame 10:00:01:24\n\
         trusted frames 10:00:02:00 10:00:02:00\n\
@@ -167,7 +168,7 @@ fn reports_all_of_a_schedule_with_bytes_changed(rt: HostRuntime) {
 #[test]
 fn goes_on_after_frames_that_do_not_rise(rt: HostRuntime) {
     let lines = "trusted frames 10:00:00:00 10:00:01:24\nrefused 62 Order pes 2\n1 faults\n";
-    assert_reported(&rt, &schedule_twice(), &[], lines);
+    assert_reported(&rt, &schedule_of_hi_twice(), &[], lines);
     let mut buffer = [0; 736];
     let mut pes = MemSink::new(&mut buffer);
     push_pes(&mut pes, TEN, &[HEADER, ROW, CLOSING]);

@@ -1,10 +1,11 @@
 //! Sources that fail at one call, return one byte at a time, or never end. The line names the block
 //! or the PES packet that was being read, or an earlier fault.
 use crate::answers::assert_prints;
-use crate::asserting::assert_same_in;
+use crate::asserting::assert_same_for_case;
 use answer_fixtures::{ACCEPTED, CHECK, SCHEDULE, answer_arguments};
 use fixtures::{
-    Counting, Drip, Endless, FIRST, SECOND, file_of_hi, file_of_three, gsi, schedule_of_hi,
+    CountingSource, Drip, FIRST, RepeatingSource, SECOND, file_of_hi, file_of_three, gsi,
+    schedule_of_hi,
 };
 use std::alloc::Global;
 use std::process::Abort;
@@ -127,9 +128,9 @@ fn assert_fails(
 ) -> (u64, u64, u64, u64) {
     let stl = file_of_hi();
     let inner = FailAt::new(Drip { rest: &stl }, stl_pull);
-    let mut stl = Counting { inner, pulls: 0 };
+    let mut stl = CountingSource { inner, pulls: 0 };
     let inner = FailAt::new(Drip { rest: pes }, pes_pull);
-    let mut pes = Counting { inner, pulls: 0 };
+    let mut pes = CountingSource { inner, pulls: 0 };
     assert_prints(rt, &CHECK, &mut stl, &mut pes, &[], want.as_bytes());
     (stl.pulls, stl.failures(), pes.pulls, pes.failures())
 }
@@ -146,10 +147,10 @@ fn reports_the_pes_packet_of_a_failing_pull(rt: HostRuntime) {
             _ => "fault 41 Read pes 2\n",
         };
         let counts = assert_fails(&rt, &pes, 1153, pull, want);
-        assert_same_in(&rt, &counts, &(1153, 0, pull + 1, 1), &pull);
+        assert_same_for_case(&rt, &counts, &(1153, 0, pull + 1, 1), &pull);
     }
     let counts = assert_fails(&rt, &pes, 1153, 369, ACCEPTED);
-    assert_same_in(&rt, &counts, &(1153, 0, 369, 0), &ACCEPTED);
+    assert_same_for_case(&rt, &counts, &(1153, 0, 369, 0), &ACCEPTED);
 }
 
 #[test]
@@ -173,25 +174,25 @@ fn reports_the_block_of_a_failing_pull(rt: HostRuntime) {
             _ => "fault 26 Read block 2\n",
         };
         let counts = assert_fails(&rt, &pes, pull, 0, want);
-        assert_same_in(&rt, &counts, &(pull + 1, 1, 0, 0), &pull);
+        assert_same_for_case(&rt, &counts, &(pull + 1, 1, 0, 0), &pull);
     }
 }
 
 // Asserts the line of a check of a subtitle file that starts with the bytes `rest`, and then
 // repeats the bytes `again` without end. The PES file is not read.
 fn assert_ends_stl(rt: &(impl Abort + Alloc<A = Global>), rest: &[u8], again: &[u8], want: &[u8]) {
-    let mut stl = Endless { rest, again };
+    let mut stl = RepeatingSource { rest, again };
     let inner = MemSource::new(&[]);
-    let mut pes = Counting { inner, pulls: 0 };
+    let mut pes = CountingSource { inner, pulls: 0 };
     assert_prints(rt, &CHECK, &mut stl, &mut pes, &[], want);
-    assert_same_in(rt, &pes.pulls, &0, &want);
+    assert_same_for_case(rt, &pes.pulls, &0, &want);
 }
 
 // Asserts the line of a check of a PES file that repeats the bytes `again` without end.
 fn assert_ends_pes(rt: &(impl Abort + Alloc<A = Global>), again: &[u8], want: &[u8]) {
     let stl = file_of_hi();
     let mut stl = MemSource::new(&stl);
-    let mut pes = Endless { rest: &[], again };
+    let mut pes = RepeatingSource { rest: &[], again };
     assert_prints(rt, &CHECK, &mut stl, &mut pes, &[], want);
 }
 

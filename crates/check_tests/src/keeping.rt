@@ -3,7 +3,7 @@ use crate::answers::assert_reports;
 use crate::scope::{HO, at};
 use crate::within::assert_row;
 use answer_fixtures::{ACCEPTED, CHECK};
-use fixtures::{HI, TEN, block, file_of, file_of_hi, file_of_two, head, push_spelled};
+use fixtures::{HI, TEN, block, file_of, file_of_hi, file_of_two, head, push_spelled_packets};
 use std::alloc::Global;
 use std::process::Abort;
 use sub_io::MemSink;
@@ -12,7 +12,7 @@ use sub_io::MemSink;
 fn assert_line(rt: &(impl Abort + Alloc<A = Global>), stl: &[u8], row: &[&[&str]; 3]) {
     let mut buffer = [0; 920];
     let mut pes = MemSink::new(&mut buffer);
-    push_spelled(&mut pes, row[0]);
+    push_spelled_packets(&mut pes, row[0]);
     let mut arguments = ["a"; 9];
     let len = row[1].len();
     assert!(rt; len <= 5 && row[2].len() == 1);
@@ -276,7 +276,7 @@ const MORE_ROWS: [[&[&str]; 3]; 1] = [
 fn requires_erasing_where_text_goes(rt: HostRuntime) {
     let first = at(0, 50, &HI);
     assert_lines(&rt, &file_of_two(&first, &at(50, 100, &HO)), &OTHER_TEXT);
-    let on_20 = block(&head(TEN + 50, TEN + 100, 20), &HI);
-    assert_lines(&rt, &file_of_two(&first, &on_20), &OTHER_ROW);
+    let subtitle_in_row_20 = block(&head(TEN + 50, TEN + 100, 20), &HI);
+    assert_lines(&rt, &file_of_two(&first, &subtitle_in_row_20), &OTHER_ROW);
     assert_lines(&rt, &file_of_two(&first, &twice_at(50, 100)), &MORE_ROWS);
 }

@@ -1,11 +1,11 @@
 //! Output while a PES file is still being received: all output is flushed before each read that may
 //! block.
 ghost use Rattle.std.specs.Prelude.{None};
-ghost use Rattle.sub_io.specs.Device.{buffers_nothing};
+ghost use Rattle.sub_io.specs.Device.{zero_buffered_bytes};
 
-use crate::asserting::assert_same_in;
+use crate::asserting::assert_same_for_case;
 use answer_fixtures::answer_arguments;
-use fixtures::{Counting, Drip, Watched, file_of_hi, schedule_of_hi};
+use fixtures::{CountingSource, Drip, Watched, file_of_hi, schedule_of_hi};
 use std::alloc::Global;
 use std::cell::Cell;
 use std::process::Abort;
@@ -54,13 +54,13 @@ fn add(count: &Cell<u64>, more: u64) {
 // A source that returns at most `most` bytes per pull, and checks whether the buffer of the output
 // is empty.
 #[derive(Drop)]
-struct Fed<'a> {
+struct ChunkedSource<'a> {
     rest: &'a [u8],
     most: usize,
     line: &'a Line,
 }
 
-impl Source for Fed<'_> {
+impl Source for ChunkedSource<'_> {
     ghost remaining = { λ _. None };
 
     ghost failure_count = { λ _. 0 };
@@ -87,11 +87,11 @@ impl Source for Fed<'_> {
 
 // An output that stores all bytes in a buffer until it is flushed.
 #[derive(Drop)]
-struct Holding<'a> {
+struct HoldingSink<'a> {
     line: &'a Line,
 }
 
-impl Sink for Holding<'_> {
+impl Sink for HoldingSink<'_> {
     ghost contents = { λ _. None };
 
     ghost failure_count = { λ _. 0 };
@@ -106,8 +106,8 @@ impl Sink for Holding<'_> {
     }
 }
 
-impl Flush for Holding<'_> {
-    ghost buffered = { buffers_nothing };
+impl Flush for HoldingSink<'_> {
+    ghost buffered = { zero_buffered_bytes };
 
     fn flush(&mut self) -> Result<(), Failed> {
         if self.line.buffered.get() > 0 {
@@ -121,7 +121,7 @@ impl Flush for Holding<'_> {
 // Answers a command with a PES file that returns at most `most` bytes per read. Asserts that the
 // buffer of the output was empty at each read, the number of calls in which bytes were forwarded,
 // and that only the last line, which is printed after the last read, is still in the buffer.
-fn assert_hands_on<'a>(
+fn assert_flushes_before_reads<'a>(
     rt: &(impl Abort + Alloc<A = Global>),
     arguments: &'a [&'a str],
     most: usize,
@@ -132,10 +132,10 @@ fn assert_hands_on<'a>(
     let line = Line::new();
     let (rest, line) = (&pes[..], &line);
     let mut buffer = [0; 512];
-    let mut pes = BufferedSource::new(Fed { rest, most, line }, &mut buffer);
+    let mut pes = BufferedSource::new(ChunkedSource { rest, most, line }, &mut buffer);
     let mut stl = MemSource::new(&stl);
     let mut file = MemSink::new(&mut []);
-    let mut out = Holding { line };
+    let mut out = HoldingSink { line };
     if arguments.len() == PACKETS.len() {
         answer_arguments(
             rt.alloc(),
@@ -156,7 +156,7 @@ fn assert_hands_on<'a>(
         );
     }
     let seen = (line.early.get(), line.calls.get(), line.buffered.get());
-    assert_same_in(rt, &seen, &(0, calls, last.len() as u64), &most);
+    assert_same_for_case(rt, &seen, &(0, calls, last.len() as u64), &most);
 }
 
 #[test]
@@ -164,8 +164,8 @@ fn flushes_what_was_reported_before_each_read(rt: HostRuntime) {
     // The two PES packets of the schedule, 184 bytes each, are read together, separately, or in
     // parts.
     for (most, calls) in [(512, 1), (184, 2), (92, 2), (1, 2)] {
-        assert_hands_on(&rt, &PAGE_100, most, calls, "2 faults\n");
-        assert_hands_on(&rt, &PACKETS, most, calls, "2 pes\n");
+        assert_flushes_before_reads(&rt, &PAGE_100, most, calls, "2 faults\n");
+        assert_flushes_before_reads(&rt, &PACKETS, most, calls, "2 pes\n");
     }
 }
 
@@ -174,7 +174,7 @@ fn flushes_what_was_reported_before_each_read(rt: HostRuntime) {
 fn assert_stops(rt: &(impl Abort + Alloc<A = Global>), call: u64, lines: &[u8], bytes: u64) {
     let (stl, pes) = (file_of_hi(), schedule_of_hi());
     let inner = Drip { rest: &pes };
-    let mut pes = Counting { inner, pulls: 0 };
+    let mut pes = CountingSource { inner, pulls: 0 };
     let mut stl = MemSource::new(&stl);
     let mut file = MemSink::new(&mut []);
     let mut buffer = [0; 512];
@@ -189,7 +189,7 @@ fn assert_stops(rt: &(impl Abort + Alloc<A = Global>), call: u64, lines: &[u8], 
         &mut out,
     );
     let seen = (out.failures(), out.calls_after_failure, pes.pulls);
-    assert_same_in(rt, &seen, &(1, 0, bytes), &call);
+    assert_same_for_case(rt, &seen, &(1, 0, bytes), &call);
     let is_right = buffer.starts_with(lines) && buffer.get(lines.len()) == Some(&0);
     assert!(rt; status == Status::Fault && is_right, "{call}");
 }

@@ -22,7 +22,7 @@ const FIRST_REFUSED: &str = "refused 67 Control frame 10:00:00:00 packet 0\n";
 const SECOND_REFUSED: &str = "refused 67 Control frame 10:00:02:00 packet 0\n";
 
 // Returns the transmission for `Hi` with these values of byte 9 in its two headers of the page.
-fn sent_with(first: u8, second: u8) -> [u8; 368] {
+fn schedule_with_headers(first: u8, second: u8) -> [u8; 368] {
     let mut file = schedule_of_hi();
     (file[59], file[243]) = (first, second);
     file
@@ -36,16 +36,21 @@ fn assert_checks(rt: &(impl Abort + Alloc<A = Global>), word: &str, pes: &[u8], 
 
 // Asserts the lines of checks with the national option `word`, whose byte 9 is `own`, for the
 // transmissions with all national options.
-fn assert_asks_for(rt: &(impl Abort + Alloc<A = Global>), word: &str, own: u8) {
+fn assert_requires_option(rt: &(impl Abort + Alloc<A = Global>), word: &str, own: u8) {
     for byte in LAST_BYTES {
         let is_own = byte == own;
         let both = if is_own { ACCEPTED } else { FIRST_REFUSED };
-        assert_checks(rt, word, &sent_with(byte, byte), both);
+        assert_checks(rt, word, &schedule_with_headers(byte, byte), both);
         let second = if is_own { ACCEPTED } else { SECOND_REFUSED };
-        assert_checks(rt, word, &sent_with(own, byte), second);
+        assert_checks(rt, word, &schedule_with_headers(own, byte), second);
     }
-    assert_checks(rt, word, &sent_with(RESERVED, own), FIRST_REFUSED);
-    let mut closing = sent_with(own, own);
+    assert_checks(
+        rt,
+        word,
+        &schedule_with_headers(RESERVED, own),
+        FIRST_REFUSED,
+    );
+    let mut closing = schedule_with_headers(own, own);
     (closing[151], closing[289]) = (RESERVED, RESERVED);
     assert_checks(rt, word, &closing, ACCEPTED);
 }
@@ -53,6 +58,6 @@ fn assert_asks_for(rt: &(impl Abort + Alloc<A = Global>), word: &str, own: u8) {
 #[test]
 fn requires_the_bits_of_the_option_in_each_header_of_the_page(rt: HostRuntime) {
     for (word, own) in WORDS.iter().zip(LAST_BYTES.iter()) {
-        assert_asks_for(&rt, *word, *own);
+        assert_requires_option(&rt, *word, *own);
     }
 }

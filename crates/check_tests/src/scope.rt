@@ -2,7 +2,9 @@
 //! --open`.
 use crate::answers::{assert_all, assert_reports};
 use answer_fixtures::ACCEPTED;
-use fixtures::{HI, TEN, block, file_of_hi, file_of_two, head, push_spelled, put, schedule_of_hi};
+use fixtures::{
+    HI, TEN, block, file_of_hi, file_of_two, head, push_spelled_packets, put, schedule_of_hi,
+};
 use std::alloc::Global;
 use std::process::Abort;
 use sub_io::MemSink;
@@ -31,7 +33,7 @@ pub fn file_of_blocks(first: &[u8; 128], second: &[u8; 128], third: &[u8; 128]) 
 
 /// Returns a file with three subtitles: `Hi`, a subtitle that can't be drawn, and `Hi` after a
 /// pause.
-pub fn file_with_bad() -> [u8; 1408] {
+pub fn file_with_bad_subtitle() -> [u8; 1408] {
     file_of_blocks(&at(0, 50, &HI), &at(50, 100, &BAD), &at(120, 150, &HI))
 }
 
@@ -45,7 +47,7 @@ fn assert_reported(
 ) {
     let mut buffer = [0; 1104];
     let mut pes = MemSink::new(&mut buffer);
-    push_spelled(&mut pes, sent);
+    push_spelled_packets(&mut pes, sent);
     let arguments = [
         "subttx", "check", "a", "b", options[0], options[1], options[2], options[3],
     ];
@@ -56,7 +58,7 @@ fn assert_reported(
 const FROM: [&str; 2] = ["--from", "00:00:00:00"];
 
 // Asserts the output of `check --all` with `--to`.
-fn assert_to(
+fn assert_line_to(
     rt: &(impl Abort + Alloc<A = Global>),
     to: &str,
     stl: &[u8],
@@ -67,7 +69,7 @@ fn assert_to(
 }
 
 // Asserts the output of `check --all` with `--from`.
-fn assert_from(
+fn assert_line_from(
     rt: &(impl Abort + Alloc<A = Global>),
     from: &str,
     stl: &[u8],
@@ -79,22 +81,22 @@ fn assert_from(
 
 #[test]
 fn judges_the_subtitles_that_start_before_a_time(rt: HostRuntime) {
-    let bad = file_with_bad();
+    let bad = file_with_bad_subtitle();
     let once = ["0:hrc", "50:hc"];
     let refused = "refused 50 Character block 2 at 4\n";
-    assert_to(&rt, "10:00:02:00", &bad, &once, ACCEPTED);
-    assert_to(&rt, "10:00:02:01", &bad, &once, refused);
+    assert_line_to(&rt, "10:00:02:00", &bad, &once, ACCEPTED);
+    assert_line_to(&rt, "10:00:02:01", &bad, &once, refused);
     let no_time = file_of_two(&at(0, 50, &HI), &at(60, 70, &HO));
     let mut no_time_out = no_time;
     no_time_out[1024 + 128 + 12] = 25; // frames of TCO
     let time = "refused 20 Time block 2\n";
-    assert_to(&rt, "10:00:02:10", &no_time_out, &once, ACCEPTED);
-    assert_to(&rt, "10:00:02:11", &no_time_out, &once, time);
+    assert_line_to(&rt, "10:00:02:10", &no_time_out, &once, ACCEPTED);
+    assert_line_to(&rt, "10:00:02:11", &no_time_out, &once, time);
     let late = file_of_blocks(&at(0, 50, &HI), &at(200, 250, &HO), &at(60, 100, &HI));
     let twice = ["0:hrc", "50:hc", "60:hrc", "100:hc"];
     let both = "accepted 101 frames 4 transmissions\n";
-    assert_to(&rt, "10:00:06:00", &late, &twice, both);
-    assert_to(&rt, "24:00:00:00", &late, &twice, "usage 6 BadTime\n");
+    assert_line_to(&rt, "10:00:06:00", &late, &twice, both);
+    assert_line_to(&rt, "24:00:00:00", &late, &twice, "usage 6 BadTime\n");
 }
 
 #[test]
@@ -105,11 +107,11 @@ fn judges_the_subtitles_that_start_from_a_time_on(rt: HostRuntime) {
     let once = ["0:hrc", "50:hc"];
     let early = "refused 63 Early frame 10:00:00:00\n";
     let content = "refused 72 Content frame 10:00:00:00 row 22 column 16\n";
-    assert_from(&rt, "00:00:00:00", &titled, &once, early);
-    assert_from(&rt, "00:00:00:01", &titled, &once, ACCEPTED);
-    assert_from(&rt, "09:59:00:00", &refused, &once, ACCEPTED);
-    assert_from(&rt, "9:59:00:00", &refused, &once, "usage 6 BadTime\n");
-    assert_from(&rt, "10:00:00:01", &file_of_hi(), &once, content);
+    assert_line_from(&rt, "00:00:00:00", &titled, &once, early);
+    assert_line_from(&rt, "00:00:00:01", &titled, &once, ACCEPTED);
+    assert_line_from(&rt, "09:59:00:00", &refused, &once, ACCEPTED);
+    assert_line_from(&rt, "9:59:00:00", &refused, &once, "usage 6 BadTime\n");
+    assert_line_from(&rt, "10:00:00:01", &file_of_hi(), &once, content);
 }
 
 #[test]
@@ -129,7 +131,7 @@ fn judges_the_subtitles_between_two_times(rt: HostRuntime) {
     let none = ["--from", "10:00:02:00", "--to", "10:00:01:24"];
     let sent = ["0:hrc", "50:hoc", "100:hc", "120:hrc", "150:hc"];
     let content = "refused 72 Content frame 10:00:00:00 row 22 column 16\n";
-    assert_reported(&rt, &none, &file_with_bad(), &sent, content);
+    assert_reported(&rt, &none, &file_with_bad_subtitle(), &sent, content);
     let twice = [
         "subttx",
         "check",
@@ -145,7 +147,12 @@ fn judges_the_subtitles_between_two_times(rt: HostRuntime) {
 
 // Asserts the lines of a check without and with `--open` for the subtitle file with `Hi`, with this
 // display standard.
-fn assert_takes(rt: &(impl Abort + Alloc<A = Global>), display: u8, plain: &str, open: &str) {
+fn assert_accepts_display(
+    rt: &(impl Abort + Alloc<A = Global>),
+    display: u8,
+    plain: &str,
+    open: &str,
+) {
     let mut file = file_of_hi();
     file[11] = display;
     let pes = schedule_of_hi();
@@ -162,10 +169,10 @@ fn assert_takes(rt: &(impl Abort + Alloc<A = Global>), display: u8, plain: &str,
 #[test]
 fn takes_open_subtitles_where_they_are_requested(rt: HostRuntime) {
     let refused = "refused 13 Display block 0\n";
-    assert_takes(&rt, b'0', refused, ACCEPTED);
-    assert_takes(&rt, b' ', refused, ACCEPTED);
-    assert_takes(&rt, b'2', ACCEPTED, ACCEPTED);
-    assert_takes(&rt, b'3', refused, refused);
+    assert_accepts_display(&rt, b'0', refused, ACCEPTED);
+    assert_accepts_display(&rt, b' ', refused, ACCEPTED);
+    assert_accepts_display(&rt, b'2', ACCEPTED, ACCEPTED);
+    assert_accepts_display(&rt, b'3', refused, refused);
 }
 
 #[rattlefmt::skip]
@@ -173,9 +180,9 @@ fn takes_open_subtitles_where_they_are_requested(rt: HostRuntime) {
 fn reports_all_of_a_part(rt: HostRuntime) {
     let mut buffer = [0; 1104];
     let mut pes = MemSink::new(&mut buffer);
-    push_spelled(&mut pes, &["0:hrc", "50:hoc", "100:hc", "120:hrc", "150:hc"]);
+    push_spelled_packets(&mut pes, &["0:hrc", "50:hoc", "100:hc", "120:hrc", "150:hc"]);
     let first = ["subttx", "check", "a", "b", "--to", "10:00:02:00"];
-    assert_all(&rt, &first, &file_with_bad(), pes.written(), "",
+    assert_all(&rt, &first, &file_with_bad_subtitle(), pes.written(), "",
         "trusted frames 10:00:00:00 10:00:01:24\n\
         refused 72 Content frame 10:00:02:00 row 22 column 16\n\
         ended 72 Content frame 10:00:03:24\n\
@@ -186,7 +193,7 @@ fn reports_all_of_a_part(rt: HostRuntime) {
         2 faults\n");
     let mut other_buffer = [0; 1104];
     let mut other = MemSink::new(&mut other_buffer);
-    push_spelled(&mut other, &["0:hrc", "40:hoc", "60:hrc", "100:hc"]);
+    push_spelled_packets(&mut other, &["0:hrc", "40:hoc", "60:hrc", "100:hc"]);
     let overlapping = file_of_blocks(&at(0, 50, &HI), &at(40, 60, &HO), &at(60, 100, &HI));
     let last = ["subttx", "check", "a", "b", "--from", "10:00:01:15"];
     assert_all(&rt, &last, &overlapping, other.written(), "",

@@ -1,6 +1,6 @@
 //! Skipped PES packets, which can't be read, with `check --all`.
 use crate::every_place::assert_reported;
-use fixtures::{FIRST, every_second, put};
+use fixtures::{FIRST, pes_packets_each_second, put};
 use std::alloc::Global;
 use std::process::Abort;
 
@@ -14,7 +14,7 @@ fn assert_reported_changed(
     lines: &str,
 ) {
     let mut pes = [0; 553];
-    pes[..552].copy_from_slice(&every_second());
+    pes[..552].copy_from_slice(&pes_packets_each_second());
     assert!(rt; first.0 < 552 && second.0 < 552 && more < 2);
     pes[first.0] = first.1;
     pes[second.0] = second.1;
@@ -63,7 +63,7 @@ const FILL: [u8; 178] = [0xFF; 178];
 
 #[test]
 fn skips_a_gap_marker_of_lost_packets(rt: HostRuntime) {
-    let mut pes = every_second();
+    let mut pes = pes_packets_each_second();
     put(&mut pes, 190, &FILL);
     let lines = "refused 45 Lost pes 1\n\
         trusted frames 10:00:02:00 10:00:02:00\n\

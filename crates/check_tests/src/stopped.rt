@@ -1,10 +1,12 @@
 //! Failing devices, and devices that never end, with `check --all`. Everything found before is
 //! reported, and the failure last, if the output accepts its line.
 use crate::answers::{assert_fills, assert_prints};
-use crate::asserting::assert_same_in;
-use crate::every_fault::OF_FIVE;
+use crate::asserting::assert_same_for_case;
+use crate::every_fault::FAULTS_OF_FIVE;
 use answer_fixtures::{ACCEPTED, CHECK_ALL, answer_arguments, first_lines};
-use fixtures::{Counting, Drip, Endless, FIRST, file_of_five, file_of_hi, schedule_of_hi};
+use fixtures::{
+    CountingSource, Drip, FIRST, RepeatingSource, file_of_five, file_of_hi, schedule_of_hi,
+};
 use std::alloc::Global;
 use std::process::Abort;
 use sub_answer::Status;
@@ -49,9 +51,9 @@ fn fills_an_output_that_has_less_room(rt: HostRuntime) {
 fn assert_stops(rt: &(impl Abort + Alloc<A = Global>), call: u64, count: usize, pulls: u64) {
     let (stl, pes) = (file_of_hi(), schedule_of_hi());
     let inner = MemSource::new(&stl);
-    let mut stl = Counting { inner, pulls: 0 };
+    let mut stl = CountingSource { inner, pulls: 0 };
     let inner = MemSource::new(&pes);
-    let mut pes = Counting { inner, pulls: 0 };
+    let mut pes = CountingSource { inner, pulls: 0 };
     let mut buffer = [0; 512];
     let mut out = FailAt::new(MemSink::new(&mut buffer), call);
     let mut file = MemSink::new(&mut []);
@@ -64,8 +66,8 @@ fn assert_stops(rt: &(impl Abort + Alloc<A = Global>), call: u64, count: usize, 
         &mut file,
         &mut out,
     );
-    assert_same_in(rt, &(status, out.failures()), &(Status::Fault, 1), &call);
-    assert_same_in(rt, &(stl.pulls, pes.pulls), &(3, pulls), &call);
+    assert_same_for_case(rt, &(status, out.failures()), &(Status::Fault, 1), &call);
+    assert_same_for_case(rt, &(stl.pulls, pes.pulls), &(3, pulls), &call);
     let lines = first_lines(ALL, count);
     assert!(rt; lines.len() < 512);
     assert!(rt;
@@ -87,11 +89,11 @@ fn reads_no_more_once_an_output_failed(rt: HostRuntime) {
 #[test]
 fn ends_on_a_source_without_end_where_the_output_is_full(rt: HostRuntime) {
     let stl = file_of_hi();
-    let inner = Endless {
+    let inner = RepeatingSource {
         rest: &[],
         again: &FIRST,
     };
-    let mut pes = Counting { inner, pulls: 0 };
+    let mut pes = CountingSource { inner, pulls: 0 };
     let mut buffer = [0; 64];
     let mut out = MemSink::new(&mut buffer);
     let (mut stl, mut file) = (MemSource::new(&stl), MemSink::new(&mut []));
@@ -106,7 +108,7 @@ fn ends_on_a_source_without_end_where_the_output_is_full(rt: HostRuntime) {
     );
     let lines = b"refused 62 Order pes 1\nrefused 62 Order pes 2\nrefused 62 Order p";
     assert!(rt; status == Status::Fault && out.written() == lines.as_slice());
-    assert_same_in(&rt, &pes.pulls, &4, &lines);
+    assert_same_for_case(&rt, &pes.pulls, &4, &lines);
 }
 
 // Asserts the lines for a PES source that returns one byte per pull and fails, for each failing
@@ -141,10 +143,10 @@ fn assert_fails_at(rt: &(impl Abort + Alloc<A = Global>), call: u64, count: usiz
     let (stl, pes) = (file_of_five(), schedule_of_hi());
     let mut source = FailAt::new(MemSource::new(&stl), call);
     let inner = MemSource::new(&pes);
-    let mut pes = Counting { inner, pulls: 0 };
-    let lines = first_lines(OF_FIVE.as_bytes(), count);
+    let mut pes = CountingSource { inner, pulls: 0 };
+    let lines = first_lines(FAULTS_OF_FIVE.as_bytes(), count);
     assert_prints(rt, &CHECK_ALL, &mut source, &mut pes, lines, line);
-    assert_same_in(rt, &pes.pulls, &0, &call);
+    assert_same_for_case(rt, &pes.pulls, &0, &call);
 }
 
 #[test]
@@ -162,11 +164,11 @@ fn reports_what_was_found_before_a_subtitle_source_failed(rt: HostRuntime) {
 fn ends_on_sources_that_do_not(rt: HostRuntime) {
     let (stl, pes) = (file_of_hi(), schedule_of_hi());
     let (rest, again) = (&[][..], &[0; 64][..]);
-    let mut endless = Endless { rest, again };
+    let mut endless = RepeatingSource { rest, again };
     let mut pes = MemSource::new(&pes);
     let format = b"refused 11 Format block 0\n1 faults\n";
     assert_prints(&rt, &CHECK_ALL, &mut endless, &mut pes, &[], format);
-    let mut endless = Endless { rest, again };
+    let mut endless = RepeatingSource { rest, again };
     let mut stl = MemSource::new(&stl);
     let start = b"refused 31 Start pes 0\n1 faults\n";
     assert_prints(&rt, &CHECK_ALL, &mut stl, &mut endless, &[], start);

@@ -3,7 +3,8 @@ use crate::answers::{assert_fills, assert_prints};
 use crate::every_place::assert_reported;
 use answer_fixtures::CHECK_ALL;
 use fixtures::{
-    CLOSING, HEADER, ROW, TEN, every_second, file_of_hi, packet_of, push_pes, schedule_of_hi,
+    CLOSING, HEADER, ROW, TEN, file_of_hi, packet_of, pes_packets_each_second, push_pes,
+    schedule_of_hi,
 };
 use std::alloc::Global;
 use std::process::Abort;
@@ -28,7 +29,7 @@ const ALL: &str = "trusted frames 10:00:00:00 10:00:00:24\n\
 #[rattlefmt::skip]
 #[test]
 fn trusts_from_the_first_header_on(rt: HostRuntime) {
-    let mut pes = every_second();
+    let mut pes = pes_packets_each_second();
     pes[117] = 0x12;
     assert_reported(&rt, &pes, &[],
         "refused 68 Parity frame 10:00:00:00 packet 1\n\

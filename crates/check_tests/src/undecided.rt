@@ -1,7 +1,7 @@
 //! Rejected subtitles, with `check --all`. The frames at other times are checked.
 use crate::answers::assert_all;
-use crate::scope::{BAD, HO, at, file_of_blocks, file_with_bad};
-use fixtures::{HI, block, file_of, file_of_two, head, push_spelled, put};
+use crate::scope::{BAD, HO, at, file_of_blocks, file_with_bad_subtitle};
+use fixtures::{HI, block, file_of, file_of_two, head, push_spelled_packets, put};
 use std::alloc::Global;
 use std::process::Abort;
 use sub_io::MemSink;
@@ -26,13 +26,13 @@ fn assert_all_faults(
 ) {
     let mut buffer = [0; 1104];
     let mut pes = MemSink::new(&mut buffer);
-    push_spelled(&mut pes, sent);
+    push_spelled_packets(&mut pes, sent);
     let arguments = ["subttx", "check", "a", "b", options[0], options[1]];
     assert_all(rt, &arguments, stl, pes.written(), "", want);
 }
 
 // Returns a subtitle file of four blocks.
-fn file_of_more(
+fn file_of_four_blocks(
     first: &[u8; 128],
     second: &[u8; 128],
     third: &[u8; 128],
@@ -47,7 +47,7 @@ fn file_of_more(
 #[rattlefmt::skip]
 #[test]
 fn judges_subtitles_with_a_text_that_can_not_be_drawn(rt: HostRuntime) {
-    let bad = file_with_bad();
+    let bad = file_with_bad_subtitle();
     assert_all_faults(&rt, PLAIN, &bad, &ALL_SENT,
         "refused 50 Character block 2 at 4\n\
         trusted frames 10:00:00:00 10:00:01:24\n\
@@ -77,7 +77,7 @@ fn judges_subtitles_with_a_text_that_can_not_be_drawn(rt: HostRuntime) {
 #[rattlefmt::skip]
 #[test]
 fn requires_the_page_where_it_is_known_again(rt: HostRuntime) {
-    let bad = file_with_bad();
+    let bad = file_with_bad_subtitle();
     assert_all_faults(&rt, PLAIN, &bad, &["0:hrc", "120:hrc", "150:hc"],
         "refused 50 Character block 2 at 4\n\
         trusted frames 10:00:00:00 10:00:01:24\n\
@@ -115,7 +115,7 @@ fn requires_the_page_where_it_is_known_again(rt: HostRuntime) {
 #[rattlefmt::skip]
 #[test]
 fn reports_what_is_broken_before_it_is_not_known(rt: HostRuntime) {
-    let bad = file_with_bad();
+    let bad = file_with_bad_subtitle();
     assert_all_faults(&rt, PLAIN, &bad, &["0:hrc", "49:hc", "50:hoc", "120:hrc", "150:hc"],
         "refused 50 Character block 2 at 4\n\
         trusted frames 10:00:00:00 10:00:01:23\n\
@@ -138,7 +138,7 @@ fn reports_what_is_broken_before_it_is_not_known(rt: HostRuntime) {
 #[rattlefmt::skip]
 #[test]
 fn reports_all_else_where_it_is_not_known(rt: HostRuntime) {
-    let bad = file_with_bad();
+    let bad = file_with_bad_subtitle();
     assert_all_faults(&rt, PLAIN, &bad, &["0:hrc", "50:hec", "120:hrc", "150:hc"],
         "refused 50 Character block 2 at 4\n\
         trusted frames 10:00:00:00 10:00:01:24\n\
@@ -213,7 +213,7 @@ fn requires_no_time_next_to_what_is_refused(rt: HostRuntime) {
     let hi = at(0, 50, &HI);
     let overlapping = file_of_blocks(&hi, &at(40, 60, &HO), &at(60, 100, &HI));
     let next = at(80, 100, &HI);
-    let early = file_of_more(&hi, &at(60, 70, &HO), &at(20, 30, &HI), &next);
+    let early = file_of_four_blocks(&hi, &at(60, 70, &HO), &at(20, 30, &HI), &next);
     let empty = file_of_blocks(&hi, &at(50, 50, &HO), &at(50, 100, &HI));
     let mut within = file_of_blocks(&hi, &at(20, 30, &HO), &at(50, 100, &HI));
     within[1156] = 1; // CS
@@ -285,11 +285,12 @@ fn requires_no_time_after_what_is_out_of_order(rt: HostRuntime) {
     let hi = at(0, 50, &HI);
     let late = file_of_blocks(&hi, &at(200, 250, &HO), &at(60, 100, &HI));
     let mut lost = [0; 1664];
-    put(&mut lost, 0, &file_of_more(&hi, &at(60, 70, &HO), &at(20, 30, &HI), &at(40, 45, &HI)));
+    put(&mut lost, 0, &file_of_four_blocks(&hi, &at(60, 70, &HO), &at(20, 30, &HI),
+        &at(40, 45, &HI)));
     put(&mut lost, 1536, &at(80, 100, &HI));
     let mut far = [0; 1664];
     put(&mut far, 0,
-        &file_of_more(&hi, &at(500, 510, &HO), &at(520, 530, &HO), &at(60, 100, &HI)));
+        &file_of_four_blocks(&hi, &at(500, 510, &HO), &at(520, 530, &HO), &at(60, 100, &HI)));
     put(&mut far, 1536, &at(120, 150, &HI));
     assert_all_faults(&rt, PLAIN, &late, &["0:hrc", "50:hc", "60:hrc", "100:hc"],
         "refused 56 OutOfOrder block 3\n\

@@ -1,7 +1,7 @@
 //! Late pages, and several PES packets for one frame, with `check --within`.
-use crate::every_place::assert_reported_of;
+use crate::every_place::assert_reported_with_options;
 use answer_fixtures::ACCEPTED;
-use fixtures::{HEAD, HI, TEN, block, file_of_hi, file_of_two, head, push_spelled};
+use fixtures::{HEAD, HI, TEN, block, file_of_hi, file_of_two, head, push_spelled_packets};
 use std::alloc::Global;
 use std::process::Abort;
 use sub_io::MemSink;
@@ -11,9 +11,9 @@ use sub_io::MemSink;
 pub fn assert_row(rt: &(impl Abort + Alloc<A = Global>), stl: &[u8], row: &[&[&str]; 3]) {
     let mut buffer = [0; 920];
     let mut pes = MemSink::new(&mut buffer);
-    push_spelled(&mut pes, row[0]);
+    push_spelled_packets(&mut pes, row[0]);
     assert!(rt; row[2].len() == 1);
-    assert_reported_of(rt, stl, pes.written(), row[1], row[2][0]);
+    assert_reported_with_options(rt, stl, pes.written(), row[1], row[2][0]);
 }
 
 // Transmissions with late pages, and the number of frames within which pages must be right.
@@ -248,11 +248,11 @@ fn assert_changed(
 ) {
     let mut buffer = [0; 920];
     let mut pes = MemSink::new(&mut buffer);
-    push_spelled(&mut pes, row[0]);
+    push_spelled_packets(&mut pes, row[0]);
     let len = pes.written().len();
     assert!(rt; row[2].len() == 1 && place < len && cut <= len && len <= 920);
     buffer[place] = value;
-    assert_reported_of(rt, &file_of_hi(), &buffer[..len - cut], row[1], row[2][0]);
+    assert_reported_with_options(rt, &file_of_hi(), &buffer[..len - cut], row[1], row[2][0]);
 }
 
 #[rattlefmt::skip]

@@ -2,7 +2,7 @@
 ghost use Rattle.std.specs.Prelude.{◌<◌};
 ghost use Rattle.sub_io.specs.Device.{CanFail};
 
-use crate::asserting::{assert_same, assert_same_in};
+use crate::asserting::{assert_same, assert_same_for_case};
 use crate::files_in_memory::MemoryFile;
 use std::io::Write;
 use std::process::Abort;
@@ -11,12 +11,12 @@ use sub_io::{Close, Failed, IntoFile, Sink};
 
 // A size check that reports this number of bytes for any file.
 #[derive(Clone, Copy)]
-struct Finding(u64);
+struct FixedSizeLookup(u64);
 
-impl SizeLookup for Finding {
+impl SizeLookup for FixedSizeLookup {
     ghost is_size_lookup = { λ _ _ _. Unit {0} };
 
-    fn has_all<W: Write>(&self, _file: &IntoFile<W>, length: u64) -> bool {
+    fn has_all_bytes<W: Write>(&self, _file: &IntoFile<W>, length: u64) -> bool {
         self.0 == length
     }
 }
@@ -47,15 +47,15 @@ fn assert_stores<K: Close>(
 )
     requires { CanFail (K.failure_count sink.old) }
 {
-    assert_same_in(rt, &sink.store(), &answer, &found);
+    assert_same_for_case(rt, &sink.store(), &answer, &found);
     assert!(rt; sink.failures() == failures && failures < 9);
     assert_pushes(rt, sink, b"!", Err(Failed), failures + 1);
 }
 
 // Asserts the result of storing six bytes if the closed file has `found` bytes.
-fn assert_finds(rt: &impl Abort, found: u64, answer: Result<(), Failed>, failures: u64) {
+fn assert_stores_size(rt: &impl Abort, found: u64, answer: Result<(), Failed>, failures: u64) {
     let mut buffer = [0; 8];
-    let mut file = CheckedFile::new(MemoryFile::Created(&mut buffer, 0), Finding(found));
+    let mut file = CheckedFile::new(MemoryFile::Created(&mut buffer, 0), FixedSizeLookup(found));
     assert_pushes(rt, &mut file, b"sub", Ok(3), 0);
     assert_pushes(rt, &mut file, b"ttx", Ok(3), 0);
     assert_stores(rt, &mut file, found, answer, failures);
@@ -63,8 +63,8 @@ fn assert_finds(rt: &impl Abort, found: u64, answer: Result<(), Failed>, failure
 
 #[test]
 fn a_file_is_stored_where_all_of_it_is_found(rt: HostRuntime) {
-    assert_finds(&rt, 6, Ok(()), 0);
+    assert_stores_size(&rt, 6, Ok(()), 0);
     for found in [0, 3, 5, 7, u64::MAX] {
-        assert_finds(&rt, found, Err(Failed), 1);
+        assert_stores_size(&rt, found, Err(Failed), 1);
     }
 }

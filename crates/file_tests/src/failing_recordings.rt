@@ -1,10 +1,10 @@
 //! Recordings and PES files that can't be read to the end: the reported PES packet, the output, and
 //! the output file.
-use crate::asserting::assert_same_in;
+use crate::asserting::assert_same_for_case;
 use crate::pes_ranges::FIRST_LINES;
 use crate::recorded::{
     BEGINS_0, BEGINS_1, BEGINS_2, FILL, GAP_MARKER_HEAD, LATE, LOST, NULL, assert_answers,
-    put_pes_packets, recording,
+    recording, write_pes_packets,
 };
 use fixtures::{FIRST, SECOND, file_of_hi};
 use std::alloc::Global;
@@ -27,7 +27,7 @@ fn assert_fails_in<'a>(
 ) {
     let mut bytes = [0; 1024];
     let mut file = MemSink::new(&mut bytes);
-    put_pes_packets(&mut file, pes_packets);
+    write_pes_packets(&mut file, pes_packets);
     let stl = file_of_hi();
     assert_answers(
         rt,
@@ -96,7 +96,7 @@ fn reports_the_pes_packet_of_a_recording_that_was_reached(rt: HostRuntime) {
     assert_fails(&rt, &arguments, &cut, FAILED_1);
     let mut buffer = [0; 1024];
     let mut lines = MemSink::new(&mut buffer);
-    put_pes_packets(&mut lines, &[FIRST_LINES.as_bytes(), FAILED_1.as_bytes()]);
+    write_pes_packets(&mut lines, &[FIRST_LINES.as_bytes(), FAILED_1.as_bytes()]);
     let want = std::str::from_utf8(lines.written()).unwrap_or("");
     let arguments = ["subttx", "packets", "b", "--pid", "257"];
     assert_fails(&rt, &arguments, &cut, want);
@@ -140,14 +140,14 @@ fn assert_extracts(
 ) {
     let mut expected_buffer = [0x55; 1024];
     let mut expected = MemSink::new(&mut expected_buffer);
-    put_pes_packets(&mut expected, written);
+    write_pes_packets(&mut expected, written);
     let mut output = [0x55; 1024];
     let arguments = ["subttx", "extract", "b", "c", "--pid", "257"];
     assert_fails_in(rt, &arguments, pes_packets, &mut output, want);
     let len = expected.written().len().min(1024);
     let (begin, _) = output.split_at(len);
-    assert_same_in(rt, &begin, &expected.written(), &want);
-    assert_same_in(rt, &output[len..].first(), &Some(&0x55), &want);
+    assert_same_for_case(rt, &begin, &expected.written(), &want);
+    assert_same_for_case(rt, &output[len..].first(), &Some(&0x55), &want);
 }
 
 #[test]

@@ -1,12 +1,12 @@
 //! The calls that open the files of a request, and the answers with these files.
-use crate::asserting::{assert_same, assert_same_in};
+use crate::asserting::{assert_same, assert_same_for_case};
 use crate::files_in_memory::{Entry, FilesInMemory, STANDARD_OUTPUT};
 use answer_fixtures::ACCEPTED;
 use fixtures::{commented, file_of_hi, normal_form, schedule_of_hi};
 use std::alloc::Global;
 use std::process::Abort;
 use sub_answer::{Status, open_and_answer};
-use sub_files::{FileSystem, Found, MemFile, MemFiles, open};
+use sub_files::{FileSystem, LookupResult, MemFile, MemFiles, open};
 use sub_io::{BufferedSink, MemSink};
 use sub_request::Request;
 use sub_words::ParseArguments;
@@ -14,7 +14,7 @@ use sub_words::ParseArguments;
 // A file that can be opened and is empty.
 const INPUT: Entry = Entry {
     name: "a",
-    found: Found::At(1, 1),
+    found: LookupResult::At(1, 1),
     bytes: Some(&[]),
     fails: false,
 };
@@ -22,13 +22,13 @@ const INPUT: Entry = Entry {
 // A name without a file.
 const NOTHING: Entry = Entry {
     name: "b",
-    found: Found::Nothing,
+    found: LookupResult::Nothing,
     bytes: None,
     fails: false,
 };
 
 // Returns the entry for the name `b`, with this lookup result.
-fn second(found: Found) -> Entry<'static> {
+fn second(found: LookupResult) -> Entry<'static> {
     Entry { found, ..NOTHING }
 }
 
@@ -45,7 +45,7 @@ fn assert_file_calls<'a, 'f>(
     let mut files = FilesInMemory::new(entries, buffer);
     if let Ok(request) = Request::parse(rt.alloc(), arguments) {
         let opened = open(&mut files, &request.files());
-        assert_same_in(rt, &opened.is_some(), &is_opened, &calls);
+        assert_same_for_case(rt, &opened.is_some(), &is_opened, &calls);
     }
     assert_same(rt, &files.calls(), &calls.as_bytes());
 }
@@ -77,9 +77,9 @@ fn opens_two_files_in_the_order_of_the_arguments(rt: HostRuntime) {
 
 #[test]
 fn creates_a_file_once_the_input_is_opened_and_both_are_looked_up(rt: HostRuntime) {
-    let there = [INPUT, second(Found::Nothing)];
+    let there = [INPUT, second(LookupResult::Nothing)];
     assert_file_calls(&rt, &NORMAL, &there, &mut [0], "o0l0l1p?c1", true);
-    let other = [INPUT, second(Found::At(1, 2))];
+    let other = [INPUT, second(LookupResult::At(1, 2))];
     assert_file_calls(&rt, &NORMAL, &other, &mut [0], "o0l0l1p?c1", true);
     // In the first case the output can't be created; in the second case the input can't be opened.
     assert_file_calls(&rt, &NORMAL, &there, &mut [], "o0l0l1p?c1", false);
@@ -89,23 +89,23 @@ fn creates_a_file_once_the_input_is_opened_and_both_are_looked_up(rt: HostRuntim
 #[test]
 fn creates_no_file_over_the_input(rt: HostRuntime) {
     // The output is the input under another name, or one of the two can't be looked up.
-    let link = [INPUT, second(Found::At(1, 1))];
+    let link = [INPUT, second(LookupResult::At(1, 1))];
     assert_file_calls(&rt, &NORMAL, &link, &mut [0], "o0l0l1p?", false);
-    let unknown = [INPUT, second(Found::Unknown)];
+    let unknown = [INPUT, second(LookupResult::Unknown)];
     assert_file_calls(&rt, &NORMAL, &unknown, &mut [0], "o0l0l1p?", false);
     let lost = Entry {
-        found: Found::Unknown,
+        found: LookupResult::Unknown,
         ..INPUT
     };
-    let there = [lost, second(Found::At(1, 2))];
+    let there = [lost, second(LookupResult::At(1, 2))];
     assert_file_calls(&rt, &NORMAL, &there, &mut [0], "o0l0l1p?", false);
 }
 
 #[test]
 fn creates_the_file_of_a_recording_as_that_of_a_subtitle_file(rt: HostRuntime) {
-    let there = [INPUT, second(Found::Nothing)];
+    let there = [INPUT, second(LookupResult::Nothing)];
     assert_file_calls(&rt, &EXTRACT, &there, &mut [0], "o0l0l1p?c1", true);
-    let other = [INPUT, second(Found::At(1, 2))];
+    let other = [INPUT, second(LookupResult::At(1, 2))];
     assert_file_calls(&rt, &EXTRACT, &other, &mut [0], "o0l0l1p?c1", true);
     // In the first case the output can't be created; in the second case the recording can't be
     // opened.
@@ -115,9 +115,9 @@ fn creates_the_file_of_a_recording_as_that_of_a_subtitle_file(rt: HostRuntime) {
 
 #[test]
 fn creates_no_file_over_the_recording(rt: HostRuntime) {
-    let link = [INPUT, second(Found::At(1, 1))];
+    let link = [INPUT, second(LookupResult::At(1, 1))];
     assert_file_calls(&rt, &EXTRACT, &link, &mut [0], "o0l0l1p?", false);
-    let unknown = [INPUT, second(Found::Unknown)];
+    let unknown = [INPUT, second(LookupResult::Unknown)];
     assert_file_calls(&rt, &EXTRACT, &unknown, &mut [0], "o0l0l1p?", false);
 }
 
@@ -125,19 +125,19 @@ fn creates_no_file_over_the_recording(rt: HostRuntime) {
 fn creates_no_file_that_standard_output_goes_into(rt: HostRuntime) {
     let printed = Entry {
         name: STANDARD_OUTPUT,
-        found: Found::At(1, 2),
+        found: LookupResult::At(1, 2),
         ..INPUT
     };
-    let same = [INPUT, second(Found::At(1, 2)), printed];
+    let same = [INPUT, second(LookupResult::At(1, 2)), printed];
     assert_file_calls(&rt, &NORMAL, &same, &mut [0], "o0l0l1p2", false);
     assert_file_calls(&rt, &EXTRACT, &same, &mut [0], "o0l0l1p2", false);
     // Standard output goes to another file, with the same device or the same inode, or the output
     // does not exist.
-    let inode = [INPUT, second(Found::At(1, 3)), printed];
+    let inode = [INPUT, second(LookupResult::At(1, 3)), printed];
     assert_file_calls(&rt, &NORMAL, &inode, &mut [0], "o0l0l1p2c1", true);
-    let device = [INPUT, second(Found::At(2, 2)), printed];
+    let device = [INPUT, second(LookupResult::At(2, 2)), printed];
     assert_file_calls(&rt, &NORMAL, &device, &mut [0], "o0l0l1p2c1", true);
-    let nothing = [INPUT, second(Found::Nothing), printed];
+    let nothing = [INPUT, second(LookupResult::Nothing), printed];
     assert_file_calls(&rt, &NORMAL, &nothing, &mut [0], "o0l0l1p2c1", true);
 }
 
@@ -167,7 +167,7 @@ fn assert_answers<'a, 'f>(
     buffer: &'f mut [u8],
     want: &str,
 ) {
-    assert_answers_over(
+    assert_answers_with(
         rt,
         arguments,
         &mut FilesInMemory::new(entries, buffer),
@@ -176,7 +176,7 @@ fn assert_answers<'a, 'f>(
 }
 
 // Asserts the output of a command with any file system.
-fn assert_answers_over<'a, D: FileSystem>(
+fn assert_answers_with<'a, D: FileSystem>(
     rt: &(impl Abort + Alloc<A = Global>),
     arguments: &'a [&'a str],
     files: &mut D,
@@ -194,7 +194,8 @@ const HEADER: &str =
 const HEADER_LINES: &str = "magazine 8 packet 0\npage 88 subcode 0000 control C4 C6 C7\n\
     text |                                |\n";
 
-const HEARD: &str = "heard yes\nopen no\nrow 22 |                ...Hi..                 |\n";
+const RECEIVED_PAGE: &str = "heard yes\nopen no\nrow 22 |                ...Hi..                
+    |\n";
 
 const SHOWN: &str = "00001 10:00:00:00 10:00:02:00 vp 22 jc 2 text 0d0b0b48690a0a\n1 subtitles\n";
 
@@ -218,7 +219,7 @@ fn answers_each_command_that_reads_files(rt: HostRuntime) {
     let all = ["subttx", "check", "--all", "a", "b"];
     assert_answers(&rt, &all, &both, &mut [], ACCEPTED);
     let listen = ["subttx", "listen", "b", "--at", "10:00:00:10"];
-    assert_answers(&rt, &listen, &both, &mut [], HEARD);
+    assert_answers(&rt, &listen, &both, &mut [], RECEIVED_PAGE);
     let packet = ["subttx", "packet", HEADER];
     assert_answers(&rt, &packet, &[], &mut [], HEADER_LINES);
 }
@@ -265,7 +266,7 @@ fn reads_no_pes_file_with_a_refused_subtitle_file(rt: HostRuntime) {
 }
 
 // Asserts that exactly `written` was written into a buffer that was filled with FF.
-fn assert_starts(rt: &impl Abort, buffer: &[u8], written: &[u8]) {
+fn assert_begins_with(rt: &impl Abort, buffer: &[u8], written: &[u8]) {
     let len = written.len().min(buffer.len());
     let (begin, rest) = buffer.split_at(len);
     let one_more: &[u8] = &[0xFF];
@@ -285,7 +286,7 @@ fn writes_into_the_file_that_is_created(rt: HostRuntime) {
     let schedule = ["subttx", "schedule", "a", "b"];
     let written = "written 2 transmissions\n";
     assert_answers(&rt, &schedule, &[stl, NOTHING], &mut sent, written);
-    assert_starts(&rt, &sent, &schedule_of_hi());
+    assert_begins_with(&rt, &sent, &schedule_of_hi());
     let input = Entry {
         bytes: Some(&commented),
         ..INPUT
@@ -293,7 +294,7 @@ fn writes_into_the_file_that_is_created(rt: HostRuntime) {
     let mut normal = [0xFF; 1281];
     let written = "written 1 subtitles\n";
     assert_answers(&rt, &NORMAL, &[input, NOTHING], &mut normal, written);
-    assert_starts(&rt, &normal, &normal_form());
+    assert_begins_with(&rt, &normal, &normal_form());
 }
 
 #[test]
@@ -310,10 +311,10 @@ fn answers_over_files_that_tell_their_bytes(rt: HostRuntime) {
         },
     );
     let mut none = MemFiles::new(subtitles, sent, &mut []);
-    assert_answers_over(&rt, &CHECK, &mut none, ACCEPTED);
+    assert_answers_with(&rt, &CHECK, &mut none, ACCEPTED);
     let mut buffer = [0xFF; 369];
     let schedule = ["subttx", "schedule", "a", "c"];
     let mut files = MemFiles::new(subtitles, sent, &mut buffer);
-    assert_answers_over(&rt, &schedule, &mut files, "written 2 transmissions\n");
-    assert_starts(&rt, &buffer, &pes);
+    assert_answers_with(&rt, &schedule, &mut files, "written 2 transmissions\n");
+    assert_begins_with(&rt, &buffer, &pes);
 }

@@ -3,7 +3,7 @@ ghost use Rattle.std.specs.Prelude.{None};
 
 use std::fs::{Metadata, OpenFile};
 use std::io::{self, ErrorKind, Read, Write};
-use sub_files::{FileSystem, Found};
+use sub_files::{FileSystem, LookupResult};
 use sub_io::{FromRead, IntoFile};
 
 /// The name of the entry for the file that receives standard output.
@@ -15,7 +15,7 @@ pub struct Entry<'a> {
     /// The name of the file.
     pub name: &'a str,
     /// The result of looking up the name.
-    pub found: Found,
+    pub found: LookupResult,
     /// The contents of the file; `None` if it can't be opened.
     pub bytes: Option<&'a [u8]>,
     /// Whether reading fails at the end of the contents.
@@ -87,17 +87,17 @@ impl<'a> FileSystem for FilesInMemory<'a> {
 
     type Output = IntoFile<MemoryFile<'a>>;
 
-    fn look_up(&mut self, name: &str) -> Found {
+    fn look_up(&mut self, name: &str) -> LookupResult {
         match self.ask(b'l', name) {
             Some(entry) => entry.found,
-            None => Found::Unknown,
+            None => LookupResult::Unknown,
         }
     }
 
-    fn look_up_standard_output(&mut self) -> Found {
+    fn look_up_standard_output(&mut self) -> LookupResult {
         match self.ask(b'p', STANDARD_OUTPUT) {
             Some(entry) => entry.found,
-            None => Found::Nothing,
+            None => LookupResult::Nothing,
         }
     }
 

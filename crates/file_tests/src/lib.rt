@@ -17,7 +17,7 @@ mod files_in_memory;
 #[cfg(test)]
 mod lost_packets;
 #[cfg(test)]
-mod over_pes_packets;
+mod pes_packet_devices;
 #[cfg(test)]
 mod pes_ranges;
 #[cfg(test)]

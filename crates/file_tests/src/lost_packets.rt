@@ -1,6 +1,6 @@
 //! Recordings with PES packets of several TS packets, in which TS packets are missing, repeated, or
 //! announce a jump of the continuity counter.
-use crate::recorded::{JUMP, JUMP_FILL, LOST, assert_answers, put_pes_packets, recording};
+use crate::recorded::{JUMP, JUMP_FILL, LOST, assert_answers, recording, write_pes_packets};
 use answer_fixtures::answer_arguments;
 use fixtures::{TEN, block, file_of, head};
 use std::alloc::Global;
@@ -12,7 +12,7 @@ use sub_io::{MemSink, MemSource};
 #[derive(Clone, Copy)]
 struct Sent {
     // The number of the missing TS packet.
-    left_out: usize,
+    missing_packet: usize,
     // The number of the TS packet that is sent twice.
     twice: usize,
     // The number of the TS packet after which a jump is announced. All later continuity counters
@@ -23,7 +23,7 @@ struct Sent {
 }
 
 const ALL: Sent = Sent {
-    left_out: 0,
+    missing_packet: 0,
     twice: 0,
     jump: 0,
     last: 15,
@@ -38,7 +38,7 @@ fn file_of_23_rows() -> [u8; 1152] {
 }
 
 // Writes a schedule of three PES packets to a recording, in TS packets with payloads of 184 bytes.
-fn put_packets(rt: &impl Abort, pes: &[u8], sent: Sent, recording: &mut MemSink) {
+fn write_ts_packets(rt: &impl Abort, pes: &[u8], sent: Sent, recording: &mut MemSink) {
     assert!(rt; pes.len() == 2760);
     let (payloads, _) = pes.as_chunks::<184>();
     for (index, payload) in payloads.iter().enumerate() {
@@ -55,14 +55,14 @@ fn put_packets(rt: &impl Abort, pes: &[u8], sent: Sent, recording: &mut MemSink)
         if number > sent.last {
             break;
         }
-        if number != sent.left_out {
-            put_pes_packets(recording, &[&prefix, payload]);
+        if number != sent.missing_packet {
+            write_pes_packets(recording, &[&prefix, payload]);
         }
         if number == sent.twice {
-            put_pes_packets(recording, &[&prefix, payload]);
+            write_pes_packets(recording, &[&prefix, payload]);
         }
         if number == sent.jump {
-            put_pes_packets(recording, &[&JUMP, &JUMP_FILL]);
+            write_pes_packets(recording, &[&JUMP, &JUMP_FILL]);
         }
     }
 }
@@ -86,7 +86,7 @@ fn assert_checks(rt: &(impl Abort + Alloc<A = Global>), sent: Sent, want: &str) 
     );
     let mut recorded = [0; 4096];
     let mut sending = MemSink::new(&mut recorded);
-    put_packets(rt, pes.written(), sent, &mut sending);
+    write_ts_packets(rt, pes.written(), sent, &mut sending);
     let check = ["subttx", "check", "a", "b", "--pid", "257", "--every", "25"];
     let bytes = recording(sending.written(), false);
     assert_answers(rt, &check, &stl, bytes, &mut [], want);
@@ -103,12 +103,26 @@ fn accepts_all_packets(rt: HostRuntime) {
 
 #[test]
 fn refuses_where_one_is_missing(rt: HostRuntime) {
-    for left_out in 8..15 {
-        assert_checks(&rt, Sent { left_out, ..ALL }, LOST);
+    for missing_packet in 8..15 {
+        assert_checks(
+            &rt,
+            Sent {
+                missing_packet,
+                ..ALL
+            },
+            LOST,
+        );
     }
-    for left_out in 2..8 {
+    for missing_packet in 2..8 {
         let early = "refused 63 Early frame 10:00:01:00\n";
-        assert_checks(&rt, Sent { left_out, ..ALL }, early);
+        assert_checks(
+            &rt,
+            Sent {
+                missing_packet,
+                ..ALL
+            },
+            early,
+        );
     }
     // A jump within a PES packet means that TS packets are missing. A PES packet that is cut off at
     // the end of the recording is not reported.

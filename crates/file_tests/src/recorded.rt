@@ -1,12 +1,12 @@
 //! Parts of recordings, and assertions about the answers for recordings.
-use crate::asserting::assert_same_in;
+use crate::asserting::assert_same_for_case;
 use crate::files_in_memory::{Entry, FilesInMemory};
 use answer_fixtures::status_of;
 use fixtures::file_of_hi;
 use std::alloc::Global;
 use std::process::Abort;
 use sub_answer::{open_and_answer, print_and_flush_usage_fault};
-use sub_files::Found;
+use sub_files::LookupResult;
 use sub_io::{BufferedSink, MemSink, Sink, put_all};
 use sub_request::Request;
 use sub_words::ParseArguments;
@@ -49,7 +49,7 @@ pub const LATE: &str = "refused 74 Late frame 10:00:00:00\n";
 pub const EMPTY: &str = "refused 60 Empty\n";
 
 /// Writes byte strings to a sink one after another, as long as the sink has room.
-pub fn put_pes_packets(sink: &mut MemSink<'_>, pes_packets: &[&[u8]]) {
+pub fn write_pes_packets(sink: &mut MemSink<'_>, pes_packets: &[&[u8]]) {
     for pes_packet in pes_packets {
         if sink.failures() == 0 {
             let _ = put_all(sink, pes_packet);
@@ -61,7 +61,7 @@ pub fn put_pes_packets(sink: &mut MemSink<'_>, pes_packets: &[&[u8]]) {
 pub fn subtitle_file(bytes: &[u8]) -> Entry<'_> {
     Entry {
         name: "a",
-        found: Found::At(1, 1),
+        found: LookupResult::At(1, 1),
         bytes: Some(bytes),
         fails: false,
     }
@@ -71,7 +71,7 @@ pub fn subtitle_file(bytes: &[u8]) -> Entry<'_> {
 pub fn recording(bytes: &[u8], fails: bool) -> Entry<'_> {
     Entry {
         name: "b",
-        found: Found::At(1, 2),
+        found: LookupResult::At(1, 2),
         bytes: Some(bytes),
         fails,
     }
@@ -80,7 +80,7 @@ pub fn recording(bytes: &[u8], fails: bool) -> Entry<'_> {
 // The entry for output file `c`.
 const WRITTEN: Entry = Entry {
     name: "c",
-    found: Found::Nothing,
+    found: LookupResult::Nothing,
     bytes: None,
     fails: false,
 };
@@ -104,10 +104,10 @@ pub fn assert_answers<'a, 'f>(
         Ok(request) => open_and_answer(rt.alloc(), &mut files, &request, &mut out).ok(),
         Err(fault) => Some(print_and_flush_usage_fault(&fault, &mut out)),
     };
-    assert_same_in(rt, &status, &Some(status_of(want.as_bytes())), &arguments);
+    assert_same_for_case(rt, &status, &Some(status_of(want.as_bytes())), &arguments);
     let len = want.len().min(1024);
-    assert_same_in(rt, &&text[..len], &want.as_bytes(), &arguments);
-    assert_same_in(rt, &text.get(len), &Some(&0), &arguments);
+    assert_same_for_case(rt, &&text[..len], &want.as_bytes(), &arguments);
+    assert_same_for_case(rt, &text.get(len), &Some(&0), &arguments);
 }
 
 /// Asserts the output of a command for the subtitle file with `Hi`, and a file that consists of
@@ -120,7 +120,7 @@ pub fn assert_prints<'a>(
 ) {
     let mut buffer = [0; 8192];
     let mut file = MemSink::new(&mut buffer);
-    put_pes_packets(&mut file, pes_packets);
+    write_pes_packets(&mut file, pes_packets);
     let stl = file_of_hi();
     let bytes = recording(file.written(), false);
     assert_answers(rt, arguments, &stl, bytes, &mut [], want);

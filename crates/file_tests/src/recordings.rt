@@ -1,8 +1,8 @@
 //! Checking and extracting the PES packets of a recording.
-use crate::asserting::assert_same_in;
+use crate::asserting::assert_same_for_case;
 use crate::recorded::{
     BEGINS_0, BEGINS_1, BEGINS_2, EARLY, EMPTY, FILL, GAP_MARKER_HEAD, JUMP, JUMP_FILL, LATE, LOST,
-    NULL, assert_answers, assert_prints, put_pes_packets, recording,
+    NULL, assert_answers, assert_prints, recording, write_pes_packets,
 };
 use answer_fixtures::ACCEPTED;
 use fixtures::{FIRST, SECOND};
@@ -16,7 +16,7 @@ const BEGINS_9: [u8; 4] = [0x47, 0x41, 0x01, 0x19];
 
 // Bytes 0 to 3 of a TS packet that continues a PES packet, and of a TS packet with
 // transport_error_indicator set.
-const GOES_ON_1: [u8; 4] = [0x47, 0x01, 0x01, 0x11];
+const CONTINUES_1: [u8; 4] = [0x47, 0x01, 0x01, 0x11];
 
 const WRONG_1: [u8; 4] = [0x47, 0xC1, 0x01, 0x11];
 
@@ -55,18 +55,18 @@ fn assert_extracts<'a>(
 ) {
     let mut buffer = [0; 8192];
     let mut file = MemSink::new(&mut buffer);
-    put_pes_packets(&mut file, pes_packets);
+    write_pes_packets(&mut file, pes_packets);
     let mut expected_buffer = [0x55; 1024];
     let mut expected = MemSink::new(&mut expected_buffer);
-    put_pes_packets(&mut expected, written);
+    write_pes_packets(&mut expected, written);
     let mut output = [0x55; 1024];
     let arguments = ["subttx", "extract", "b", "c", "--pid", pid];
     let bytes = recording(file.written(), false);
     assert_answers(rt, &arguments, &[], bytes, &mut output, want);
     let len = expected.written().len().min(1024);
     let (begin, _) = output.split_at(len);
-    assert_same_in(rt, &begin, &expected.written(), &want);
-    assert_same_in(rt, &output[len..].first(), &Some(&0x55), &want);
+    assert_same_for_case(rt, &begin, &expected.written(), &want);
+    assert_same_for_case(rt, &output[len..].first(), &Some(&0x55), &want);
 }
 
 #[test]
@@ -105,7 +105,7 @@ fn reports_lost_packets_by_the_number_of_their_gap_marker(rt: HostRuntime) {
     let scrambled: [u8; 4] = [0x47, 0x41, 0x01, 0x91];
     assert_checks(&rt, &[&BEGINS_0, &FIRST, &scrambled, &SECOND], LOST);
     assert_checks(&rt, &[&BEGINS_0, &FIRST, &WRONG_1, &SECOND], LOST);
-    assert_checks(&rt, &[&BEGINS_0, &FIRST, &GOES_ON_1, &SECOND], LOST);
+    assert_checks(&rt, &[&BEGINS_0, &FIRST, &CONTINUES_1, &SECOND], LOST);
     let full_adaptation: [&[u8]; 6] = [
         &BEGINS_0,
         &FIRST,

@@ -1,7 +1,7 @@
 //! The output of `survey` for a recording.
 use crate::recorded::{
-    BEGINS_0, BEGINS_1, BEGINS_2, FILL, NULL, assert_answers, assert_prints, put_pes_packets,
-    recording,
+    BEGINS_0, BEGINS_1, BEGINS_2, FILL, NULL, assert_answers, assert_prints, recording,
+    write_pes_packets,
 };
 use fixtures::{FIRST, SECOND};
 use std::alloc::Global;
@@ -20,7 +20,7 @@ fn assert_fails<'a>(
 ) {
     let mut buffer = [0; 8192];
     let mut file = MemSink::new(&mut buffer);
-    put_pes_packets(&mut file, pes_packets);
+    write_pes_packets(&mut file, pes_packets);
     assert_answers(
         rt,
         arguments,

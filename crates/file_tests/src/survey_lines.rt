@@ -24,7 +24,7 @@ const WRONG: [u8; 4] = [0x47, 0x81, 0x01, 0x11];
 const SCRAMBLED: [u8; 4] = [0x47, 0x01, 0x01, 0x91];
 
 // Bytes 0 to 3 of TS packets that continue a PES packet, by continuity counter.
-const GOES_ON: [[u8; 4]; 5] = [
+const CONTINUES: [[u8; 4]; 5] = [
     [0x47, 0x01, 0x01, 0x11],
     [0x47, 0x01, 0x01, 0x12],
     [0x47, 0x01, 0x01, 0x13],
@@ -91,7 +91,7 @@ fn takes_each_packet_of_a_pid(rt: HostRuntime) {
 fn counts_long_pes_packets(rt: HostRuntime) {
     let mut long = FIRST;
     long[4..6].copy_from_slice(&[0x04, 0x4A]);
-    let [second, third, fourth, fifth, sixth] = &GOES_ON;
+    let [second, third, fourth, fifth, sixth] = &CONTINUES;
     let stream: [&[u8]; 14] = [
         &BEGINS_0, &long, second, &FILL, third, &FILL, fourth, &FILL, fifth, &FILL, sixth, &FILL,
         &BEGINS_6, &SECOND,
@@ -105,7 +105,7 @@ fn counts_long_pes_packets(rt: HostRuntime) {
 #[test]
 fn reports_a_pes_packet_of_368_bytes_that_are_filled_as_no_gap_marker(rt: HostRuntime) {
     let filled = [0x00, 0x00, 0x01, 0xBD, 0x01, 0x6A];
-    let [second, ..] = &GOES_ON;
+    let [second, ..] = &CONTINUES;
     let stream: [&[u8]; 7] = [
         &BEGINS_0,
         &filled,

@@ -1,10 +1,10 @@
-pub mod CarriedLemmas
-pub mod GivenLemmas
-pub mod JoinedLemmas
-pub mod NoteLemmas
+pub mod CarriedPacketLemmas
+pub mod DeliveredBytesLemmas
+pub mod JoinedPacketLemmas
+pub mod PidEventLemmas
 pub mod OutcomeLemmas
 pub mod ReadyLemmas
 pub mod RecordingLemmas
 pub mod StreamLemmas
-pub mod TakenBytesLemmas
+pub mod ConsumedStreamBytesLemmas
 pub mod WindowLemmas

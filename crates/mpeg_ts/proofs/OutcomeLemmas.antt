@@ -9,71 +9,74 @@ use Rattle.std.specs.List.{concat}
 use lib.Seq.{take-append-le}
 use Rattle.ttx_pes.specs.Reading.{size_at}
 use Rattle.ttx_pes.specs.declared.fault.PesFault.{PesFault}
-use Rattle.mpeg_ts.specs.Carried.{gap_marker, gap_marker_where, with_gap_markers}
+use Rattle.mpeg_ts.specs.CarriedPackets.{gap_marker, gap_marker_where, with_gap_markers}
 use Rattle.mpeg_ts.specs.GoodPackets.{GoodPacket}
-use Rattle.mpeg_ts.specs.Joining.{found_in, found_by_size, gave_packet, last_output_after}
+use Rattle.mpeg_ts.specs.Joining.{found_in, found_by_size, gave_pes_packet, last_output_after}
 use Rattle.mpeg_ts.specs.Parts.{PartOutcome, Pes, Gap, Other, Part, begins_part, part_bytes}
 use Rattle.mpeg_ts.specs.Parts.{gap_where, is_break, may_be_cut_off, outcome, outcome_of_size}
-use Rattle.mpeg_ts.specs.Parts.{outcomes, part_of, parts_from, up_to, with_packet}
+use Rattle.mpeg_ts.specs.Parts.{outcomes, part_is_limited_suffix, parts_from, payloads_up_to}
+use Rattle.mpeg_ts.specs.Parts.{with_packet}
 use Rattle.mpeg_ts.specs.TransportPacket.{payload}
 use Rattle.mpeg_ts.specs.declared.joining.Given.{Given}
 use Rattle.mpeg_ts.specs.declared.joining.Given.TheVariants as given
 use Rattle.mpeg_ts.specs.declared.joining.Found.TheVariants as found
 
-pub by_bool : {P : Type 0} (b : Bool) → (b ≡ true → P) → (b ≡ false → P) → P
-by_bool b h1 h2 = grind (arith, nat_tests)
+pub boolean_cases : {P : Type 0} (b : Bool) → (b ≡ true → P) → (b ≡ false → P) → P
+boolean_cases b h1 h2 = grind (arith, nat_tests)
 
 -- The bytes of outcomes after the item returned last. A gap marker is returned as soon as a gap is
 -- detected.
 abbrev pub output : Given → List PartOutcome → List ℕ
 output g [] = []
-output g (Gap ∷ more) = gap_marker_where (gave_packet g) ++ output (last_output_after true g) more
+output g (Gap ∷ more) = gap_marker_where (gave_pes_packet g) ++ output (last_output_after true g)
+    more
 output g (Pes bytes ∷ more) = bytes ++ output given.Packet more
 output g (Other bytes ∷ more) = bytes
 
-gap_markers : (all : List PartOutcome)
+gap_markers_match_output : (all : List PartOutcome)
     → (with_gap_markers true false all ≡ output given.Packet all)
     × (with_gap_markers true true all ≡ gap_marker ++ output given.GapMarker all)
 unfolding with_gap_markers
-gap_markers [] = grind (arith, nat_tests, append-nil)
-gap_markers (Gap ∷ more) = grind (arith, nat_tests, (gap_markers more))
-gap_markers (Pes b ∷ more) = grind (arith, nat_tests, (gap_markers more))
-gap_markers (Other b ∷ more) = grind (arith, nat_tests)
+gap_markers_match_output [] = grind (arith, nat_tests, append-nil)
+gap_markers_match_output (Gap ∷ more) = grind (arith, nat_tests, (gap_markers_match_output more))
+gap_markers_match_output (Pes b ∷ more) = grind (arith, nat_tests, (gap_markers_match_output more))
+gap_markers_match_output (Other b ∷ more) = grind (arith, nat_tests)
 
 pub with_gap_markers-nothing : (gap : Bool) (all : List PartOutcome)
     → with_gap_markers false gap all ≡ output given.Nothing all
 unfolding with_gap_markers
 with_gap_markers-nothing gap [] = refl
 with_gap_markers-nothing gap (Gap ∷ more) = with_gap_markers-nothing true more
-with_gap_markers-nothing gap (Pes b ∷ more) = ap (λ l. b ++ l) (gap_markers more).0
+with_gap_markers-nothing gap (Pes b ∷ more) = ap (λ l. b ++ l) (gap_markers_match_output more).0
 with_gap_markers-nothing gap (Other b ∷ more) = refl
 
-pub fault_free_after : (g : Given) → gave_packet (last_output_after true g) ≡ false
-fault_free_after g = grind (arith, nat_tests)
+pub gap_ends_packet_output : (g : Given) → gave_pes_packet (last_output_after true g) ≡ false
+gap_ends_packet_output g = grind (arith, nat_tests)
 
-pub output-silent : (g : Given) (more : List PartOutcome)
-    → gave_packet g ≡ false
+pub output-no_output_after_wrong : (g : Given) (more : List PartOutcome)
+    → gave_pes_packet g ≡ false
     → output g (Gap ∷ more) ≡ output g more
-output-silent g more h1 = grind (arith, nat_tests)
+output-no_output_after_wrong g more h1 = grind (arith, nat_tests)
 
 pub output-again : (g : Given) (b : Bool) (more : List PartOutcome)
     → output (last_output_after true g) (gap_where b ++ more) ≡ output (last_output_after true g)
     more
-output-again g b more = grind (arith, nat_tests, output-silent, fault_free_after)
+output-again g b more = grind
+    (arith, nat_tests, output-no_output_after_wrong, gap_ends_packet_output)
 
 pub output-gap_where : (g : Given) (b : Bool) (more : List PartOutcome)
     → output g (gap_where b ++ more)
-    ≡ gap_marker_where (b && gave_packet g) ++ output (last_output_after b g) more
+    ≡ gap_marker_where (b && gave_pes_packet g) ++ output (last_output_after b g) more
 output-gap_where g b more = grind (arith, nat_tests)
 
 pub output-end : (g : Given) (wrong : Bool)
-    → gap_marker_where (wrong && gave_packet g)
+    → gap_marker_where (wrong && gave_pes_packet g)
     ≡ output g (gap_where (not (not wrong)) ++ gap_where wrong)
 output-end g wrong = grind (arith, nat_tests, append-nil)
 
 pub output-end_complete : (g : Given) (excess wrong : Bool)
-    → (excess ≡ true → gave_packet g ≡ false)
-    → gap_marker_where (wrong && gave_packet g) ≡ output g (gap_where excess ++ gap_where wrong)
+    → (excess ≡ true → gave_pes_packet g ≡ false)
+    → gap_marker_where (wrong && gave_pes_packet g) ≡ output g (gap_where excess ++ gap_where wrong)
 output-end_complete g excess wrong h1 = grind (arith, nat_tests, append-nil)
 
 -- The outcomes of the current part and of the good packets that follow, without a gap before the
@@ -82,7 +85,8 @@ abbrev pub tail : Bool → Part → List GoodPacket → List PartOutcome
 tail wrong part [] = outcome (not wrong) part ++ gap_where wrong
 tail wrong part (g ∷ more) =
     if begins_part g then
-    outcome false part ++ (gap_where (is_break g.link) ++ tail wrong (part_of g) more)
+    outcome false part ++ (gap_where (is_break g.link) ++ tail wrong (part_is_limited_suffix g)
+    more)
     else tail wrong (with_packet part g) more
 
 -- The outcomes after the PES packet of a complete part. `excess`: more bytes follow the PES packet
@@ -91,15 +95,21 @@ abbrev pub following : Bool → Bool → List GoodPacket → List PartOutcome
 following excess wrong [] = gap_where excess ++ gap_where wrong
 following excess wrong (g ∷ more) =
     if begins_part g then
-    gap_where excess ++ (gap_where (is_break g.link) ++ tail wrong (part_of g) more)
+    gap_where excess ++ (gap_where (is_break g.link) ++ tail wrong (part_is_limited_suffix g) more)
     else following true wrong more
 
-not_cut_off : (wrong : Bool) (part : Part) (goods : List GoodPacket)
+unfinished_parts_are_not_cut : (wrong : Bool) (part : Part) (goods : List GoodPacket)
     → may_be_cut_off wrong (parts_from part goods) ≡ false
 unfolding parts_from
-not_cut_off wrong part [] = grind (arith, nat_tests)
-not_cut_off wrong part (g ∷ more) =
-    grind (arith, nat_tests, by_bool, (not_cut_off wrong (with_packet part g) more))
+unfinished_parts_are_not_cut wrong part [] = grind (arith, nat_tests)
+unfinished_parts_are_not_cut wrong part (g ∷ more) =
+    grind (
+      arith,
+      nat_tests,
+      boolean_cases,
+      (unfinished_parts_are_not_cut wrong (with_packet part g)
+          more),
+    )
 
 pub outcomes-from : (wrong : Bool) (part : Part) (goods : List GoodPacket)
     → outcomes wrong (parts_from part goods)
@@ -107,13 +117,13 @@ pub outcomes-from : (wrong : Bool) (part : Part) (goods : List GoodPacket)
 unfolding parts_from outcomes
 outcomes-from wrong part [] = refl
 outcomes-from wrong part (g ∷ more) =
-    by_bool (begins_part g)
+    boolean_cases (begins_part g)
     (λ yes. rw yes (
     ap (λ c. gap_where part.after_break
-    ++ (outcome c part ++ outcomes wrong (parts_from (part_of g) more)))
-    (not_cut_off wrong (part_of g) more)
+    ++ (outcome c part ++ outcomes wrong (parts_from (part_is_limited_suffix g) more)))
+    (unfinished_parts_are_not_cut wrong (part_is_limited_suffix g) more)
     ∙ ap (λ l. gap_where part.after_break ++ (outcome false part ++ l))
-    (outcomes-from wrong (part_of g) more)))
+    (outcomes-from wrong (part_is_limited_suffix g) more)))
     (λ no. rw no (outcomes-from wrong (with_packet part g) more))
 
 concat-following : (ps : List (List ℕ)) (x : List ℕ) → concat (ps ++ x ∷ []) ≡ concat ps ++ x
@@ -124,65 +134,65 @@ pub bytes-with : (part : Part) (g : GoodPacket)
     → part_bytes (with_packet part g) ≡ part_bytes part ++ payload g.packet
 bytes-with part g = concat-following part.payloads (payload g.packet)
 
-up_to-reached : (c : ℕ) (ps : List (List ℕ)) (x : List ℕ)
+payloads_up_to-reached : (c : ℕ) (ps : List (List ℕ)) (x : List ℕ)
     → 0 < c
     → c ≤ length (concat ps)
-    → up_to c (ps ++ x ∷ []) ≡ up_to c ps
-unfolding up_to
-up_to-reached c [] x some le = absurd (omega arith)
-up_to-reached c (f ∷ ps) x some le =
-    by_bool (nat_le c (length f)) (λ yes. rw yes refl)
+    → payloads_up_to c (ps ++ x ∷ []) ≡ payloads_up_to c ps
+unfolding payloads_up_to
+payloads_up_to-reached c [] x some le = absurd (omega arith)
+payloads_up_to-reached c (f ∷ ps) x some le =
+    boolean_cases (nat_le c (length f)) (λ yes. rw yes refl)
     (λ no. let lt : length f < c = grind (arith, nat_tests) in
     rw no (ap (λ l. f ++ l)
-    (up_to-reached (c - length f) ps x (omega arith)
+    (payloads_up_to-reached (c - length f) ps x (omega arith)
     (omega (arith, length-append f (concat ps))))))
 
-pub up_to-last : (c : ℕ) (ps : List (List ℕ)) (x : List ℕ)
+pub payloads_up_to-last : (c : ℕ) (ps : List (List ℕ)) (x : List ℕ)
     → length (concat ps) < c
-    → up_to c (ps ++ x ∷ []) ≡ concat ps ++ x
-unfolding up_to
-up_to-last c [] x lt = grind (arith, nat_tests, by_bool, append-nil)
-up_to-last c (f ∷ ps) x lt =
+    → payloads_up_to c (ps ++ x ∷ []) ≡ concat ps ++ x
+unfolding payloads_up_to
+payloads_up_to-last c [] x lt = grind (arith, nat_tests, boolean_cases, append-nil)
+payloads_up_to-last c (f ∷ ps) x lt =
     grind (
       arith,
       nat_tests,
       length-append,
       append_assoc,
-      (up_to-last (c - length f) ps x (omega (arith, length-append f (concat ps)))),
+      (payloads_up_to-last (c - length f) ps x (omega (arith, length-append f (concat ps)))),
     )
 
 found-whole : (n size : ℕ) (r : Result ℕ PesFault)
     → found_by_size n r ≡ found.CompletePesPacket size
     → (r ≡ Ok size) × (size ≤ n)
-found-whole n size r h1 = grind (arith, nat_tests, by_bool)
+found-whole n size r h1 = grind (arith, nat_tests, boolean_cases)
 
 pub found-other : (n : ℕ) (r : Result ℕ PesFault) (f : PesFault)
     → found_by_size n r ≡ found.Other f
     → r ≡ Err f
-found-other n r f h1 = grind (arith, nat_tests, by_bool)
+found-other n r f h1 = grind (arith, nat_tests, boolean_cases)
 
 -- The bytes begin with a complete PES packet of this size.
 pub record IsCompletePacket (bytes : List ℕ) (size : ℕ) : Type 0 where
-  pub six : 6 ≤ length bytes
-  pub sized : size_at (take 6 bytes) ≡ Ok size
+  pub has_six_bytes : 6 ≤ length bytes
+  pub header_states_size : size_at (take 6 bytes) ≡ Ok size
   pub within : size ≤ length bytes
 
 -- The bytes have a wrong start code or length.
 pub record HasWrongStartOrLength (bytes : List ℕ) : Type 0 where
-  pub six : 6 ≤ length bytes
+  pub has_six_bytes : 6 ≤ length bytes
   pub fault : PesFault
   pub refused : size_at (take 6 bytes) ≡ Err fault
 
-pub found_in_complete : (bytes : List ℕ) (size : ℕ)
+pub found_packet_is_complete : (bytes : List ℕ) (size : ℕ)
     → found_in bytes ≡ found.CompletePesPacket size
     → IsCompletePacket bytes size
 unfolding found_in
-found_in_complete bytes size h1 = grind (arith, nat_tests, by_bool, found-whole)
+found_packet_is_complete bytes size h1 = grind (arith, nat_tests, boolean_cases, found-whole)
 
-pub found_in_other : (bytes : List ℕ) (f : PesFault) → found_in bytes ≡ found.Other f →
+pub found_other_is_faulty : (bytes : List ℕ) (f : PesFault) → found_in bytes ≡ found.Other f →
     HasWrongStartOrLength bytes
 unfolding found_in
-found_in_other bytes f h1 = grind (arith, nat_tests, by_bool, found-other)
+found_other_is_faulty bytes f h1 = grind (arith, nat_tests, boolean_cases, found-other)
 
 pub outcome-headless : (cut : Bool) (part : Part)
     → part.begins ≡ false
@@ -191,16 +201,16 @@ unfolding outcome
 outcome-headless cut part headless = rw headless refl
 
 outcome-of_unfinished : (cut : Bool) (part : Part) (r : Result ℕ PesFault)
-    → found_by_size (length (part_bytes part)) r ≡ found.Unfinished
+    → found_by_size (length (part_bytes part)) r ≡ found.IncompletePesPacket
     → outcome_of_size cut part r ≡ gap_where (not cut)
-outcome-of_unfinished cut part r h1 = grind (arith, nat_tests, by_bool)
+outcome-of_unfinished cut part r h1 = grind (arith, nat_tests, boolean_cases)
 
 pub outcome-unfinished : (cut : Bool) (part : Part)
     → part.begins ≡ true
-    → found_in (part_bytes part) ≡ found.Unfinished
+    → found_in (part_bytes part) ≡ found.IncompletePesPacket
     → outcome cut part ≡ gap_where (not cut)
 unfolding outcome found_in
-outcome-unfinished cut part h1 h2 = grind (arith, nat_tests, by_bool, outcome-of_unfinished)
+outcome-unfinished cut part h1 h2 = grind (arith, nat_tests, boolean_cases, outcome-of_unfinished)
 
 outcome-whole : (cut : Bool) (part : Part) (size : ℕ)
     → part.begins ≡ true
@@ -213,7 +223,7 @@ outcome-whole cut part size h1 h2 = grind (arith, nat_tests)
 outcome-other : (cut : Bool) (part : Part)
     → part.begins ≡ true
     → HasWrongStartOrLength (part_bytes part)
-    → outcome cut part ≡ Other (up_to 6 part.payloads) ∷ []
+    → outcome cut part ≡ Other (payloads_up_to 6 part.payloads) ∷ []
 unfolding outcome
 outcome-other cut part h1 h2 = grind (arith, nat_tests)
 
@@ -221,11 +231,11 @@ abbrev pub HavePayloads : List GoodPacket → Type 0
 HavePayloads [] = Unit {0}
 HavePayloads (g ∷ more) = (0 < length (payload g.packet)) × HavePayloads more
 
-first_six_bytes_same : (bytes more all : List ℕ)
+equal_headers_give_equal_size : (bytes more all : List ℕ)
     → all ≡ bytes ++ more
     → 6 ≤ length bytes
     → size_at (take 6 all) ≡ size_at (take 6 bytes)
-first_six_bytes_same bytes more all h1 h2 = grind (arith, nat_tests)
+equal_headers_give_equal_size bytes more all h1 h2 = grind (arith, nat_tests)
 
 -- The PES packet of a complete part is returned, whatever packets follow.
 pub tail-whole : (wrong : Bool) (part : Part) (size : ℕ) (goods : List GoodPacket)
@@ -240,70 +250,87 @@ tail-whole wrong part size [] all begins w =
 tail-whole wrong part size (g ∷ more) all begins w =
     let bytes = part_bytes part in
     let p = payload g.packet in
-    let grown = part_bytes (with_packet part g) in
-    let same : grown ≡ bytes ++ p = bytes-with part g in
-    let long : length grown ≡ length bytes + length p = ap length same ∙ length-append bytes p in
-    let w2 : IsCompletePacket grown size = record {
-      six = omega (arith, long, w.six);
-      sized = first_six_bytes_same bytes p grown same w.six ∙ w.sized;
+    let grow_part = part_bytes (with_packet part g) in
+    let same : grow_part ≡ bytes ++ p = bytes-with part g in
+    let long : length grow_part ≡ length bytes + length p = ap length same ∙ length-append bytes p
+    in
+    let w2 : IsCompletePacket grow_part size = record {
+      has_six_bytes = omega (arith, long, w.has_six_bytes);
+      header_states_size = equal_headers_give_equal_size bytes p grow_part same w.has_six_bytes ∙
+          w.header_states_size;
       within = omega (arith, long, w.within);
     } in
-    let prefix : take size grown ≡ take size bytes =
+    let prefix : take size grow_part ≡ take size bytes =
     ap (take size) same ∙ take-append-le size bytes p w.within in
-    let excess : nat_lt size (length grown) ≡ true =
-    is_lt size (length grown) (omega (arith, long, w.within, all.0)) in
-    by_bool (begins_part g)
+    let excess : nat_lt size (length grow_part) ≡ true =
+    less_than_test_is_true size (length grow_part) (omega (arith, long, w.within, all.0)) in
+    boolean_cases (begins_part g)
     (λ yes. rw yes (
-    ap (λ l. l ++ (gap_where (is_break g.link) ++ tail wrong (part_of g) more))
+    ap (λ l. l ++ (gap_where (is_break g.link) ++ tail wrong (part_is_limited_suffix g) more))
     (outcome-whole false part size begins w)))
     (λ no. rw no (
     tail-whole wrong (with_packet part g) size more all.1 begins w2
-    ∙ ap (λ l. Pes l ∷ following (nat_lt size (length grown)) wrong more) prefix
+    ∙ ap (λ l. Pes l ∷ following (nat_lt size (length grow_part)) wrong more) prefix
     ∙ ap (λ b. Pes (take size bytes) ∷ following b wrong more) excess))
   where
-    is_lt : (m n : ℕ) → m < n → nat_lt m n ≡ true
-    is_lt m n lt = grind (arith, nat_tests)
+    less_than_test_is_true : (m n : ℕ) → m < n → nat_lt m n ≡ true
+    less_than_test_is_true m n lt = grind (arith, nat_tests)
 
 -- The bytes of a part with a wrong start code or length are returned unchanged, whatever packets
 -- follow.
 pub output-other : (g : Given) (wrong : Bool) (part : Part) (goods : List GoodPacket)
     → part.begins ≡ true
     → HasWrongStartOrLength (part_bytes part)
-    → output g (tail wrong part goods) ≡ up_to 6 part.payloads
+    → output g (tail wrong part goods) ≡ payloads_up_to 6 part.payloads
 output-other h wrong part [] begins o =
     ap (λ l. output h (l ++ gap_where wrong)) (outcome-other (not wrong) part begins o)
 output-other h wrong part (g ∷ more) begins o =
     let bytes = part_bytes part in
     let p = payload g.packet in
-    let grown = part_bytes (with_packet part g) in
-    let same : grown ≡ bytes ++ p = bytes-with part g in
-    let long : length grown ≡ length bytes + length p = ap length same ∙ length-append bytes p in
-    let o2 : HasWrongStartOrLength grown = record {
-      six = omega (arith, long, o.six);
+    let grow_part = part_bytes (with_packet part g) in
+    let same : grow_part ≡ bytes ++ p = bytes-with part g in
+    let long : length grow_part ≡ length bytes + length p = ap length same ∙ length-append bytes p
+    in
+    let o2 : HasWrongStartOrLength grow_part = record {
+      has_six_bytes = omega (arith, long, o.has_six_bytes);
       fault = o.fault;
-      refused = first_six_bytes_same bytes p grown same o.six ∙ o.refused;
+      refused = equal_headers_give_equal_size bytes p grow_part same o.has_six_bytes ∙ o.refused;
     } in
-    by_bool (begins_part g)
+    boolean_cases (begins_part g)
     (λ yes. rw yes (
-    ap (λ l. output h (l ++ (gap_where (is_break g.link) ++ tail wrong (part_of g) more)))
+    ap (λ l. output h (l ++ (gap_where (is_break g.link) ++ tail wrong (part_is_limited_suffix g)
+    more)))
     (outcome-other false part begins o)))
     (λ no. rw no (
     output-other h wrong (with_packet part g) more begins o2
-    ∙ up_to-reached 6 part.payloads p (omega arith) o.six))
+    ∙ payloads_up_to-reached 6 part.payloads p (omega arith) o.has_six_bytes))
 
 pub output-excess : (g : Given) (wrong : Bool) (goods : List GoodPacket)
     → output g (following true wrong goods)
-    ≡ gap_marker_where (gave_packet g) ++ output (last_output_after true g)
+    ≡ gap_marker_where (gave_pes_packet g) ++ output (last_output_after true g)
     (following true wrong goods)
-output-excess h wrong [] = grind (arith, nat_tests, output-silent, fault_free_after)
+output-excess h wrong [] = grind
+    (arith, nat_tests, output-no_output_after_wrong, gap_ends_packet_output)
 output-excess h wrong (g ∷ more) =
-    grind (arith, nat_tests, by_bool, output-silent, fault_free_after, (output-excess h wrong more))
+    grind (
+      arith,
+      nat_tests,
+      boolean_cases,
+      output-no_output_after_wrong,
+      gap_ends_packet_output,
+      (output-excess h wrong more),
+    )
 
 -- If a part was an incomplete PES packet and one more payload shows a wrong start code or length,
 -- the part had fewer than six bytes before that payload.
-pub other_with_last : (bytes more : List ℕ)
-    → found_in bytes ≡ found.Unfinished
+pub late_fault_needs_short_start : (bytes more : List ℕ)
+    → found_in bytes ≡ found.IncompletePesPacket
     → HasWrongStartOrLength (bytes ++ more)
     → length bytes < 6
 unfolding found_in
-other_with_last bytes more h1 h2 = grind (arith, nat_tests, by_bool, first_six_bytes_same)
+late_fault_needs_short_start bytes more h1 h2 = grind (
+  arith,
+  nat_tests,
+  boolean_cases,
+  equal_headers_give_equal_size,
+)

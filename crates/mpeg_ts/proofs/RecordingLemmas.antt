@@ -5,24 +5,25 @@ use Rattle.std.proofs.lemmas.Bool.Decides.{nat_tests}
 use Rattle.std.proofs.lemmas.List.{append-nil}
 use Rattle.std.specs.Prelude.{nat_lt, option_map}
 use Rattle.std.specs.Io.KnownBytes.{Consumes, IsAtEnd, Keeps}
-use Rattle.ttx_pes.specs.Advancing.{IsRest}
+use Rattle.ttx_pes.specs.Advancing.{IsReportedRest}
 use Rattle.ttx_pes.specs.PesPackets.{IsPesPacket}
-use Rattle.ttx_pes.specs.Reader.{FailsWithin}
+use Rattle.ttx_pes.specs.Reader.{FailsWithinPacket}
 use Rattle.ttx_pes.specs.declared.fault.PesFault.{PesFault}
-use Rattle.ttx_pes.proofs.PesPacketBufferLemmas.{show_sized}
-use Rattle.mpeg_ts.specs.Carried.{gap_marker}
-use Rattle.mpeg_ts.specs.Joining.{IsRefused, JoiningValue, TakesNext, emptied, has_ended}
+use Rattle.ttx_pes.proofs.PesPacketBufferLemmas.{size_fault_is_reported}
+use Rattle.mpeg_ts.specs.CarriedPackets.{gap_marker}
+use Rattle.mpeg_ts.specs.Joining.{IsRefusedAtStart, JoiningValue, TakesNext, with_no_bytes}
+use Rattle.mpeg_ts.specs.Joining.{has_ended}
 use Rattle.mpeg_ts.specs.Joining.{taken_bytes}
 use Rattle.mpeg_ts.specs.Recording.{IsAtRest}
 use Rattle.mpeg_ts.specs.Stream.{StreamValue, output_of, remaining_output, stream_output}
 use Rattle.mpeg_ts.specs.declared.pending_item.Next.{Next}
 use Rattle.mpeg_ts.specs.declared.pending_item.Next.TheVariants as next
 use Rattle.mpeg_ts.proofs.ReadyLemmas.{length-gap_marker}
-use Rattle.mpeg_ts.proofs.StreamLemmas.{prefix_consumed, later_ended}
+use Rattle.mpeg_ts.proofs.StreamLemmas.{output_prefix_is_consumed, ended_part_no_later_output}
 
-pub gap_marker_pes_packet : IsPesPacket gap_marker
+pub gap_marker_is_pes_packet : IsPesPacket gap_marker
 unfolding gap_marker
-gap_marker_pes_packet = record {
+gap_marker_is_pes_packet = record {
   n = 1;
   body = _;
   bytes = refl;
@@ -30,15 +31,16 @@ gap_marker_pes_packet = record {
   long = length-gap_marker;
 }
 
-pub pes_packet_taken : (before known_bytes : Option (List ℕ)) (u v w : StreamValue)
+pub pending_packet_is_consumed : (before known_bytes : Option (List ℕ)) (u v w : StreamValue)
     (pes_packet : List ℕ)
     → Keeps (remaining_output u before) (remaining_output v known_bytes)
     → v.joining.pending ≡ pes_packet ++ w.joining.pending
     → w.joining ≡ record v.joining { pending = w.joining.pending }
     → w ≡ record v { joining = w.joining }
     → Consumes (remaining_output u before) (remaining_output w known_bytes) pes_packet
-pes_packet_taken before known_bytes u v w pes_packet keeps prefix same only =
-    back (prefix_consumed before known_bytes u v w.joining.pending pes_packet keeps prefix)
+pending_packet_is_consumed before known_bytes u v w pes_packet keeps prefix same only =
+    back (output_prefix_is_consumed before known_bytes u v w.joining.pending pes_packet keeps
+    prefix)
   where
     whole : w ≡ record v { joining = record v.joining { pending = w.joining.pending } }
     whole = only ∙ ap (λ (j : JoiningValue). record v { joining = j }) same
@@ -52,27 +54,29 @@ pes_packet_taken before known_bytes u v w pes_packet keeps prefix same only =
     back p = rw whole p
 
 -- If the pending bytes do not begin with a PES packet, they are the remaining output.
-rest_given : (v : StreamValue) (bytes : List ℕ)
+ended_stream_outputs_rest : (v : StreamValue) (bytes : List ℕ)
     → v.joining.pending ≡ v.joining.bytes
     → has_ended v.joining.part ≡ true
     → output_of v bytes ≡ v.joining.bytes
 unfolding stream_output
-rest_given v bytes all ended =
-    ap (λ (l : List ℕ). v.joining.pending ++ l) (later_ended _ _ ended)
+ended_stream_outputs_rest v bytes all ended =
+    ap (λ (l : List ℕ). v.joining.pending ++ l) (ended_part_no_later_output _ _ ended)
     ∙ append-nil v.joining.pending
     ∙ all
 
-pub rest_left : (before known_bytes : Option (List ℕ)) (u v : StreamValue) (f : PesFault)
+pub ended_stream_keeps_rest : (before known_bytes : Option (List ℕ)) (u v : StreamValue)
+    (f : PesFault)
     → Keeps (remaining_output u before) (remaining_output v known_bytes)
     → v.joining.pending ≡ v.joining.bytes
-    → IsRefused v.joining.bytes f
+    → IsRefusedAtStart v.joining.bytes f
     → has_ended v.joining.part ≡ true
-    → IsRest (remaining_output u before) (option_map (λ bytes. []) (remaining_output v known_bytes))
+    → IsReportedRest (remaining_output u before)
+    (option_map (λ bytes. []) (remaining_output v known_bytes))
     f
-rest_left before known_bytes u v f keeps all refused ended = record {
+ended_stream_keeps_rest before known_bytes u v f keeps all refused ended = record {
   bytes = v.joining.bytes;
   consumed = read before known_bytes keeps;
-  shows = show_sized _ v.joining.bytes f refused.0 refused.1;
+  shows = size_fault_is_reported _ v.joining.bytes f refused.0 refused.1;
 }
   where
     read :
@@ -83,38 +87,41 @@ rest_left before known_bytes u v f keeps all refused ended = record {
     read None y kept = tt
     read (Some xs) None kept = absurd kept
     read (Some xs) (Some ys) kept =
-        sym kept ∙ rest_given v ys all ended ∙ sym (append-nil v.joining.bytes)
+        sym kept ∙ ended_stream_outputs_rest v ys all ended ∙ sym (append-nil v.joining.bytes)
 
-nothing_given : (v : StreamValue) (bytes : List ℕ)
+emptied_stream_outputs_nothing : (v : StreamValue) (bytes : List ℕ)
     → has_ended v.joining.part ≡ true
-    → output_of (record v { joining = emptied v.joining }) bytes ≡ []
+    → output_of (record v { joining = with_no_bytes v.joining }) bytes ≡ []
 unfolding stream_output
-nothing_given v bytes ended = later_ended _ _ ended
+emptied_stream_outputs_nothing v bytes ended = ended_part_no_later_output _ _ ended
 
-pub rest_taken : (known_bytes : Option (List ℕ)) (v w : StreamValue)
+pub emptying_consumes_rest : (known_bytes : Option (List ℕ)) (v w : StreamValue)
     → IsAtRest v
-    → w ≡ record v { joining = emptied v.joining }
+    → w ≡ record v { joining = with_no_bytes v.joining }
     → Consumes (remaining_output v known_bytes) (remaining_output w known_bytes) v.joining.bytes
     × IsAtEnd (remaining_output w known_bytes)
-rest_taken None v w rest is = (tt, tt)
-rest_taken (Some xs) v w rest is =
+emptying_consumes_rest None v w rest is = (tt, tt)
+emptying_consumes_rest (Some xs) v w rest is =
     let none : output_of w xs ≡ [] =
-    ap (λ (s : StreamValue). output_of s xs) is ∙ nothing_given v xs rest.ended in (
-      rest_given v xs rest.all rest.ended
+    ap (λ (s : StreamValue). output_of s xs) is ∙ emptied_stream_outputs_nothing v xs rest.ended
+    in (
+      ended_stream_outputs_rest v xs rest.all rest.ended
           ∙ sym (append-nil v.joining.bytes)
           ∙ ap (λ (l : List ℕ). v.joining.bytes ++ l) (sym none),
       none,
     )
 
-pub rest_emptied : (v w : StreamValue) → IsAtRest v
-    → w ≡ record v { joining = emptied v.joining }
+pub emptied_stream_is_at_rest : (v w : StreamValue) → IsAtRest v
+    → w ≡ record v { joining = with_no_bytes v.joining }
     → IsAtRest w
-rest_emptied v w rest is = subst IsAtRest (sym is) (record { all = refl; ended = rest.ended })
+emptied_stream_is_at_rest v w rest is = subst IsAtRest (sym is)
+    (record { all = refl; ended = rest.ended })
 
-pub ruleset rests = (rest_taken, rest_emptied)
+pub ruleset rests = (emptying_consumes_rest, emptied_stream_is_at_rest)
 
-pub none_taken : (old new : Option (List ℕ)) → Keeps old new → FailsWithin old new
-none_taken old new keeps = record {
+pub nothing_consumed_means_end : (old new : Option (List ℕ)) → Keeps old new → FailsWithinPacket old
+    new
+nothing_consumed_means_end old new keeps = record {
   bytes = [];
   consumed = consumed old new keeps;
   begun = inl (omega arith);
@@ -125,69 +132,74 @@ none_taken old new keeps = record {
     consumed (Some xs) None kept = absurd kept
     consumed (Some xs) (Some ys) kept = sym kept
 
-pub some_ready : (l : List ℕ) → nat_lt 0 (length l) ≡ true → l ≢ []
-some_ready l h1 = λ none. grind (arith, nat_tests)
+pub positive_count_is_not_empty : (l : List ℕ) → nat_lt 0 (length l) ≡ true → l ≢ []
+positive_count_is_not_empty l h1 = λ none. grind (arith, nat_tests)
 
 module _ (before known_bytes : Option (List ℕ)) (u v w : StreamValue)
     (keeps : Keeps (remaining_output u before) (remaining_output v known_bytes))
     (only : w ≡ record v { joining = w.joining })
   where
-    pub end_received : (v.joining.pending ≡ [] → IsAtEnd (remaining_output v known_bytes))
+    pub nothing_next_is_end : (v.joining.pending ≡ [] → IsAtEnd (remaining_output v known_bytes))
         → TakesNext v.joining next.Nothing w.joining
         → Keeps (remaining_output u before) (remaining_output w known_bytes) × IsAtEnd
         (remaining_output w known_bytes)
-    end_received end taken =
+    nothing_next_is_end end taken =
         let same : w ≡ v = only ∙ ap (λ (j : JoiningValue). record v { joining = j }) taken.1 in
         rw same (keeps, end taken.0)
 
-    pub rest_received : (fault : PesFault)
+    pub rest_next_is_reported : (fault : PesFault)
         → TakesNext v.joining (next.Rest fault) w.joining
         → Keeps (remaining_output u before) (remaining_output w known_bytes)
-        × IsRest (remaining_output u before)
+        × IsReportedRest (remaining_output u before)
         (option_map (λ bytes. []) (remaining_output w known_bytes)) fault
-    rest_received fault taken =
+    rest_next_is_reported fault taken =
         let same : w ≡ v = only ∙ ap (λ (j : JoiningValue). record v { joining = j }) taken.3 in
-        rw same (keeps, rest_left before known_bytes u v fault keeps taken.0 taken.1 taken.2)
+        rw same (
+          keeps,
+          ended_stream_keeps_rest before known_bytes u v fault keeps taken.0 taken.1
+              taken.2,
+        )
 
-    pub rest_stays : (fault : PesFault)
+    pub rest_next_stays_at_rest : (fault : PesFault)
         → TakesNext v.joining (next.Rest fault) w.joining
         → IsAtRest w
-    rest_stays fault taken =
+    rest_next_stays_at_rest fault taken =
         let all : v.joining.pending ≡ v.joining.bytes = taken.0 in
         let same : w.joining ≡ v.joining = taken.3 in
         subst (λ (j : JoiningValue). IsAtRest (record w { joining = j })) (sym same)
         (record { all = all; ended = taken.2 })
 
-    pub pes_packet_received : (n : Next)
+    pub received_packet_is_taken : (n : Next)
         → (n ≡ next.Nothing → ⊥)
         → ((fault : PesFault) → n ≡ next.Rest fault → ⊥)
         → TakesNext v.joining n w.joining
         → IsPesPacket (taken_bytes n w.joining.bytes)
         × Consumes (remaining_output u before) (remaining_output w known_bytes)
         (taken_bytes n w.joining.bytes)
-    pes_packet_received next.Nothing some more taken = absurd (some refl)
-    pes_packet_received (next.Rest fault) some more taken = absurd (more fault refl)
-    pes_packet_received next.GapMarker some more taken = (
-      gap_marker_pes_packet,
-      pes_packet_taken before known_bytes u v w gap_marker keeps taken.0
+    received_packet_is_taken next.Nothing some more taken = absurd (some refl)
+    received_packet_is_taken (next.Rest fault) some more taken = absurd (more fault refl)
+    received_packet_is_taken next.GapMarker some more taken = (
+      gap_marker_is_pes_packet,
+      pending_packet_is_consumed before known_bytes u v w gap_marker keeps taken.0
           taken.1 only,
     )
-    pes_packet_received (next.Packet size) some more taken =
+    received_packet_is_taken (next.Packet size) some more taken =
         let same : w.joining.bytes ≡ v.joining.bytes =
         ap (λ (j : JoiningValue). j.bytes) taken.3 in
         subst (λ (l : List ℕ). IsPesPacket (take size l)
         × Consumes (remaining_output u before) (remaining_output w known_bytes) (take size l))
         (sym same) (
           taken.0,
-          pes_packet_taken before known_bytes u v w (take size v.joining.bytes) keeps taken.2
+          pending_packet_is_consumed before known_bytes u v w (take size v.joining.bytes) keeps
+              taken.2
               taken.3 only,
         )
 
 pub ruleset takes = (
-  end_received,
-  rest_received,
-  rest_stays,
-  pes_packet_received,
-  none_taken,
-  some_ready,
+  nothing_next_is_end,
+  rest_next_is_reported,
+  rest_next_stays_at_rest,
+  received_packet_is_taken,
+  nothing_consumed_means_end,
+  positive_count_is_not_empty,
 )

@@ -11,140 +11,156 @@ use Rattle.std.proofs.Math.Seq.{drop-append-add, drop-append_seam, take-append-a
 use Rattle.std.specs.Prelude.{◌&&◌, ◌||◌, ◌==◌, ◌%◌, ◌*◌, nat_lt, slice_index, if◌then◌else◌}
 use Rattle.std.specs.Io.KnownBytes.{Consumes, IsAtEnd, Keeps}
 use lib.Seq.{take-add, take-append-le}
-use Rattle.sub_io.specs.Asking.{Requests, requests_on, requests_once}
+use Rattle.sub_io.specs.Requesting.{Requests, requests_on, requests_once}
 use Rattle.sub_io.specs.Device.{SkipsOver}
-use Rattle.sub_io.specs.Reading.{AreNext}
-use Rattle.sub_io.proofs.AskingLemmas.{requested_after, requests_none, skipped_borrowed}
-use Rattle.mpeg_ts.specs.GoodPackets.{Note, Loss, loss_size, note_of, notes}
-use Rattle.mpeg_ts.specs.Joining.{JoiningValue, after_note, later_output, delivered, has_ended}
+use Rattle.sub_io.specs.Reading.{AreNextBytes}
+use Rattle.sub_io.proofs.RequestingLemmas.{requests_shift_past_read_bytes}
+use Rattle.sub_io.proofs.RequestingLemmas.{empty_read_requests_nothing}
+use Rattle.sub_io.proofs.RequestingLemmas.{skipping_consumes_borrowed_prefix}
+use Rattle.mpeg_ts.specs.GoodPackets.{PidEvent, Loss, loss_size, event_of_packet, pid_events}
+use Rattle.mpeg_ts.specs.Joining.{JoiningValue, after_pid_event, later_output, without_pending}
+use Rattle.mpeg_ts.specs.Joining.{has_ended}
 use Rattle.mpeg_ts.specs.PacketsInStep.{Packet, Skipped, begins_packet, bytes_needed, items}
 use Rattle.mpeg_ts.specs.Stream.{StreamValue, after_packet, after_skipped, bytes_ahead}
 use Rattle.mpeg_ts.specs.Stream.{output_of, has_output, remaining_output, stream_output}
 use Rattle.mpeg_ts.specs.TransportPacket.{packet_size, pid}
-use Rattle.mpeg_ts.specs.TakenBytes.{TakesPrefix, takes_bytes}
+use Rattle.mpeg_ts.specs.ConsumedStreamBytes.{TakesPrefix, takes_bytes}
 use Rattle.mpeg_ts.specs.Window.{RequestsUpTo, WindowValue, buffered_and_left, known_bytes_left}
-use Rattle.mpeg_ts.proofs.TakenBytesLemmas.{takes_kept, takes_none, takes_on, takes_then}
+use Rattle.mpeg_ts.proofs.ConsumedStreamBytesLemmas.{take_keeps_output, empty_take_keeps_output}
+use Rattle.mpeg_ts.proofs.ConsumedStreamBytesLemmas.{take_continues, takes_compose}
 
-pub items_end : (distance : ℕ) (in_step : Bool) (room : ℕ) (bytes : List ℕ)
+pub too_short_bytes_no_items : (distance : ℕ) (in_step : Bool) (room : ℕ) (bytes : List ℕ)
     → length bytes < 188
     → items distance in_step room bytes ≡ []
 unfolding items
-items_end distance in_step room bytes h1 = grind (arith, nat_tests)
+too_short_bytes_no_items distance in_step room bytes h1 = grind (arith, nat_tests)
 
-pub items_packet : (distance : ℕ) (in_step : Bool) (room : ℕ) (bytes : List ℕ)
+pub packet_is_first_item : (distance : ℕ) (in_step : Bool) (room : ℕ) (bytes : List ℕ)
     → 188 ≤ length bytes
     → begins_packet distance in_step bytes ≡ true
     → items distance in_step (suc room) bytes
     ≡ Packet (take packet_size bytes) ∷ items distance true room (drop distance bytes)
 unfolding items
-items_packet distance in_step room bytes h1 h2 = grind (arith, nat_tests)
+packet_is_first_item distance in_step room bytes h1 h2 = grind (arith, nat_tests)
 
-pub items_skipped : (distance : ℕ) (in_step : Bool) (room : ℕ) (bytes : List ℕ)
+pub skipped_byte_is_first_item : (distance : ℕ) (in_step : Bool) (room : ℕ) (bytes : List ℕ)
     → 188 ≤ length bytes
     → begins_packet distance in_step bytes ≡ false
     → items distance in_step (suc room) bytes
     ≡ Skipped ∷ items distance false room (drop 1 bytes)
 unfolding items
-items_skipped distance in_step room bytes h1 h2 = grind (arith, nat_tests)
+skipped_byte_is_first_item distance in_step room bytes h1 h2 = grind (arith, nat_tests)
 
-pub by_bool : {P : Type 0} (b : Bool) → (b ≡ true → P) → (b ≡ false → P) → P
-by_bool b h1 h2 = grind (arith, nat_tests)
+pub boolean_cases : {P : Type 0} (b : Bool) → (b ≡ true → P) → (b ≡ false → P) → P
+boolean_cases b h1 h2 = grind (arith, nat_tests)
 
 -- The number of items is at most the number of bytes, so any larger bound gives the same items.
-pub items_at_most_bytes : (distance : ℕ) (in_step : Bool) (room : ℕ) (more : ℕ) (bytes : List ℕ)
+pub extra_steps_add_no_items : (distance : ℕ) (in_step : Bool) (room : ℕ) (more : ℕ)
+    (bytes : List ℕ)
     → 188 ≤ distance
     → length bytes ≤ room
     → length bytes ≤ more
     → items distance in_step room bytes ≡ items distance in_step more bytes
-items_at_most_bytes distance in_step zero more bytes far le le_more = grind
-    (arith, nat_tests, items_end)
-items_at_most_bytes distance in_step (suc room) zero bytes far le le_more =
-    grind (arith, nat_tests, items_end)
-items_at_most_bytes distance in_step (suc room) (suc more) bytes far le le_more =
+extra_steps_add_no_items distance in_step zero more bytes far le le_more = grind
+    (arith, nat_tests, too_short_bytes_no_items)
+extra_steps_add_no_items distance in_step (suc room) zero bytes far le le_more =
+    grind (arith, nat_tests, too_short_bytes_no_items)
+extra_steps_add_no_items distance in_step (suc room) (suc more) bytes far le le_more =
     grind (
       arith,
       nat_tests,
-      by_bool,
-      items_end,
-      items_packet,
+      boolean_cases,
+      too_short_bytes_no_items,
+      packet_is_first_item,
       length-drop,
-      items_skipped,
-      items_at_most_bytes distance true room more (drop distance bytes) far
+      skipped_byte_is_first_item,
+      extra_steps_add_no_items distance true room more (drop distance bytes) far
           (omega (arith, length-drop distance bytes)) (omega (arith, length-drop distance bytes)),
-      items_at_most_bytes distance false room more (drop 1 bytes) far
+      extra_steps_add_no_items distance false room more (drop 1 bytes) far
           (omega (arith, length-drop 1 bytes)) (omega (arith, length-drop 1 bytes)),
     )
 
-all_packet : (distance : ℕ) (in_step : Bool) (bytes : List ℕ)
+packet_is_first_of_all : (distance : ℕ) (in_step : Bool) (bytes : List ℕ)
     → 188 ≤ distance
     → 188 ≤ length bytes
     → begins_packet distance in_step bytes ≡ true
     → items distance in_step (length bytes) bytes
     ≡ Packet (take packet_size bytes)
     ∷ items distance true (length (drop distance bytes)) (drop distance bytes)
-all_packet distance in_step bytes h1 h2 h3 =
-    grind (arith, nat_tests, items_packet, items_at_most_bytes, length-drop)
+packet_is_first_of_all distance in_step bytes h1 h2 h3 =
+    grind (arith, nat_tests, packet_is_first_item, extra_steps_add_no_items, length-drop)
 
-all_skipped : (distance : ℕ) (in_step : Bool) (bytes : List ℕ)
+skipped_byte_comes_first : (distance : ℕ) (in_step : Bool) (bytes : List ℕ)
     → 188 ≤ distance
     → 188 ≤ length bytes
     → begins_packet distance in_step bytes ≡ false
     → items distance in_step (length bytes) bytes
     ≡ Skipped ∷ items distance false (length (drop 1 bytes)) (drop 1 bytes)
-all_skipped distance in_step bytes h1 h2 h3 =
-    grind (arith, nat_tests, items_skipped, items_at_most_bytes, length-drop)
+skipped_byte_comes_first distance in_step bytes h1 h2 h3 =
+    grind (arith, nat_tests, skipped_byte_is_first_item, extra_steps_add_no_items, length-drop)
 
-later_note : (j : JoiningValue) (n : Note) (more : List Note)
+event_gives_later_output : (j : JoiningValue) (n : PidEvent) (more : List PidEvent)
     → has_ended j.part ≡ false
     → j.pending ≡ []
-    → later_output (delivered j) (n ∷ more)
-    ≡ (after_note j n).pending ++ later_output (delivered (after_note j n)) more
+    → later_output (without_pending j) (n ∷ more)
+    ≡ (after_pid_event j n).pending ++ later_output (without_pending (after_pid_event j n)) more
 unfolding later_output
-later_note j n more going idle =
-    let same : delivered j ≡ j = ap (λ (l : List ℕ). record j { pending = l }) (sym idle) in
-    rw going (ap (λ (v : JoiningValue).
-    (after_note v n).pending ++ later_output (delivered (after_note v n)) more) same)
+event_gives_later_output j n more part_is_open idle =
+    let same : without_pending j ≡ j = ap (λ (l : List ℕ). record j { pending = l }) (sym idle) in
+    rw part_is_open (ap (λ (v : JoiningValue).
+    (after_pid_event v n).pending ++ later_output (without_pending (after_pid_event v n)) more)
+    same)
 
-later_end : (j : JoiningValue) → later_output j [] ≡ []
+no_events_no_later_output : (j : JoiningValue) → later_output j [] ≡ []
 unfolding later_output
-later_end j = refl
+no_events_no_later_output j = refl
 
-pub later_ended : (j : JoiningValue) (all : List Note)
+pub ended_part_no_later_output : (j : JoiningValue) (all : List PidEvent)
     → has_ended j.part ≡ true
     → later_output j all ≡ []
 unfolding later_output
-later_ended j [] ended = refl
-later_ended j (n ∷ more) ended = rw ended refl
+ended_part_no_later_output j [] ended = refl
+ended_part_no_later_output j (n ∷ more) ended = rw ended refl
 
-stream_end : (distance number run : ℕ) (in_step : Bool) (j : JoiningValue) (bytes : List ℕ)
+short_stream_outputs_nothing : (distance number run : ℕ) (in_step : Bool) (j : JoiningValue)
+    (bytes : List ℕ)
     → length bytes < 188
     → j.pending ≡ []
     → stream_output distance number run in_step j bytes ≡ []
-unfolding stream_output notes
-stream_end distance number run in_step j bytes few idle =
-    ap (λ l. l ++ later_output (delivered j)
-    (notes distance number run (items distance in_step (length bytes) bytes))) idle
-    ∙ ap (λ l. later_output (delivered j) (notes distance number run l))
-    (items_end distance in_step (length bytes) bytes few)
-    ∙ later_end (delivered j)
+unfolding stream_output pid_events
+short_stream_outputs_nothing distance number run in_step j bytes few idle =
+    ap (λ l. l ++ later_output (without_pending j)
+    (pid_events distance number run (items distance in_step (length bytes) bytes))) idle
+    ∙ ap (λ l. later_output (without_pending j) (pid_events distance number run l))
+    (too_short_bytes_no_items distance in_step (length bytes) bytes few)
+    ∙ no_events_no_later_output (without_pending j)
 
-stream_ended : (distance number run : ℕ) (in_step : Bool) (j : JoiningValue) (bytes : List ℕ)
+ended_stream_outputs_nothing : (distance number run : ℕ) (in_step : Bool) (j : JoiningValue)
+    (bytes : List ℕ)
     → has_ended j.part ≡ true
     → j.pending ≡ []
     → stream_output distance number run in_step j bytes ≡ []
 unfolding stream_output
-stream_ended distance number run in_step j bytes h1 h2 = grind (arith, nat_tests, later_ended)
+ended_stream_outputs_nothing distance number run in_step j bytes h1 h2 = grind
+    (arith, nat_tests, ended_part_no_later_output)
 
-packet_notes : (distance number : ℕ) (p : List ℕ) (j : JoiningValue) (more : List Note)
+packet_event_gives_output : (distance number : ℕ) (p : List ℕ) (j : JoiningValue)
+    (more : List PidEvent)
     → has_ended j.part ≡ false
     → j.pending ≡ []
-    → later_output (delivered j)
-    (if pid p == number then note_of p ∷ more else more)
+    → later_output (without_pending j)
+    (if pid p == number then event_of_packet p ∷ more else more)
     ≡ (after_packet number p j).pending
-    ++ later_output (delivered (after_packet number p j)) more
-packet_notes distance number p j more h1 h2 = grind (arith, nat_tests, by_bool, later_note)
+    ++ later_output (without_pending (after_packet number p j)) more
+packet_event_gives_output distance number p j more h1 h2 = grind (
+  arith,
+  nat_tests,
+  boolean_cases,
+  event_gives_later_output,
+)
 
-pub stream_packet : (distance number run : ℕ) (in_step : Bool) (j : JoiningValue) (bytes : List ℕ)
+pub stream_outputs_packet : (distance number run : ℕ) (in_step : Bool) (j : JoiningValue)
+    (bytes : List ℕ)
     → 188 ≤ distance
     → 188 ≤ length bytes
     → begins_packet distance in_step bytes ≡ true
@@ -153,26 +169,32 @@ pub stream_packet : (distance number run : ℕ) (in_step : Bool) (j : JoiningVal
     → stream_output distance number 0 true (after_packet number (take packet_size bytes) j)
     (drop distance bytes)
     ≡ stream_output distance number run in_step j bytes
-unfolding stream_output notes
-stream_packet distance number run in_step j bytes far many begins going idle =
+unfolding stream_output pid_events
+stream_outputs_packet distance number run in_step j bytes far many begins part_is_open idle =
     let rest = drop distance bytes in
-    let more = notes distance number 0 (items distance true (length rest) rest) in
-    sym (ap (λ l. l ++ later_output (delivered j)
-    (notes distance number run (items distance in_step (length bytes) bytes))) idle
-    ∙ ap (λ l. later_output (delivered j) (notes distance number run l))
-    (all_packet distance in_step bytes far many begins)
-    ∙ packet_notes distance number (take packet_size bytes) j more going idle)
+    let more = pid_events distance number 0 (items distance true (length rest) rest) in
+    sym (ap (λ l. l ++ later_output (without_pending j)
+    (pid_events distance number run (items distance in_step (length bytes) bytes))) idle
+    ∙ ap (λ l. later_output (without_pending j) (pid_events distance number run l))
+    (packet_is_first_of_all distance in_step bytes far many begins)
+    ∙ packet_event_gives_output distance number (take packet_size bytes) j more part_is_open idle)
 
-skipped_notes : (distance run : ℕ) (j : JoiningValue) (more : List Note)
+skipped_bytes_give_output : (distance run : ℕ) (j : JoiningValue) (more : List PidEvent)
     → has_ended j.part ≡ false
     → j.pending ≡ []
-    → later_output (delivered j)
+    → later_output (without_pending j)
     (if run + 1 == loss_size distance then Loss ∷ more else more)
     ≡ (after_skipped distance run j).pending
-    ++ later_output (delivered (after_skipped distance run j)) more
-skipped_notes distance run j more h1 h2 = grind (arith, nat_tests, by_bool, later_note)
+    ++ later_output (without_pending (after_skipped distance run j)) more
+skipped_bytes_give_output distance run j more h1 h2 = grind (
+  arith,
+  nat_tests,
+  boolean_cases,
+  event_gives_later_output,
+)
 
-pub stream_skipped : (distance number run : ℕ) (in_step : Bool) (j : JoiningValue) (bytes : List ℕ)
+pub stream_skips_byte : (distance number run : ℕ) (in_step : Bool) (j : JoiningValue)
+    (bytes : List ℕ)
     → 188 ≤ distance
     → 188 ≤ length bytes
     → begins_packet distance in_step bytes ≡ false
@@ -180,17 +202,17 @@ pub stream_skipped : (distance number run : ℕ) (in_step : Bool) (j : JoiningVa
     → j.pending ≡ []
     → stream_output distance number (run + 1) false (after_skipped distance run j) (drop 1 bytes)
     ≡ stream_output distance number run in_step j bytes
-unfolding stream_output notes
-stream_skipped distance number run in_step j bytes far many skips going idle =
+unfolding stream_output pid_events
+stream_skips_byte distance number run in_step j bytes far many skips part_is_open idle =
     let rest = drop 1 bytes in
-    let more = notes distance number (run + 1) (items distance false (length rest) rest) in
-    sym (ap (λ l. l ++ later_output (delivered j)
-    (notes distance number run (items distance in_step (length bytes) bytes))) idle
-    ∙ ap (λ l. later_output (delivered j) (notes distance number run l))
-    (all_skipped distance in_step bytes far many skips)
-    ∙ skipped_notes distance run j more going idle)
+    let more = pid_events distance number (run + 1) (items distance false (length rest) rest) in
+    sym (ap (λ l. l ++ later_output (without_pending j)
+    (pid_events distance number run (items distance in_step (length bytes) bytes))) idle
+    ∙ ap (λ l. later_output (without_pending j) (pid_events distance number run l))
+    (skipped_byte_comes_first distance in_step bytes far many skips)
+    ∙ skipped_bytes_give_output distance run j more part_is_open idle)
 
-junk_byte : (distance number run : ℕ) (j : JoiningValue) (x : ℕ) (rest : List ℕ)
+junk_byte_is_skipped : (distance number run : ℕ) (j : JoiningValue) (x : ℕ) (rest : List ℕ)
     → 188 ≤ distance
     → (x ≡ 0x47 → ⊥)
     → (run + 1 ≡ loss_size distance → ⊥)
@@ -198,16 +220,16 @@ junk_byte : (distance number run : ℕ) (j : JoiningValue) (x : ℕ) (rest : Lis
     → j.pending ≡ []
     → stream_output distance number (run + 1) false j rest
     ≡ stream_output distance number run false j (x ∷ rest)
-junk_byte distance number run j x rest far other no_hole going idle =
-    by_bool (nat_lt (length (x ∷ rest)) 188)
+junk_byte_is_skipped distance number run j x rest far other no_hole part_is_open idle =
+    boolean_cases (nat_lt (length (x ∷ rest)) 188)
     (λ lt. let short : length (x ∷ rest) < 188 = grind (arith, nat_tests) in
-    stream_end distance number (run + 1) false j rest (omega (arith, short)) idle
-    ∙ sym (stream_end distance number run false j (x ∷ rest) short idle))
+    short_stream_outputs_nothing distance number (run + 1) false j rest (omega (arith, short)) idle
+    ∙ sym (short_stream_outputs_nothing distance number run false j (x ∷ rest) short idle))
     (λ ge. let long : 188 ≤ length (x ∷ rest) = grind (arith, nat_tests) in
     let begins : begins_packet distance false (x ∷ rest) ≡ false = grind (arith, nat_tests) in
     let same : after_skipped distance run j ≡ j = grind (arith, nat_tests) in
     ap (λ (k : JoiningValue). stream_output distance number (run + 1) false k rest) (sym same)
-    ∙ stream_skipped distance number run false j (x ∷ rest) far long begins going idle)
+    ∙ stream_skips_byte distance number run false j (x ∷ rest) far long begins part_is_open idle)
 
 take-one : (at : ℕ) (bytes rest : List ℕ)
     → at < length bytes
@@ -216,7 +238,7 @@ take-one at [] rest lt = absurd (omega arith)
 take-one zero (x ∷ xs) rest lt = refl
 take-one (suc at) (x ∷ xs) rest lt = ap (λ l. x ∷ l) (take-one at xs rest (omega arith))
 
-pub junk_skipped : (distance number run at : ℕ) (j : JoiningValue) (bytes rest : List ℕ)
+pub junk_run_is_skipped : (distance number run at : ℕ) (j : JoiningValue) (bytes rest : List ℕ)
     → 188 ≤ distance
     → at < length bytes
     → (slice_index bytes at ≡ 0x47 → ⊥)
@@ -229,33 +251,43 @@ pub junk_skipped : (distance number run at : ℕ) (j : JoiningValue) (bytes rest
     ≡ stream_output distance number run false j (take at bytes ++ more))
     → stream_output distance number (run + (at + 1)) false j rest
     ≡ stream_output distance number run false j (take (at + 1) bytes ++ rest)
-junk_skipped distance number run at j bytes rest far within other room going idle before =
+junk_run_is_skipped distance number run at j bytes rest far within other room part_is_open idle
+    before =
     let not_last : (run + at) + 1 ≡ loss_size distance → ⊥ =
-    λ last. by_lt run (loss_size distance)
+    λ last. order_cases run (loss_size distance)
     (λ lt. omega (arith, room lt, last)) (λ ge. omega (arith, ge, last)) in
     let there : run < loss_size distance → run + at < loss_size distance =
     λ lt. omega (arith, room lt) in
     let sum : run + (at + 1) ≡ (run + at) + 1 = omega arith in
     let next : suc at ≡ at + 1 = omega arith in
     ap (λ (n : ℕ). stream_output distance number n false j rest) sum
-    ∙ junk_byte distance number (run + at) j (slice_index bytes at) rest far other not_last going
+    ∙ junk_byte_is_skipped distance number (run + at) j (slice_index bytes at) rest far other
+    not_last part_is_open
     idle
     ∙ before (slice_index bytes at ∷ rest) there
     ∙ ap (stream_output distance number run false j) (sym (take-one at bytes rest within)
     ∙ ap (λ (n : ℕ). take n bytes ++ rest) next)
   where
-    by_lt : {P : Type 0} (m n : ℕ) → (m < n → P) → (n ≤ m → P) → P
-    by_lt m n h1 h2 = by_bool (nat_lt m n)
+    order_cases : {P : Type 0} (m n : ℕ) → (m < n → P) → (n ≤ m → P) → P
+    order_cases m n h1 h2 = boolean_cases (nat_lt m n)
         (λ lt. h1 (grind (arith, nat_tests))) (λ ge. h2 (grind (arith, nat_tests)))
 
 pub drop-across : (n : ℕ) (xs ys : List ℕ)
     → drop (n - length xs) (drop n xs ++ ys) ≡ drop n (xs ++ ys)
-drop-across n xs ys = grind (arith, nat_tests, by_bool, drop-append-le, drop_all, drop-append-add)
+drop-across n xs ys = grind (
+  arith,
+  nat_tests,
+  boolean_cases,
+  drop-append-le,
+  drop_all,
+  drop-append-add,
+)
 
-ahead_buffered : (v : StreamValue) (bytes : List ℕ)
+bytes_ahead_are_buffered : (v : StreamValue) (bytes : List ℕ)
     → v.lead ≤ length v.window.buffered
     → bytes_ahead v bytes ≡ drop v.lead v.window.buffered ++ take v.window.left bytes
-ahead_buffered v bytes le = drop-append-le v.lead v.window.buffered (take v.window.left bytes) le
+bytes_ahead_are_buffered v bytes le = drop-append-le v.lead v.window.buffered
+    (take v.window.left bytes) le
 
 pub index-append : (i : ℕ) (xs ys : List ℕ)
     → i < length xs
@@ -272,82 +304,111 @@ index-following (suc i) (x ∷ xs) le = index-following i xs (omega arith)
 index-ahead : (v : StreamValue) (bytes : List ℕ) (i : ℕ)
     → v.lead + i < length v.window.buffered
     → slice_index (bytes_ahead v bytes) i ≡ slice_index (drop v.lead v.window.buffered) i
-index-ahead v bytes i h1 = grind (arith, nat_tests, ahead_buffered, index-append, length-drop)
+index-ahead v bytes i h1 = grind (
+  arith,
+  nat_tests,
+  bytes_ahead_are_buffered,
+  index-append,
+  length-drop,
+)
 
-pub given_takes : (x y : Option (List ℕ)) (v : StreamValue) (w : WindowValue)
+pub window_consumes_prefix : (x y : Option (List ℕ)) (v : StreamValue) (w : WindowValue)
     → TakesPrefix (buffered_and_left v.window) (buffered_and_left w) x y
     → TakesPrefix (output_of v) (output_of (record v { window = w })) x y
-given_takes x y v w (takes_bytes _ _ _ _ bytes consumed same) =
+window_consumes_prefix x y v w (takes_bytes _ _ _ _ bytes consumed same) =
     takes_bytes (output_of v) (output_of (record v { window = w })) x y bytes consumed
     (λ more. ap (λ (l : List ℕ).
     stream_output v.distance v.number v.run v.in_step v.joining (drop v.lead l)) (same more))
 
-loss_gives : (j : JoiningValue) (more : List Note)
-    → later_output (delivered (record j { has_break = true })) more ≡ []
-    → later_output (delivered j) (Loss ∷ more) ≡ []
+loss_outputs_nothing_more : (j : JoiningValue) (more : List PidEvent)
+    → later_output (without_pending (record j { has_break = true })) more ≡ []
+    → later_output (without_pending j) (Loss ∷ more) ≡ []
 unfolding later_output
-loss_gives j more h1 = grind (arith, nat_tests, by_bool)
+loss_outputs_nothing_more j more h1 = grind (arith, nat_tests, boolean_cases)
 
 -- Out of step, at most `distance` bytes contain no transport packet, since no sync byte in them is
 -- followed by another one at that distance.
-skipped_give : (distance number run room : ℕ) (j : JoiningValue) (bytes : List ℕ)
+skipped_tail_outputs_nothing : (distance number run room : ℕ) (j : JoiningValue) (bytes : List ℕ)
     → length bytes ≤ distance
-    → later_output (delivered j) (notes distance number run (items distance false room bytes)) ≡ []
-unfolding notes items
-skipped_give distance number run zero j bytes few = later_end (delivered j)
-skipped_give distance number run (suc room) j bytes few =
-    by_bool (nat_lt (length bytes) 188)
+    → later_output (without_pending j)
+    (pid_events distance number run (items distance false room bytes)) ≡ []
+unfolding pid_events items
+skipped_tail_outputs_nothing distance number run zero j bytes few = no_events_no_later_output
+    (without_pending j)
+skipped_tail_outputs_nothing distance number run (suc room) j bytes few =
+    boolean_cases (nat_lt (length bytes) 188)
     (λ lt. let short : length bytes < 188 = grind (arith, nat_tests) in
-    ap (λ l. later_output (delivered j) (notes distance number run l))
-    (items_end distance false (suc room) bytes short) ∙ later_end (delivered j))
+    ap (λ l. later_output (without_pending j) (pid_events distance number run l))
+    (too_short_bytes_no_items distance false (suc room) bytes short) ∙ no_events_no_later_output
+    (without_pending j))
     (λ many. let long : 188 ≤ length bytes = grind (arith, nat_tests) in
     let skips : begins_packet distance false bytes ≡ false =
-    rw (index-following distance bytes few) (and_false (slice_index bytes 0 == 0x47)) in
+    rw (index-following distance bytes few) (conjunction_ends_false (slice_index bytes 0 == 0x47))
+    in
     let less : length (drop 1 bytes) ≤ distance = omega (arith, length-drop 1 bytes) in
-    ap (λ l. later_output (delivered j) (notes distance number run l))
-    (items_skipped distance false room bytes long skips)
-    ∙ by_bool (run + 1 == loss_size distance)
-    (λ yes. rw yes (loss_gives j _ (skipped_give distance number (run + 1) room
+    ap (λ l. later_output (without_pending j) (pid_events distance number run l))
+    (skipped_byte_is_first_item distance false room bytes long skips)
+    ∙ boolean_cases (run + 1 == loss_size distance)
+    (λ yes. rw yes (loss_outputs_nothing_more j _ (skipped_tail_outputs_nothing distance number
+    (run + 1) room
     (record j { has_break = true }) (drop 1 bytes) less)))
-    (λ no. rw no (skipped_give distance number (run + 1) room j (drop 1 bytes) less)))
+    (λ no. rw no (skipped_tail_outputs_nothing distance number (run + 1) room j (drop 1 bytes)
+    less)))
   where
-    and_false : (b : Bool) → (b && false) ≡ false
-    and_false true = refl
-    and_false false = refl
+    conjunction_ends_false : (b : Bool) → (b && false) ≡ false
+    conjunction_ends_false true = refl
+    conjunction_ends_false false = refl
 
 -- Too few bytes to determine the next item give no output.
-stream_short : (distance number run : ℕ) (in_step : Bool) (j : JoiningValue) (bytes : List ℕ)
+too_few_bytes_output_nothing : (distance number run : ℕ) (in_step : Bool) (j : JoiningValue)
+    (bytes : List ℕ)
     → length bytes < bytes_needed distance in_step
     → j.pending ≡ []
     → stream_output distance number run in_step j bytes ≡ []
 unfolding stream_output
-stream_short distance number run in_step j bytes h1 h2 =
-    grind (arith, nat_tests, stream_end, skipped_give)
+too_few_bytes_output_nothing distance number run in_step j bytes h1 h2 =
+    grind (arith, nat_tests, short_stream_outputs_nothing, skipped_tail_outputs_nothing)
 
-pub needs_packet : (distance : ℕ) (in_step : Bool)
+pub needed_bytes_hold_packet : (distance : ℕ) (in_step : Bool)
     → 188 ≤ distance
     → 188 ≤ bytes_needed distance in_step
-needs_packet distance in_step h1 = grind (arith, nat_tests)
+needed_bytes_hold_packet distance in_step h1 = grind (arith, nat_tests)
 
-pub cut_gives : (v : StreamValue)
+pub cut_window_outputs_nothing : (v : StreamValue)
     → 188 ≤ v.distance
     → v.joining.pending ≡ []
     → length v.window.buffered < v.lead + bytes_needed v.distance v.in_step
     → output_of v [] ≡ []
-cut_gives v h1 h2 h3 =
-    grind (arith, nat_tests, stream_short, needs_packet, length-append, length-drop, length-take)
+cut_window_outputs_nothing v h1 h2 h3 =
+    grind (
+      arith,
+      nat_tests,
+      too_few_bytes_output_nothing,
+      needed_bytes_hold_packet,
+      length-append,
+      length-drop,
+      length-take,
+    )
 
-pub need_end : (known_bytes : Option (List ℕ)) (v : StreamValue)
+pub missing_bytes_mean_end : (known_bytes : Option (List ℕ)) (v : StreamValue)
     → 188 ≤ v.distance
     → v.joining.pending ≡ []
     → length v.window.buffered < v.lead + bytes_needed v.distance v.in_step
     → IsAtEnd (known_bytes_left v.window known_bytes)
     → IsAtEnd (remaining_output v known_bytes)
-need_end known_bytes v h1 h2 h3 h4 =
-    grind (arith, nat_tests, stream_short, needs_packet, length-append, length-drop)
+missing_bytes_mean_end known_bytes v h1 h2 h3 h4 =
+    grind (
+      arith,
+      nat_tests,
+      too_few_bytes_output_nothing,
+      needed_bytes_hold_packet,
+      length-append,
+      length-drop,
+    )
 
 -- No byte is read beyond those that determine the next item, since fewer bytes give no output.
-pub need_requests : {D : Type 0} (IsPull : D → ℕ → Option ℕ → D → Type 0) (borrowed : D → List ℕ)
+pub needed_bytes_are_requested : {D : Type 0} (IsPull : D → ℕ → Option ℕ → D → Type 0)
+    (borrowed : D → List ℕ)
     (remaining : D → Option (List ℕ)) (v : StreamValue) (w : WindowValue) (before after : D)
     (ok : Bool) (count : ℕ)
     → RequestsUpTo IsPull borrowed remaining count v.window before ok w after
@@ -356,47 +417,65 @@ pub need_requests : {D : Type 0} (IsPull : D → ℕ → Option ℕ → D → Ty
     → v.joining.pending ≡ []
     → Requests IsPull borrowed remaining (has_output v) before ok
     (has_output (record v { window = w })) after
-need_requests IsPull borrowed remaining v w before after ok count requests is near idle =
+needed_bytes_are_requested IsPull borrowed remaining v w before after ok count requests is near
+    idle =
     requests.requests (λ bytes. nat_lt 0 (length
     (stream_output v.distance v.number v.run v.in_step v.joining (drop v.lead bytes))))
     (λ bytes few. ap (λ (l : List ℕ). nat_lt 0 (length l))
-    (stream_short v.distance v.number v.run v.in_step v.joining (drop v.lead bytes)
-    (omega (arith, is, length-drop v.lead bytes, needs_packet v.distance v.in_step near)) idle))
+    (too_few_bytes_output_nothing v.distance v.number v.run v.in_step v.joining (drop v.lead bytes)
+    (omega (
+      arith,
+      is,
+      length-drop v.lead bytes,
+      needed_bytes_hold_packet v.distance v.in_step
+          near,
+    )) idle))
 
-pub ruleset needing = (given_takes, cut_gives, need_end, need_requests)
+pub ruleset needing = (
+  window_consumes_prefix,
+  cut_window_outputs_nothing,
+  missing_bytes_mean_end,
+  needed_bytes_are_requested,
+)
 
-pub begins_determined : (v : StreamValue) (bytes : List ℕ)
+pub window_decides_packet_start : (v : StreamValue) (bytes : List ℕ)
     → 188 ≤ v.distance
     → v.lead + bytes_needed v.distance v.in_step ≤ length v.window.buffered
     → begins_packet v.distance v.in_step (bytes_ahead v bytes)
     ≡ ((slice_index (drop v.lead v.window.buffered) 0 == 0x47)
     && (v.in_step || (slice_index (drop v.lead v.window.buffered) v.distance == 0x47)))
-begins_determined v bytes h1 h2 = grind (arith, nat_tests, index-ahead, needs_packet, by_bool)
+window_decides_packet_start v bytes h1 h2 = grind
+    (arith, nat_tests, index-ahead, needed_bytes_hold_packet, boolean_cases)
 
-pub ahead_moved : (v w : StreamValue) (count : ℕ) (bytes : List ℕ)
+pub advancing_moves_bytes_ahead : (v w : StreamValue) (count : ℕ) (bytes : List ℕ)
     → w.window.buffered ≡ drop (v.lead + count) v.window.buffered
     → w.window.left ≡ v.window.left
     → w.lead ≡ (v.lead + count) - length v.window.buffered
     → bytes_ahead w bytes ≡ drop count (bytes_ahead v bytes)
-ahead_moved v w count bytes h1 h2 h3 = grind (arith, nat_tests, drop-across, drop-drop)
+advancing_moves_bytes_ahead v w count bytes h1 h2 h3 = grind (
+  arith,
+  nat_tests,
+  drop-across,
+  drop-drop,
+)
 
-pub ruleset advancing = (ahead_moved, length-drop)
+pub ruleset advancing = (advancing_moves_bytes_ahead, length-drop)
 
 take-ahead : (v : StreamValue) (bytes : List ℕ)
     → v.lead + 188 ≤ length v.window.buffered
     → take 188 (bytes_ahead v bytes) ≡ take 188 (drop v.lead v.window.buffered)
 take-ahead v bytes there =
-    ap (take 188) (ahead_buffered v bytes (omega arith))
+    ap (take 188) (bytes_ahead_are_buffered v bytes (omega arith))
     ∙ take-append-le 188 (drop v.lead v.window.buffered) (take v.window.left bytes)
     (omega (arith, length-drop v.lead v.window.buffered))
 
-long_ahead : (v : StreamValue) (bytes : List ℕ)
+bytes_ahead_hold_packet : (v : StreamValue) (bytes : List ℕ)
     → v.lead + 188 ≤ length v.window.buffered
     → 188 ≤ length (bytes_ahead v bytes)
-long_ahead v bytes h1 = grind (arith, nat_tests, length-drop, length-append)
+bytes_ahead_hold_packet v bytes h1 = grind (arith, nat_tests, length-drop, length-append)
 
 -- Processing a transport packet does not change the output still to be returned.
-pub packet_taken : (v w : StreamValue) (bytes : List ℕ)
+pub packet_advances_stream : (v w : StreamValue) (bytes : List ℕ)
     → 188 ≤ v.distance
     → v.lead + 188 ≤ length v.window.buffered
     → has_ended v.joining.part ≡ false
@@ -409,7 +488,8 @@ pub packet_taken : (v w : StreamValue) (bytes : List ℕ)
     → bytes_ahead w bytes ≡ drop v.distance (bytes_ahead v bytes)
     → begins_packet v.distance v.in_step (bytes_ahead v bytes) ≡ true
     → output_of w bytes ≡ output_of v bytes
-packet_taken v w bytes far there going idle distance number run step joining ahead begins =
+packet_advances_stream v w bytes far there part_is_open idle distance number run step joining ahead
+    begins =
     let same = ap (λ (p : List ℕ). after_packet v.number p v.joining) (take-ahead v bytes there) in
     ap (λ (n : ℕ). stream_output n w.number w.run w.in_step w.joining (bytes_ahead w bytes))
     distance
@@ -422,11 +502,11 @@ packet_taken v w bytes far there going idle distance number run step joining ahe
     (joining ∙ sym same)
     ∙ ap (stream_output v.distance v.number 0 true
     (after_packet v.number (take 188 (bytes_ahead v bytes)) v.joining)) ahead
-    ∙ stream_packet v.distance v.number v.run v.in_step v.joining (bytes_ahead v bytes) far
-    (long_ahead v bytes there) begins going idle
+    ∙ stream_outputs_packet v.distance v.number v.run v.in_step v.joining (bytes_ahead v bytes) far
+    (bytes_ahead_hold_packet v bytes there) begins part_is_open idle
 
 -- Skipping a byte that belongs to no packet does not change the output still to be returned.
-pub byte_skipped : (v w : StreamValue) (bytes : List ℕ)
+pub skipping_advances_stream : (v w : StreamValue) (bytes : List ℕ)
     → 188 ≤ v.distance
     → v.lead + 188 ≤ length v.window.buffered
     → has_ended v.joining.part ≡ false
@@ -439,16 +519,16 @@ pub byte_skipped : (v w : StreamValue) (bytes : List ℕ)
     → bytes_ahead w bytes ≡ drop 1 (bytes_ahead v bytes)
     → begins_packet v.distance v.in_step (bytes_ahead v bytes) ≡ false
     → output_of w bytes ≡ output_of v bytes
-byte_skipped v w bytes h1 h2 h3 h4 h5 h6 h7 h8 h9 h10 h11 =
-    grind (arith, nat_tests, stream_skipped, long_ahead)
+skipping_advances_stream v w bytes h1 h2 h3 h4 h5 h6 h7 h8 h9 h10 h11 =
+    grind (arith, nat_tests, stream_skips_byte, bytes_ahead_hold_packet)
 
-pub other_pid : (v : StreamValue) (p : List ℕ)
+pub other_pid_packet_is_ignored : (v : StreamValue) (p : List ℕ)
     → (pid p ≡ v.number → ⊥)
     → v ≡ record v { joining = after_packet v.number p v.joining }
-other_pid v p h1 = grind (arith, nat_tests)
+other_pid_packet_is_ignored v p h1 = grind (arith, nat_tests)
 
 -- Skipping buffered bytes that contain no packet does not change the output still to be returned.
-pub junk_given : (v w : StreamValue) (count : ℕ) (bytes : List ℕ)
+pub junk_changes_no_output : (v w : StreamValue) (count : ℕ) (bytes : List ℕ)
     → count ≤ length v.window.buffered
     → v.in_step ≡ false
     → v.lead ≡ 0
@@ -464,7 +544,7 @@ pub junk_given : (v w : StreamValue) (count : ℕ) (bytes : List ℕ)
     ≡ stream_output v.distance v.number v.run false v.joining (take count v.window.buffered ++
     rest))
     → output_of w bytes ≡ output_of v bytes
-junk_given v w count bytes h1 h2 h3 h4 h5 h6 h7 h8 h9 h10 h11 h12 =
+junk_changes_no_output v w count bytes h1 h2 h3 h4 h5 h6 h7 h8 h9 h10 h11 h12 =
     let none : w.lead ≡ 0 = omega (arith, h1, h9) in
     let following = take v.window.left bytes in
     let all : v.window.buffered ++ following ≡ take count v.window.buffered
@@ -475,34 +555,36 @@ junk_given v w count bytes h1 h2 h3 h4 h5 h6 h7 h8 h9 h10 h11 h12 =
     (h12 (drop count v.window.buffered ++ following)
     ∙ ap (stream_output v.distance v.number v.run false v.joining) (sym all))
 
-pub ruleset packets = packet_taken
+pub ruleset packets = packet_advances_stream
 
-pub skipped_idle : (distance run : ℕ) (j : JoiningValue)
+pub skipping_keeps_pending : (distance run : ℕ) (j : JoiningValue)
     → (after_skipped distance run j).pending ≡ j.pending
-skipped_idle distance run j = by_bool (run + 1 == loss_size distance)
+skipping_keeps_pending distance run j = boolean_cases (run + 1 == loss_size distance)
     (λ yes. rw yes refl) (λ no. rw no refl)
 
-pub skipped_going : (distance run : ℕ) (j : JoiningValue)
+pub skipping_keeps_part_open : (distance run : ℕ) (j : JoiningValue)
     → has_ended (after_skipped distance run j).part ≡ has_ended j.part
-skipped_going distance run j = by_bool (run + 1 == loss_size distance)
+skipping_keeps_part_open distance run j = boolean_cases (run + 1 == loss_size distance)
     (λ yes. rw yes refl) (λ no. rw no refl)
 
-pub ruleset skips = (byte_skipped, skipped_idle, skipped_going)
+pub ruleset skips = (skipping_advances_stream, skipping_keeps_pending, skipping_keeps_part_open)
 
-pub ruleset junk = (junk_skipped, junk_given)
+pub ruleset junk = (junk_run_is_skipped, junk_changes_no_output)
 
-pub item_takes : (before known_bytes : Option (List ℕ)) (u v w : StreamValue) (begins : Bool)
+pub item_consumes_prefix : (before known_bytes : Option (List ℕ)) (u v w : StreamValue)
+    (begins : Bool)
     → TakesPrefix (output_of u) (output_of v) before known_bytes
     → ((bytes : List ℕ) → begins_packet v.distance v.in_step (bytes_ahead v bytes) ≡ begins)
     → ((bytes : List ℕ)
     → begins_packet v.distance v.in_step (bytes_ahead v bytes) ≡ begins
     → output_of w bytes ≡ output_of v bytes)
     → TakesPrefix (output_of u) (output_of w) before known_bytes
-item_takes before known_bytes u v w begins takes stands same =
-    takes_on (output_of u) (output_of v) (output_of w) before known_bytes takes
-    (λ more. same more (stands more))
+item_consumes_prefix before known_bytes u v w begins takes unit_is_in_order same =
+    take_continues (output_of u) (output_of v) (output_of w) before known_bytes takes
+    (λ more. same more (unit_is_in_order more))
 
-pub item_requests : {D : Type 0} (IsPull : D → ℕ → Option ℕ → D → Type 0) (borrowed : D → List ℕ)
+pub item_requests_needed_bytes : {D : Type 0} (IsPull : D → ℕ → Option ℕ → D → Type 0)
+    (borrowed : D → List ℕ)
     (remaining : D → Option (List ℕ)) (u v w : StreamValue) (before after : D) (begins : Bool)
     → Requests IsPull borrowed remaining (has_output u) before true (has_output v) after
     → ((bytes : List ℕ) → begins_packet v.distance v.in_step (bytes_ahead v bytes) ≡ begins)
@@ -510,41 +592,43 @@ pub item_requests : {D : Type 0} (IsPull : D → ℕ → Option ℕ → D → Ty
     → begins_packet v.distance v.in_step (bytes_ahead v bytes) ≡ begins
     → output_of w bytes ≡ output_of v bytes)
     → Requests IsPull borrowed remaining (has_output u) before true (has_output w) after
-item_requests IsPull borrowed remaining u v w before after begins h1 h2 h3 =
-    grind (arith, nat_tests, requested_after)
+item_requests_needed_bytes IsPull borrowed remaining u v w before after begins h1 h2 h3 =
+    grind (arith, nat_tests, requests_shift_past_read_bytes)
 
-pub none_where_ended : (known_bytes : Option (List ℕ)) (v : StreamValue)
+pub ended_stream_is_at_end : (known_bytes : Option (List ℕ)) (v : StreamValue)
     → has_ended v.joining.part ≡ true
     → v.joining.pending ≡ []
     → IsAtEnd (remaining_output v known_bytes)
-none_where_ended known_bytes v h1 h2 = grind (arith, nat_tests, stream_ended)
+ended_stream_is_at_end known_bytes v h1 h2 = grind (arith, nat_tests, ended_stream_outputs_nothing)
 
-pub ruleset steps = (item_takes, item_requests, requests_on, takes_then)
+pub ruleset steps = (item_consumes_prefix, item_requests_needed_bytes, requests_on, takes_compose)
 
 pub ruleset reads = (
-  none_where_ended,
+  ended_stream_is_at_end,
   requests_on,
-  requests_none,
-  takes_then,
-  takes_none,
-  takes_kept,
+  empty_read_requests_nothing,
+  takes_compose,
+  empty_take_keeps_output,
+  take_keeps_output,
 )
 
-pub given_prefix : (v : StreamValue) (rest got bytes : List ℕ)
+pub pending_prefix_is_output : (v : StreamValue) (rest got bytes : List ℕ)
     → v.joining.pending ≡ got ++ rest
     → output_of v bytes
     ≡ got ++ output_of (record v { joining = record v.joining { pending = rest } }) bytes
 unfolding stream_output
-given_prefix v rest got bytes h1 = grind (arith, nat_tests, append_assoc)
+pending_prefix_is_output v rest got bytes h1 = grind (arith, nat_tests, append_assoc)
 
-pub prefix_consumed : (before known_bytes : Option (List ℕ)) (u v : StreamValue) (rest got : List ℕ)
+pub output_prefix_is_consumed : (before known_bytes : Option (List ℕ)) (u v : StreamValue)
+    (rest got : List ℕ)
     → Keeps (remaining_output u before) (remaining_output v known_bytes)
     → v.joining.pending ≡ got ++ rest
     → Consumes (remaining_output u before)
     (remaining_output (record v { joining = record v.joining { pending = rest } }) known_bytes) got
-prefix_consumed before known_bytes u v rest got h1 h2 = grind (arith, nat_tests, given_prefix)
+output_prefix_is_consumed before known_bytes u v rest got h1 h2 = grind
+    (arith, nat_tests, pending_prefix_is_output)
 
-output_after_taken : (v w : StreamValue) (taken bytes : List ℕ)
+consumed_bytes_change_output : (v w : StreamValue) (taken bytes : List ℕ)
     → v.window.buffered ≡ []
     → length taken ≤ v.window.left
     → ((rest : List ℕ) → stream_output w.distance w.number w.run w.in_step w.joining rest
@@ -552,7 +636,7 @@ output_after_taken : (v w : StreamValue) (taken bytes : List ℕ)
     → w.lead ≡ 0
     → w.window ≡ record v.window { left = v.window.left - length taken }
     → output_of w bytes ≡ output_of v (taken ++ bytes)
-output_after_taken v w taken bytes none few gives lead window =
+consumed_bytes_change_output v w taken bytes none few gives lead window =
     let left = v.window.left in
     let all : left ≡ length taken + (left - length taken) = omega arith in
     ap (λ (n : ℕ). stream_output w.distance w.number w.run w.in_step w.joining
@@ -569,16 +653,17 @@ output_after_taken v w taken bytes none few gives lead window =
     ∙ ap (λ (l : List ℕ). stream_output v.distance v.number v.run v.in_step v.joining
     (drop v.lead (l ++ take left (taken ++ bytes)))) (sym none)
 
-pub borrowed_within : (borrowed all : List ℕ) (count : ℕ)
+pub borrowed_count_is_available : (borrowed all : List ℕ) (count : ℕ)
     → take (length borrowed) all ≡ borrowed
     → count ≤ length borrowed
     → count ≤ length all
-borrowed_within borrowed all count h1 h2 = grind (arith, nat_tests, length-take)
+borrowed_count_is_available borrowed all count h1 h2 = grind (arith, nat_tests, length-take)
 
-pub borrowed_skipped : {D : Type 0} (IsPull : D → ℕ → Option ℕ → D → Type 0) (borrowed : D → List ℕ)
+pub skipping_borrowed_is_valid : {D : Type 0} (IsPull : D → ℕ → Option ℕ → D → Type 0)
+    (borrowed : D → List ℕ)
     (remaining : D → Option (List ℕ)) (v w : StreamValue) (before after : D) (next : List ℕ)
     (count : ℕ)
-    → AreNext next (remaining before)
+    → AreNextBytes next (remaining before)
     → take (length next) (borrowed before) ≡ next
     → count ≤ length next
     → IsPull before count (Some count) after
@@ -586,22 +671,24 @@ pub borrowed_skipped : {D : Type 0} (IsPull : D → ℕ → Option ℕ → D →
     → ((bytes : List ℕ) → output_of w bytes ≡ output_of v (take count next ++ bytes))
     → TakesPrefix (output_of v) (output_of w) (remaining before) (remaining after)
     × Requests IsPull borrowed remaining (has_output v) before true (has_output w) after
-borrowed_skipped IsPull borrowed remaining v w before after next count are prefix fits pull skipped
+skipping_borrowed_is_valid IsPull borrowed remaining v w before after next count are prefix fits
+    pull skipped
     gives =
     let taken = take count next in
     let long : length taken ≡ count = length-take-le count next fits in
-    let consumed = skipped_borrowed (remaining before) (remaining after) next count are skipped fits
+    let consumed = skipping_consumes_borrowed_prefix (remaining before) (remaining after) next count
+    are skipped fits
     in (
       takes_bytes (output_of v) (output_of w) (remaining before) (remaining after) taken consumed
           (λ more. sym (gives more)),
       requests_once (has_output v) (has_output w) before after count taken
-          (inl (borrowed_within next (borrowed before) count prefix fits))
+          (inl (borrowed_count_is_available next (borrowed before) count prefix fits))
           (rw long pull) consumed
-          (requested_after taken (has_output v) (has_output w)
+          (requests_shift_past_read_bytes taken (has_output v) (has_output w)
           (λ bytes. ap (λ (l : List ℕ). nat_lt 0 (length l)) (gives bytes))),
     )
 
-unit_skipped : (distance number : ℕ) (j : JoiningValue) (unit rest : List ℕ)
+other_pid_unit_is_skipped : (distance number : ℕ) (j : JoiningValue) (unit rest : List ℕ)
     → 188 ≤ distance
     → length unit ≡ distance
     → slice_index unit 0 ≡ 0x47
@@ -610,7 +697,7 @@ unit_skipped : (distance number : ℕ) (j : JoiningValue) (unit rest : List ℕ)
     → j.pending ≡ []
     → stream_output distance number 0 true j rest
     ≡ stream_output distance number 0 true j (unit ++ rest)
-unit_skipped distance number j unit rest near long sync other going idle =
+other_pid_unit_is_skipped distance number j unit rest near long sync other part_is_open idle =
     let all = unit ++ rest in
     let byte : (i : ℕ) → i < 188 → slice_index (take 188 all) i ≡ slice_index unit i =
     λ i lt. get_or-take 188 all i 0 lt ∙ index-append i unit rest (omega (arith, long)) in
@@ -621,19 +708,21 @@ unit_skipped distance number j unit rest near long sync other going idle =
     ap (λ (n : ℕ). n % 0x20 * 0x100 + slice_index (take 188 all) 2) (byte 1 (omega arith))
     ∙ ap (λ (n : ℕ). slice_index unit 1 % 0x20 * 0x100 + n) (byte 2 (omega arith)) in
     let none : (pid (take 188 all) == number) ≡ false =
-    not_equal (pid (take 188 all)) number (λ e. other (sym same ∙ e)) in
+    unequal_numbers_compare_false (pid (take 188 all)) number (λ e. other (sym same ∙ e)) in
     let following : drop distance all ≡ rest =
     ap (λ (n : ℕ). drop n all) (sym long) ∙ drop-append_seam unit rest in
     ap (stream_output distance number 0 true j) (sym following)
     ∙ ap (λ (v : JoiningValue). stream_output distance number 0 true v (drop distance all))
-    (sym (ap (λ (b : Bool). if b then after_note j (note_of (take 188 all)) else j) none))
-    ∙ stream_packet distance number 0 true j all near
-    (omega (arith, long, length-append unit rest)) begins going idle
+    (sym (ap (λ (b : Bool). if b then after_pid_event j (event_of_packet (take 188 all)) else j)
+    none))
+    ∙ stream_outputs_packet distance number 0 true j all near
+    (omega (arith, long, length-append unit rest)) begins part_is_open idle
   where
-    not_equal : (m n : ℕ) → (m ≡ n → ⊥) → (m == n) ≡ false
-    not_equal m n differ = grind (arith, nat_tests)
+    unequal_numbers_compare_false : (m n : ℕ) → (m ≡ n → ⊥) → (m == n) ≡ false
+    unequal_numbers_compare_false m n differ = grind (arith, nat_tests)
 
-pub other_skipped : (distance number from at : ℕ) (j : JoiningValue) (bytes rest : List ℕ)
+pub unit_at_place_is_skipped : (distance number from at : ℕ) (j : JoiningValue)
+    (bytes rest : List ℕ)
     → 188 ≤ distance
     → at + distance ≤ length bytes
     → slice_index (drop at bytes) 0 ≡ 0x47
@@ -644,7 +733,8 @@ pub other_skipped : (distance number from at : ℕ) (j : JoiningValue) (bytes re
     ≡ stream_output distance number 0 true j (drop from (take at bytes ++ more)))
     → stream_output distance number 0 true j rest
     ≡ stream_output distance number 0 true j (drop from (take (at + distance) bytes ++ rest))
-other_skipped distance number from at j bytes rest near within sync other going idle before =
+unit_at_place_is_skipped distance number from at j bytes rest near within sync other part_is_open
+    idle before =
     let unit = take distance (drop at bytes) in
     let long : length unit ≡ distance =
     omega (arith, length-take distance (drop at bytes), length-drop at bytes) in
@@ -653,8 +743,8 @@ other_skipped distance number from at j bytes rest near within sync other going 
     let same : pid unit ≡ pid (drop at bytes) =
     ap (λ (n : ℕ). n % 0x20 * 0x100 + slice_index unit 2) (byte 1 (omega arith))
     ∙ ap (λ (n : ℕ). slice_index (drop at bytes) 1 % 0x20 * 0x100 + n) (byte 2 (omega arith)) in
-    unit_skipped distance number j unit rest near long (byte 0 (omega arith) ∙ sync)
-    (λ e. other (sym same ∙ e)) going idle
+    other_pid_unit_is_skipped distance number j unit rest near long (byte 0 (omega arith) ∙ sync)
+    (λ e. other (sym same ∙ e)) part_is_open idle
     ∙ before (unit ++ rest)
     ∙ ap (λ (l : List ℕ). stream_output distance number 0 true j (drop from l))
     (sym (append_assoc (take at bytes) unit rest)
@@ -662,7 +752,7 @@ other_skipped distance number from at j bytes rest near within sync other going 
 
 -- Skipping packets of other PIDs in the source's buffer does not change the output still to be
 -- returned.
-pub others_given : (v w : StreamValue) (taken bytes : List ℕ) (count : ℕ)
+pub other_units_change_no_output : (v w : StreamValue) (taken bytes : List ℕ) (count : ℕ)
     → length taken ≡ count
     → v.window.buffered ≡ []
     → count ≤ v.window.left
@@ -672,15 +762,15 @@ pub others_given : (v w : StreamValue) (taken bytes : List ℕ) (count : ℕ)
     ≡ stream_output v.distance v.number 0 true v.joining (drop v.lead (taken ++ rest)))
     → w ≡ record v { window = record v.window { left = v.window.left - count }; lead = 0 }
     → output_of w bytes ≡ output_of v (taken ++ bytes)
-others_given v w taken bytes count h1 h2 h3 h4 h5 h6 h7 = grind
-    (arith, nat_tests, output_after_taken)
+other_units_change_no_output v w taken bytes count h1 h2 h3 h4 h5 h6 h7 = grind
+    (arith, nat_tests, consumed_bytes_change_output)
 
-pub same_pid : (number : ℕ) (p : List ℕ) (j : JoiningValue)
+pub packet_of_pid_is_noted : (number : ℕ) (p : List ℕ) (j : JoiningValue)
     → pid p ≡ number
-    → after_packet number p j ≡ after_note j (note_of p)
-same_pid number p j h1 = grind (arith, nat_tests)
+    → after_packet number p j ≡ after_pid_event j (event_of_packet p)
+packet_of_pid_is_noted number p j h1 = grind (arith, nat_tests)
 
-unit_taken : (distance number : ℕ) (j : JoiningValue) (unit rest p : List ℕ)
+unit_of_pid_is_noted : (distance number : ℕ) (j : JoiningValue) (unit rest p : List ℕ)
     → 188 ≤ distance
     → length unit ≡ distance
     → p ≡ take 188 unit
@@ -689,7 +779,7 @@ unit_taken : (distance number : ℕ) (j : JoiningValue) (unit rest p : List ℕ)
     → j.pending ≡ []
     → stream_output distance number 0 true (after_packet number p j) rest
     ≡ stream_output distance number 0 true j (unit ++ rest)
-unit_taken distance number j unit rest p near size packet sync going idle =
+unit_of_pid_is_noted distance number j unit rest p near size packet sync part_is_open idle =
     let heads : take 188 (unit ++ rest) ≡ p =
     take-append-le 188 unit rest (omega (arith, size)) ∙ sym packet in
     let begins : begins_packet distance true (unit ++ rest) ≡ true =
@@ -701,12 +791,12 @@ unit_taken distance number j unit rest p near size packet sync going idle =
     ap (stream_output distance number 0 true (after_packet number p j)) (sym following)
     ∙ ap (λ (l : List ℕ). stream_output distance number 0 true (after_packet number l j)
     (drop distance (unit ++ rest))) (sym heads)
-    ∙ stream_packet distance number 0 true j (unit ++ rest) near
-    (omega (arith, size, length-append unit rest)) begins going idle
+    ∙ stream_outputs_packet distance number 0 true j (unit ++ rest) near
+    (omega (arith, size, length-append unit rest)) begins part_is_open idle
 
 -- Skipping packets of other PIDs in the source's buffer, and processing one of the PID, does not
 -- change the output still to be returned.
-pub packet_given : (v w : StreamValue) (borrowed p bytes : List ℕ) (place count : ℕ)
+pub borrowed_packet_is_output : (v w : StreamValue) (borrowed p bytes : List ℕ) (place count : ℕ)
     → count ≡ place + v.distance
     → count ≤ length borrowed
     → v.window.buffered ≡ []
@@ -727,11 +817,12 @@ pub packet_given : (v w : StreamValue) (borrowed p bytes : List ℕ) (place coun
       joining = after_packet v.number p v.joining;
     }
     → output_of w bytes ≡ output_of v (take count borrowed ++ bytes)
-packet_given v w borrowed p bytes place count sum fits none few step run near packet sync going idle
+borrowed_packet_is_output v w borrowed p bytes place count sum fits none few step run near packet
+    sync part_is_open idle
     others is =
     let long : length (take count borrowed) ≡ count = length-take-le count borrowed fits in
     ap (λ (u : StreamValue). output_of u bytes) is
-    ∙ output_after_taken v (record v {
+    ∙ consumed_bytes_change_output v (record v {
       window = record v.window { left = v.window.left - count };
       lead = 0;
       joining = after_packet v.number p v.joining;
@@ -753,12 +844,13 @@ packet_given v w borrowed p bytes place count sum fits none few step run near pa
         let prefix : p ≡ take 188 unit =
         packet ∙ sym (take-take 188 v.distance (drop place borrowed) near) in
         rw (step, run)
-        (unit_taken v.distance v.number v.joining unit rest p near size prefix sync going idle
+        (unit_of_pid_is_noted v.distance v.number v.joining unit rest p near size prefix sync
+        part_is_open idle
         ∙ others (unit ++ rest)
         ∙ ap (λ (l : List ℕ). stream_output v.distance v.number 0 true v.joining (drop v.lead l))
         (sym (append_assoc (take place borrowed) unit rest)
         ∙ ap (λ (l : List ℕ). l ++ rest) (sym parts)))
 
-pub ruleset others = other_skipped
+pub ruleset others = unit_at_place_is_skipped
 
-pub ruleset skims = (requests_none, takes_none)
+pub ruleset skims = (empty_read_requests_nothing, empty_take_keeps_output)

@@ -6,21 +6,23 @@ use Rattle.std.proofs.Common.{Bool, true, false, ◌≤◌, inr, length-append, 
 use Rattle.std.proofs.Math.Seq.{take-append-add}
 use Rattle.std.specs.Prelude.{option_map}
 use Rattle.std.specs.Io.KnownBytes.{Consumes, IsAtEnd}
-use Rattle.sub_io.specs.Asking.{requests_in_vain, requests_on, requests_once}
-use Rattle.sub_io.proofs.AskingLemmas.{requested_after, requests_none}
-use Rattle.mpeg_ts.specs.TakenBytes.{TakesPrefix, takes_bytes}
+use Rattle.sub_io.specs.Requesting.{requests_in_vain, requests_on, requests_once}
+use Rattle.sub_io.proofs.RequestingLemmas.{requests_shift_past_read_bytes}
+use Rattle.sub_io.proofs.RequestingLemmas.{empty_read_requests_nothing}
+use Rattle.mpeg_ts.specs.ConsumedStreamBytes.{TakesPrefix, takes_bytes}
 use Rattle.mpeg_ts.specs.Window.{RequestsUpTo, WindowValue, buffered_and_left, known_bytes_left}
-use Rattle.mpeg_ts.proofs.TakenBytesLemmas.{takes_failed, takes_none, takes_then}
+use Rattle.mpeg_ts.proofs.ConsumedStreamBytesLemmas.{failed_take_keeps_output}
+use Rattle.mpeg_ts.proofs.ConsumedStreamBytesLemmas.{empty_take_keeps_output, takes_compose}
 
 abbrev pub window : List ℕ → ℕ → WindowValue
 window buffered left = record { buffered = buffered; left = left }
 
-requested_few : (buffered : List ℕ) (left room : ℕ) (is_enough : List ℕ → Bool)
+short_request_is_not_enough : (buffered : List ℕ) (left room : ℕ) (is_enough : List ℕ → Bool)
     → ((bytes : List ℕ) → length bytes < length buffered + room → is_enough bytes ≡ false)
     → (bytes : List ℕ)
     → length bytes < room
     → is_enough (buffered_and_left (window buffered left) bytes) ≡ false
-requested_few buffered left room is_enough h1 bytes h2 =
+short_request_is_not_enough buffered left room is_enough h1 bytes h2 =
     grind (arith, nat_tests, length-append, length-take)
 
 pub window-takes : (x y : Option (List ℕ)) (buffered got : List ℕ) (left less n : ℕ)
@@ -36,22 +38,23 @@ window-takes x y buffered got left less n long is consumed =
     ∙ ap (λ l. buffered ++ l) (sym (take-append-add got more less)
     ∙ ap (λ k. take k (got ++ more)) (sym all))))
 
-none_to_take : (n : ℕ) (known_bytes : Option (List ℕ))
+nothing_left_to_take : (n : ℕ) (known_bytes : Option (List ℕ))
     → (0 < n → IsAtEnd known_bytes)
     → IsAtEnd (option_map (take n) known_bytes)
-none_to_take zero None end = tt
-none_to_take zero (Some b) end = refl
-none_to_take (suc n) None end = tt
-none_to_take (suc n) (Some b) end = ap (take (suc n)) (end (omega arith))
+nothing_left_to_take zero None end = tt
+nothing_left_to_take zero (Some b) end = refl
+nothing_left_to_take (suc n) None end = tt
+nothing_left_to_take (suc n) (Some b) end = ap (take (suc n)) (end (omega arith))
 
-pub left_at_end : (w : WindowValue) (known_bytes : Option (List ℕ)) (room : ℕ)
+pub window_left_is_at_end : (w : WindowValue) (known_bytes : Option (List ℕ)) (room : ℕ)
     → (0 < w.left → 0 < room)
     → (0 < room → IsAtEnd known_bytes)
     → IsAtEnd (known_bytes_left w known_bytes)
-left_at_end w known_bytes room some end = none_to_take w.left known_bytes (λ left. end (some left))
+window_left_is_at_end w known_bytes room some end = nothing_left_to_take w.left known_bytes
+    (λ left. end (some left))
 
-abbrev ahead_of : WindowValue → (List ℕ → Bool) → List ℕ → Bool
-ahead_of w is_enough bytes = is_enough (buffered_and_left w bytes)
+abbrev shifted_condition : WindowValue → (List ℕ → Bool) → List ℕ → Bool
+shifted_condition w is_enough bytes = is_enough (buffered_and_left w bytes)
 
 -- A pull that fills the buffer requests no more bytes than allowed.
 pub window-requested : {D : Type 0} (IsPull : D → ℕ → Option ℕ → D → Type 0) (borrowed : D → List ℕ)
@@ -68,12 +71,12 @@ window-requested IsPull borrowed remaining before after buffered got left less n
     whole long is
     consumed = record {
       requests = λ is_enough few.
-          requests_once (ahead_of (window buffered left) is_enough)
-          (ahead_of (window (buffered ++ got) less) is_enough) before after room got
-          (inr (requested_few buffered left room is_enough few))
+          requests_once (shifted_condition (window buffered left) is_enough)
+          (shifted_condition (window (buffered ++ got) less) is_enough) before after room got
+          (inr (short_request_is_not_enough buffered left room is_enough few))
           (rw (whole, long) at pull) consumed
-          (requested_after got (ahead_of (window buffered left) is_enough)
-          (ahead_of (window (buffered ++ got) less) is_enough)
+          (requests_shift_past_read_bytes got (shifted_condition (window buffered left) is_enough)
+          (shifted_condition (window (buffered ++ got) less) is_enough)
           (λ bytes. ap is_enough (append_assoc buffered got (take less bytes)
           ∙ ap (λ l. buffered ++ l) (sym (take-append-add got bytes less)
           ∙ ap (λ k. take k (got ++ bytes)) (all less n left got long is)))));
@@ -91,8 +94,9 @@ pub window-failed : {D : Type 0} (IsPull : D → ℕ → Option ℕ → D → Ty
     → RequestsUpTo IsPull borrowed remaining (length w.buffered + room) w before false v after
 window-failed IsPull borrowed remaining before after w v requested room pull whole = record {
   requests = λ is_enough few.
-      requests_in_vain (ahead_of w is_enough) (ahead_of v is_enough) before after room
-      (inr (requested_few w.buffered w.left room is_enough few)) (rw whole at pull);
+      requests_in_vain (shifted_condition w is_enough) (shifted_condition v is_enough) before after
+      room
+      (inr (short_request_is_not_enough w.buffered w.left room is_enough few)) (rw whole at pull);
 }
 
 pub window-on : {D : Type 0} (IsPull : D → ℕ → Option ℕ → D → Type 0) (borrowed : D → List ℕ)
@@ -104,7 +108,8 @@ pub window-on : {D : Type 0} (IsPull : D → ℕ → Option ℕ → D → Type 0
     → RequestsUpTo IsPull borrowed remaining count u before ok w after
 window-on IsPull borrowed remaining before mid after u v w count less ok first then le = record {
   requests = λ is_enough few.
-      requests_on (ahead_of u is_enough) (ahead_of v is_enough) (ahead_of w is_enough) before mid
+      requests_on (shifted_condition u is_enough) (shifted_condition v is_enough)
+      (shifted_condition w is_enough) before mid
       after
       ok (first.requests is_enough few)
       (then.requests is_enough (λ bytes short. few bytes (omega (arith, short, le))));
@@ -113,8 +118,15 @@ window-on IsPull borrowed remaining before mid after u v w count less ok first t
 pub window-none : {D : Type 0} (IsPull : D → ℕ → Option ℕ → D → Type 0) (borrowed : D → List ℕ)
     (remaining : D → Option (List ℕ)) (source : D) (w : WindowValue) (count : ℕ)
     → RequestsUpTo IsPull borrowed remaining count w source true w source
-window-none IsPull borrowed remaining source w count = grind (arith, nat_tests, requests_none)
+window-none IsPull borrowed remaining source w count = grind
+    (arith, nat_tests, empty_read_requests_nothing)
 
-pub ruleset pulling = (window-takes, takes_failed, window-requested, window-failed)
+pub ruleset pulling = (window-takes, failed_take_keeps_output, window-requested, window-failed)
 
-pub ruleset filling = (left_at_end, window-on, window-none, takes_then, takes_none)
+pub ruleset filling = (
+  window_left_is_at_end,
+  window-on,
+  window-none,
+  takes_compose,
+  empty_take_keeps_output,
+)

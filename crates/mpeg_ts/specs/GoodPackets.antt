@@ -5,17 +5,17 @@
 use Rattle.std.specs.Prelude.{ℕ, ◌+◌, ◌*◌, ◌%◌, ◌==◌, ◌&&◌, ◌||◌, not, Bool, true, false}
 use Rattle.std.specs.Prelude.{if◌then◌else◌, List, [], ◌∷◌, Option, Some, None, bytes_eq}
 use Rattle.mpeg_ts.specs.PacketsInStep.{Item, Packet, Skipped}
-use Rattle.mpeg_ts.specs.TransportPacket.{pid, is_wrong, has_payload, announces_jump, counter}
+use Rattle.mpeg_ts.specs.TransportPacket.{pid, is_erroneous, has_payload, announces_jump, counter}
 use Rattle.mpeg_ts.specs.TransportPacket.{packet_header, payload}
 
 -- ---- events of a PID
 
 -- An event of a PID: a usable transport packet, an unusable transport packet, or a loss. A loss
 -- means that so many consecutive bytes were skipped that packets of the PID may be missing.
-pub data Note : Type 0 where
-  Valid : List ℕ → Note
-  Wrong : Note
-  Loss : Note
+pub data PidEvent : Type 0 where
+  Valid : List ℕ → PidEvent
+  Wrong : PidEvent
+  Loss : PidEvent
 
 -- The number of skipped bytes that counts as a loss: the size of 15 transport packets, after which
 -- the continuity_counter could continue by chance.
@@ -23,19 +23,19 @@ abbrev pub loss_size : ℕ → ℕ
 loss_size distance = 15 * distance
 
 -- The event of a transport packet of the PID: usable or unusable.
-abbrev pub note_of : List ℕ → Note
-note_of p = if is_wrong p then Wrong else Valid p
+abbrev pub event_of_packet : List ℕ → PidEvent
+event_of_packet p = if is_erroneous p then Wrong else Valid p
 
 -- The events of a PID in a list of items, if `run` consecutive bytes were skipped before the items.
 -- A loss is an event of the byte with which the skipped bytes become a loss.
-unfoldable pub notes : ℕ → ℕ → ℕ → List Item → List Note
-notes distance number run [] = []
-notes distance number run (Packet p ∷ items) =
-    if pid p == number then note_of p ∷ notes distance number 0 items
-    else notes distance number 0 items
-notes distance number run (Skipped ∷ items) =
-    if run + 1 == loss_size distance then Loss ∷ notes distance number (run + 1) items
-    else notes distance number (run + 1) items
+unfoldable pub pid_events : ℕ → ℕ → ℕ → List Item → List PidEvent
+pid_events distance number run [] = []
+pid_events distance number run (Packet p ∷ items) =
+    if pid p == number then event_of_packet p ∷ pid_events distance number 0 items
+    else pid_events distance number 0 items
+pid_events distance number run (Skipped ∷ items) =
+    if run + 1 == loss_size distance then Loss ∷ pid_events distance number (run + 1) items
+    else pid_events distance number (run + 1) items
 
 -- ---- good transport packets
 
@@ -59,7 +59,7 @@ pub record PacketHistory : Type 0 where
   pub good : Option (List ℕ)
   pub has_repeat : Bool
   pub has_jump : Bool
-  pub has_wrong : Bool
+  pub has_erroneous_packet : Bool
   pub has_loss : Bool
 
 -- The history of events directly after this good transport packet: no further event.
@@ -68,7 +68,7 @@ empty_history good = record {
   good = good;
   has_repeat = false;
   has_jump = false;
-  has_wrong = false;
+  has_erroneous_packet = false;
   has_loss = false;
 }
 
@@ -90,21 +90,21 @@ abbrev pub is_repeat : PacketHistory → List ℕ → Bool
 is_repeat history p = is_repeat_of history.good history p
 
 -- The continuity_counter of packet q is that of packet p plus one, modulo 16.
-abbrev pub counts_on : List ℕ → List ℕ → Bool
-counts_on p q = counter q == (counter p + 1) % 0x10
+abbrev pub counter_is_next : List ℕ → List ℕ → Bool
+counter_is_next p q = counter q == (counter p + 1) % 0x10
 
 -- The link of a good transport packet to the good packet before it; `First` if there is none.
 abbrev pub link_from : Option (List ℕ) → PacketHistory → List ℕ → PacketLink
 link_from None history p = First
 link_from (Some q) history p =
-    if history.has_wrong || history.has_loss then Break
+    if history.has_erroneous_packet || history.has_loss then Break
     else if history.has_jump || announces_jump p then Seam
-    else if counts_on q p then Follows
+    else if counter_is_next q p then Follows
     else Break
 
 -- A good transport packet with its link to the good packet before it.
-abbrev pub linked : PacketHistory → List ℕ → GoodPacket
-linked history p = record { link = link_from history.good history p; packet = p }
+abbrev pub linked_packet : PacketHistory → List ℕ → GoodPacket
+linked_packet history p = record { link = link_from history.good history p; packet = p }
 
 -- Good transport packets in order, and whether an unusable packet of the PID follows the last of
 -- them.
@@ -113,21 +113,26 @@ pub record GoodPackets : Type 0 where
   pub wrong_after : Bool
 
 -- A list of good transport packets with one more packet at its front.
-abbrev pub with_good : GoodPacket → GoodPackets → GoodPackets
-with_good g more = record { packets = g ∷ more.packets; wrong_after = more.wrong_after }
+abbrev pub with_good_packet : GoodPacket → GoodPackets → GoodPackets
+with_good_packet g more = record { packets = g ∷ more.packets; wrong_after = more.wrong_after }
 
 -- The good transport packets among further events of the PID, after the events of this history.
-unfoldable pub good_after : PacketHistory → List Note → GoodPackets
-good_after history [] = record { packets = []; wrong_after = history.has_wrong }
-good_after history (Wrong ∷ notes) = good_after (record history { has_wrong = true }) notes
-good_after history (Loss ∷ notes) = good_after (record history { has_loss = true }) notes
-good_after history (Valid p ∷ notes) =
+unfoldable pub good_packets_after : PacketHistory → List PidEvent → GoodPackets
+good_packets_after history [] = record { packets = []; wrong_after = history.has_erroneous_packet }
+good_packets_after history (Wrong ∷ pid_events) = good_packets_after
+    (record history { has_erroneous_packet = true }) pid_events
+good_packets_after history (Loss ∷ pid_events) = good_packets_after
+    (record history { has_loss = true }) pid_events
+good_packets_after history (Valid p ∷ pid_events) =
     if not (has_payload p) then
-    good_after (record history { has_jump = history.has_jump || announces_jump p }) notes
-    else if is_repeat history p then good_after (record history { has_repeat = true }) notes
-    else with_good (linked history p) (good_after (empty_history (Some p)) notes)
+    good_packets_after (record history { has_jump = history.has_jump || announces_jump p })
+    pid_events
+    else if is_repeat history p then good_packets_after (record history { has_repeat = true })
+    pid_events
+    else with_good_packet (linked_packet history p) (good_packets_after (empty_history (Some p))
+    pid_events)
 
 -- The good transport packets of a PID in a recording with these items.
 abbrev pub good_packets : ℕ → ℕ → List Item → GoodPackets
 good_packets distance number items =
-    good_after (empty_history None) (notes distance number 0 items)
+    good_packets_after (empty_history None) (pid_events distance number 0 items)

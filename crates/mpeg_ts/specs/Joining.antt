@@ -1,5 +1,5 @@
--- The reassembly of the PES packets of a PID, one event at a time. The file `Carried` defines the
--- result in the standard's terms.
+-- The reassembly of the PES packets of a PID, one event at a time. The file `CarriedPackets`
+-- defines the result in the standard's terms.
 use Rattle.std.specs.Prelude.{◌≡◌, ℕ, ◌+◌, ◌≤◌, ◌%◌, ◌==◌, ◌&&◌, ◌||◌, not, nat_lt}
 use Rattle.std.specs.Prelude.{nat_le, Bool, true, false}
 use Rattle.std.specs.Prelude.{if◌then◌else◌, List, [], ◌∷◌, ◌++◌, length, take, bytes_eq}
@@ -7,15 +7,17 @@ use Rattle.std.specs.Prelude.{slice_index, ⊤, Result, Ok, Err}
 use Rattle.ttx_pes.specs.PesPackets.{IsPesPacket}
 use Rattle.ttx_pes.specs.Reading.{size_at}
 use Rattle.ttx_pes.specs.declared.fault.PesFault.{PesFault}
-use Rattle.mpeg_ts.specs.Carried.{gap_marker, gap_marker_where}
-use Rattle.mpeg_ts.specs.GoodPackets.{Note, Valid, Wrong, Loss, PacketLink, First, Follows, Seam}
+use Rattle.mpeg_ts.specs.CarriedPackets.{gap_marker, gap_marker_where}
+use Rattle.mpeg_ts.specs.GoodPackets.{PidEvent, Valid, Wrong, Loss, PacketLink, First, Follows}
+use Rattle.mpeg_ts.specs.GoodPackets.{Seam}
 use Rattle.mpeg_ts.specs.GoodPackets.{Break}
 use Rattle.mpeg_ts.specs.Parts.{is_break, is_unlinked}
 use Rattle.mpeg_ts.specs.TransportPacket.{announces_jump, begins, counter, has_payload}
 use Rattle.mpeg_ts.specs.TransportPacket.{packet_header}
 use Rattle.mpeg_ts.specs.TransportPacket.{payload}
 use Rattle.mpeg_ts.specs.declared.joining.PartState.{PartState}
-use Rattle.mpeg_ts.specs.declared.joining.PartState.TheVariants.{Headless, Open, Complete, Ended}
+use Rattle.mpeg_ts.specs.declared.joining.PartState.TheVariants.{WithoutStart, Open, Complete}
+use Rattle.mpeg_ts.specs.declared.joining.PartState.TheVariants.{Ended}
 use Rattle.mpeg_ts.specs.declared.joining.Given.{Given}
 use Rattle.mpeg_ts.specs.declared.joining.Given.TheVariants as given
 use Rattle.mpeg_ts.specs.declared.joining.Found.{Found}
@@ -51,7 +53,7 @@ initial_joining = record {
   has_repeat = false;
   has_jump = false;
   has_break = false;
-  part = Headless;
+  part = WithoutStart;
   bytes = [];
   given = given.Nothing;
   pending = [];
@@ -68,9 +70,9 @@ is_complete Complete = true
 is_complete _ = false
 
 -- The item returned last was a PES packet.
-abbrev pub gave_packet : Given → Bool
-gave_packet given.Packet = true
-gave_packet _ = false
+abbrev pub gave_pes_packet : Given → Bool
+gave_pes_packet given.Packet = true
+gave_pes_packet _ = false
 
 -- The transport packet p repeats the last good packet.
 abbrev pub repeats : JoiningValue → List ℕ → Bool
@@ -93,8 +95,8 @@ link_after v (x ∷ xs) p =
     else Break
 
 -- The state of reassembly with p as the last good transport packet, except for its payload.
-abbrev pub remembering : JoiningValue → List ℕ → JoiningValue
-remembering v p = record v {
+abbrev pub with_remembered_packet : JoiningValue → List ℕ → JoiningValue
+with_remembered_packet v p = record v {
   header = packet_header p;
   announced = announces_jump p;
   has_repeat = false;
@@ -105,105 +107,107 @@ remembering v p = record v {
 -- The item returned last, after a possible gap. Only the first gap after a PES packet has a gap
 -- marker.
 abbrev pub last_output_after : Bool → Given → Given
-last_output_after gap g = if gap && gave_packet g then given.GapMarker else g
+last_output_after gap g = if gap && gave_pes_packet g then given.GapMarker else g
 
 -- The state of reassembly after a possible gap. A gap marker is pending if the gap follows a PES
 -- packet directly; otherwise nothing is pending.
 abbrev pub with_gap : Bool → JoiningValue → JoiningValue
 with_gap gap v = record v {
   given = last_output_after gap v.given;
-  pending = gap_marker_where (gap && gave_packet v.given);
+  pending = gap_marker_where (gap && gave_pes_packet v.given);
 }
 
 -- Classifies `count` collected bytes, for the size that their first six bytes state.
 abbrev pub found_by_size : ℕ → Result ℕ PesFault → Found
 found_by_size count (Ok size) = if nat_le size count then found.CompletePesPacket size
-    else found.Unfinished
+    else found.IncompletePesPacket
 found_by_size count (Err f) = found.Other f
 
 -- Classifies the collected bytes: a complete PES packet, an incomplete PES packet, or a wrong start
 -- code or length.
 unfoldable pub found_in : List ℕ → Found
 found_in bytes =
-    if nat_lt (length bytes) 6 then found.Unfinished
+    if nat_lt (length bytes) 6 then found.IncompletePesPacket
     else found_by_size (length bytes) (size_at (take 6 bytes))
 
 -- The state of reassembly after the collected bytes were classified.
-abbrev pub settled_as : Found → JoiningValue → JoiningValue
-settled_as found.Unfinished v = v
-settled_as (found.Other f) v = record v { part = Ended; pending = v.pending ++ v.bytes }
-settled_as (found.CompletePesPacket size) v = record v {
+abbrev pub settle_found : Found → JoiningValue → JoiningValue
+settle_found found.IncompletePesPacket v = v
+settle_found (found.Other f) v = record v { part = Ended; pending = v.pending ++ v.bytes }
+settle_found (found.CompletePesPacket size) v = record v {
   part = Complete;
   given = if nat_lt size (length v.bytes) then given.GapMarker else given.Packet;
   pending = v.pending ++ (take size v.bytes ++ gap_marker_where (nat_lt size (length v.bytes)));
 }
 
 -- The state of reassembly after bytes were appended to an incomplete PES packet.
-abbrev pub grown : Bool → JoiningValue → List ℕ → JoiningValue
-grown gap v more =
-    settled_as (found_in (v.bytes ++ more))
+abbrev pub grow_part : Bool → JoiningValue → List ℕ → JoiningValue
+grow_part gap v more =
+    settle_found (found_in (v.bytes ++ more))
     (with_gap gap (record v { part = Open; bytes = v.bytes ++ more; last = more }))
 
 -- The state of reassembly after a payload was stored that is not part of a PES packet.
-abbrev pub with_buffered : Bool → JoiningValue → List ℕ → JoiningValue
-with_buffered gap v more = with_gap gap (record v { bytes = more; last = more })
+abbrev pub with_buffered_payload : Bool → JoiningValue → List ℕ → JoiningValue
+with_buffered_payload gap v more = with_gap gap (record v { bytes = more; last = more })
 
 -- The state of reassembly after a payload starts a new part, the transport packets of one PES
 -- packet. A gap comes before it if data was lost or the part before is incomplete.
 abbrev pub begun : Bool → Bool → JoiningValue → List ℕ → JoiningValue
 begun breaks true v more =
-    grown (breaks || not (is_complete v.part)) (record v { bytes = [] }) more
+    grow_part (breaks || not (is_complete v.part)) (record v { bytes = [] }) more
 begun breaks false v more =
-    with_buffered (breaks || not (is_complete v.part)) (record v { part = Headless }) more
+    with_buffered_payload (breaks || not (is_complete v.part)) (record v { part = WithoutStart })
+    more
 
 -- The state of reassembly after the current part continues with a payload. After a complete PES
 -- packet, more payload is a gap.
-abbrev pub part_continued : PartState → JoiningValue → List ℕ → JoiningValue
-part_continued Open v more = grown false v more
-part_continued Complete v more = with_buffered true v more
-part_continued _ v more = with_buffered false v more
+abbrev pub continue_part : PartState → JoiningValue → List ℕ → JoiningValue
+continue_part Open v more = grow_part false v more
+continue_part Complete v more = with_buffered_payload true v more
+continue_part _ v more = with_buffered_payload false v more
 
 -- The state of reassembly after a good transport packet p with this link.
-abbrev pub after_good : PacketLink → JoiningValue → List ℕ → JoiningValue
-after_good link v p =
+abbrev pub after_good_packet : PacketLink → JoiningValue → List ℕ → JoiningValue
+after_good_packet link v p =
     if begins p || is_unlinked link then
-    begun (is_break link) (begins p) (remembering v p) (payload p)
-    else part_continued v.part (remembering v p) (payload p)
+    begun (is_break link) (begins p) (with_remembered_packet v p) (payload p)
+    else continue_part v.part (with_remembered_packet v p) (payload p)
 
 -- The state of reassembly after a usable transport packet p of the PID.
-unfoldable pub after_valid : JoiningValue → List ℕ → JoiningValue
-after_valid v p =
+unfoldable pub after_valid_packet : JoiningValue → List ℕ → JoiningValue
+after_valid_packet v p =
     if not (has_payload p) then record v { has_jump = v.has_jump || announces_jump p }
     else if repeats v p then record v { has_repeat = true }
-    else after_good (link_after v v.last p) v p
+    else after_good_packet (link_after v v.last p) v p
 
 -- The state of reassembly after an event of the PID, if nothing was pending before.
-abbrev pub after_note : JoiningValue → Note → JoiningValue
-after_note v (Valid p) = after_valid v p
-after_note v Wrong = with_gap true (record v { has_break = true })
-after_note v Loss = record v { has_break = true }
+abbrev pub after_pid_event : JoiningValue → PidEvent → JoiningValue
+after_pid_event v (Valid p) = after_valid_packet v p
+after_pid_event v Wrong = with_gap true (record v { has_break = true })
+after_pid_event v Loss = record v { has_break = true }
 
 -- The state of reassembly after all pending items were returned.
-abbrev pub delivered : JoiningValue → JoiningValue
-delivered v = record v { pending = [] }
+abbrev pub without_pending : JoiningValue → JoiningValue
+without_pending v = record v { pending = [] }
 
 -- The state of reassembly after all pending items were returned and the collected bytes cleared.
-abbrev pub emptied : JoiningValue → JoiningValue
-emptied v = record v { last = []; bytes = []; pending = [] }
+abbrev pub with_no_bytes : JoiningValue → JoiningValue
+with_no_bytes v = record v { last = []; bytes = []; pending = [] }
 
 -- The output of further events, after all pending items were returned.
-unfoldable pub later_output : JoiningValue → List Note → List ℕ
+unfoldable pub later_output : JoiningValue → List PidEvent → List ℕ
 later_output v [] = []
 later_output v (note ∷ more) =
     if has_ended v.part then []
-    else (after_note v note).pending ++ later_output (delivered (after_note v note)) more
+    else (after_pid_event v note).pending ++ later_output (without_pending (after_pid_event v note))
+    more
 
 -- ---- the representation of ready items in the program
 
 -- The pending item: a gap marker, or none.
-abbrev pub gap_marker_alone : Bool → PendingItem
-gap_marker_alone true = pending_item.GapMarker
-gap_marker_alone false = pending_item.Nothing
+abbrev pub gap_marker_item : Bool → PendingItem
+gap_marker_item true = pending_item.GapMarker
+gap_marker_item false = pending_item.Nothing
 
 -- The bytes of the pending items.
 abbrev pub pending_item_bytes : PendingItem → List ℕ → List ℕ
@@ -215,8 +219,8 @@ pending_item_bytes (pending_item.Rest gap_marker_before fault) bytes = gap_marke
     gap_marker_before ++ bytes
 
 -- The bytes do not begin with a PES packet, because of this fault.
-abbrev pub IsRefused : List ℕ → PesFault → Type 0
-IsRefused bytes fault = (6 ≤ length bytes) × (size_at (take 6 bytes) ≡ Err fault)
+abbrev pub IsRefusedAtStart : List ℕ → PesFault → Type 0
+IsRefusedAtStart bytes fault = (6 ≤ length bytes) × (size_at (take 6 bytes) ≡ Err fault)
 
 -- The pending items agree with the stored bytes: a pending PES packet is at their front, or they do
 -- not begin with a PES packet and the part has ended the stream.
@@ -226,7 +230,7 @@ IsPendingFor pending_item.GapMarker part bytes = ⊤
 IsPendingFor (pending_item.Packet gap_marker_before size gap_marker_after) part bytes =
     IsPesPacket (take size bytes) × (size ≤ length bytes)
 IsPendingFor (pending_item.Rest gap_marker_before fault) part bytes =
-    IsRefused bytes fault × (has_ended part ≡ true)
+    IsRefusedAtStart bytes fault × (has_ended part ≡ true)
 
 -- The invariant of the state of reassembly.
 pub record IsJoining (w : PendingItem) (payload_size : ℕ) (part : PartState) (bytes : List ℕ) : Type
@@ -244,11 +248,11 @@ taken_bytes (next.Packet size) bytes = take size bytes
 taken_bytes (next.Rest fault) bytes = bytes
 
 -- The bytes of the taken item are within the stored bytes.
-abbrev pub IsWithin : Next → List ℕ → Type 0
-IsWithin next.Nothing bytes = ⊤
-IsWithin next.GapMarker bytes = ⊤
-IsWithin (next.Packet size) bytes = size ≤ length bytes
-IsWithin (next.Rest fault) bytes = ⊤
+abbrev pub IsNextWithin : Next → List ℕ → Type 0
+IsNextWithin next.Nothing bytes = ⊤
+IsNextWithin next.GapMarker bytes = ⊤
+IsNextWithin (next.Packet size) bytes = size ≤ length bytes
+IsNextWithin (next.Rest fault) bytes = ⊤
 
 -- The effect of taking the next pending item. Bytes that do not begin with a PES packet stay
 -- pending.
@@ -263,7 +267,7 @@ TakesNext old (next.Packet size) new =
     × (new ≡ record old { pending = new.pending })
 TakesNext old (next.Rest fault) new =
     (old.pending ≡ old.bytes)
-    × IsRefused old.bytes fault
+    × IsRefusedAtStart old.bytes fault
     × (has_ended old.part ≡ true)
     × (new ≡ old)
 

@@ -1,4 +1,4 @@
-pub mod Carried
+pub mod CarriedPackets
 pub mod GoodPackets
 pub mod Joining
 pub mod PacketSize
@@ -7,6 +7,6 @@ pub mod Parts
 pub mod Pid
 pub mod Recording
 pub mod Stream
-pub mod TakenBytes
+pub mod ConsumedStreamBytes
 pub mod TransportPacket
 pub mod Window

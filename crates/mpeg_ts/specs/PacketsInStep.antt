@@ -3,7 +3,7 @@
 -- Transport packets follow one another at equal distances of 188, 192 or 204 bytes. Reading is in
 -- step as long as each packet begins with a sync byte at that distance from the packet before.
 -- Otherwise reading is out of step, and bytes are skipped one by one, up to a sync byte that is
--- followed by another sync byte at that distance (own).
+-- followed by another sync byte at that distance (not defined by a standard).
 use Rattle.std.specs.Prelude.{ℕ, zero, suc, ◌^◌, ◌==◌, ◌&&◌, ◌||◌, nat_lt, Bool, true, false}
 use Rattle.std.specs.Prelude.{if◌then◌else◌, List, [], ◌∷◌, length, take, drop, slice_index}
 use Rattle.mpeg_ts.specs.TransportPacket.{packet_size, sync_byte}
@@ -41,12 +41,12 @@ abbrev pub lead_size : ℕ → ℕ
 lead_size distance = if distance == 192 then 4 else 0
 
 -- The maximum number of bytes that are read from a recording.
-unfoldable pub most_bytes : ℕ
-most_bytes = 2 ^ 48
+unfoldable pub max_stream_bytes : ℕ
+max_stream_bytes = 2 ^ 48
 
 -- The bytes of a recording that are read, from its first transport packet on.
 abbrev pub read_bytes : ℕ → List ℕ → List ℕ
-read_bytes distance recording = drop (lead_size distance) (take most_bytes recording)
+read_bytes distance recording = drop (lead_size distance) (take max_stream_bytes recording)
 
 -- The items of a recording. There are at most as many items as bytes.
 abbrev pub items_of : ℕ → List ℕ → List Item

@@ -39,8 +39,8 @@ abbrev pub begins_part : GoodPacket → Bool
 begins_part g = begins g.packet || is_unlinked g.link
 
 -- The part that consists of one transport packet.
-abbrev pub part_of : GoodPacket → Part
-part_of g = record {
+abbrev pub part_is_limited_suffix : GoodPacket → Part
+part_is_limited_suffix g = record {
   after_break = is_break g.link;
   begins = begins g.packet;
   payloads = payload g.packet ∷ [];
@@ -55,13 +55,13 @@ with_packet part g = record part { payloads = part.payloads ++ payload g.packet 
 unfoldable pub parts_from : Part → List GoodPacket → List Part
 parts_from part [] = part ∷ []
 parts_from part (g ∷ more) =
-    if begins_part g then part ∷ parts_from (part_of g) more
+    if begins_part g then part ∷ parts_from (part_is_limited_suffix g) more
     else parts_from (with_packet part g) more
 
 -- Splits good transport packets into parts, with at most one PES packet each.
 abbrev pub parts : List GoodPacket → List Part
 parts [] = []
-parts (g ∷ more) = parts_from (part_of g) more
+parts (g ∷ more) = parts_from (part_is_limited_suffix g) more
 
 -- ---- the outcomes of parts
 
@@ -82,10 +82,11 @@ abbrev pub part_bytes : Part → List ℕ
 part_bytes part = concat part.payloads
 
 -- The joined bytes of the first payloads that together have at least `count` bytes.
-unfoldable pub up_to : ℕ → List (List ℕ) → List ℕ
-up_to count [] = []
-up_to count (first ∷ more) =
-    if nat_le count (length first) then first else first ++ up_to (count - length first) more
+unfoldable pub payloads_up_to : ℕ → List (List ℕ) → List ℕ
+payloads_up_to count [] = []
+payloads_up_to count (first ∷ more) =
+    if nat_le count (length first) then first else first ++ payloads_up_to (count - length first)
+    more
 
 -- The outcome of a part that begins a PES packet, for the size that its first six bytes give.
 -- `cut_off`: the recording may end within the part, so missing data is no gap.
@@ -94,7 +95,7 @@ outcome_of_size cut_off part (Ok size) =
     if nat_le size (length (part_bytes part)) then
     Pes (take size (part_bytes part)) ∷ gap_where (nat_lt size (length (part_bytes part)))
     else gap_where (not cut_off)
-outcome_of_size cut_off part (Err f) = Other (up_to 6 part.payloads) ∷ []
+outcome_of_size cut_off part (Err f) = Other (payloads_up_to 6 part.payloads) ∷ []
 
 -- The outcome of a part. A part is complete if it begins a PES packet and has at least as many
 -- bytes as that PES packet. Bytes after the PES packet count as a gap, and so does an incomplete

@@ -8,14 +8,14 @@ use Rattle.mpeg_ts.specs.Stream.{StreamValue, start_of_stream}
 pub record RecordingValue (D : Type 0) : Type 0 where
   pub device : D
   pub stream : StreamValue
-  pub is_over : Bool
+  pub is_finished : Bool
 
 -- The state of a reader at the start of a recording.
-abbrev pub at_start : {D : Type 0} → D → ℕ → ℕ → RecordingValue D
-at_start device number distance = record {
+abbrev pub recording_at_start : {D : Type 0} → D → ℕ → ℕ → RecordingValue D
+recording_at_start device number distance = record {
   device = device;
   stream = start_of_stream number distance;
-  is_over = false;
+  is_finished = false;
 }
 
 -- The pending bytes do not begin with a PES packet, and no output follows them.
@@ -24,6 +24,6 @@ pub record IsAtRest (v : StreamValue) : Type 0 where
   pub ended : has_ended v.joining.part ≡ true
 
 -- The remaining bytes of a reader: none after it returned `Rest`, and `known_bytes` before.
-abbrev pub left_of : Bool → Option (List ℕ) → Option (List ℕ)
-left_of false known_bytes = known_bytes
-left_of true known_bytes = option_map (λ bytes. []) known_bytes
+abbrev pub remaining_unless_over : Bool → Option (List ℕ) → Option (List ℕ)
+remaining_unless_over false known_bytes = known_bytes
+remaining_unless_over true known_bytes = option_map (λ bytes. []) known_bytes

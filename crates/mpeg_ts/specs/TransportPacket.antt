@@ -33,8 +33,8 @@ abbrev pub counter : List ℕ → ℕ
 counter p = slice_index p 3 % 0x10
 
 -- The transport packet has an adaptation field, by its adaptation_field_control.
-abbrev pub has_adaptation : List ℕ → Bool
-has_adaptation p = slice_index p 3 / 0x20 % 2 == 1
+abbrev pub has_adaptation_field : List ℕ → Bool
+has_adaptation_field p = slice_index p 3 / 0x20 % 2 == 1
 
 -- The transport packet has a payload, by its adaptation_field_control.
 abbrev pub has_payload : List ℕ → Bool
@@ -44,15 +44,15 @@ has_payload p = slice_index p 3 / 0x10 % 2 == 1
 -- continuity_counter.
 abbrev pub announces_jump : List ℕ → Bool
 announces_jump p =
-    has_adaptation p && not (slice_index p 4 == 0) && (slice_index p 5 / 0x80 % 2 == 1)
+    has_adaptation_field p && not (slice_index p 4 == 0) && (slice_index p 5 / 0x80 % 2 == 1)
 
 -- The transport packet is unusable: its transport_error_indicator is set, it is scrambled, or its
 -- adaptation field leaves no space for the payload.
-abbrev pub is_wrong : List ℕ → Bool
-is_wrong p =
+abbrev pub is_erroneous : List ℕ → Bool
+is_erroneous p =
     (slice_index p 1 / 0x80 % 2 == 1)
     || not (slice_index p 3 / 0x40 % 4 == 0)
-    || (has_adaptation p && has_payload p && nat_lt 182 (slice_index p 4))
+    || (has_adaptation_field p && has_payload p && nat_lt 182 (slice_index p 4))
 
 -- Bytes 0 to 3 of a transport packet. A packet and its repeat have the same bytes 0 to 3 and the
 -- same payload.
@@ -60,9 +60,9 @@ abbrev pub packet_header : List ℕ → List ℕ
 packet_header p = take 4 p
 
 -- The offset of the payload in a transport packet.
-abbrev pub payload_place : List ℕ → ℕ
-payload_place p = if has_adaptation p then 5 + slice_index p 4 else 4
+abbrev pub payload_offset : List ℕ → ℕ
+payload_offset p = if has_adaptation_field p then 5 + slice_index p 4 else 4
 
 -- The payload of a transport packet, up to the end of the packet.
 abbrev pub payload : List ℕ → List ℕ
-payload p = drop (payload_place p) p
+payload p = drop (payload_offset p) p

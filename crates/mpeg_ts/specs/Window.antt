@@ -1,7 +1,7 @@
 -- The buffer for the next bytes of a recording.
 use Rattle.std.specs.Prelude.{◌≡◌, ℕ, ◌<◌, Bool, false, List, ◌++◌, length, take}
 use Rattle.std.specs.Prelude.{Option, option_map}
-use Rattle.sub_io.specs.Asking.{Requests}
+use Rattle.sub_io.specs.Requesting.{Requests}
 
 -- The size of the window buffer in bytes.
 abbrev pub window_size : ℕ

@@ -4,13 +4,13 @@
 //! gaps. All its bytes from byte 6 on are FF, unlike in any PES packet of EN 300 472. A reader
 //! rejects it with fault 45, `Lost`.
 ghost use Rattle.std.specs.Prelude.{◌≡◌};
-ghost use Rattle.mpeg_ts.specs.Carried.{gap_marker};
+ghost use Rattle.mpeg_ts.specs.CarriedPackets.{gap_marker};
 
 /// The size of a gap marker in bytes.
 pub(crate) const GAP_MARKER_SIZE: usize = 184;
 
-// A gap marker: the start code and the length field of a PES packet, and FF in all other bytes
-// (own).
+// A gap marker: the start code and the length field of a PES packet, and FF in all other bytes (not
+// defined by a standard).
 #[rattlefmt::skip]
 static GAP_MARKER: [u8; GAP_MARKER_SIZE] = [
     0x00, 0x00, 0x01, 0xBD, 0x00, 0xB2, 0xFF, 0xFF, 0xFF, 0xFF, 0xFF, 0xFF, 0xFF, 0xFF, 0xFF, 0xFF,
@@ -28,7 +28,7 @@ static GAP_MARKER: [u8; GAP_MARKER_SIZE] = [
 ];
 
 // Returns the bytes of a gap marker.
-#[tactic(auto, unfolding(crate::specs::Carried::gap_marker))]
+#[tactic(auto, unfolding(crate::specs::CarriedPackets::gap_marker))]
 pub(crate) fn gap_marker_bytes() -> &'static [u8; GAP_MARKER_SIZE]
     ensures { result.now ≡ gap_marker }
 {

@@ -1,22 +1,24 @@
 //! Reassembles the PES packets of a PID from its transport packets.
 ghost use Rattle.std.specs.Prelude.{◌≡◌, ◌≤◌, ◌↔◌, length, []};
 ghost use Rattle.std.specs.Prelude.{◌&&◌, false, true};
-ghost use Rattle.mpeg_ts.specs.GoodPackets.{Wrong, Loss, note_of};
-ghost use Rattle.mpeg_ts.specs.Joining.{IsWithin, TakesFirst, TakesNext, after_note, after_valid};
-ghost use Rattle.mpeg_ts.specs.Joining.{begun, emptied, gave_packet, last_output_after};
-ghost use Rattle.mpeg_ts.specs.Joining.{part_continued};
-ghost use Rattle.mpeg_ts.specs.Joining.{grown};
-ghost use Rattle.mpeg_ts.specs.Joining.{has_ended, with_buffered, is_complete, link_after};
-ghost use Rattle.mpeg_ts.specs.Joining.{gap_marker_alone};
-ghost use Rattle.mpeg_ts.specs.Joining.{initial_joining, remembering, repeats, taken_bytes};
+ghost use Rattle.mpeg_ts.specs.GoodPackets.{Wrong, Loss, event_of_packet};
+ghost use Rattle.mpeg_ts.specs.Joining.{IsNextWithin, TakesFirst, TakesNext, after_pid_event};
+ghost use Rattle.mpeg_ts.specs.Joining.{after_valid_packet};
+ghost use Rattle.mpeg_ts.specs.Joining.{begun, with_no_bytes, gave_pes_packet, last_output_after};
+ghost use Rattle.mpeg_ts.specs.Joining.{continue_part};
+ghost use Rattle.mpeg_ts.specs.Joining.{grow_part};
+ghost use Rattle.mpeg_ts.specs.Joining.{has_ended, with_buffered_payload, is_complete, link_after};
+ghost use Rattle.mpeg_ts.specs.Joining.{gap_marker_item};
+ghost use Rattle.mpeg_ts.specs.Joining.{initial_joining, with_remembered_packet, repeats};
+ghost use Rattle.mpeg_ts.specs.Joining.{taken_bytes};
 ghost use Rattle.mpeg_ts.specs.Parts.{is_break, is_seam, is_unlinked};
-ghost use Rattle.mpeg_ts.specs.TransportPacket.{has_payload, is_wrong, payload};
+ghost use Rattle.mpeg_ts.specs.TransportPacket.{has_payload, is_erroneous, payload};
 
 use crate::gap_marker::gap_marker_bytes;
 use crate::part_bytes::{PartBytes, find_packet};
-use crate::pending_item::{Next, PendingItem, gap_marker_alone};
+use crate::pending_item::{Next, PendingItem, gap_marker_item};
 use crate::transport_packet::{
-    PACKET, announces_jump, begins, counter_of, has_payload, is_wrong, payload_of,
+    PACKET, announces_jump, begins, counter_of, has_payload, is_erroneous, payload_of,
 };
 use std::marker::Model;
 use ttx_pes::PesFault;
@@ -25,7 +27,7 @@ use ttx_pes::PesFault;
 #[derive(Drop)]
 pub(crate) enum PartState {
     /// No PES packet has begun, or its first bytes are missing. Payloads give no output.
-    Headless,
+    WithoutStart,
     /// A PES packet has begun and is incomplete.
     Open,
     /// The current PES packet is complete and was returned.
@@ -50,7 +52,7 @@ pub(crate) enum Given {
 #[derive(Drop)]
 pub(crate) enum Found {
     /// An incomplete PES packet.
-    Unfinished,
+    IncompletePesPacket,
     /// A complete PES packet of this size in bytes.
     CompletePesPacket(usize),
     /// Bytes with a wrong start code or length.
@@ -116,7 +118,7 @@ impl Joining {
             has_repeat: false,
             has_jump: false,
             has_break: false,
-            part: PartState::Headless,
+            part: PartState::WithoutStart,
             given: Given::Nothing,
             pending_item: PendingItem::Nothing,
         }
@@ -125,7 +127,7 @@ impl Joining {
     /// Returns whether no item is pending.
     #[tactic(auto, using(crate::proofs::ReadyLemmas::idling))]
     #[inline(always)]
-    pub fn is_idle(&self) -> bool
+    pub fn has_nothing_pending(&self) -> bool
         ensures { (result ≡ true) ↔ (self.now.pending ≡ []) }
     {
         match self.pending_item {
@@ -147,18 +149,18 @@ impl Joining {
 
     // Processes an unusable transport packet of the PID.
     #[tactic(auto, using(crate::proofs::ReadyLemmas::growing))]
-    pub(crate) fn note_wrong(&mut self)
+    pub(crate) fn record_erroneous_packet(&mut self)
         requires { self.old.pending ≡ [] }
-        ensures { self.new ≡ after_note self.old Wrong }
+        ensures { self.new ≡ after_pid_event self.old Wrong }
     {
         self.has_break = true;
-        self.pending_item = gap_marker_alone(put_gap_marker(true, &mut self.given));
+        self.pending_item = gap_marker_item(put_gap_marker(true, &mut self.given));
     }
 
     /// Records a loss: so many consecutive bytes were skipped that transport packets of the PID may
     /// be missing.
-    pub fn note_loss(&mut self)
-        ensures { self.new ≡ after_note self.old Loss }
+    pub fn record_loss(&mut self)
+        ensures { self.new ≡ after_pid_event self.old Loss }
     {
         self.has_break = true;
     }
@@ -166,21 +168,21 @@ impl Joining {
     /// Processes a transport packet of the PID.
     pub fn take_packet(&mut self, packet: &[u8; PACKET])
         requires { self.old.pending ≡ [] }
-        ensures { self.new ≡ after_note self.old (note_of packet.now) }
+        ensures { self.new ≡ after_pid_event self.old (event_of_packet packet.now) }
     {
-        if is_wrong(packet) {
-            self.note_wrong();
+        if is_erroneous(packet) {
+            self.record_erroneous_packet();
         } else {
             self.take(packet);
         }
     }
 
     // Processes a usable transport packet of the PID.
-    #[tactic(auto, unfolding(crate::specs::Joining::after_valid))]
+    #[tactic(auto, unfolding(crate::specs::Joining::after_valid_packet))]
     fn take(&mut self, packet: &[u8; PACKET])
         requires idle { self.old.pending ≡ [] }
-        requires valid { is_wrong packet.now ≡ false }
-        ensures { self.new ≡ after_valid self.old packet.now }
+        requires valid { is_erroneous packet.now ≡ false }
+        ensures { self.new ≡ after_valid_packet self.old packet.now }
     {
         if !has_payload(packet) {
             self.has_jump = self.has_jump || announces_jump(packet);
@@ -196,7 +198,7 @@ impl Joining {
         if begins(packet) || is_unlinked {
             self.begin_part(is_break, begins(packet), payload_of(packet));
         } else {
-            self.go_on(payload_of(packet));
+            self.continue_open_part(payload_of(packet));
         }
     }
 
@@ -212,7 +214,7 @@ impl Joining {
     /// Returns whether a transport packet is a repeat of the last good one.
     pub fn is_repeat(&self, packet: &[u8; PACKET]) -> bool
         requires payload { has_payload packet.now ≡ true }
-        requires valid { is_wrong packet.now ≡ false }
+        requires valid { is_erroneous packet.now ≡ false }
         ensures { result ≡ repeats self.now packet.now }
     {
         let (header, _) = packet.split_at(4);
@@ -269,7 +271,7 @@ impl Joining {
     // Stores a transport packet as the last good one, except for its payload.
     #[inline(always)]
     fn remember(&mut self, packet: &[u8; PACKET])
-        ensures { self.new ≡ remembering self.old packet.now }
+        ensures { self.new ≡ with_remembered_packet self.old packet.now }
     {
         self.header = *packet.first_chunk().unwrap();
         self.announced = announces_jump(packet);
@@ -299,23 +301,23 @@ impl Joining {
         let gap = is_break || !self.is_complete();
         if begins {
             self.clear();
-            self.grow(gap, payload);
+            self.append_payload(gap, payload);
         } else {
-            self.part = PartState::Headless;
+            self.part = PartState::WithoutStart;
             self.buffer_payload(gap, payload);
         }
     }
 
     // Continues the current PES packet with a payload.
     #[inline(always)]
-    fn go_on(&mut self, payload: &[u8])
+    fn continue_open_part(&mut self, payload: &[u8])
         requires idle { self.old.pending ≡ [] }
         requires some { 1 ≤ length payload.now }
         requires most { length payload.now ≤ 184 }
-        ensures { self.new ≡ part_continued self.old.part self.old payload.now }
+        ensures { self.new ≡ continue_part self.old.part self.old payload.now }
     {
         match &self.part {
-            PartState::Open => self.grow(false, payload),
+            PartState::Open => self.append_payload(false, payload),
             PartState::Complete => self.buffer_payload(true, payload),
             _ => self.buffer_payload(false, payload),
         }
@@ -338,31 +340,31 @@ impl Joining {
     fn buffer_payload(&mut self, gap: bool, payload: &[u8])
         requires idle { self.old.pending ≡ [] }
         requires most { length payload.now ≤ 184 }
-        ensures { self.new ≡ with_buffered gap self.old payload.now }
+        ensures { self.new ≡ with_buffered_payload gap self.old payload.now }
     {
         self.clear();
         self.bytes.add(payload);
         self.payload_size = payload.len();
-        self.pending_item = gap_marker_alone(put_gap_marker(gap, &mut self.given));
+        self.pending_item = gap_marker_item(put_gap_marker(gap, &mut self.given));
     }
 
     // Appends a payload to an incomplete PES packet. If the PES packet is now complete, it becomes
     // pending.
     #[tactic(auto, using(crate::proofs::ReadyLemmas::growing))]
     #[inline(always)]
-    fn grow(&mut self, gap: bool, payload: &[u8])
+    fn append_payload(&mut self, gap: bool, payload: &[u8])
         requires idle { self.old.pending ≡ [] }
         requires room { length self.old.bytes ≤ 1655 }
         requires most { length payload.now ≤ 184 }
-        ensures { self.new ≡ grown gap self.old payload.now }
+        ensures { self.new ≡ grow_part gap self.old payload.now }
     {
         let gap_marker_before = put_gap_marker(gap, &mut self.given);
         self.bytes.add(payload);
         self.payload_size = payload.len();
         match find_packet(self.bytes.as_slice()) {
-            Found::Unfinished => {
+            Found::IncompletePesPacket => {
                 self.part = PartState::Open;
-                self.pending_item = gap_marker_alone(gap_marker_before);
+                self.pending_item = gap_marker_item(gap_marker_before);
             }
             Found::Other(fault) => {
                 self.part = PartState::Ended;
@@ -389,12 +391,12 @@ impl Joining {
     }
 
     /// Takes the next pending item. Bytes that are no PES packet stay pending, so that `extract`
-    /// can read them; `take_first` removes them too.
+    /// can read them; `take_next_and_discard_rest` removes them too.
     #[tactic(auto, using(crate::proofs::ReadyLemmas::taking))]
     #[inline(always)]
     pub fn take_next(&mut self) -> Next
         ensures next { TakesNext self.old result self.new }
-        ensures within { IsWithin result self.new.bytes }
+        ensures within { IsNextWithin result self.new.bytes }
     {
         match self.pending_item {
             PendingItem::Nothing => Next::Nothing,
@@ -415,7 +417,7 @@ impl Joining {
                     };
                     return Next::GapMarker;
                 }
-                self.pending_item = gap_marker_alone(gap_marker_after);
+                self.pending_item = gap_marker_item(gap_marker_after);
                 Next::Packet(size)
             }
             PendingItem::Rest {
@@ -437,7 +439,7 @@ impl Joining {
     /// Returns the bytes of an item that `take_next` returned.
     #[inline(always)]
     pub fn taken(&self, next: Next) -> &[u8]
-        requires { IsWithin next self.now.bytes }
+        requires { IsNextWithin next self.now.bytes }
         ensures { result.now ≡ taken_bytes next self.now.bytes }
     {
         match next {
@@ -461,8 +463,8 @@ impl Joining {
 
     // Clears all stored bytes, after all pending items were returned.
     #[tactic(auto, using(crate::proofs::ReadyLemmas::idling))]
-    pub(crate) fn deliver(&mut self)
-        ensures { self.new ≡ emptied self.old }
+    pub(crate) fn mark_packet_given(&mut self)
+        ensures { self.new ≡ with_no_bytes self.old }
     {
         self.pending_item = PendingItem::Nothing;
         self.clear();
@@ -470,9 +472,9 @@ impl Joining {
 
     /// Takes the next pending item, of any kind.
     #[tactic(auto, using(crate::proofs::ReadyLemmas::firsts))]
-    pub fn take_first(&mut self) -> Next
+    pub fn take_next_and_discard_rest(&mut self) -> Next
         ensures first { TakesFirst self.old result self.new }
-        ensures within { IsWithin result self.new.bytes }
+        ensures within { IsNextWithin result self.new.bytes }
     {
         let next = self.take_next();
         match next {
@@ -487,7 +489,7 @@ impl Joining {
 #[inline(always)]
 fn put_gap_marker(gap: bool, given: &mut Given) -> bool
     ensures given { given.new ≡ last_output_after gap given.old }
-    ensures due { result ≡ (gap && gave_packet given.old) }
+    ensures due { result ≡ (gap && gave_pes_packet given.old) }
 {
     if !gap {
         return false;

@@ -1,10 +1,10 @@
 //! Laws about reading a recording. Each contract states a law.
-ghost use Rattle.mpeg_ts.specs.TakenBytes.{LawOfCalls, LawOfFailedRead};
+ghost use Rattle.mpeg_ts.specs.ConsumedStreamBytes.{LawOfStreamCalls, LawOfFailedRead};
 
 /// The output of consecutive calls is the joined output of these calls.
-#[tactic(auto, using(crate::proofs::GivenLemmas::gives_then))]
-pub fn law_of_calls()
-    ensures { LawOfCalls }
+#[tactic(auto, using(crate::proofs::DeliveredBytesLemmas::outputs_compose))]
+pub fn law_of_stream_calls()
+    ensures { LawOfStreamCalls }
 {}
 
 /// If a read fails within a PES packet of a recording, the consumed bytes carry exactly the

@@ -28,13 +28,13 @@ mod transport_packet;
 mod window;
 
 pub use joining::Joining;
-pub use laws::{law_of_calls, law_of_failed_read};
+pub use laws::{law_of_failed_read, law_of_stream_calls};
 pub use packet_size::PacketSize;
 pub use pending_item::Next;
 pub use pid::Pid;
 pub use recording_packets::RecordingPesPackets;
 pub use survey_options::SurveyOptions;
 pub use transport_packet::{
-    PACKET, SYNC_BYTE, announces_jump, begins, counter_of, has_adaptation, has_payload, is_wrong,
-    payload_of, pid_of,
+    PACKET, SYNC_BYTE, announces_jump, begins, counter_of, has_adaptation_field, has_payload,
+    is_erroneous, payload_of, pid_of,
 };

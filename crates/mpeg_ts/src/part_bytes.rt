@@ -3,13 +3,13 @@ ghost use Rattle.std.specs.Prelude.{◌≡◌, ℕ, ◌+◌, ◌≤◌, [], ◌+
 ghost use Rattle.sub_io.specs.Reading.{AreBytes};
 ghost use Rattle.ttx_pes.specs.PesPackets.{IsPesPacket};
 ghost use Rattle.ttx_pes.specs.declared.fault.PesFault.{PesFault};
-ghost use Rattle.mpeg_ts.specs.Joining.{IsRefused, found_in};
-ghost use Rattle.mpeg_ts.specs.declared.joining.Found.TheVariants.{Other, Unfinished};
+ghost use Rattle.mpeg_ts.specs.Joining.{IsRefusedAtStart, found_in};
+ghost use Rattle.mpeg_ts.specs.declared.joining.Found.TheVariants.{Other, IncompletePesPacket};
 ghost use Rattle.mpeg_ts.specs.declared.joining.Found.TheVariants.{CompletePesPacket};
 
 use crate::joining::Found;
 use std::marker::Model;
-use ttx_pes::size_of;
+use ttx_pes::decode_packet_size;
 
 // The size of the buffer in bytes: an incomplete PES packet and one more payload fit in it.
 const BUFFER_SIZE: usize = 1840;
@@ -78,33 +78,33 @@ impl PartBytes {
 #[inline(always)]
 pub(crate) fn find_packet(bytes: &[u8]) -> Found
     ensures found { found_in bytes.now ≡ result }
-    ensures open { result ≡ Unfinished → length bytes.now ≤ 1655 }
+    ensures open { result ≡ IncompletePesPacket → length bytes.now ≤ 1655 }
     ensures packet { (size : ℕ) → result ≡ CompletePesPacket size
         → IsPesPacket (take size bytes.now) × (size ≤ length bytes.now) }
-    ensures other { (fault : PesFault) → result ≡ Other fault → IsRefused bytes.now fault }
+    ensures other { (fault : PesFault) → result ≡ Other fault → IsRefusedAtStart bytes.now fault }
 {
-    found_at_start(bytes)
+    find_packet_at_start(bytes)
 }
 
 // Examines whether the bytes begin with a PES packet, by the start code and length in their first
 // six bytes.
 #[tactic(auto, unfolding(crate::specs::Joining::found_in))]
 #[inline(always)]
-fn found_at_start(bytes: &[u8]) -> Found
+fn find_packet_at_start(bytes: &[u8]) -> Found
     ensures found { found_in bytes.now ≡ result }
-    ensures open { result ≡ Unfinished → length bytes.now ≤ 1655 }
+    ensures open { result ≡ IncompletePesPacket → length bytes.now ≤ 1655 }
     ensures fit { AreBytes bytes.now }
 {
     let Some(head) = bytes.first_chunk() else {
-        return Found::Unfinished;
+        return Found::IncompletePesPacket;
     };
-    match size_of(head) {
+    match decode_packet_size(head) {
         Err(fault) => Found::Other(fault),
         Ok(size) => {
             if size <= bytes.len() {
                 Found::CompletePesPacket(size)
             } else {
-                Found::Unfinished
+                Found::IncompletePesPacket
             }
         }
     }

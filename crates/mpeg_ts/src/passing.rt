@@ -11,7 +11,7 @@ use crate::transport_packet::{PACKET, SYNC_BYTE, pid_of};
 
 // Returns the transport packet at an offset of the bytes.
 #[inline(always)]
-pub(crate) fn packet_in(bytes: &[u8], place: usize) -> &[u8; PACKET]
+pub(crate) fn packet_in_unit(bytes: &[u8], place: usize) -> &[u8; PACKET]
     requires { place + 188 ≤ length bytes.now }
     ensures { result.now ≡ take 188 (drop place bytes.now) }
 {
@@ -61,7 +61,7 @@ pub(crate) fn place_after_other_pids(
 // Returns whether a transport packet of the PID is at this offset, with all bytes up to the next
 // packet available.
 #[inline(always)]
-pub(crate) fn begins_unit(bytes: &[u8], place: usize, distance: usize, number: u16) -> bool
+pub(crate) fn is_unit_of_pid(bytes: &[u8], place: usize, distance: usize, number: u16) -> bool
     requires within { place ≤ length bytes.now }
     requires near { 188 ≤ distance }
     ensures fits { result ≡ true → place + distance ≤ length bytes.now }
@@ -70,7 +70,7 @@ pub(crate) fn begins_unit(bytes: &[u8], place: usize, distance: usize, number: u
     if bytes.len() - place < distance {
         return false;
     }
-    let packet = packet_in(bytes, place);
+    let packet = packet_in_unit(bytes, place);
     packet[0] == SYNC_BYTE && pid_of(packet) == number
 }
 

@@ -1,6 +1,6 @@
 //! Reassembled PES packets and gap markers that are pending: they are ready to be returned.
 ghost use Rattle.std.specs.Prelude.{◌≡◌};
-ghost use Rattle.mpeg_ts.specs.Joining.{gap_marker_alone};
+ghost use Rattle.mpeg_ts.specs.Joining.{gap_marker_item};
 
 use ttx_pes::PesFault;
 
@@ -38,8 +38,8 @@ pub enum Next {
 }
 
 // Returns a gap marker as the pending item if one is needed, or no item.
-pub(crate) fn gap_marker_alone(is_due: bool) -> PendingItem
-    ensures { result ≡ gap_marker_alone is_due }
+pub(crate) fn gap_marker_item(is_due: bool) -> PendingItem
+    ensures { result ≡ gap_marker_item is_due }
 {
     if is_due {
         PendingItem::GapMarker

@@ -4,17 +4,17 @@
 //! together saved 3 percent of the instructions for a multiplex, but needed 1,400 lines.
 ghost use Rattle.std.specs.Prelude.{◌≡◌, ◌≤◌, [], Some, false, is_ok, length, option_map, take};
 ghost use Rattle.std.specs.Prelude.{true};
-ghost use Rattle.sub_io.specs.Asking.{Requests};
+ghost use Rattle.sub_io.specs.Requesting.{Requests};
 ghost use Rattle.sub_io.specs.Device.{CanFail, CountsFailure};
 ghost use Rattle.sub_io.specs.Reading.{AreBytes};
-ghost use Rattle.ttx_pes.specs.Advancing.{Advances, no_borrowed_devices, reports_rest};
+ghost use Rattle.ttx_pes.specs.Advancing.{Advances, no_borrowed_devices, faulty_rest_is_answer};
 ghost use Rattle.ttx_pes.specs.PesPackets.{IsPesPacket};
-ghost use Rattle.mpeg_ts.specs.Carried.{carried};
+ghost use Rattle.mpeg_ts.specs.CarriedPackets.{carried_bytes};
 ghost use Rattle.mpeg_ts.specs.PacketSize.{bytes_of};
-ghost use Rattle.mpeg_ts.specs.Recording.{at_start, left_of};
-ghost use Rattle.mpeg_ts.specs.Stream.{StreamValue, output_of, has_output, is_some_ready};
+ghost use Rattle.mpeg_ts.specs.Recording.{recording_at_start, remaining_unless_over};
+ghost use Rattle.mpeg_ts.specs.Stream.{StreamValue, output_of, has_output, is_output_ready};
 ghost use Rattle.mpeg_ts.specs.Stream.{remaining_output};
-ghost use Rattle.mpeg_ts.specs.TakenBytes.{OutputsOn};
+ghost use Rattle.mpeg_ts.specs.ConsumedStreamBytes.{OutputsBetween};
 
 use crate::pending_item::Next;
 use crate::stream::Stream;
@@ -27,7 +27,7 @@ use ttx_pes::{
 
 /// A reader of the PES packets that the transport packets of one PID carry (ISO/IEC 13818-1). If
 /// data is missing between two PES packets, it returns a gap marker: 184 bytes that begin like a
-/// PES packet and are FF from byte 6 on (own).
+/// PES packet and are FF from byte 6 on (not defined by a standard).
 ///
 /// The reader returns a PES packet before it reads any byte after the last transport packet of that
 /// PES packet, except the first byte of the next transport packet if reading was out of step. It
@@ -39,7 +39,7 @@ pub struct RecordingPesPackets<S> {
     inner: S,
     stream: Stream,
     // Whether `Rest` was returned: the remaining bytes do not begin with a PES packet.
-    is_over: bool,
+    is_finished: bool,
 }
 
 impl<S> Model for RecordingPesPackets<S> {
@@ -48,25 +48,26 @@ impl<S> Model for RecordingPesPackets<S> {
 
     ghost Value = { RecordingValue S };
 
-    ghost view = { λ r. record { device = r.inner; stream = r.stream; is_over = r.is_over } };
+    ghost view = { λ r. record
+        { device = r.inner; stream = r.stream; is_finished = r.is_finished } };
 
-    ghost invariant = { λ r. r.is_over ≡ true → IsAtRest r.stream };
+    ghost invariant = { λ r. r.is_finished ≡ true → IsAtRest r.stream };
 }
 
 impl<S: Source> RecordingPesPackets<S> {
     /// Creates a reader of the transport packets of `pid` at the start of a recording. It reads at
     /// most 2^48 bytes.
-    #[tactic(auto, using(crate::proofs::CarriedLemmas::carried_known))]
+    #[tactic(auto, using(crate::proofs::CarriedPacketLemmas::known_output_is_carried))]
     pub fn new(source: S, pid: Pid, packet_size: PacketSize) -> Self
-        ensures start { result ≡ at_start source pid (bytes_of packet_size) }
+        ensures start { result ≡ recording_at_start source pid (bytes_of packet_size) }
         // The output of the reader is the PES packets that the transport packets of the PID carry.
-        ensures carried { remaining_output result.stream (S.remaining result.device)
-            ≡ option_map (carried pid (bytes_of packet_size)) (S.remaining source) }
+        ensures carried_bytes { remaining_output result.stream (S.remaining result.device)
+            ≡ option_map (carried_bytes pid (bytes_of packet_size)) (S.remaining source) }
     {
         RecordingPesPackets {
             inner: source,
             stream: Stream::new(pid, packet_size),
-            is_over: false,
+            is_finished: false,
         }
     }
 
@@ -82,13 +83,14 @@ impl<S: Source> RecordingPesPackets<S> {
 impl<S: Source> PesPackets for RecordingPesPackets<S> {
     ghost remaining = { λ r. remaining_output r.stream (S.remaining r.device) };
 
-    ghost left = { λ r. left_of r.is_over (remaining_output r.stream (S.remaining r.device)) };
+    ghost left = { λ r. remaining_unless_over r.is_finished (remaining_output r.stream
+        (S.remaining r.device)) };
 
     ghost failure_count = { λ r. S.failure_count r.device };
 
-    ghost is_rest = { λ r. r.is_over };
+    ghost is_rest = { λ r. r.is_finished };
 
-    ghost ready = { λ r. is_some_ready r.stream };
+    ghost ready = { λ r. is_output_ready r.stream };
 
     /// Lets `taker` process the next PES packet or gap marker. Reads more bytes if no item is
     /// pending.
@@ -102,13 +104,13 @@ impl<S: Source> PesPackets for RecordingPesPackets<S> {
         requires { CanFail (S.failure_count self.old.device) }
         ensures received { Advances (remaining_output self.old.stream (S.remaining self.old.device))
             (remaining_output self.new.stream (S.remaining self.new.device))
-            (left_of self.new.is_over
+            (remaining_unless_over self.new.is_finished
             (remaining_output self.new.stream (S.remaining self.new.device)))
             T.is_take taker.old taker.new result }
-        ensures rest { reports_rest result ≡ true → self.new.is_over ≡ true }
-        ensures ready { is_some_ready self.old.stream ≡ true → is_ok result ≡ true }
+        ensures rest { faulty_rest_is_answer result ≡ true → self.new.is_finished ≡ true }
+        ensures ready { is_output_ready self.old.stream ≡ true → is_ok result ≡ true }
         // The consumed bytes of the recording determine what was returned, whatever bytes follow.
-        ensures gives { OutputsOn self.old.stream self.new.stream
+        ensures gives { OutputsBetween self.old.stream self.new.stream
             (S.remaining self.old.device) (S.remaining self.new.device) }
         // If a read failed, the consumed bytes give no more output than what was returned.
         ensures cut { is_ok result ≡ false → output_of self.new.stream [] ≡ [] }
@@ -120,16 +122,16 @@ impl<S: Source> PesPackets for RecordingPesPackets<S> {
         ensures count { CountsFailure
             (S.failure_count self.old.device) result (S.failure_count self.new.device) }
     {
-        self.is_over = false;
-        self.stream.read_on(&mut self.inner)?;
+        self.is_finished = false;
+        self.stream.read_ahead(&mut self.inner)?;
         let next = self.stream.take_next();
         match next {
             Next::Nothing => Ok(Received::End),
             Next::Rest(fault) => {
-                self.is_over = true;
+                self.is_finished = true;
                 Ok(Received::Rest(fault))
             }
-            _ => Ok(Received::PesPacket(take_by(taker, self.stream.taken(next)))),
+            _ => Ok(Received::PesPacket(take_with(taker, self.stream.taken(next)))),
         }
     }
 
@@ -139,14 +141,14 @@ impl<S: Source> PesPackets for RecordingPesPackets<S> {
         let bytes = self.stream.bytes();
         let count = bytes.len();
         put_in_front(room, bytes);
-        self.stream.deliver();
+        self.stream.mark_packet_given();
         Ok(count)
     }
 
     /// Returns whether a PES packet or gap marker is pending.
     #[inline(always)]
     fn is_ready(&self) -> bool {
-        !self.stream.is_idle()
+        !self.stream.has_nothing_pending()
     }
 }
 
@@ -172,7 +174,7 @@ fn put_in_front(room: &mut [u8; REST_BUFFER_SIZE], bytes: &[u8])
 
 // Lets `taker` process a PES packet. The contract states that the packet consists of bytes.
 #[inline(always)]
-fn take_by<T: TakePesPacket>(taker: &mut T, pes_packet: &[u8]) -> T::Answer
+fn take_with<T: TakePesPacket>(taker: &mut T, pes_packet: &[u8]) -> T::Answer
     requires { IsPesPacket pes_packet.now }
     ensures takes { T.is_take taker.old pes_packet.now result taker.new }
     ensures fit { AreBytes pes_packet.now }

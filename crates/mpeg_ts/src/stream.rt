@@ -4,18 +4,19 @@ ghost use Rattle.std.specs.Prelude.{◌≡◌, ◌+◌, ◌-◌, ◌^◌, ◌<�
 ghost use Rattle.std.specs.Prelude.{◌≢◌, take, length};
 ghost use Rattle.std.specs.Prelude.{Ok, false, is_ok, true};
 ghost use Rattle.std.specs.Io.KnownBytes.{IsAtEnd, Keeps};
-ghost use Rattle.sub_io.specs.Asking.{Requests};
+ghost use Rattle.sub_io.specs.Requesting.{Requests};
 ghost use Rattle.sub_io.specs.Device.{CanFail, CountsFailure};
 ghost use Rattle.mpeg_ts.specs.GoodPackets.{loss_size};
-ghost use Rattle.mpeg_ts.specs.Joining.{IsWithin, TakesNext, emptied, has_ended, taken_bytes};
+ghost use Rattle.mpeg_ts.specs.Joining.{IsNextWithin, TakesNext, with_no_bytes, has_ended};
+ghost use Rattle.mpeg_ts.specs.Joining.{taken_bytes};
 ghost use Rattle.mpeg_ts.specs.PacketSize.{bytes_of};
 ghost use Rattle.mpeg_ts.specs.PacketsInStep.{begins_packet, bytes_needed, lead_size};
 ghost use Rattle.mpeg_ts.specs.Stream.{after_packet, after_skipped, bytes_ahead, bytes_at_most};
 ghost use Rattle.mpeg_ts.specs.Stream.{output_of, has_output, start_of_stream, remaining_output};
-ghost use Rattle.mpeg_ts.specs.TakenBytes.{TakesPrefix};
+ghost use Rattle.mpeg_ts.specs.ConsumedStreamBytes.{TakesPrefix};
 
 use crate::joining::Joining;
-use crate::passing::{begins_unit, junk_size, packet_in, place_after_other_pids};
+use crate::passing::{is_unit_of_pid, junk_size, packet_in_unit, place_after_other_pids};
 use crate::pending_item::Next;
 use crate::transport_packet::{PACKET, SYNC_BYTE, pid_of};
 use crate::window::Window;
@@ -24,7 +25,7 @@ use std::marker::Model;
 use sub_io::{Failed, Source};
 
 // The maximum number of bytes that are read from a recording.
-const MOST_BYTES: u64 = 1 << 48;
+const MAX_STREAM_BYTES: u64 = 1 << 48;
 
 /// The state of reading a recording for one PID.
 #[derive(Drop)]
@@ -61,7 +62,7 @@ impl Model for Stream {
 }
 
 // Returns the number of bytes before the first transport packet of a recording.
-fn lead_of(packet_size: PacketSize) -> usize
+fn lead_bytes_of_size(packet_size: PacketSize) -> usize
     ensures { result ≡ lead_size (bytes_of packet_size) }
 {
     match packet_size {
@@ -75,20 +76,20 @@ fn packet_at(window: &Window, place: usize) -> &[u8; PACKET]
     requires { place + 188 ≤ length window.now.buffered }
     ensures { result.now ≡ take 188 (drop place window.now.buffered) }
 {
-    packet_in(window.buffered(), place)
+    packet_in_unit(window.buffered(), place)
 }
 
 impl Stream {
     // Creates the reading state for the start of a recording.
-    #[tactic(auto, unfolding(crate::specs::PacketsInStep::most_bytes))]
+    #[tactic(auto, unfolding(crate::specs::PacketsInStep::max_stream_bytes))]
     pub(crate) fn new(pid: Pid, packet_size: PacketSize) -> Self
         ensures { result ≡ start_of_stream pid (bytes_of packet_size) }
     {
         Stream {
             number: pid.number(),
             distance: packet_size.bytes(),
-            window: Window::new(MOST_BYTES),
-            lead: lead_of(packet_size),
+            window: Window::new(MAX_STREAM_BYTES),
+            lead: lead_bytes_of_size(packet_size),
             in_step: true,
             run: 0,
             joining: Joining::new(),
@@ -117,12 +118,12 @@ impl Stream {
         ensures count { CountsFailure
             (S.failure_count source.old) result (S.failure_count source.new) }
     {
-        let count = self.lead + self.needed();
-        self.window.fill_to(source, count)
+        let count = self.lead + self.count_needed_bytes();
+        self.window.fill_window_to(source, count)
     }
 
     // Returns the number of bytes that determine the next item.
-    fn needed(&self) -> usize
+    fn count_needed_bytes(&self) -> usize
         ensures { result ≡ bytes_needed self.now.distance self.now.in_step }
     {
         if self.in_step {
@@ -142,7 +143,7 @@ impl Stream {
     }
 
     // Returns whether the next item is a transport packet.
-    #[tactic(auto, using(crate::proofs::StreamLemmas::begins_determined))]
+    #[tactic(auto, using(crate::proofs::StreamLemmas::window_decides_packet_start))]
     fn begins_packet(&self) -> bool
         requires { self.now.lead + bytes_needed self.now.distance self.now.in_step
             ≤ length self.now.window.buffered }
@@ -179,7 +180,7 @@ impl Stream {
     fn take_packet(&mut self)
         requires there { self.old.lead + 188 ≤ length self.old.window.buffered }
         requires idle { self.old.joining.pending ≡ [] }
-        requires going { has_ended self.old.joining.part ≡ false }
+        requires part_is_open { has_ended self.old.joining.part ≡ false }
         ensures gives { (bytes : List ℕ)
             → begins_packet self.old.distance self.old.in_step (bytes_ahead self.old bytes) ≡ true
             → output_of self.new bytes ≡ output_of self.old bytes }
@@ -224,12 +225,12 @@ impl Stream {
     fn skip(&mut self)
         requires there { self.old.lead + 188 ≤ length self.old.window.buffered }
         requires idle { self.old.joining.pending ≡ [] }
-        requires going { has_ended self.old.joining.part ≡ false }
+        requires part_is_open { has_ended self.old.joining.part ≡ false }
         ensures gives { (bytes : List ℕ)
             → begins_packet self.old.distance self.old.in_step (bytes_ahead self.old bytes) ≡ false
             → output_of self.new bytes ≡ output_of self.old bytes }
         ensures idle { self.new.joining.pending ≡ [] }
-        ensures going { has_ended self.new.joining.part ≡ false }
+        ensures part_is_open { has_ended self.new.joining.part ≡ false }
         ensures out { self.new.in_step ≡ false }
         ensures fewer { bytes_at_most self.new < bytes_at_most self.old }
     {
@@ -240,7 +241,7 @@ impl Stream {
     }
 
     // Returns whether skipping the next `count` buffered bytes could count as a loss.
-    fn may_end_loss(&self, count: usize) -> bool
+    fn may_complete_loss(&self, count: usize) -> bool
         requires { count ≤ length self.now.window.buffered }
         ensures { result ≡ false → self.now.run < loss_size self.now.distance
             → self.now.run + count < loss_size self.now.distance }
@@ -253,15 +254,15 @@ impl Stream {
     // become a loss; `skip` handles that byte.
     #[inline(never)]
     #[tactic(auto, using(crate::proofs::StreamLemmas::junk))]
-    fn skip_on(&mut self)
+    fn skip_junk(&mut self)
         requires idle { self.old.joining.pending ≡ [] }
-        requires going { has_ended self.old.joining.part ≡ false }
+        requires part_is_open { has_ended self.old.joining.part ≡ false }
         requires out { self.old.in_step ≡ false }
         ensures gives { (bytes : List ℕ) → output_of self.new bytes ≡ output_of self.old bytes }
         ensures most { bytes_at_most self.new ≤ bytes_at_most self.old }
     {
         let count = junk_size(self.window.buffered());
-        if count == 0 || self.may_end_loss(count) {
+        if count == 0 || self.may_complete_loss(count) {
             return;
         }
         self.lead = self.window.advance(count);
@@ -275,7 +276,7 @@ impl Stream {
         } }
     {
         if self.run + 1 == 15 * self.distance as u64 {
-            self.joining.note_loss();
+            self.joining.record_loss();
         }
     }
 
@@ -285,7 +286,7 @@ impl Stream {
     fn step<S: Source>(&mut self, source: &mut S) -> Result<bool, Failed>
         requires count { CanFail (S.failure_count source.old) }
         requires idle { self.old.joining.pending ≡ [] }
-        requires going { has_ended self.old.joining.part ≡ false }
+        requires part_is_open { has_ended self.old.joining.part ≡ false }
         ensures takes { TakesPrefix (output_of self.old) (output_of self.new)
             (S.remaining source.old) (S.remaining source.new) }
         ensures cut { is_ok result ≡ false → output_of self.new [] ≡ [] }
@@ -304,7 +305,7 @@ impl Stream {
             self.take_packet();
         } else {
             self.skip();
-            self.skip_on();
+            self.skip_junk();
         }
         Ok(true)
     }
@@ -317,7 +318,7 @@ impl Stream {
     fn take_borrowed<S: Source>(&mut self, source: &mut S) -> bool
         requires count { CanFail (S.failure_count source.old) }
         requires idle { self.old.joining.pending ≡ [] }
-        requires going { has_ended self.old.joining.part ≡ false }
+        requires part_is_open { has_ended self.old.joining.part ≡ false }
         ensures kept { TakesPrefix (output_of self.old) (output_of self.new)
             (S.remaining source.old) (S.remaining source.new)
             × Requests S.is_pull S.borrowed S.remaining
@@ -334,7 +335,7 @@ impl Stream {
             return false;
         }
         let place = place_after_other_pids(borrowed, self.lead, self.distance, self.number);
-        if !begins_unit(borrowed, place, self.distance, self.number) {
+        if !is_unit_of_pid(borrowed, place, self.distance, self.number) {
             if place <= self.lead || !source.skip_bytes(place) {
                 return false;
             }
@@ -342,7 +343,7 @@ impl Stream {
             self.lead = 0;
             return true;
         }
-        self.joining.take_packet(packet_in(borrowed, place));
+        self.joining.take_packet(packet_in_unit(borrowed, place));
         let count = place + self.distance;
         source.skip_bytes(count);
         self.window.skip_bytes(count as u64);
@@ -352,19 +353,19 @@ impl Stream {
 
     // Returns whether no item is pending and more output may follow.
     #[inline(always)]
-    fn wants_more(&self) -> bool
-        ensures wants { result ≡ true → (self.now.joining.pending ≡ [])
+    fn needs_more_bytes(&self) -> bool
+        ensures is_open_without_pending { result ≡ true → (self.now.joining.pending ≡ [])
             × (has_ended self.now.joining.part ≡ false) }
         ensures not { result ≡ false → self.now.joining.pending ≡ []
             → has_ended self.now.joining.part ≡ true }
     {
-        self.joining.is_idle() && !self.joining.has_ended()
+        self.joining.has_nothing_pending() && !self.joining.has_ended()
     }
 
     // Reads until an item is pending or the recording ends.
     #[inline(always)]
     #[tactic(auto, using(crate::proofs::StreamLemmas::reads))]
-    pub(crate) fn read_on<S: Source>(&mut self, source: &mut S) -> Result<(), Failed>
+    pub(crate) fn read_ahead<S: Source>(&mut self, source: &mut S) -> Result<(), Failed>
         requires { CanFail (S.failure_count source.old) }
         ensures takes { TakesPrefix (output_of self.old) (output_of self.new)
             (S.remaining source.old) (S.remaining source.new) }
@@ -379,7 +380,7 @@ impl Stream {
         ensures count { CountsFailure
             (S.failure_count source.old) result (S.failure_count source.new) }
     {
-        if !self.is_idle() {
+        if !self.has_nothing_pending() {
             return Ok(());
         }
         self.read_more(source)
@@ -400,7 +401,7 @@ impl Stream {
         ensures count { CountsFailure
             (S.failure_count source.old) result (S.failure_count source.new) }
     {
-        while self.wants_more() {
+        while self.needs_more_bytes() {
             if !self.take_borrowed(source) && !self.step(source)? {
                 return Ok(());
             }
@@ -410,17 +411,17 @@ impl Stream {
 
     // Returns whether no item is pending.
     #[inline(always)]
-    pub(crate) fn is_idle(&self) -> bool
+    pub(crate) fn has_nothing_pending(&self) -> bool
         ensures { (result ≡ true) ↔ (self.now.joining.pending ≡ []) }
     {
-        self.joining.is_idle()
+        self.joining.has_nothing_pending()
     }
 
     // Takes the next pending item. Bytes that are no PES packet stay pending.
     #[inline(always)]
     pub(crate) fn take_next(&mut self) -> Next
         ensures next { TakesNext self.old.joining result self.new.joining }
-        ensures within { IsWithin result self.new.joining.bytes }
+        ensures within { IsNextWithin result self.new.joining.bytes }
         ensures same { self.new ≡ record self.old { joining = self.new.joining } }
     {
         self.joining.take_next()
@@ -435,16 +436,16 @@ impl Stream {
     }
 
     // Clears the collected bytes, after all pending items were returned.
-    pub(crate) fn deliver(&mut self)
-        ensures { self.new ≡ record self.old { joining = emptied self.old.joining } }
+    pub(crate) fn mark_packet_given(&mut self)
+        ensures { self.new ≡ record self.old { joining = with_no_bytes self.old.joining } }
     {
-        self.joining.deliver();
+        self.joining.mark_packet_given();
     }
 
     // Returns the bytes of an item that `take_next` returned.
     #[inline(always)]
     pub(crate) fn taken(&self, next: Next) -> &[u8]
-        requires { IsWithin next self.now.joining.bytes }
+        requires { IsNextWithin next self.now.joining.bytes }
         ensures { result.now ≡ taken_bytes next self.now.joining.bytes }
     {
         self.joining.taken(next)

@@ -1,7 +1,8 @@
 //! The fields of a transport packet (ISO/IEC 13818-1, 2.4.3.2 to 2.4.3.5).
 ghost use Rattle.std.specs.Prelude.{◌≡◌, ◌≤◌, ◌==◌, length, false, true};
-ghost use Rattle.mpeg_ts.specs.TransportPacket.{announces_jump, begins, counter, has_adaptation};
-ghost use Rattle.mpeg_ts.specs.TransportPacket.{has_payload, is_wrong, payload, pid};
+ghost use Rattle.mpeg_ts.specs.TransportPacket.{announces_jump, begins, counter};
+ghost use Rattle.mpeg_ts.specs.TransportPacket.{has_adaptation_field};
+ghost use Rattle.mpeg_ts.specs.TransportPacket.{has_payload, is_erroneous, payload, pid};
 
 /// The size of a transport packet in bytes.
 pub const PACKET: usize = 188;
@@ -35,8 +36,8 @@ pub fn counter_of(packet: &[u8; PACKET]) -> u8
 
 /// Returns whether a transport packet has an adaptation field.
 #[inline(always)]
-pub fn has_adaptation(packet: &[u8; PACKET]) -> bool
-    ensures { result ≡ has_adaptation packet.now }
+pub fn has_adaptation_field(packet: &[u8; PACKET]) -> bool
+    ensures { result ≡ has_adaptation_field packet.now }
 {
     packet[3] / 0x20 % 2 == 1
 }
@@ -55,30 +56,30 @@ pub fn has_payload(packet: &[u8; PACKET]) -> bool
 pub fn announces_jump(packet: &[u8; PACKET]) -> bool
     ensures { result ≡ announces_jump packet.now }
 {
-    has_adaptation(packet) && packet[4] != 0 && packet[5] / 0x80 % 2 == 1
+    has_adaptation_field(packet) && packet[4] != 0 && packet[5] / 0x80 % 2 == 1
 }
 
 /// Returns whether a transport packet is unusable: its transport_error_indicator is set, the packet
 /// is scrambled, or its adaptation field leaves no space for the payload.
 #[inline(always)]
-pub fn is_wrong(packet: &[u8; PACKET]) -> bool
-    ensures { result ≡ is_wrong packet.now }
+pub fn is_erroneous(packet: &[u8; PACKET]) -> bool
+    ensures { result ≡ is_erroneous packet.now }
 {
     packet[1] / 0x80 % 2 == 1
         || packet[3] / 0x40 % 4 != 0
-        || (has_adaptation(packet) && has_payload(packet) && packet[4] > 182)
+        || (has_adaptation_field(packet) && has_payload(packet) && packet[4] > 182)
 }
 
 /// Returns the payload of a transport packet, 1 to 184 bytes.
 #[inline(always)]
 pub fn payload_of(packet: &[u8; PACKET]) -> &[u8]
     requires payload { has_payload packet.now ≡ true }
-    requires valid { is_wrong packet.now ≡ false }
+    requires valid { is_erroneous packet.now ≡ false }
     ensures payload { result.now ≡ payload packet.now }
     ensures some { 1 ≤ length result.now }
     ensures most { length result.now ≤ 184 }
 {
-    let place = if has_adaptation(packet) {
+    let place = if has_adaptation_field(packet) {
         5 + packet[4] as usize
     } else {
         4

@@ -3,7 +3,7 @@ ghost use Rattle.std.specs.Prelude.{◌≡◌, ◌+◌, ◌-◌, ◌<◌, ◌≤
 ghost use Rattle.std.specs.Prelude.{false, is_ok, true};
 ghost use Rattle.std.specs.Io.KnownBytes.{IsAtEnd};
 ghost use Rattle.sub_io.specs.Device.{CanFail, CountsFailure};
-ghost use Rattle.mpeg_ts.specs.TakenBytes.{TakesPrefix};
+ghost use Rattle.mpeg_ts.specs.ConsumedStreamBytes.{TakesPrefix};
 ghost use Rattle.mpeg_ts.specs.Window.{RequestsUpTo, buffered_and_left, known_bytes_left};
 ghost use Rattle.mpeg_ts.specs.Window.{window_size};
 
@@ -121,7 +121,7 @@ impl Window {
 
     // Reads until the buffer has `count` bytes. Returns `false` if the recording ends before that.
     #[tactic(auto, using(crate::proofs::WindowLemmas::filling))]
-    pub(crate) fn fill_to<S: Source>(
+    pub(crate) fn fill_window_to<S: Source>(
         &mut self,
         source: &mut S,
         count: usize,
@@ -143,14 +143,14 @@ impl Window {
         ensures count { CountsFailure
             (S.failure_count source.old) result (S.failure_count source.new) }
     {
-        let mut have = self.buffered().len();
-        while have < count {
+        let mut buffered_count_is_current = self.buffered().len();
+        while buffered_count_is_current < count {
             let room = self.free_space(count);
             let n = self.pull(source, room)?;
             if n == 0 {
                 return Ok(false);
             }
-            have += n;
+            buffered_count_is_current += n;
         }
         Ok(true)
     }
@@ -162,13 +162,13 @@ impl Window {
         ensures left { self.new.left ≡ self.old.left }
         ensures rest { result ≡ count - length self.old.buffered }
     {
-        let have = self.bytes.len();
-        if have <= count {
+        let buffered_count_is_current = self.bytes.len();
+        if buffered_count_is_current <= count {
             self.bytes.clear();
-            return count - have;
+            return count - buffered_count_is_current;
         }
         let mut bytes = [0; WINDOW];
-        let (prefix, _) = bytes.split_at_mut(have - count);
+        let (prefix, _) = bytes.split_at_mut(buffered_count_is_current - count);
         let (_, following) = self.bytes.as_slice().split_at(count);
         prefix.copy_from_slice(following);
         self.bytes.clear();

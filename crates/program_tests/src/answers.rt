@@ -1,12 +1,12 @@
 //! Assertions about the program's answers, with devices in memory.
 ghost use Rattle.sub_io.specs.Device.{CanFail};
 
-use answer_fixtures::{fills, prints, prints_of, reports};
+use answer_fixtures::{prints, prints_for_file, reports, writes_every_prefix};
 use std::alloc::Global;
 use std::process::Abort;
 use sub_io::Source;
 
-fn assert_right(rt: &impl Abort, is_right: bool, arguments: &[&str]) {
+fn assert_is_right(rt: &impl Abort, is_right: bool, arguments: &[&str]) {
     assert!(rt; is_right, "{arguments:?}");
 }
 
@@ -24,7 +24,7 @@ pub fn assert_prints<'a, S: Source, T: Source>(
     requires second { CanFail (T.failure_count second.old) }
 {
     let is_right = prints(rt.alloc(), arguments, first, second, prefix, end);
-    assert_right(rt, is_right, arguments);
+    assert_is_right(rt, is_right, arguments);
 }
 
 /// Asserts that a command prints `prefix` followed by `end` for a file in memory, and returns the
@@ -36,9 +36,9 @@ pub fn assert_prints_of<'a>(
     prefix: &[u8],
     end: &[u8],
 ) {
-    assert_right(
+    assert_is_right(
         rt,
-        prints_of(rt.alloc(), arguments, file, prefix, end),
+        prints_for_file(rt.alloc(), arguments, file, prefix, end),
         arguments,
     );
 }
@@ -53,7 +53,7 @@ pub fn assert_reports<'a>(
     second: &[u8],
     want: &str,
 ) {
-    assert_right(
+    assert_is_right(
         rt,
         reports(rt.alloc(), arguments, first, second, want),
         arguments,
@@ -68,9 +68,9 @@ pub fn assert_fills<'a>(
     written: &[u8],
     text: &[u8],
 ) {
-    assert_right(
+    assert_is_right(
         rt,
-        fills(rt.alloc(), arguments, read, written, text),
+        writes_every_prefix(rt.alloc(), arguments, read, written, text),
         arguments,
     );
 }

@@ -27,7 +27,7 @@ fn prints_the_line_of_refused_arguments_into_any_output(rt: HostRuntime) {
 
 // Arguments without a valid command.
 #[rattlefmt::skip]
-const NO_WORDS: [&[&str]; 65] = [
+const WRONG_ARGUMENTS: [&[&str]; 65] = [
     &[], // not even the program's name
     &["subttx"],
     &["subttx", "help", "packet", "15"],
@@ -103,7 +103,7 @@ const NO_WORDS: [&[&str]; 65] = [
 
 #[test]
 fn refuses_arguments_that_are_no_command(rt: HostRuntime) {
-    for arguments in &NO_WORDS {
+    for arguments in &WRONG_ARGUMENTS {
         assert_refuses(&rt, *arguments, "usage 0 Words\n");
     }
 }

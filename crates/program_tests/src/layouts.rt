@@ -39,7 +39,7 @@ const CASES: [&[&[u8]]; 18] = [
 ];
 
 // Returns a subtitle file with one subtitle with this text, VP and JC.
-fn file_with(rt: &impl Abort, text: &[u8], place: &[u8]) -> [u8; 1152] {
+fn file_with_text(rt: &impl Abort, text: &[u8], place: &[u8]) -> [u8; 1152] {
     assert!(rt; text.len() <= 112 && place.len() == 2);
     let mut head = HEAD;
     (head[13], head[14]) = (place[0], place[1]);
@@ -127,7 +127,7 @@ fn assert_answers<'a>(
 // Asserts the schedule and the check for a case of `CASES`.
 fn assert_case(rt: &(impl Abort + Alloc<A = Global>), number: usize, case: &[&[u8]]) {
     assert!(rt; case.len() >= 3);
-    let stl = file_with(rt, case[0], case[1]);
+    let stl = file_with_text(rt, case[0], case[1]);
     let layout = std::str::from_utf8(case[2]).expect(rt, "a text");
     let schedule = ["subttx", "schedule", "a", "b", "--layout", layout];
     let check = ["subttx", "check", "a", "b", "--layout", layout];
@@ -151,7 +151,7 @@ fn draws_texts_by_layouts(rt: HostRuntime) {
 
 // Asserts the schedule and the check of a text in German, with a layout that removes the bytes 0A.
 fn assert_german(rt: &(impl Abort + Alloc<A = Global>), text: &[u8], row: &[u8]) {
-    let stl = file_with(rt, text, &[22, 2]);
+    let stl = file_with_text(rt, text, &[22, 2]);
     let schedule = [
         "subttx", "schedule", "a", "b", "--option", "german", "--layout", "strip=0A",
     ];

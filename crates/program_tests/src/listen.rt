@@ -1,8 +1,8 @@
 //! The page that a receiver shows after the transmission for `Hi`, with `listen`.
 use crate::answers::{assert_fills, assert_prints, assert_prints_of};
 use fixtures::{
-    CLOSING, HEADER, ROW, TEN, every_second, every_second_twice, push_pes, push_spelled,
-    schedule_of_hi,
+    CLOSING, HEADER, ROW, TEN, pes_packets_each_second, pes_packets_each_second_twice, push_pes,
+    push_spelled_packets, schedule_of_hi,
 };
 use std::alloc::Global;
 use std::process::Abort;
@@ -46,7 +46,7 @@ fn assert_hears<'x>(
 }
 
 // Asserts the output for a receiver of `Hi`, repeated every 25 frames.
-fn assert_hears_by<'x>(
+fn assert_hears_with_receiver<'x>(
     rt: &(impl Abort + Alloc<A = Global>),
     receiver: &'x str,
     at: &'x str,
@@ -58,7 +58,13 @@ fn assert_hears_by<'x>(
     arguments[..7].copy_from_slice(&["subttx", "listen", "a", "--at", at, "--receiver", receiver]);
     arguments[7..7 + options.len()].copy_from_slice(options);
     let arguments = &arguments[..7 + options.len()];
-    assert_prints_of(rt, arguments, &every_second(), &[], want.as_bytes());
+    assert_prints_of(
+        rt,
+        arguments,
+        &pes_packets_each_second(),
+        &[],
+        want.as_bytes(),
+    );
 }
 
 // Asserts the output for the receivers `keep` and `blank` of `Hi`, repeated every 25 frames.
@@ -68,8 +74,8 @@ fn assert_both_hear<'x>(
     options: &[&'x str],
     want: &str,
 ) {
-    assert_hears_by(rt, "keep", at, options, want);
-    assert_hears_by(rt, "blank", at, options, want);
+    assert_hears_with_receiver(rt, "keep", at, options, want);
+    assert_hears_with_receiver(rt, "blank", at, options, want);
 }
 
 #[test]
@@ -112,17 +118,17 @@ fn counts_packets_over_the_entire_file(rt: HostRuntime) {
         HIT,
     );
     // The packet with bit flips is skipped, is sent after the time, or does not exist.
-    let skipped_over = ["--skip", "3", "--flip", "1:21:1", "--lose", "0,1"];
-    assert_both_hear(&rt, "10:00:01:00", &skipped_over, HI);
+    let skipped_packets_options = ["--skip", "3", "--flip", "1:21:1", "--lose", "0,1"];
+    assert_both_hear(&rt, "10:00:01:00", &skipped_packets_options, HI);
     let later = ["--flip", "4:21:1", "--lose", "3,4"];
     assert_both_hear(&rt, "10:00:00:10", &later, HI);
-    let not_there = ["--flip", "9999999999:41:8", "--lose", "9999999999"];
-    assert_both_hear(&rt, "10:00:00:10", &not_there, HI);
+    let beyond_end = ["--flip", "9999999999:41:8", "--lose", "9999999999"];
+    assert_both_hear(&rt, "10:00:00:10", &beyond_end, HI);
 }
 
 #[test]
 fn prints_what_is_on_the_screen(rt: HostRuntime) {
-    let mut pes = every_second();
+    let mut pes = pes_packets_each_second();
     let complete = ["--complete"];
     assert_hears(&rt, &pes, "10:00:00:10", &complete, HI);
     assert_hears(&rt, &pes, "10:00:02:00", &complete, BLANK);
@@ -140,7 +146,7 @@ fn prints_what_is_on_the_screen(rt: HostRuntime) {
 
 #[test]
 fn does_not_show_a_row_that_is_hit(rt: HostRuntime) {
-    let pes = every_second();
+    let pes = pes_packets_each_second();
     let hit = ["--flip", "1:21:1", "--receiver", "drop"];
     assert_hears(&rt, &pes, "10:00:00:10", &hit, BLANK);
     assert_hears(&rt, &pes, "10:00:01:00", &hit, HI);
@@ -261,7 +267,7 @@ const SENDINGS: [[&[&str]; 3]; 16] = [
 fn assert_hears_row(rt: &(impl Abort + Alloc<A = Global>), row: &[&[&str]; 3]) {
     let mut buffer = [0; 920];
     let mut pes = MemSink::new(&mut buffer);
-    push_spelled(&mut pes, row[0]);
+    push_spelled_packets(&mut pes, row[0]);
     assert!(rt; row[1].len() >= 1 && row[2].len() == 1);
     let (at, options) = row[1].split_at(1);
     assert_hears(rt, pes.written(), at[0], options, row[2][0]);
@@ -299,7 +305,7 @@ fn erases_or_keeps_as_requested(rt: HostRuntime) {
 
 #[test]
 fn reports_faults_of_a_file_as_far_as_it_is_read(rt: HostRuntime) {
-    let twice = every_second_twice();
+    let twice = pes_packets_each_second_twice();
     let order = "refused 62 Order pes 3\n";
     assert_hears(&rt, &twice, "10:00:02:00", &[], order);
     assert_hears(&rt, &twice, "10:00:01:24", &[], HI);
@@ -307,12 +313,18 @@ fn reports_faults_of_a_file_as_far_as_it_is_read(rt: HostRuntime) {
     assert_hears(&rt, b"RIFF....", "10:00:00:10", &[], start);
     assert_hears(&rt, &[], "10:00:00:10", &[], NOTHING);
     let off = "refused 61 OffFrame pes 0\n";
-    assert_hears(&rt, &every_second(), "10:00:00:10", &["--origin", "1"], off);
+    assert_hears(
+        &rt,
+        &pes_packets_each_second(),
+        "10:00:00:10",
+        &["--origin", "1"],
+        off,
+    );
 }
 
 // Asserts the output of `listen` for the first `len` bytes of the file.
 fn assert_hears_cut(rt: &(impl Abort + Alloc<A = Global>), len: usize, at: &str, want: &str) {
-    let pes = every_second();
+    let pes = pes_packets_each_second();
     assert!(rt; len <= 552);
     assert_hears(rt, &pes[..len], at, &[], want);
 }

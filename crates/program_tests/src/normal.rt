@@ -1,7 +1,7 @@
 //! The output of `normal` for complete and rejected subtitle files.
 use crate::answers::{assert_prints, assert_prints_of};
 use answer_fixtures::answer_arguments;
-use fixtures::{Drip, Endless, HEAD, block, commented, file_of_two, gsi, normal_form};
+use fixtures::{Drip, HEAD, RepeatingSource, block, commented, file_of_two, gsi, normal_form};
 use std::alloc::Global;
 use std::process::Abort;
 use sub_answer::Status;
@@ -99,7 +99,7 @@ fn answers_files_of_each_length(rt: HostRuntime) {
 #[test]
 fn refuses_too_many_blocks(rt: HostRuntime) {
     // The source returns a subtitle file with comments without end.
-    let mut long = Endless {
+    let mut long = RepeatingSource {
         rest: &gsi(),
         again: &[1; 128],
     };

@@ -2,7 +2,7 @@
 ghost use Rattle.sub_io.specs.Device.{CanFail};
 
 use crate::answers::assert_reports;
-use crate::asserting::assert_same_in;
+use crate::asserting::assert_same_for_case;
 use answer_fixtures::{ACCEPTED, CHECK, SCHEDULE, answer_arguments};
 use fixtures::{
     HEAD, HI, TEN, TWO_ROWS, block, file_of, file_of_hi, file_of_two, gsi, head, schedule_of_hi,
@@ -26,7 +26,7 @@ fn assert_schedules<'a>(
     let mut buffer = [0; 40_000];
     let mut file = MemSink::new(&mut buffer);
     write_schedule(rt, arguments, stl, line, &mut file);
-    assert_same_in(rt, &file.written().len(), &len, &want);
+    assert_same_for_case(rt, &file.written().len(), &len, &want);
     let check = ["subttx", "check", "a", "b", "--every", every];
     assert_reports(rt, &check, stl, file.written(), want);
 }
@@ -70,10 +70,10 @@ fn schedules_one_subtitle(rt: HostRuntime) {
 #[test]
 fn schedules_the_subtitles_that_start_in_a_part_of_the_day(rt: HostRuntime) {
     let hi = file_of_hi();
-    let until = ["subttx", "schedule", "a", "b", "--to", "10:00:00:01"];
-    assert_schedules(&rt, &until, &hi, (368, WRITTEN), "250", ACCEPTED);
-    let since = ["subttx", "schedule", "a", "b", "--from", "10:00:00:01"];
-    assert_reports(&rt, &since, &hi, &[], "refused 82 NoSubtitles\n");
+    let to_arguments = ["subttx", "schedule", "a", "b", "--to", "10:00:00:01"];
+    assert_schedules(&rt, &to_arguments, &hi, (368, WRITTEN), "250", ACCEPTED);
+    let from_arguments = ["subttx", "schedule", "a", "b", "--from", "10:00:00:01"];
+    assert_reports(&rt, &from_arguments, &hi, &[], "refused 82 NoSubtitles\n");
 }
 
 // Asserts the length of the schedule of one subtitle with this row and text.
@@ -93,7 +93,7 @@ fn schedules_texts_of_no_row_to_all_rows(rt: HostRuntime) {
 }
 
 // Returns a file with `Hi` and a second subtitle in the two seconds after it.
-fn file_of_hi_and(rt: &impl Abort, text: &[u8]) -> [u8; 1280] {
+fn file_of_hi_and_text(rt: &impl Abort, text: &[u8]) -> [u8; 1280] {
     assert!(rt; text.len() <= 112);
     file_of_two(
         &block(&HEAD, &HI),
@@ -108,7 +108,7 @@ fn schedules_two_subtitles(rt: HostRuntime) {
     assert_schedules(
         &rt,
         &SCHEDULE,
-        &file_of_hi_and(&rt, b"Ho"),
+        &file_of_hi_and_text(&rt, b"Ho"),
         three,
         "250",
         accepted,
@@ -117,7 +117,7 @@ fn schedules_two_subtitles(rt: HostRuntime) {
     assert_schedules(
         &rt,
         &SCHEDULE,
-        &file_of_hi_and(&rt, &HI),
+        &file_of_hi_and_text(&rt, &HI),
         (368, WRITTEN),
         "250",
         accepted,
@@ -145,10 +145,10 @@ fn assert_refuses(rt: &(impl Abort + Alloc<A = Global>), file: &[u8; 1280], want
 
 #[test]
 fn refuses_files(rt: HostRuntime) {
-    let mut cumulative = file_of_hi_and(&rt, &HI);
+    let mut cumulative = file_of_hi_and_text(&rt, &HI);
     cumulative[1156] = 1;
     assert_refuses(&rt, &cumulative, "refused 16 Cumulative block 2\n");
-    let mut open = file_of_hi_and(&rt, &HI);
+    let mut open = file_of_hi_and_text(&rt, &HI);
     open[1155] = 0x00; // EBN
     assert_refuses(&rt, &open, "refused 24 Unfinished block 2\n");
     assert_reports(&rt, &SCHEDULE, &gsi(), &[], "refused 82 NoSubtitles\n");
@@ -156,7 +156,7 @@ fn refuses_files(rt: HostRuntime) {
 
 #[test]
 fn refuses_times(rt: HostRuntime) {
-    let mut overlap = file_of_hi_and(&rt, &HI);
+    let mut overlap = file_of_hi_and_text(&rt, &HI);
     overlap[1036] = 1; // TCO is 10:00:02:01
     assert_refuses(&rt, &overlap, "refused 57 Overlap block 2\n");
     let hi = block(&HEAD, &HI);
@@ -184,7 +184,7 @@ fn refuses_texts(rt: HostRuntime) {
 
 // Writes the schedule for `Hi` with a national option, and asserts byte 9 of the page's headers in
 // the PES packets.
-fn assert_schedules_by(rt: &(impl Abort + Alloc<A = Global>), option: &str, byte: u8) {
+fn assert_schedules_with_option(rt: &(impl Abort + Alloc<A = Global>), option: &str, byte: u8) {
     let hi = file_of_hi();
     let mut buffer = [0; 400];
     let mut file = MemSink::new(&mut buffer);
@@ -199,11 +199,11 @@ fn assert_schedules_by(rt: &(impl Abort + Alloc<A = Global>), option: &str, byte
 
 #[test]
 fn schedules_by_the_national_option(rt: HostRuntime) {
-    assert_schedules_by(&rt, "english", 0xA8);
-    assert_schedules_by(&rt, "german", 0x0B);
-    assert_schedules_by(&rt, "swedish", 0x26);
-    assert_schedules_by(&rt, "italian", 0x85);
-    assert_schedules_by(&rt, "french", 0x92);
-    assert_schedules_by(&rt, "spanish", 0x31);
-    assert_schedules_by(&rt, "czech", 0x1C);
+    assert_schedules_with_option(&rt, "english", 0xA8);
+    assert_schedules_with_option(&rt, "german", 0x0B);
+    assert_schedules_with_option(&rt, "swedish", 0x26);
+    assert_schedules_with_option(&rt, "italian", 0x85);
+    assert_schedules_with_option(&rt, "french", 0x92);
+    assert_schedules_with_option(&rt, "spanish", 0x31);
+    assert_schedules_with_option(&rt, "czech", 0x1C);
 }

@@ -4,25 +4,28 @@ use Rattle.std.proofs.Common.{◌≡◌, ℕ, inl, inr, Bool, true, false, ◌||
 use Rattle.std.proofs.Common.{length, refl, sym, ap, ◌∙◌}
 use Rattle.std.specs.List.{concat}
 use Rattle.std.proofs.lemmas.List.{append-nil}
-use Rattle.mpeg_ts.specs.Carried.{carried, gap_marker_where}
+use Rattle.mpeg_ts.specs.CarriedPackets.{carried_bytes, gap_marker_where}
 use Rattle.recording_laws.specs.Laws.{LawOfLosses, LawOfNeighbours}
-use Rattle.recording_laws.specs.Losses.{Fated, arriving, IsLossy}
+use Rattle.recording_laws.specs.Losses.{SentUnit, arriving_bytes, IsLossy}
 use Rattle.recording_laws.specs.Multiplex.{SentPes, Multiplex}
-use Rattle.recording_laws.proofs.LeadsLemmas.{Leads, leads-gone, leads-there, leads-ungiven}
+use Rattle.recording_laws.proofs.CarriesArrivingLemmas.{CarriesArriving, carries_arriving-gone}
+use Rattle.recording_laws.proofs.CarriesArrivingLemmas.{carries_arriving-there}
+use Rattle.recording_laws.proofs.CarriesArrivingLemmas.{carries_arriving-first_gap_is_not_marked}
 use Rattle.recording_laws.proofs.PesPacketLemmas.{concat-gap_markers, gap_markers_where, one-way}
 use Rattle.recording_laws.proofs.PesPacketLemmas.{sent_bytes}
 use Rattle.recording_laws.proofs.ReadingLaw.{law_of_reading}
 use Rattle.recording_laws.proofs.OpenPartLemmas.{YieldsResults}
-use Rattle.recording_laws.proofs.ReadingLemmas.{After, Previous, Marked, Nothing, Reads, is_gap}
+use Rattle.recording_laws.proofs.ReadingLemmas.{PreviousPes, PreviousResult, PreviousMarker}
+use Rattle.recording_laws.proofs.ReadingLemmas.{Nothing, ReadsSent, is_gap}
 use Rattle.recording_laws.proofs.ReadingLemmas.{has_previous}
-use Rattle.recording_laws.proofs.ReadingLemmas.{Located, located, sent-next, skip}
+use Rattle.recording_laws.proofs.ReadingLemmas.{IsLocated, read_packet_was_sent, sent-next, skip}
 use Rattle.std.specs.Bool.{⊤}
 
-skip-gap : (previous : Previous) (s : SentPes Fated)
+skip-gap : (previous : PreviousResult) (s : SentPes SentUnit)
     → (has_previous (skip previous s) ≡ has_previous previous) × (is_gap (skip previous s) ≡ true)
 skip-gap Nothing s = (refl, refl)
-skip-gap Marked s = (refl, refl)
-skip-gap (After x t between skipped) s = (refl, refl)
+skip-gap PreviousMarker s = (refl, refl)
+skip-gap (PreviousPes x t between skipped) s = (refl, refl)
 
 concat-alone : (marked : Bool) → concat (gap_markers_where marked) ≡ gap_marker_where marked
 concat-alone true = append-nil (gap_marker_where true)
@@ -30,50 +33,51 @@ concat-alone false = refl
 
 -- If fewer than 15 consecutive TS packets with payload are missing, the PES packets that are read
 -- are exactly those that arrive, in order.
-reads-lead : (previous : Previous) (sent : List (SentPes Fated)) (pes_packets : List (List ℕ))
-    → Reads true previous sent pes_packets
-    → Leads (has_previous previous) (is_gap previous) sent (concat pes_packets)
-unfolding arriving
+reads-lead : (previous : PreviousResult) (sent : List (SentPes SentUnit))
+    (pes_packets : List (List ℕ))
+    → ReadsSent true previous sent pes_packets
+    → CarriesArriving (has_previous previous) (is_gap previous) sent (concat pes_packets)
+unfolding arriving_bytes
 reads-lead previous [] pes_packets reads = record {
-  is_marked = reads.0;
-  after_one = λ e. ap (λ (b : Bool). b || false) (reads.2 e);
-  bytes_are = ap concat reads.1 ∙ concat-alone reads.0;
+  has_gap_marker = reads.0;
+  marker_follows_packet = λ e. ap (λ (b : Bool). b || false) (reads.2 e);
+  bytes_are_equal = ap concat reads.1 ∙ concat-alone reads.0;
 }
 reads-lead previous (s ∷ more) pes_packets reads = elim reads [
   | inl later ↦
       let skipped = skip-gap previous s in
-      leads-gone (has_previous previous) (is_gap previous) s more (concat pes_packets)
+      carries_arriving-gone (has_previous previous) (is_gap previous) s more (concat pes_packets)
       (later.0 refl)
       (rw (skipped.0, skipped.1) at (reads-lead (skip previous s) more pes_packets later.1))
   | inr here ↦
       let all = here.7 refl in
-      leads-there (has_previous previous) (is_gap previous) s more (concat pes_packets)
+      carries_arriving-there (has_previous previous) (is_gap previous) s more (concat pes_packets)
       (concat here.2) all.0
       (ap concat here.3
       ∙ concat-gap_markers here.0 here.1 here.2
       ∙ cc (here.8 refl, all.1))
-      (reads-lead (After here.1 s (length s.others) false) more here.2 here.6)
+      (reads-lead (PreviousPes here.1 s (length s.others) false) more here.2 here.6)
 ]
 
-given-few : (number distance : ℕ) (m : Multiplex Fated) (recording : List ℕ)
+given-few : (number distance : ℕ) (m : Multiplex SentUnit) (recording : List ℕ)
     → IsLossy number distance m recording
-    → YieldsResults true Nothing m.sent (carried number distance recording)
+    → YieldsResults true Nothing m.sent (carried_bytes number distance recording)
 given-few number distance m recording h =
     law_of_reading number distance true m recording h.losses (λ e. h.few) (λ e. absurd (cc e))
 
 pub law_of_losses : LawOfLosses
 law_of_losses number distance m recording h = record {
-  is_marked = leads.is_marked;
-  after_one = leads.after_one;
-  bytes_are = gives.joined ∙ leads.bytes_are;
+  has_gap_marker = carries_arriving.has_gap_marker;
+  marker_follows_packet = carries_arriving.marker_follows_packet;
+  bytes_are_equal = gives.joined ∙ carries_arriving.bytes_are_equal;
 }
   where
-    gives : YieldsResults true Nothing m.sent (carried number distance recording)
+    gives : YieldsResults true Nothing m.sent (carried_bytes number distance recording)
     gives = given-few number distance m recording h
 
-    leads : Leads false false m.sent (concat gives.pes_packets)
-    leads =
-        leads-ungiven true false m.sent (concat gives.pes_packets)
+    carries_arriving : CarriesArriving false false m.sent (concat gives.pes_packets)
+    carries_arriving =
+        carries_arriving-first_gap_is_not_marked true false m.sent (concat gives.pes_packets)
         (reads-lead Nothing m.sent gives.pes_packets gives.reads)
 
 pub law_of_neighbours : LawOfNeighbours
@@ -86,7 +90,7 @@ law_of_neighbours number distance m recording before (x ∷ run) following h eac
       rest,
 )
   where
-    gives : YieldsResults true Nothing m.sent (carried number distance recording)
+    gives : YieldsResults true Nothing m.sent (carried_bytes number distance recording)
     gives = given-few number distance m recording h
 
     same : gives.pes_packets ≡ before ++ (x ∷ (run ++ following))
@@ -94,9 +98,10 @@ law_of_neighbours number distance m recording before (x ∷ run) following h eac
         one-way gives.pes_packets (before ++ (x ∷ (run ++ following))) gives.each each
         (sym gives.joined ∙ joined)
 
-    found : Located true (λ sent. ⊤) (λ s more far. tt) x (run ++ following) m.sent
+    found : IsLocated true (λ sent. ⊤) (λ s more far. tt) x (run ++ following) m.sent
     found =
-        located true (λ sent. ⊤) (λ s more far. tt) Nothing m.sent gives.pes_packets before
+        read_packet_was_sent true (λ sent. ⊤) (λ s more far. tt) Nothing m.sent gives.pes_packets
+        before
         (run ++ following) x gives.reads same none.0 tt
 
     next : (later : List (List ℕ)) × (sent_bytes found.later ≡ run ++ later)
@@ -106,4 +111,4 @@ law_of_neighbours number distance m recording before (x ∷ run) following h eac
         found.reads refl none.1
 
     rest : found.here.bytes ∷ sent_bytes found.later ≡ x ∷ (run ++ next.0)
-    rest = let first = found.as_sent refl in let more = next.1 in cc
+    rest = let first = found.equals_sent_bytes refl in let more = next.1 in cc

@@ -8,15 +8,18 @@ use Rattle.std.proofs.lemmas.Bool.Decides.{nat_tests}
 use Rattle.std.proofs.lemmas.Grind.{flat_map-append}
 use Rattle.std.proofs.lemmas.List.{append-nil, get_or-take}
 use Rattle.std.proofs.lemmas.Slice.Eq.{bytes_eq-Decides}
-use Rattle.mpeg_ts.specs.GoodPackets.{Note, PacketHistory, empty_history, good_after, linked}
+use Rattle.mpeg_ts.specs.GoodPackets.{PidEvent, PacketHistory, empty_history, good_packets_after}
+use Rattle.mpeg_ts.specs.GoodPackets.{linked_packet}
 use Rattle.mpeg_ts.specs.GoodPackets.{is_repeat}
-use Rattle.mpeg_ts.specs.GoodPackets.{is_same, counts_on, with_good, GoodPacket, Follows, link_from}
+use Rattle.mpeg_ts.specs.GoodPackets.{is_same, counter_is_next, with_good_packet, GoodPacket}
+use Rattle.mpeg_ts.specs.GoodPackets.{Follows, link_from}
 use Rattle.mpeg_ts.specs.Parts.{is_break}
 use Rattle.mpeg_ts.specs.TransportPacket.{counter, begins}
 use Rattle.recording_laws.specs.Multiplex.{Carrier, IsCarrier, IsRepetition, IsNextCarrier}
 use Rattle.recording_laws.specs.Multiplex.{is_irrelevant}
-use Rattle.recording_laws.specs.Multiplex.{carries, announces, items_of_carrier, AreNextCarriers}
-use Rattle.recording_laws.proofs.RecordingLemmas.{noted}
+use Rattle.recording_laws.specs.Multiplex.{carries, pid_announces_jump, items_of_carrier}
+use Rattle.recording_laws.specs.Multiplex.{AreNextCarriers}
+use Rattle.recording_laws.proofs.RecordingLemmas.{notes_of_packet}
 
 -- The history of a PID after a TS packet without payload, which may announce a jump.
 abbrev pub history_after_irrelevant : PacketHistory → Bool → PacketHistory
@@ -31,28 +34,28 @@ history_after_irrelevant-twice : (history : PacketHistory) (a b : Bool)
     history (a || b)
 history_after_irrelevant-twice history a b = grind (arith, nat_tests)
 
-pub good-irrelevant : (number : ℕ) (history : PacketHistory) (p : List ℕ) (ns : List Note)
+pub good-irrelevant : (number : ℕ) (history : PacketHistory) (p : List ℕ) (ns : List PidEvent)
     → is_irrelevant number p ≡ true
-    → good_after history (noted number p ++ ns)
-    ≡ good_after (history_after_irrelevant history (announces number p)) ns
-unfolding good_after
+    → good_packets_after history (notes_of_packet number p ++ ns)
+    ≡ good_packets_after (history_after_irrelevant history (pid_announces_jump number p)) ns
+unfolding good_packets_after
 good-irrelevant number history p ns h1 = grind (arith, nat_tests, history_after_irrelevant-none)
 
-pub good-packet : (number : ℕ) (history : PacketHistory) (p : List ℕ) (ns : List Note)
+pub good-packet : (number : ℕ) (history : PacketHistory) (p : List ℕ) (ns : List PidEvent)
     → carries number p ≡ true
     → is_repeat history p ≡ false
-    → good_after history (noted number p ++ ns)
-    ≡ with_good (linked history p) (good_after (empty_history (Some p)) ns)
-unfolding good_after
-good-packet number history p ns carried fresh = grind (arith, nat_tests)
+    → good_packets_after history (notes_of_packet number p ++ ns)
+    ≡ with_good_packet (linked_packet history p) (good_packets_after (empty_history (Some p)) ns)
+unfolding good_packets_after
+good-packet number history p ns carried_bytes fresh = grind (arith, nat_tests)
 
-pub good-repeat : (number : ℕ) (history : PacketHistory) (p : List ℕ) (ns : List Note)
+pub good-repeat : (number : ℕ) (history : PacketHistory) (p : List ℕ) (ns : List PidEvent)
     → carries number p ≡ true
     → is_repeat history p ≡ true
-    → good_after history (noted number p ++ ns)
-    ≡ good_after (record history { has_repeat = true }) ns
-unfolding good_after
-good-repeat number history p ns carried again = grind (arith, nat_tests)
+    → good_packets_after history (notes_of_packet number p ++ ns)
+    ≡ good_packets_after (record history { has_repeat = true }) ns
+unfolding good_packets_after
+good-repeat number history p ns carried_bytes again = grind (arith, nat_tests)
 
 -- A TS packet that is sent a second time is read as a repeat.
 pub is_repeat-again : (number : ℕ) (p q : List ℕ)
@@ -68,12 +71,12 @@ next-counter c small e = grind (arith, nat_tests)
 
 -- A TS packet with the next continuity counter differs from the packet before it, so it is not a
 -- repeat.
-pub not-same : (p q : List ℕ) → counts_on p q ≡ true → is_same p q ≡ false
+pub not-same : (p q : List ℕ) → counter_is_next p q ≡ true → is_same p q ≡ false
 not-same p q h1 = grind (arith, nat_tests, counter-same, next-counter)
 
 module _ {A : Type 0} (packet_of : A → List ℕ) (number : ℕ) where
-  abbrev pub heard : A → List Note
-  heard x = noted number (packet_of x)
+  abbrev pub heard : A → List PidEvent
+  heard x = notes_of_packet number (packet_of x)
 
   -- The history of a PID after a TS packet with payload and all items up to the next TS packet with
   -- payload.
@@ -81,58 +84,62 @@ module _ {A : Type 0} (packet_of : A → List ℕ) (number : ℕ) where
   history_after_carrier c = record {
     good = Some (packet_of c.packet);
     has_repeat = is_some c.again;
-    has_jump = list_any (λ x. announces number (packet_of x)) c.after;
-    has_wrong = false;
+    has_jump = list_any (λ x. pid_announces_jump number (packet_of x)) c.after;
+    has_erroneous_packet = false;
     has_loss = false;
   }
 
-  pub good-quiets : (history : PacketHistory) (xs : List A) (ns : List Note)
+  pub good-quiets : (history : PacketHistory) (xs : List A) (ns : List PidEvent)
       → AllByRecursion (λ x. is_irrelevant number (packet_of x) ≡ true) xs
-      → good_after history (flat_map heard xs ++ ns)
-      ≡ good_after (history_after_irrelevant history (list_any (λ x. announces number (packet_of x))
+      → good_packets_after history (flat_map heard xs ++ ns)
+      ≡ good_packets_after (history_after_irrelevant history
+      (list_any (λ x. pid_announces_jump number (packet_of x))
       xs)) ns
   good-quiets history [] ns irrelevant =
-      ap (λ (s : PacketHistory). good_after s ns) (sym (history_after_irrelevant-none history))
+      ap (λ (s : PacketHistory). good_packets_after s ns)
+      (sym (history_after_irrelevant-none history))
   good-quiets history (x ∷ xs) ns irrelevant =
       let p = packet_of x in
-      let one = announces number p in
-      let others = list_any (λ y. announces number (packet_of y)) xs in
-      ap (good_after history) (append_assoc (heard x) (flat_map heard xs) ns)
+      let one = pid_announces_jump number p in
+      let others = list_any (λ y. pid_announces_jump number (packet_of y)) xs in
+      ap (good_packets_after history) (append_assoc (heard x) (flat_map heard xs) ns)
       ∙ good-irrelevant number history p (flat_map heard xs ++ ns) irrelevant.0
       ∙ good-quiets (history_after_irrelevant history one) xs ns irrelevant.1
-      ∙ ap (λ (s : PacketHistory). good_after s ns) (history_after_irrelevant-twice history one
+      ∙ ap (λ (s : PacketHistory). good_packets_after s ns) (history_after_irrelevant-twice history
+      one
       others)
 
-  pub good-silent : (history : PacketHistory) (xs : List A) (ns : List Note)
+  pub good-silent : (history : PacketHistory) (xs : List A) (ns : List PidEvent)
       → AllByRecursion (λ x. is_irrelevant number (packet_of x) ≡ true) xs
-      → AllByRecursion (λ x. announces number (packet_of x) ≡ false) xs
-      → good_after history (flat_map heard xs ++ ns) ≡ good_after history ns
+      → AllByRecursion (λ x. pid_announces_jump number (packet_of x) ≡ false) xs
+      → good_packets_after history (flat_map heard xs ++ ns) ≡ good_packets_after history ns
   good-silent history [] ns irrelevant none = refl
   good-silent history (x ∷ xs) ns irrelevant none =
       let p = packet_of x in
-      let same : history_after_irrelevant history (announces number p) ≡ history =
+      let same : history_after_irrelevant history (pid_announces_jump number p) ≡ history =
       rw none.0 (history_after_irrelevant-none history) in
-      ap (good_after history) (append_assoc (heard x) (flat_map heard xs) ns)
+      ap (good_packets_after history) (append_assoc (heard x) (flat_map heard xs) ns)
       ∙ good-irrelevant number history p (flat_map heard xs ++ ns) irrelevant.0
-      ∙ ap (λ (s : PacketHistory). good_after s (flat_map heard xs ++ ns)) same
+      ∙ ap (λ (s : PacketHistory). good_packets_after s (flat_map heard xs ++ ns)) same
       ∙ good-silent history xs ns irrelevant.1 none.1
 
-  good-again : (p : List ℕ) (again : Option A) (ns : List Note)
+  good-again : (p : List ℕ) (again : Option A) (ns : List PidEvent)
       → AllByRecursion (λ x. IsRepetition number p (packet_of x)) (option_to_list again)
-      → good_after (empty_history (Some p)) (flat_map heard (option_to_list again) ++ ns)
-      ≡ good_after (record (empty_history (Some p)) { has_repeat = is_some again }) ns
+      → good_packets_after (empty_history (Some p)) (flat_map heard (option_to_list again) ++ ns)
+      ≡ good_packets_after (record (empty_history (Some p)) { has_repeat = is_some again }) ns
   good-again p again ns h1 = grind (arith, nat_tests, append-nil, good-repeat, is_repeat-again)
 
   -- Each TS packet with payload is accepted by the reader, whatever packets follow.
-  pub good-carrier : (history : PacketHistory) (c : Carrier A) (ns : List Note) (first : Bool)
+  pub good-carrier : (history : PacketHistory) (c : Carrier A) (ns : List PidEvent) (first : Bool)
       → IsCarrier packet_of number first c
       → is_repeat history (packet_of c.packet) ≡ false
-      → good_after history (flat_map heard (items_of_carrier c) ++ ns)
-      ≡ with_good (linked history (packet_of c.packet)) (good_after (history_after_carrier c) ns)
+      → good_packets_after history (flat_map heard (items_of_carrier c) ++ ns)
+      ≡ with_good_packet (linked_packet history (packet_of c.packet))
+      (good_packets_after (history_after_carrier c) ns)
   good-carrier history c ns first h fresh =
-      ap (good_after history) split
+      ap (good_packets_after history) split
       ∙ good-packet number history p (before ++ (again ++ (after ++ ns))) h.carries fresh
-      ∙ ap (with_good (linked history p)) (
+      ∙ ap (with_good_packet (linked_packet history p)) (
       good-silent (empty_history (Some p)) c.before (again ++ (after ++ ns)) h.before h.no_jump
       ∙ good-again p c.again (after ++ ns) h.again
       ∙ good-quiets (record (empty_history (Some p)) { has_repeat = is_some c.again }) c.after ns
@@ -142,13 +149,13 @@ module _ {A : Type 0} (packet_of : A → List ℕ) (number : ℕ) where
       p : List ℕ
       p = packet_of c.packet
 
-      before : List Note
+      before : List PidEvent
       before = flat_map heard c.before
 
-      again : List Note
+      again : List PidEvent
       again = flat_map heard (option_to_list c.again)
 
-      after : List Note
+      after : List PidEvent
       after = flat_map heard c.after
 
       split : flat_map heard (items_of_carrier c) ++ ns
@@ -184,25 +191,27 @@ module _ {A : Type 0} (packet_of : A → List ℕ) (number : ℕ) where
 
   abbrev pub goods : PacketHistory → List (Carrier A) → List GoodPacket
   goods history [] = []
-  goods history (c ∷ more) = linked history (packet_of c.packet) ∷ goods (history_after_carrier c)
+  goods history (c ∷ more) = linked_packet history (packet_of c.packet) ∷ goods
+      (history_after_carrier c)
       more
 
-  abbrev pub IsSomeCarrier : Carrier A → Type 0
-  IsSomeCarrier c = (first : Bool) × IsCarrier packet_of number first c
+  abbrev pub IsAnyCarrier : Carrier A → Type 0
+  IsAnyCarrier c = (first : Bool) × IsCarrier packet_of number first c
 
   -- All TS packets with payload that a multiplexer sends are accepted by the reader, in order.
   pub good-carriers : (c : Carrier A) (more : List (Carrier A))
-      → AllByRecursion IsSomeCarrier more
+      → AllByRecursion IsAnyCarrier more
       → AreNextCarriers packet_of number c more
-      → good_after (history_after_carrier c) (flat_map heard (flat_map items_of_carrier more))
+      → good_packets_after (history_after_carrier c)
+      (flat_map heard (flat_map items_of_carrier more))
       ≡ record { packets = goods (history_after_carrier c) more; wrong_after = false }
-  unfolding good_after
+  unfolding good_packets_after
   good-carriers c [] each next = refl
   good-carriers c (d ∷ more) each next =
-      ap (good_after (history_after_carrier c))
+      ap (good_packets_after (history_after_carrier c))
       (flat_map-append heard (items_of_carrier d) (flat_map items_of_carrier more))
       ∙ good-carrier (history_after_carrier c) d (flat_map heard (flat_map items_of_carrier more))
       each.0.0
       each.0.1 (next-fresh c d next.0)
-      ∙ ap (with_good (linked (history_after_carrier c) (packet_of d.packet)))
+      ∙ ap (with_good_packet (linked_packet (history_after_carrier c) (packet_of d.packet)))
       (good-carriers d more each.1 next.1)

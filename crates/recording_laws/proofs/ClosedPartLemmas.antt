@@ -8,7 +8,7 @@ use Rattle.std.proofs.lemmas.Bool.Decides.{nat_tests}
 use Rattle.std.proofs.lemmas.List.{take-append-le}
 use Rattle.ttx_pes.specs.PesPackets.{IsPesPacket}
 use Rattle.ttx_pes.specs.Reading.{size_at}
-use Rattle.mpeg_ts.specs.Carried.{gap_marker_where, with_gap_markers}
+use Rattle.mpeg_ts.specs.CarriedPackets.{gap_marker_where, with_gap_markers}
 use Rattle.mpeg_ts.specs.GoodPackets.{GoodPacket}
 use Rattle.mpeg_ts.specs.Parts.{Gap, PartOutcome, Part, Pes, part_bytes, gap_where, may_be_cut_off}
 use Rattle.mpeg_ts.specs.Parts.{outcome, outcomes, parts_from, with_packet}
@@ -22,14 +22,14 @@ gap-before given gap here more = grind (arith, nat_tests)
 
 -- The bytes are `prefix`, followed by at most one gap marker, which is possible only after a PES
 -- packet.
-pub record EndsMarked (given : Bool) (prefix bytes : List ℕ) : Type 0 where
-  pub is_marked : Bool
-  pub after_one : is_marked ≡ true → given ≡ true
-  pub bytes_are : bytes ≡ prefix ++ gap_marker_where is_marked
+pub record MayEndInGapMarker (given : Bool) (prefix bytes : List ℕ) : Type 0 where
+  pub has_gap_marker : Bool
+  pub marker_follows_packet : has_gap_marker ≡ true → given ≡ true
+  pub bytes_are_equal : bytes ≡ prefix ++ gap_marker_where has_gap_marker
 
 -- The output for the part is `prefix`, whatever parts follow. `given'` and `gap'` describe the
 -- state after the part.
-pub record Closes (part : Part) (given gap : Bool) (prefix : List ℕ) (given' gap' : Bool)
+pub record ClosesPart (part : Part) (given gap : Bool) (prefix : List ℕ) (given' gap' : Bool)
     : Type 0 where
   pub next :
       (wrong_after : Bool) (more : List Part)
@@ -38,7 +38,8 @@ pub record Closes (part : Part) (given gap : Bool) (prefix : List ℕ) (given' g
       ≡ prefix ++ with_gap_markers given' gap' (outcomes wrong_after more)
   pub last :
       (wrong_after : Bool)
-      → EndsMarked given' prefix (with_gap_markers given gap (outcomes wrong_after (part ∷ [])))
+      → MayEndInGapMarker given' prefix
+      (with_gap_markers given gap (outcomes wrong_after (part ∷ [])))
 
 gap_marker-following : (gap : Bool)
     → (wrong_after : Bool)
@@ -49,15 +50,16 @@ gap_marker-following gap false = elim (cases_Bool gap) [ inl e ↦ rw e | inr e 
 
 pub closes-pes_packet : (part : Part) (given gap : Bool) (bytes : List ℕ) (longer : Bool)
     → ((cut_off : Bool) → outcome cut_off part ≡ Pes bytes ∷ gap_where longer)
-    → Closes part given gap (gap_marker_where (given && (gap || part.after_break)) ++ bytes) true
+    → ClosesPart part given gap (gap_marker_where (given && (gap || part.after_break)) ++ bytes)
+    true
     longer
 unfolding with_gap_markers outcomes
 closes-pes_packet part given gap bytes longer gives = record {
   next = λ wrong_after more some. reported wrong_after more;
   last = λ wrong_after. record {
-    is_marked = longer || wrong_after;
-    after_one = λ e. refl;
-    bytes_are =
+    has_gap_marker = longer || wrong_after;
+    marker_follows_packet = λ e. refl;
+    bytes_are_equal =
         reported wrong_after []
         ∙ ap (λ (x : List ℕ). (gap_marker_where (given && (gap || part.after_break)) ++ bytes) ++ x)
         (gap_marker-following longer wrong_after);
@@ -79,19 +81,19 @@ closes-pes_packet part given gap bytes longer gives = record {
         ∙ sym (append_assoc (gap_marker_where (given && (gap || part.after_break))) bytes
         (with_gap_markers true longer (outcomes wrong_after more)))
 
-pub record IsBroken (part : Part) : Type 0 where
+pub record IsBrokenPart (part : Part) : Type 0 where
   pub outcome_eq : (cut_off : Bool) → outcome cut_off part ≡ gap_where (not cut_off)
 
 pub closes-broken : (part : Part) (given gap : Bool)
-    → IsBroken part
-    → Closes part given gap [] given true
+    → IsBrokenPart part
+    → ClosesPart part given gap [] given true
 unfolding with_gap_markers outcomes
 closes-broken part given gap h = record {
   next = λ wrong_after more some. reported wrong_after more some;
   last = λ wrong_after. record {
-    is_marked = given && ((gap || part.after_break) || wrong_after);
-    after_one = λ e. grind (arith, nat_tests);
-    bytes_are = end wrong_after;
+    has_gap_marker = given && ((gap || part.after_break) || wrong_after);
+    marker_follows_packet = λ e. grind (arith, nat_tests);
+    bytes_are_equal = end wrong_after;
   };
 }
   where
@@ -117,7 +119,7 @@ closes-broken part given gap h = record {
         ∙ ap (λ (b : Bool). gap_marker_where (given && b))
         (elim (cases_Bool (gap || part.after_break)) [ inl e ↦ rw e | inr e ↦ rw e ]))
 
-pub broken-unbegun : (part : Part) → part.begins ≡ false → IsBroken part
+pub broken-unbegun : (part : Part) → part.begins ≡ false → IsBrokenPart part
 unfolding outcome
 broken-unbegun part h1 = grind (arith, nat_tests)
 
@@ -125,7 +127,7 @@ pub broken-short : (part : Part) (missing bytes : List ℕ)
     → part_bytes part ++ missing ≡ bytes
     → 0 < length missing
     → IsPesPacket bytes
-    → IsBroken part
+    → IsBrokenPart part
 unfolding outcome
 broken-short part missing bytes joined some pes_packet = record { outcome_eq = is }
   where

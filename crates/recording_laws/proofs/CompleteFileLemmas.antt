@@ -4,8 +4,9 @@ use Rattle.std.proofs.Common.{arith}
 use Rattle.std.specs.List.{AllByRecursion, AllZip}
 use Rattle.ttx_pes.specs.PesGrammar.{IsValidPesPacket, PesValue}
 use Rattle.ttx_pes.specs.PesPackets.{IsPesPacket}
-use Rattle.ttx_pes.proofs.PesHeaderLemmas.{body_complete, body_of, packet_of_body}
-use Rattle.mpeg_ts.specs.Carried.{gap_marker}
+use Rattle.ttx_pes.proofs.PesHeaderLemmas.{valid_body_decodes, body_of_valid_packet}
+use Rattle.ttx_pes.proofs.PesHeaderLemmas.{packet_is_header_and_body}
+use Rattle.mpeg_ts.specs.CarriedPackets.{gap_marker}
 use Rattle.recording_laws.specs.Laws.{LawOfCompleteFile}
 use Rattle.recording_laws.proofs.ArrivingLaw.{law_of_neighbours}
 use Rattle.recording_laws.proofs.PesPacketLemmas.{pes_packets-append}
@@ -16,7 +17,7 @@ no-packet : (v : PesValue) → IsValidPesPacket v gap_marker → ⊥
 unfolding gap_marker
 no-packet v h =
     let byte : 0xFF ≡ h.flags = ap (λ (l : List ℕ). slice_index l 6) h.bytes in
-    absurd (omega (arith, byte, h.not_scrambled))
+    absurd (omega (arith, byte, h.scrambling_is_off))
 
 no-gap_markers : (values : List PesValue) (packets : List (List ℕ))
     → AllZip IsValidPesPacket values packets
@@ -29,11 +30,11 @@ no-gap_markers (v ∷ values) (p ∷ packets) each =
 
 packet-pes_packet : (v : PesValue) (p : List ℕ) → IsValidPesPacket v p → IsPesPacket p
 packet-pes_packet v p h =
-    let is = packet_of_body v p h in
-    let long = (body_complete v p h).1 in
+    let is = packet_is_header_and_body v p h in
+    let long = (valid_body_decodes v p h).1 in
     record {
       n = h.n;
-      body = body_of v p h;
+      body = body_of_valid_packet v p h;
       bytes = is;
       size = h.size;
       long = ap length is ∙ omega (arith, long, h.size.0);

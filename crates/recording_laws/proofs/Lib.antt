@@ -1,13 +1,13 @@
 pub mod ArrivingLaw
 pub mod StartedPartLemmas
-pub mod CarriedLeftLemmas
+pub mod LossyCarriedLemmas
 pub mod CarrierLemmas
 pub mod ClosedPartLemmas
 pub mod ExampleLemmas
 pub mod JoinedPaceLemmas
-pub mod LeadsLemmas
-pub mod LeftLemmas
-pub mod LeftNoteLemmas
+pub mod CarriesArrivingLemmas
+pub mod LossyCarrierLemmas
+pub mod LossyNoteLemmas
 pub mod MultiplexLemmas
 pub mod OpenPartLemmas
 pub mod PacedCheckLaw

@@ -7,36 +7,39 @@ use Rattle.std.specs.List.{AllByRecursion, concat, flat_map, list_any}
 use Rattle.std.proofs.lemmas.Grind.{flat_map-append}
 use Rattle.std.proofs.lemmas.List.{append-nil}
 use Rattle.ttx_pes.specs.PesPackets.{IsPesPacket}
-use Rattle.mpeg_ts.specs.Carried.{carried, with_gap_markers}
-use Rattle.mpeg_ts.specs.GoodPackets.{GoodPacket, GoodPackets, Note, PacketHistory, good_after}
-use Rattle.mpeg_ts.specs.GoodPackets.{linked}
-use Rattle.mpeg_ts.specs.GoodPackets.{empty_history, with_good}
-use Rattle.mpeg_ts.specs.Parts.{Part, begins_part, part_bytes, outcomes, outcomes_of, part_of}
+use Rattle.mpeg_ts.specs.CarriedPackets.{carried_bytes, with_gap_markers}
+use Rattle.mpeg_ts.specs.GoodPackets.{GoodPacket, GoodPackets, PidEvent, PacketHistory}
+use Rattle.mpeg_ts.specs.GoodPackets.{good_packets_after}
+use Rattle.mpeg_ts.specs.GoodPackets.{linked_packet}
+use Rattle.mpeg_ts.specs.GoodPackets.{empty_history, with_good_packet}
+use Rattle.mpeg_ts.specs.Parts.{Part, begins_part, part_bytes, outcomes, outcomes_of}
+use Rattle.mpeg_ts.specs.Parts.{part_is_limited_suffix}
 use Rattle.mpeg_ts.specs.Parts.{parts_from, with_packet}
 use Rattle.mpeg_ts.specs.TransportPacket.{begins, payload}
 use Rattle.recording_laws.specs.Laws.{LawOfMultiplex}
 use Rattle.recording_laws.specs.Multiplex.{AreInSequence, AreNextCarriers, Carrier, IsCarrier}
-use Rattle.recording_laws.specs.Multiplex.{IsSentPes, Multiplex, SentPes, announces, carriers_of}
+use Rattle.recording_laws.specs.Multiplex.{IsSentPes, Multiplex, SentPes, pid_announces_jump}
+use Rattle.recording_laws.specs.Multiplex.{carriers_of}
 use Rattle.recording_laws.specs.Multiplex.{items_of_carrier, items_of_multiplex, packet_in}
-use Rattle.recording_laws.proofs.CarrierLemmas.{IsSomeCarrier, good-carrier, good-carriers}
+use Rattle.recording_laws.proofs.CarrierLemmas.{IsAnyCarrier, good-carrier, good-carriers}
 use Rattle.recording_laws.proofs.CarrierLemmas.{good-quiets, goods, heard, next-follows}
 use Rattle.recording_laws.proofs.CarrierLemmas.{next-unbroken, history_after_carrier}
 use Rattle.recording_laws.proofs.CarrierLemmas.{history_after_irrelevant}
 use Rattle.recording_laws.proofs.PartLemmas.{IsCompletePart, concat-snoc, parts_from-follows}
 use Rattle.recording_laws.proofs.PartLemmas.{with_gap_markers-whole}
-use Rattle.recording_laws.proofs.RecordingLemmas.{notes-units}
+use Rattle.recording_laws.proofs.RecordingLemmas.{pid_events-units}
 
 parts_from-begins : (part : Part) (g : GoodPacket) (more : List GoodPacket)
     → begins g.packet ≡ true
-    → parts_from part (g ∷ more) ≡ part ∷ parts_from (part_of g) more
+    → parts_from part (g ∷ more) ≡ part ∷ parts_from (part_is_limited_suffix g) more
 unfolding parts_from
 parts_from-begins part g more first = rw first
 
 some-carriers : {A : Type 0} (packet_of : A → List ℕ) (number : ℕ) (others : List (Carrier A))
     (more : List (Carrier A))
     → AllByRecursion (IsCarrier packet_of number false) others
-    → AllByRecursion (IsSomeCarrier packet_of number) more
-    → AllByRecursion (IsSomeCarrier packet_of number) (others ++ more)
+    → AllByRecursion (IsAnyCarrier packet_of number) more
+    → AllByRecursion (IsAnyCarrier packet_of number) (others ++ more)
 some-carriers packet_of number [] more each rest = rest
 some-carriers packet_of number (c ∷ others) more each rest =
     ((false, each.0), some-carriers packet_of number others more each.1 rest)
@@ -44,7 +47,7 @@ some-carriers packet_of number (c ∷ others) more each rest =
 module _ {A : Type 0} (packet_of : A → List ℕ) (number : ℕ) where
   pub all-carriers : (sent : List (SentPes A))
       → AllByRecursion (IsSentPes packet_of number) sent
-      → AllByRecursion (IsSomeCarrier packet_of number) (carriers_of sent)
+      → AllByRecursion (IsAnyCarrier packet_of number) (carriers_of sent)
   all-carriers [] each = grind (arith, nat_tests)
   all-carriers (s ∷ more) each = grind (arith, nat_tests, some-carriers, (all-carriers more each.1))
 
@@ -72,7 +75,7 @@ module _ {A : Type 0} (packet_of : A → List ℕ) (number : ℕ) where
       go part c
       (record {
         begins = first;
-        bytes_are = sym (append-nil (part_bytes part)) ∙ joined;
+        bytes_are_equal = sym (append-nil (part_bytes part)) ∙ joined;
         is_pes_packet = pes_packet;
       })
       unbroken next
@@ -89,7 +92,7 @@ module _ {A : Type 0} (packet_of : A → List ℕ) (number : ℕ) where
       p = packet_of d.packet
 
       g : GoodPacket
-      g = linked (history_after_carrier packet_of number c) p
+      g = linked_packet (history_after_carrier packet_of number c) p
 
       later : List GoodPacket
       later = goods packet_of number (history_after_carrier packet_of number d) (others ++ rest)
@@ -111,9 +114,10 @@ module _ {A : Type 0} (packet_of : A → List ℕ) (number : ℕ) where
   whole-then given part c (s ∷ more) bytes h unbroken each next =
       ap (λ (parts : List Part). with_gap_markers given false (outcomes false parts))
       (parts_from-begins part g later is.first.begins)
-      ∙ with_gap_markers-whole given false part (parts_from (part_of g) later) bytes h unbroken
+      ∙ with_gap_markers-whole given false part (parts_from (part_is_limited_suffix g) later) bytes
+      h unbroken
       ∙ ap (λ (rest : List ℕ). bytes ++ rest)
-      (fills-part true (part_of g) s.first s.others (carriers_of more) s.bytes
+      (fills-part true (part_is_limited_suffix g) s.first s.others (carriers_of more) s.bytes
       (s.bytes ++ concat (map (λ s. s.bytes) more)) is.is_pes_packet is.first.begins
       (next-unbroken packet_of number c s.first next.0)
       (rw (append-nil (payload p)) is.joined) is.others next.1
@@ -126,7 +130,7 @@ module _ {A : Type 0} (packet_of : A → List ℕ) (number : ℕ) where
       p = packet_of s.first.packet
 
       g : GoodPacket
-      g = linked (history_after_carrier packet_of number c) p
+      g = linked_packet (history_after_carrier packet_of number c) p
 
       later : List GoodPacket
       later =
@@ -134,28 +138,28 @@ module _ {A : Type 0} (packet_of : A → List ℕ) (number : ℕ) where
           (s.others ++ carriers_of more)
 
   -- A complete recording carries the bytes of all PES packets that were sent, one after another.
-  carried-all : (jump : Bool) (sent : List (SentPes A))
+  carried_bytes-all : (jump : Bool) (sent : List (SentPes A))
       → AllByRecursion (IsSentPes packet_of number) sent
       → AreInSequence packet_of number (carriers_of sent)
       → with_gap_markers false false (outcomes_of
-      (good_after (history_after_irrelevant (empty_history None) jump)
+      (good_packets_after (history_after_irrelevant (empty_history None) jump)
       (flat_map (heard packet_of number) (flat_map items_of_carrier (carriers_of sent)))))
       ≡ concat (map (λ s. s.bytes) sent)
-  unfolding good_after outcomes with_gap_markers
-  carried-all jump [] each linked_all = refl
-  carried-all jump (s ∷ more) each linked_all =
+  unfolding good_packets_after outcomes with_gap_markers
+  carried_bytes-all jump [] each linked_all = refl
+  carried_bytes-all jump (s ∷ more) each linked_all =
       ap (λ (good : GoodPackets). with_gap_markers false false (outcomes_of good)) (
-      ap (good_after history)
+      ap (good_packets_after history)
       (flat_map-append (heard packet_of number) (items_of_carrier s.first)
       (flat_map items_of_carrier rest))
       ∙ good-carrier packet_of number history s.first
       (flat_map (heard packet_of number) (flat_map items_of_carrier rest)) true is.first refl
-      ∙ ap (with_good g)
+      ∙ ap (with_good_packet g)
       (good-carriers packet_of number s.first rest
       (some-carriers packet_of number s.others (carriers_of more) is.others
       (all-carriers more each.1)) linked_all)
       )
-      ∙ fills-part false (part_of g) s.first s.others (carriers_of more) s.bytes
+      ∙ fills-part false (part_is_limited_suffix g) s.first s.others (carriers_of more) s.bytes
       (s.bytes ++ concat (map (λ s. s.bytes) more)) is.is_pes_packet is.first.begins refl
       (rw (append-nil (payload p)) is.joined) is.others linked_all
       (λ whole last w u n. whole-then false whole last more s.bytes w u each.1 n)
@@ -170,24 +174,26 @@ module _ {A : Type 0} (packet_of : A → List ℕ) (number : ℕ) where
       p = packet_of s.first.packet
 
       g : GoodPacket
-      g = linked history p
+      g = linked_packet history p
 
       rest : List (Carrier A)
       rest = s.others ++ carriers_of more
 
 pub law_of_multiplex : LawOfMultiplex
-unfolding carried
+unfolding carried_bytes
 law_of_multiplex number distance packets recording h =
-    ap (λ (ns : List Note). with_gap_markers false false (outcomes_of (good_after start ns)))
-    (notes-units distance number (items_of_multiplex m) recording h.is_recording
+    ap (λ (ns : List PidEvent). with_gap_markers false false
+    (outcomes_of (good_packets_after start ns)))
+    (pid_events-units distance number (items_of_multiplex m) recording h.is_recording
     ∙ flat_map-append hear m.lead (flat_map items_of_carrier (carriers_of m.sent)))
     ∙ ap (λ (good : GoodPackets). with_gap_markers false false (outcomes_of good))
     (good-quiets (packet_in distance) number start m.lead
     (flat_map hear (flat_map items_of_carrier (carriers_of m.sent))) h.is_multiplex.lead)
-    ∙ carried-all (packet_in distance) number
-    (list_any (λ x. announces number (packet_in distance x)) m.lead) m.sent h.is_multiplex.sent
-    h.is_multiplex.linked
-    ∙ ap concat h.packets_are
+    ∙ carried_bytes-all (packet_in distance) number
+    (list_any (λ x. pid_announces_jump number (packet_in distance x)) m.lead) m.sent
+    h.is_multiplex.sent
+    h.is_multiplex.linked_packet
+    ∙ ap concat h.packets_are_equal
   where
     m : Multiplex (List ℕ)
     m = h.multiplex
@@ -195,5 +201,5 @@ law_of_multiplex number distance packets recording h =
     start : PacketHistory
     start = empty_history None
 
-    hear : List ℕ → List Note
+    hear : List ℕ → List PidEvent
     hear = heard (packet_in distance) number

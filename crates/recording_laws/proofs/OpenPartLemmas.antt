@@ -8,115 +8,120 @@ use Rattle.std.proofs.lemmas.Bool.{cases_Bool}
 use Rattle.std.proofs.lemmas.Bool.Decides.{nat_tests}
 use Rattle.std.proofs.lemmas.List.{append-nil, take-append-le}
 use Rattle.ttx_pes.specs.PesPackets.{IsPesPacket}
-use Rattle.mpeg_ts.specs.Carried.{gap_marker_where, with_gap_markers}
+use Rattle.mpeg_ts.specs.CarriedPackets.{gap_marker_where, with_gap_markers}
 use Rattle.mpeg_ts.specs.GoodPackets.{GoodPacket}
-use Rattle.mpeg_ts.specs.Parts.{Part, begins_part, outcomes, part_bytes, part_of, parts_from}
+use Rattle.mpeg_ts.specs.Parts.{Part, begins_part, outcomes, part_bytes, part_is_limited_suffix}
+use Rattle.mpeg_ts.specs.Parts.{parts_from}
 use Rattle.mpeg_ts.specs.Parts.{with_packet, is_break}
 use Rattle.mpeg_ts.specs.TransportPacket.{begins, payload}
-use Rattle.recording_laws.specs.Losses.{Fated, any_unit_damaged, are_recorded_after, arrives}
+use Rattle.recording_laws.specs.Losses.{SentUnit, any_unit_damaged, records_all_following, arrives}
 use Rattle.recording_laws.specs.Losses.{is_recorded}
-use Rattle.recording_laws.specs.Losses.{is_wrong_after, last_carrier, sent_packet, units_before}
-use Rattle.recording_laws.specs.Losses.{units_after}
-use Rattle.recording_laws.proofs.LeftLemmas.{carrier-payload}
-use Rattle.recording_laws.proofs.ClosedPartLemmas.{Closes, IsBroken, broken-short}
+use Rattle.recording_laws.specs.Losses.{is_damaged_after, last_carrier, sent_packet}
+use Rattle.recording_laws.specs.Losses.{units_before_copy}
+use Rattle.recording_laws.specs.Losses.{units_after_copy}
+use Rattle.recording_laws.proofs.LossyCarrierLemmas.{carrier-payload}
+use Rattle.recording_laws.proofs.ClosedPartLemmas.{ClosesPart, IsBrokenPart, broken-short}
 use Rattle.recording_laws.proofs.ClosedPartLemmas.{closes-pes_packet}
 use Rattle.recording_laws.proofs.ClosedPartLemmas.{parts_from-some, broken-unbegun, closes-broken}
 use Rattle.recording_laws.proofs.PartLemmas.{outcome-whole, IsCompletePart, parts_from-cut}
 use Rattle.recording_laws.proofs.PartLemmas.{concat-snoc}
 use Rattle.recording_laws.proofs.PartLemmas.{parts_from-follows}
-use Rattle.recording_laws.proofs.StartedPartLemmas.{ClosesGiven, IsPrefix, closes-prefix}
-use Rattle.recording_laws.proofs.ReadingLemmas.{IsGapMarkerExact, has_previous, After, Fits}
-use Rattle.recording_laws.proofs.ReadingLemmas.{Previous, Marked}
-use Rattle.recording_laws.proofs.ReadingLemmas.{Nothing, Reads, reads-marked, skip}
+use Rattle.recording_laws.proofs.StartedPartLemmas.{ClosesStartedPes, IsPrefix, closes-prefix}
+use Rattle.recording_laws.proofs.ReadingLemmas.{IsMarkerExpected, has_previous, PreviousPes, Fits}
+use Rattle.recording_laws.proofs.ReadingLemmas.{PreviousResult, PreviousMarker}
+use Rattle.recording_laws.proofs.ReadingLemmas.{Nothing, ReadsSent, reads-marked, skip}
 use Rattle.recording_laws.specs.Multiplex.{Carrier, SentPes, carriers_of, carriers_of_pes}
 use Rattle.recording_laws.specs.Pace.{up_to_pts}
-use Rattle.recording_laws.proofs.LeftNoteLemmas.{IsLeftCarrier}
+use Rattle.recording_laws.proofs.LossyNoteLemmas.{IsLossyCarrier}
 use Rattle.recording_laws.proofs.PesPacketLemmas.{concat-gap_markers, gap_markers-pes_packets}
 use Rattle.recording_laws.proofs.PesPacketLemmas.{gap_markers_where}
-use Rattle.recording_laws.proofs.TraceLemmas.{IsHeard, Traced}
+use Rattle.recording_laws.proofs.TraceLemmas.{IsGoodCopy, AreTraced}
 
 pub closed-by : (wrong_after : Bool) (part : Part) (given gap : Bool) (prefix : List ℕ)
     (given' gap' : Bool) (g : GoodPacket) (later : List GoodPacket)
-    → Closes part given gap prefix given' gap'
+    → ClosesPart part given gap prefix given' gap'
     → begins_part g ≡ true
     → with_gap_markers given gap (outcomes wrong_after (parts_from part (g ∷ later)))
-    ≡ prefix ++ with_gap_markers given' gap' (outcomes wrong_after (parts_from (part_of g) later))
+    ≡ prefix ++ with_gap_markers given' gap'
+    (outcomes wrong_after (parts_from (part_is_limited_suffix g) later))
 closed-by wrong_after part given gap prefix given' gap' g later h1 h2 =
     grind (arith, nat_tests, parts_from-cut, parts_from-some)
 
-abbrev pub payloads_of : ℕ → List (Carrier Fated) → List ℕ
+abbrev pub payloads_of : ℕ → List (Carrier SentUnit) → List ℕ
 payloads_of distance cs = concat (map (λ c. payload (sent_packet distance c.packet)) cs)
 
-abbrev pub gapped : Bool → Previous
-gapped true = Marked
-gapped false = Nothing
+abbrev pub previous_with_marker : Bool → PreviousResult
+previous_with_marker true = PreviousMarker
+previous_with_marker false = Nothing
 
 -- The bytes are the joined results of reading the PES packets `sent`, after the state `previous`.
-pub record YieldsResults (few : Bool) (previous : Previous) (sent : List (SentPes Fated))
+pub record YieldsResults (few : Bool) (previous : PreviousResult) (sent : List (SentPes SentUnit))
     (bytes : List ℕ)
     : Type 0 where
   pub pes_packets : List (List ℕ)
   pub each : AllByRecursion IsPesPacket pes_packets
   pub joined : bytes ≡ concat pes_packets
-  pub reads : Reads few previous sent pes_packets
+  pub reads : ReadsSent few previous sent pes_packets
 
 -- The bytes are the joined results of reading. The first result is for the PES packet `s`, and a
 -- gap marker may be before it.
-pub record YieldsOneResult (few marked : Bool) (s : SentPes Fated) (between : ℕ) (skipped : Bool)
-    (sent : List (SentPes Fated)) (bytes : List ℕ) : Type 0 where
+pub record YieldsOneResult (few marked : Bool) (s : SentPes SentUnit) (between : ℕ) (skipped : Bool)
+    (sent : List (SentPes SentUnit)) (bytes : List ℕ) : Type 0 where
   pub pes_packet : List ℕ
   pub is_pes_packet : IsPesPacket pes_packet
   pub prefix : up_to_pts pes_packet ≡ up_to_pts s.bytes
-  pub as_sent : few ≡ true → (arrives s ≡ true) × (pes_packet ≡ s.bytes)
+  pub equals_sent_bytes : few ≡ true → (arrives s ≡ true) × (pes_packet ≡ s.bytes)
   pub rest : List (List ℕ)
   pub each : AllByRecursion IsPesPacket rest
   pub joined : bytes ≡ gap_marker_where marked ++ (pes_packet ++ concat rest)
-  pub reads : Reads few (After pes_packet s between skipped) sent rest
+  pub reads : ReadsSent few (PreviousPes pes_packet s between skipped) sent rest
 
 -- Either the first result is for the PES packet `s`, or `s` has no result.
-abbrev pub Opens : Bool → Bool → Bool → SentPes Fated → ℕ → Bool → List (SentPes Fated) → List ℕ
+abbrev pub FirstResultIsPacket : Bool → Bool → Bool → SentPes SentUnit → ℕ → Bool → List
+    (SentPes SentUnit) → List ℕ
     → Type 0
-Opens few given marked s between skipped sent bytes =
+FirstResultIsPacket few given marked s between skipped sent bytes =
     YieldsOneResult few marked s between skipped sent bytes
-    ⊎ ((few ≡ true → arrives s ≡ false) × YieldsResults few (gapped given) sent bytes)
+    ⊎ ((few ≡ true → arrives s ≡ false) × YieldsResults few (previous_with_marker given) sent bytes)
 
-gapped-skip : (few given : Bool) (s : SentPes Fated) (more : List (SentPes Fated))
+previous_with_marker-skip : (few given : Bool) (s : SentPes SentUnit)
+    (more : List (SentPes SentUnit))
     (pes_packets : List (List ℕ))
-    → Reads few (gapped given) more pes_packets
-    → Reads few (skip (gapped given) s) more pes_packets
-gapped-skip few true s more pes_packets h = h
-gapped-skip few false s more pes_packets h = h
+    → ReadsSent few (previous_with_marker given) more pes_packets
+    → ReadsSent few (skip (previous_with_marker given) s) more pes_packets
+previous_with_marker-skip few true s more pes_packets h = h
+previous_with_marker-skip few false s more pes_packets h = h
 
-previous-skip : (few : Bool) (previous : Previous) (given : Bool) (s : SentPes Fated)
-    (more : List (SentPes Fated)) (pes_packets : List (List ℕ))
+previous-skip : (few : Bool) (previous : PreviousResult) (given : Bool) (s : SentPes SentUnit)
+    (more : List (SentPes SentUnit)) (pes_packets : List (List ℕ))
     → has_previous previous ≡ given
-    → Reads few (gapped given) more pes_packets
-    → Reads few (skip previous s) more pes_packets
+    → ReadsSent few (previous_with_marker given) more pes_packets
+    → ReadsSent few (skip previous s) more pes_packets
 previous-skip few Nothing true s more pes_packets e h = absurd (cc e)
 previous-skip few Nothing false s more pes_packets e h = h
-previous-skip few Marked true s more pes_packets e h = h
-previous-skip few Marked false s more pes_packets e h = absurd (cc e)
-previous-skip few (After x t between skipped) true s more pes_packets e h =
+previous-skip few PreviousMarker true s more pes_packets e h = h
+previous-skip few PreviousMarker false s more pes_packets e h = absurd (cc e)
+previous-skip few (PreviousPes x t between skipped) true s more pes_packets e h =
     reads-marked few x t (between + length (carriers_of_pes s)) true more pes_packets (λ e. refl) h
-previous-skip few (After x t between skipped) false s more pes_packets e h = absurd (cc e)
+previous-skip few (PreviousPes x t between skipped) false s more pes_packets e h = absurd (cc e)
 
-pub gives-later : (few given : Bool) (s : SentPes Fated) (more : List (SentPes Fated))
+pub gives-later : (few given : Bool) (s : SentPes SentUnit) (more : List (SentPes SentUnit))
     (bytes : List ℕ)
     → (few ≡ true → arrives s ≡ false)
-    → YieldsResults few (gapped given) more bytes
-    → YieldsResults few (gapped given) (s ∷ more) bytes
+    → YieldsResults few (previous_with_marker given) more bytes
+    → YieldsResults few (previous_with_marker given) (s ∷ more) bytes
 gives-later few given s more bytes gone h = record {
   pes_packets = h.pes_packets;
   each = h.each;
   joined = h.joined;
-  reads = inl (gone, gapped-skip few given s more h.pes_packets h.reads);
+  reads = inl (gone, previous_with_marker-skip few given s more h.pes_packets h.reads);
 }
 
-pub opens-later : (few given marked : Bool) (s : SentPes Fated) (between : ℕ) (skipped : Bool)
-    (t : SentPes Fated) (more : List (SentPes Fated)) (bytes : List ℕ)
+pub opens-later : (few given marked : Bool) (s : SentPes SentUnit) (between : ℕ) (skipped : Bool)
+    (t : SentPes SentUnit) (more : List (SentPes SentUnit)) (bytes : List ℕ)
     → (few ≡ true → arrives t ≡ false)
-    → Opens few given marked s (between + length (carriers_of_pes t)) true more bytes
-    → Opens few given marked s between skipped (t ∷ more) bytes
+    → FirstResultIsPacket few given marked s (between + length (carriers_of_pes t)) true more bytes
+    → FirstResultIsPacket few given marked s between skipped (t ∷ more) bytes
 opens-later few given marked s between skipped t more bytes gone h = elim h [
   | inl one ↦
       inl
@@ -124,7 +129,7 @@ opens-later few given marked s between skipped t more bytes gone h = elim h [
         pes_packet = one.pes_packet;
         is_pes_packet = one.is_pes_packet;
         prefix = one.prefix;
-        as_sent = one.as_sent;
+        equals_sent_bytes = one.equals_sent_bytes;
         rest = one.rest;
         each = one.each;
         joined = one.joined;
@@ -133,12 +138,13 @@ opens-later few given marked s between skipped t more bytes gone h = elim h [
   | inr none ↦ inr (none.0, gives-later few given t more bytes gone none.1)
 ]
 
-pub gives-opened : (few : Bool) (previous : Previous) (given marked : Bool) (s : SentPes Fated)
-    (more : List (SentPes Fated)) (bytes : List ℕ)
+pub gives-opened : (few : Bool) (previous : PreviousResult) (given marked : Bool)
+    (s : SentPes SentUnit)
+    (more : List (SentPes SentUnit)) (bytes : List ℕ)
     → has_previous previous ≡ given
     → Fits previous marked
-    → IsGapMarkerExact few previous s marked
-    → Opens few given marked s (length s.others) false more bytes
+    → IsMarkerExpected few previous s marked
+    → FirstResultIsPacket few given marked s (length s.others) false more bytes
     → YieldsResults few previous (s ∷ more) bytes
 gives-opened few previous given marked s more bytes is fits exact h = elim h [
   | inl one ↦
@@ -156,7 +162,7 @@ gives-opened few previous given marked s more bytes is fits exact h = elim h [
               one.prefix,
               fits,
               one.reads,
-              one.as_sent,
+              one.equals_sent_bytes,
               exact,
             );
       }
@@ -173,33 +179,34 @@ gives-opened few previous given marked s more bytes is fits exact h = elim h [
       }
 ]
 
-pub gives-one : (few marked : Bool) (s : SentPes Fated) (between : ℕ) (skipped : Bool)
-    (sent : List (SentPes Fated)) (pes_packet bytes inner : List ℕ)
+pub gives-one : (few marked : Bool) (s : SentPes SentUnit) (between : ℕ) (skipped : Bool)
+    (sent : List (SentPes SentUnit)) (pes_packet bytes inner : List ℕ)
     → IsPesPacket pes_packet
     → up_to_pts pes_packet ≡ up_to_pts s.bytes
     → (few ≡ true → (arrives s ≡ true) × (pes_packet ≡ s.bytes))
     → bytes ≡ (gap_marker_where marked ++ pes_packet) ++ inner
-    → YieldsResults few (After pes_packet s between skipped) sent inner
+    → YieldsResults few (PreviousPes pes_packet s between skipped) sent inner
     → YieldsOneResult few marked s between skipped sent bytes
-gives-one few marked s between skipped sent pes_packet bytes inner is prefix as_sent e h = record {
-  pes_packet = pes_packet;
-  is_pes_packet = is;
-  prefix = prefix;
-  as_sent = as_sent;
-  rest = h.pes_packets;
-  each = h.each;
-  joined =
-      e
-      ∙ append_assoc (gap_marker_where marked) pes_packet inner
-      ∙ ap (λ (l : List ℕ). gap_marker_where marked ++ (pes_packet ++ l)) h.joined;
-  reads = h.reads;
-}
+gives-one few marked s between skipped sent pes_packet bytes inner is prefix equals_sent_bytes e
+    h = record {
+      pes_packet = pes_packet;
+      is_pes_packet = is;
+      prefix = prefix;
+      equals_sent_bytes = equals_sent_bytes;
+      rest = h.pes_packets;
+      each = h.each;
+      joined =
+          e
+          ∙ append_assoc (gap_marker_where marked) pes_packet inner
+          ∙ ap (λ (l : List ℕ). gap_marker_where marked ++ (pes_packet ++ l)) h.joined;
+      reads = h.reads;
+    }
 
-pub gives-marked : (few : Bool) (x : List ℕ) (s : SentPes Fated) (between : ℕ) (skipped : Bool)
-    (sent : List (SentPes Fated)) (bytes : List ℕ)
-    → (few ≡ true → (skipped || is_wrong_after s) ≡ true)
-    → YieldsResults few Marked sent bytes
-    → YieldsResults few (After x s between skipped) sent bytes
+pub gives-marked : (few : Bool) (x : List ℕ) (s : SentPes SentUnit) (between : ℕ) (skipped : Bool)
+    (sent : List (SentPes SentUnit)) (bytes : List ℕ)
+    → (few ≡ true → (skipped || is_damaged_after s) ≡ true)
+    → YieldsResults few PreviousMarker sent bytes
+    → YieldsResults few (PreviousPes x s between skipped) sent bytes
 gives-marked few x s between skipped sent bytes gap h = record {
   pes_packets = h.pes_packets;
   each = h.each;
@@ -237,45 +244,47 @@ module _ (distance number : ℕ) (wrong_after few : Bool) where
   carried_from part given gap goods =
       with_gap_markers given gap (outcomes wrong_after (parts_from part goods))
 
-  pub record IsUnbroken (part : Part) (s : SentPes Fated) (between : ℕ) (skipped : Bool) (n : ℕ)
-      (wrong : Bool) (cs : List (Carrier Fated)) : Type 0 where
-    pub unskipped : skipped ≡ false
-    pub none_lost : n ≡ 0
+  pub record HasAllPackets (part : Part) (s : SentPes SentUnit) (between : ℕ) (skipped : Bool)
+      (n : ℕ)
+      (wrong : Bool) (cs : List (Carrier SentUnit)) : Type 0 where
+    pub skips_nothing : skipped ≡ false
+    pub loses_no_packet : n ≡ 0
     pub joined : part_bytes part ++ payloads_of distance cs ≡ s.bytes
     pub near : length cs ≤ between
-    pub last : Carrier Fated
+    pub last : Carrier SentUnit
     pub exact :
         few ≡ true
-        → (arrives s ≡ are_recorded_after last cs)
-        × (is_wrong_after s ≡ any_unit_damaged (units_after (last_carrier last cs)))
-        × (wrong ≡ any_unit_damaged (units_after last))
+        → (arrives s ≡ records_all_following last cs)
+        × (is_damaged_after s ≡ any_unit_damaged (units_after_copy (last_carrier last cs)))
+        × (wrong ≡ any_unit_damaged (units_after_copy last))
 
-  abbrev pub IsLost : Part → SentPes Fated → Bool → Type 0
-  IsLost part s skipped =
-      (IsBroken part × (arrives s ≡ false))
+  abbrev pub IsLostPes : Part → SentPes SentUnit → Bool → Type 0
+  IsLostPes part s skipped =
+      (IsBrokenPart part × (arrives s ≡ false))
       ⊎ (IsCompletePart part s.bytes × (arrives s ≡ true) × (skipped ≡ true))
 
   -- The state of a PES packet that is read in part: all its TS packets so far were read; or some of
   -- them are missing; or at least 16 are missing, so that the continuity counter may match again.
-  abbrev pub PartContinues : Part → SentPes Fated → ℕ → Bool → ℕ → Bool → List (Carrier Fated) →
+  abbrev pub PartContinues : Part → SentPes SentUnit → ℕ → Bool → ℕ → Bool → List (Carrier SentUnit)
+      →
       Type 0
   PartContinues part s between skipped n wrong cs =
-      IsUnbroken part s between skipped n wrong cs
-      ⊎ (((1 ≤ n) × (n + length cs ≤ between) × (few ≡ true → IsLost part s skipped))
+      HasAllPackets part s between skipped n wrong cs
+      ⊎ (((1 ≤ n) × (n + length cs ≤ between) × (few ≡ true → IsLostPes part s skipped))
       ⊎ ((16 + length cs ≤ between) × (few ≡ false)))
 
-  pub record IsFirst (part : Part) (s : SentPes Fated) : Type 0 where
+  pub record BeginsPes (part : Part) (s : SentPes SentUnit) : Type 0 where
     pub begins : part.begins ≡ true
     pub is_pes_packet : IsPesPacket s.bytes
     pub prefix : few ≡ false → IsPrefix part s
 
   -- A PES packet is incomplete as long as some of its TS packets remain.
-  broken-here : (part : Part) (s : SentPes Fated) (between : ℕ) (skipped : Bool) (n : ℕ)
-      (wrong : Bool) (c : Carrier Fated) (cs : List (Carrier Fated))
+  broken-here : (part : Part) (s : SentPes SentUnit) (between : ℕ) (skipped : Bool) (n : ℕ)
+      (wrong : Bool) (c : Carrier SentUnit) (cs : List (Carrier SentUnit))
       → IsPesPacket s.bytes
-      → IsLeftCarrier distance number false c
-      → IsUnbroken part s between skipped n wrong (c ∷ cs)
-      → IsBroken part
+      → IsLossyCarrier distance number false c
+      → HasAllPackets part s between skipped n wrong (c ∷ cs)
+      → IsBrokenPart part
   broken-here part s between skipped n wrong c cs is left all =
       let some = carrier-payload distance number false c left in
       broken-short part (payloads_of distance (c ∷ cs)) s.bytes all.joined
@@ -287,15 +296,15 @@ module _ (distance number : ℕ) (wrong_after few : Bool) where
       ))
       is
 
-  going-gone : (part : Part) (s : SentPes Fated) (between : ℕ) (skipped : Bool) (n : ℕ)
-      (wrong wrong_after_good : Bool) (c : Carrier Fated) (cs : List (Carrier Fated))
+  going-gone : (part : Part) (s : SentPes SentUnit) (between : ℕ) (skipped : Bool) (n : ℕ)
+      (wrong wrong_after_good : Bool) (c : Carrier SentUnit) (cs : List (Carrier SentUnit))
       → IsPesPacket s.bytes
-      → IsLeftCarrier distance number false c
+      → IsLossyCarrier distance number false c
       → (few ≡ true → is_recorded c ≡ false)
       → PartContinues part s between skipped n wrong (c ∷ cs)
       → PartContinues part s between skipped (n + 1) wrong_after_good cs
   going-gone part s between skipped n wrong wrong_after_good c cs is left gone (inl all) =
-      let none = all.none_lost in
+      let none = all.loses_no_packet in
       let near = all.near in
       inr
       (inl (
@@ -304,8 +313,8 @@ module _ (distance number : ℕ) (wrong_after few : Bool) where
         λ e. inl (
           broken-here part s between skipped n wrong c cs is left all,
           (all.exact e).0
-              ∙ not-there (any_unit_damaged (units_after all.last)) (is_recorded c)
-              (any_unit_damaged (units_before c)) (are_recorded_after c cs) (gone e),
+              ∙ not-there (any_unit_damaged (units_after_copy all.last)) (is_recorded c)
+              (any_unit_damaged (units_before_copy c)) (records_all_following c cs) (gone e),
         ),
       ))
   going-gone part s between skipped n wrong wrong_after_good c cs is left gone (inr (inl some)) =
@@ -313,31 +322,31 @@ module _ (distance number : ℕ) (wrong_after few : Bool) where
   going-gone part s between skipped n wrong wrong_after_good c cs is left gone (inr (inr far)) =
       let many = far.0 in inr (inr (omega (arith, many), far.1))
 
-  whole-here : (part : Part) (s : SentPes Fated) (between : ℕ) (skipped : Bool) (n : ℕ)
+  whole-here : (part : Part) (s : SentPes SentUnit) (between : ℕ) (skipped : Bool) (n : ℕ)
       (wrong : Bool)
-      → IsFirst part s
-      → IsUnbroken part s between skipped n wrong []
+      → BeginsPes part s
+      → HasAllPackets part s between skipped n wrong []
       → IsCompletePart part s.bytes
   whole-here part s between skipped n wrong first all = record {
     begins = first.begins;
-    bytes_are = sym (append-nil (part_bytes part)) ∙ all.joined;
+    bytes_are_equal = sym (append-nil (part_bytes part)) ∙ all.joined;
     is_pes_packet = first.is_pes_packet;
   }
 
-  lost-skip : (part : Part) (s : SentPes Fated) (skipped : Bool)
-      → IsLost part s skipped
-      → IsLost part s true
+  lost-skip : (part : Part) (s : SentPes SentUnit) (skipped : Bool)
+      → IsLostPes part s skipped
+      → IsLostPes part s true
   lost-skip part s skipped (inl broken) = inl broken
   lost-skip part s skipped (inr whole) = inr (whole.0, whole.1, refl)
 
-  pub going-skip : (part : Part) (s : SentPes Fated) (between : ℕ) (skipped : Bool) (n : ℕ)
-      (wrong wrong_after_good : Bool) (t : SentPes Fated)
-      → IsFirst part s
+  pub going-skip : (part : Part) (s : SentPes SentUnit) (between : ℕ) (skipped : Bool) (n : ℕ)
+      (wrong wrong_after_good : Bool) (t : SentPes SentUnit)
+      → BeginsPes part s
       → PartContinues part s between skipped n wrong []
       → PartContinues part s (between + length (carriers_of_pes t)) true (n + 1) wrong_after_good
       t.others
   going-skip part s between skipped n wrong wrong_after_good t first (inl all) =
-      let none = all.none_lost in
+      let none = all.loses_no_packet in
       inr
       (inl (
         omega arith,
@@ -354,36 +363,36 @@ module _ (distance number : ℕ) (wrong_after few : Bool) where
   going-skip part s between skipped n wrong wrong_after_good t first (inr (inr far)) =
       let many = far.0 in inr (inr (omega (arith, many), far.1))
 
-  sixteen_are_too_far : (n size between : ℕ)
+  sixteen_packets_are_too_far : (n size between : ℕ)
       → 1 ≤ n
       → n % 16 ≡ 0
       → n + (size + 1) ≤ between
       → 16 + size ≤ between
-  sixteen_are_too_far n size between h1 h2 h3 = omega arith
+  sixteen_packets_are_too_far n size between h1 h2 h3 = omega arith
 
-  abbrev StillRecorded : ℕ → Bool → Carrier Fated → Type 0
-  StillRecorded n wrong c =
+  abbrev IsNextRecorded : ℕ → Bool → Carrier SentUnit → Type 0
+  IsNextRecorded n wrong c =
       few ≡ true
-      → (n ≡ 0) × (wrong ≡ false) × (any_unit_damaged (units_before c) ≡ false) ×
+      → (n ≡ 0) × (wrong ≡ false) × (any_unit_damaged (units_before_copy c) ≡ false) ×
       (is_recorded c ≡ true)
 
   -- The payload of a TS packet with the next continuity counter that does not start a PES packet is
   -- joined to the current PES packet.
-  going-follows : (part : Part) (s : SentPes Fated) (between : ℕ) (skipped : Bool) (n : ℕ)
-      (wrong wrong_after_good : Bool) (c : Carrier Fated) (cs : List (Carrier Fated))
+  going-follows : (part : Part) (s : SentPes SentUnit) (between : ℕ) (skipped : Bool) (n : ℕ)
+      (wrong wrong_after_good : Bool) (c : Carrier SentUnit) (cs : List (Carrier SentUnit))
       (g : GoodPacket)
       → PartContinues part s between skipped n wrong (c ∷ cs)
       → payload g.packet ≡ payload (sent_packet distance c.packet)
       → n % 16 ≡ 0
-      → StillRecorded n wrong c
-      → (few ≡ true → wrong_after_good ≡ any_unit_damaged (units_after c))
+      → IsNextRecorded n wrong c
+      → (few ≡ true → wrong_after_good ≡ any_unit_damaged (units_after_copy c))
       → PartContinues (with_packet part g) s between skipped 0 wrong_after_good cs
   going-follows part s between skipped n wrong wrong_after_good c cs g (inl all) same on still is =
       let near = all.near in
       inl
       (record {
-        unskipped = all.unskipped;
-        none_lost = refl;
+        skips_nothing = all.skips_nothing;
+        loses_no_packet = refl;
         joined =
             concat-snoc part.payloads (payload g.packet)
             (payloads_of distance cs) s.bytes
@@ -394,8 +403,8 @@ module _ (distance number : ℕ) (wrong_after few : Bool) where
         last = c;
         exact = λ e. (
           (all.exact e).0
-              ∙ there-after (any_unit_damaged (units_after all.last)) (is_recorded c)
-              (any_unit_damaged (units_before c)) (are_recorded_after c cs)
+              ∙ there-after (any_unit_damaged (units_after_copy all.last)) (is_recorded c)
+              (any_unit_damaged (units_before_copy c)) (records_all_following c cs)
               (sym (all.exact e).2 ∙ (still e).1) (still e).3 (still e).2,
           (all.exact e).1,
           is e,
@@ -410,7 +419,7 @@ module _ (distance number : ℕ) (wrong_after few : Bool) where
         | inr many ↦
             let near = some.1 in
             inr (inr (
-              sixteen_are_too_far n (length cs) between some.0 on (omega (arith, near)),
+              sixteen_packets_are_too_far n (length cs) between some.0 on (omega (arith, near)),
               many,
             ))
       ]
@@ -418,27 +427,29 @@ module _ (distance number : ℕ) (wrong_after few : Bool) where
       is =
       let many = far.0 in inr (inr (omega (arith, many), far.1))
 
-  pub going-fits : (part : Part) (given gap : Bool) (s : SentPes Fated) (between : ℕ)
+  pub going-fits : (part : Part) (given gap : Bool) (s : SentPes SentUnit) (between : ℕ)
       (skipped : Bool) (n : ℕ) (wrong : Bool) (pes_packet : List ℕ) (longer breaks : Bool)
       → (part_bytes part ≡ s.bytes → pes_packet ≡ s.bytes)
       → PartContinues part s between skipped n wrong []
       → (breaks ≡ false → n % 16 ≡ 0)
-      → Fits (After pes_packet s between skipped) (true && (longer || breaks))
+      → Fits (PreviousPes pes_packet s between skipped) (true && (longer || breaks))
   going-fits
-      part given gap s between skipped n wrong pes_packet longer breaks as_sent (inl all) on none =
-      inr (all.unskipped, as_sent (sym (append-nil (part_bytes part)) ∙ all.joined))
-  going-fits part given gap s between skipped n wrong pes_packet longer breaks as_sent
+      part given gap s between skipped n wrong pes_packet longer breaks equals_sent_bytes (inl all)
+      on none =
+      inr (all.skips_nothing, equals_sent_bytes (sym (append-nil (part_bytes part)) ∙ all.joined))
+  going-fits part given gap s between skipped n wrong pes_packet longer breaks equals_sent_bytes
       (inr (inl some)) on none =
       let follows = on (grind (arith, nat_tests)) in
       let first = some.0 in
       let near = some.1 in
       inl (omega (arith, follows, first, near))
   going-fits
-      part given gap s between skipped n wrong pes_packet longer breaks as_sent (inr (inr far)) on
+      part given gap s between skipped n wrong pes_packet longer breaks equals_sent_bytes
+      (inr (inr far)) on
       none =
       let many = far.0 in inl (omega (arith, many))
 
-  prefix-with : (part : Part) (s : SentPes Fated) (g : GoodPacket)
+  prefix-with : (part : Part) (s : SentPes SentUnit) (g : GoodPacket)
       → IsPrefix part s
       → IsPrefix (with_packet part g) s
   prefix-with part s g h = record {
@@ -459,35 +470,36 @@ module _ (distance number : ℕ) (wrong_after few : Bool) where
           ∙ concat-snoc part.payloads (payload g.packet) [] (part_bytes part ++ payload g.packet)
           (ap (λ (x : List ℕ). part_bytes part ++ x) (append-nil (payload g.packet)))
 
-  first-with : (part : Part) (s : SentPes Fated) (g : GoodPacket)
-      → IsFirst part s
-      → IsFirst (with_packet part g) s
+  first-with : (part : Part) (s : SentPes SentUnit) (g : GoodPacket)
+      → BeginsPes part s
+      → BeginsPes (with_packet part g) s
   first-with part s g h = record {
     begins = h.begins;
     is_pes_packet = h.is_pes_packet;
     prefix = λ e. prefix-with part s g (h.prefix e);
   }
 
-  pub record ClosesAs (part : Part) (given gap : Bool) (s : SentPes Fated) : Type 0 where
-    pub is : ClosesGiven part given gap s
+  pub record ClosesAsSent (part : Part) (given gap : Bool) (s : SentPes SentUnit) : Type 0 where
+    pub is : ClosesStartedPes part given gap s
     pub exact : few ≡ true → (arrives s ≡ true) × (is.pes_packet ≡ s.bytes) × (is.longer ≡ false)
 
-  abbrev pub Closing : Part → Bool → Bool → SentPes Fated → Type 0
-  Closing part given gap s =
-      ClosesAs part given gap s
-      ⊎ (Closes part given gap [] given true × (few ≡ true → arrives s ≡ false))
+  abbrev pub ClosesOrBreaks : Part → Bool → Bool → SentPes SentUnit → Type 0
+  ClosesOrBreaks part given gap s =
+      ClosesAsSent part given gap s
+      ⊎ (ClosesPart part given gap [] given true × (few ≡ true → arrives s ≡ false))
 
   -- If fewer than 15 consecutive TS packets with payload are missing, a PES packet is complete
   -- exactly if all its TS packets arrive.
-  abbrev pub Ends : Part → SentPes Fated → Type 0
-  Ends part s =
+  abbrev pub IsEndExact : Part → SentPes SentUnit → Type 0
+  IsEndExact part s =
       few ≡ true
-      → (IsBroken part × (arrives s ≡ false)) ⊎ (IsCompletePart part s.bytes × (arrives s ≡ true))
+      → (IsBrokenPart part × (arrives s ≡ false)) ⊎
+      (IsCompletePart part s.bytes × (arrives s ≡ true))
 
-  pub closing : (part : Part) (given gap : Bool) (s : SentPes Fated)
-      → IsFirst part s
-      → Ends part s
-      → Closing part given gap s
+  pub closing : (part : Part) (given gap : Bool) (s : SentPes SentUnit)
+      → BeginsPes part s
+      → IsEndExact part s
+      → ClosesOrBreaks part given gap s
   closing part given gap s first ends = elim (cases_Bool few) [
     | inl e ↦ elim (ends e) [
       | inl broken ↦ inr (closes-broken part given gap broken.0, λ f. broken.1)
@@ -499,7 +511,7 @@ module _ (distance number : ℕ) (wrong_after few : Bool) where
               longer = false;
               is_pes_packet = first.is_pes_packet;
               prefix = refl;
-              as_sent = λ e. refl;
+              equals_sent_bytes = λ e. refl;
               closes =
                   closes-pes_packet part given gap s.bytes false
                   (λ cut_off. outcome-whole cut_off part s.bytes whole.0);
@@ -513,127 +525,130 @@ module _ (distance number : ℕ) (wrong_after few : Bool) where
     ]
   ]
 
-  lost-ends : (part : Part) (s : SentPes Fated) (skipped : Bool)
-      → (few ≡ true → IsLost part s skipped)
-      → Ends part s
+  lost-ends : (part : Part) (s : SentPes SentUnit) (skipped : Bool)
+      → (few ≡ true → IsLostPes part s skipped)
+      → IsEndExact part s
   lost-ends part s skipped lost is = elim (lost is) [
     | inl broken ↦ inl broken
     | inr whole ↦ inr (whole.0, whole.1)
   ]
 
-  pub going-ends : (part : Part) (s : SentPes Fated) (between : ℕ) (skipped : Bool) (n : ℕ)
+  pub going-ends : (part : Part) (s : SentPes SentUnit) (between : ℕ) (skipped : Bool) (n : ℕ)
       (wrong : Bool)
-      → IsFirst part s
+      → BeginsPes part s
       → PartContinues part s between skipped n wrong []
-      → Ends part s
+      → IsEndExact part s
   going-ends part s between skipped n wrong first (inl all) is =
       inr (whole-here part s between skipped n wrong first all, (all.exact is).0)
   going-ends part s between skipped n wrong first (inr (inl some)) is =
       lost-ends part s skipped some.2 is
   going-ends part s between skipped n wrong first (inr (inr far)) is = absurd (cc (is, far.1))
 
-  abbrev pub OnwardHeadless : List (SentPes Fated) → Type 0
-  OnwardHeadless sent =
+  abbrev pub ContinuesWithoutStart : List (SentPes SentUnit) → Type 0
+  ContinuesWithoutStart sent =
       (part : Part) (given gap following : Bool) (n : ℕ) (wrong : Bool) (goods : List GoodPacket)
       → part.begins ≡ false
-      → Traced distance number few following n wrong (carriers_of sent) goods
-      → YieldsResults few (gapped given) sent (carried_from part given gap goods)
+      → AreTraced distance number few following n wrong (carriers_of sent) goods
+      → YieldsResults few (previous_with_marker given) sent (carried_from part given gap goods)
 
-  abbrev pub OnwardOpen : List (SentPes Fated) → Type 0
-  OnwardOpen sent =
-      (part : Part) (given gap : Bool) (s : SentPes Fated) (between : ℕ) (skipped : Bool) (n : ℕ)
+  abbrev pub ContinuesOpenPart : List (SentPes SentUnit) → Type 0
+  ContinuesOpenPart sent =
+      (part : Part) (given gap : Bool) (s : SentPes SentUnit) (between : ℕ) (skipped : Bool) (n : ℕ)
       (wrong : Bool) (goods : List GoodPacket)
-      → IsFirst part s
+      → BeginsPes part s
       → PartContinues part s between skipped n wrong []
-      → Traced distance number few true n wrong (carriers_of sent) goods
-      → Opens few given (given && (gap || part.after_break)) s between skipped sent
+      → AreTraced distance number few true n wrong (carriers_of sent) goods
+      → FirstResultIsPacket few given (given && (gap || part.after_break)) s between skipped sent
       (carried_from part given gap goods)
 
-  pub record Onward (sent : List (SentPes Fated)) : Type 0 where
-    pub headless : OnwardHeadless sent
-    pub opened : OnwardOpen sent
+  pub record ContinuesReading (sent : List (SentPes SentUnit)) : Type 0 where
+    pub headless : ContinuesWithoutStart sent
+    pub opened : ContinuesOpenPart sent
 
-  heard-begins : (following : Bool) (n : ℕ) (wrong : Bool) (c : Carrier Fated) (g : GoodPacket)
-      → IsLeftCarrier distance number false c
-      → IsHeard distance number few following n wrong c g
+  heard-begins : (following : Bool) (n : ℕ) (wrong : Bool) (c : Carrier SentUnit) (g : GoodPacket)
+      → IsLossyCarrier distance number false c
+      → IsGoodCopy distance number few following n wrong c g
       → begins g.packet ≡ false
   heard-begins following n wrong c g is heard = heard.copy.begins ∙ is.is_carrier.begins
 
-  heard-follows : (n : ℕ) (wrong : Bool) (c : Carrier Fated) (g : GoodPacket)
-      → IsHeard distance number few true n wrong c g
+  heard-follows : (n : ℕ) (wrong : Bool) (c : Carrier SentUnit) (g : GoodPacket)
+      → IsGoodCopy distance number few true n wrong c g
       → begins_part g ≡ false
       → is_break g.link ≡ false
   heard-follows n wrong c g heard within =
-      let link = (heard.linked refl).cut in grind (arith, nat_tests)
+      let link = (heard.linked_packet refl).cut in grind (arith, nat_tests)
 
-  heard-still : (n : ℕ) (wrong : Bool) (c : Carrier Fated) (g : GoodPacket)
-      → IsHeard distance number few true n wrong c g
+  heard-still : (n : ℕ) (wrong : Bool) (c : Carrier SentUnit) (g : GoodPacket)
+      → IsGoodCopy distance number few true n wrong c g
       → begins_part g ≡ false
-      → StillRecorded n wrong c
+      → IsNextRecorded n wrong c
   heard-still n wrong c g heard within is =
       let none =
-      nothing-lost wrong (any_unit_damaged (units_before c)) n
-      (sym ((heard.linked refl).exact is).1 ∙ heard-follows n wrong c g heard within) in
+      nothing-lost wrong (any_unit_damaged (units_before_copy c)) n
+      (sym ((heard.linked_packet refl).exact is).1 ∙ heard-follows n wrong c g heard within) in
       (none.0, none.1, none.2, heard.there is)
 
-  heard-breaks : (n : ℕ) (wrong : Bool) (c : Carrier Fated) (g : GoodPacket)
+  heard-breaks : (n : ℕ) (wrong : Bool) (c : Carrier SentUnit) (g : GoodPacket)
       → begins g.packet ≡ false
-      → IsHeard distance number few true n wrong c g
+      → IsGoodCopy distance number few true n wrong c g
       → begins_part g ≡ true
       → is_break g.link ≡ true
   heard-breaks n wrong c g begun heard cut =
-      let link = (heard.linked refl).cut in grind (arith, nat_tests)
+      let link = (heard.linked_packet refl).cut in grind (arith, nat_tests)
 
-  cut-lost : (part : Part) (s : SentPes Fated) (between : ℕ) (skipped : Bool) (n : ℕ)
-      (wrong : Bool) (c : Carrier Fated) (cs : List (Carrier Fated)) (g : GoodPacket)
+  cut-lost : (part : Part) (s : SentPes SentUnit) (between : ℕ) (skipped : Bool) (n : ℕ)
+      (wrong : Bool) (c : Carrier SentUnit) (cs : List (Carrier SentUnit)) (g : GoodPacket)
       → IsPesPacket s.bytes
-      → IsLeftCarrier distance number false c
-      → IsHeard distance number few true n wrong c g
+      → IsLossyCarrier distance number false c
+      → IsGoodCopy distance number few true n wrong c g
       → begins_part g ≡ true
       → PartContinues part s between skipped n wrong (c ∷ cs)
       → few ≡ true
-      → IsLost part s skipped
+      → IsLostPes part s skipped
   cut-lost part s between skipped n wrong c cs g is left heard cut (inl all) e =
       inl (
         broken-here part s between skipped n wrong c cs is left all,
         (all.exact e).0
-            ∙ wrong-between (any_unit_damaged (units_after all.last)) (is_recorded c)
-            (any_unit_damaged (units_before c)) (are_recorded_after c cs)
-            (ap (λ (b : Bool). b || any_unit_damaged (units_before c)) (sym (all.exact e).2)
-            ∙ wrong-lost wrong (any_unit_damaged (units_before c)) n
-            (sym ((heard.linked refl).exact e).1
+            ∙ wrong-between (any_unit_damaged (units_after_copy all.last)) (is_recorded c)
+            (any_unit_damaged (units_before_copy c)) (records_all_following c cs)
+            (ap (λ (b : Bool). b || any_unit_damaged (units_before_copy c)) (sym (all.exact e).2)
+            ∙ wrong-lost wrong (any_unit_damaged (units_before_copy c)) n
+            (sym ((heard.linked_packet refl).exact e).1
             ∙ heard-breaks n wrong c g (heard-begins true n wrong c g left heard) heard cut)
-            all.none_lost),
+            all.loses_no_packet),
       )
   cut-lost part s between skipped n wrong c cs g is left heard cut (inr (inl some)) e = some.2 e
   cut-lost part s between skipped n wrong c cs g is left heard cut (inr (inr far)) e =
       absurd (cc (e, far.1))
 
-  pub headless-within : (more : List (SentPes Fated)) (part : Part) (given gap following : Bool)
-      (n : ℕ) (wrong : Bool) (cs : List (Carrier Fated)) (goods : List GoodPacket)
-      → Onward more
+  pub headless-within : (more : List (SentPes SentUnit)) (part : Part) (given gap following : Bool)
+      (n : ℕ) (wrong : Bool) (cs : List (Carrier SentUnit)) (goods : List GoodPacket)
+      → ContinuesReading more
       → part.begins ≡ false
-      → AllByRecursion (IsLeftCarrier distance number false) cs
-      → Traced distance number few following n wrong (cs ++ carriers_of more) goods
-      → YieldsResults few (gapped given) more (carried_from part given gap goods)
-  headless-within more part given gap following n wrong [] goods go headless each traced =
-      go.headless part given gap following n wrong goods headless traced
-  headless-within more part given gap following n wrong (c ∷ cs) goods go headless each traced =
-      elim traced [
+      → AllByRecursion (IsLossyCarrier distance number false) cs
+      → AreTraced distance number few following n wrong (cs ++ carriers_of more) goods
+      → YieldsResults few (previous_with_marker given) more (carried_from part given gap goods)
+  headless-within more part given gap following n wrong [] goods go headless each
+      carriers_are_traced =
+      go.headless part given gap following n wrong goods headless carriers_are_traced
+  headless-within more part given gap following n wrong (c ∷ cs) goods go headless each
+      carriers_are_traced =
+      elim carriers_are_traced [
         | inl gone ↦
             headless-within more part given gap following (n + 1) gone.0 cs goods go headless each.1
             gone.2
         | inr here ↦ elim (cases_Bool (begins_part here.0)) [
           | inl cut ↦
-              subst (YieldsResults few (gapped given) more)
+              subst (YieldsResults few (previous_with_marker given) more)
               (sym
               (ap (carried_from part given gap) here.2
               ∙ closed-by wrong_after part given gap [] given true here.0 here.1
               (closes-broken part given gap (broken-unbegun part headless)) cut))
-              (headless-within more (part_of here.0) given true true 0 here.4 cs here.1 go
+              (headless-within more (part_is_limited_suffix here.0) given true true 0 here.4 cs
+              here.1 go
               (heard-begins following n wrong c here.0 each.0 here.3) each.1 here.6)
           | inr within ↦
-              subst (YieldsResults few (gapped given) more)
+              subst (YieldsResults few (previous_with_marker given) more)
               (sym
               (ap (carried_from part given gap) here.2
               ∙ ap (λ (ps : List Part). with_gap_markers given gap (outcomes wrong_after ps))
@@ -643,14 +658,16 @@ module _ (distance number : ℕ) (wrong_after few : Bool) where
         ]
       ]
 
-  open-cut : (more : List (SentPes Fated)) (part : Part) (given gap : Bool) (s : SentPes Fated)
+  open-cut : (more : List (SentPes SentUnit)) (part : Part) (given gap : Bool)
+      (s : SentPes SentUnit)
       (between : ℕ) (skipped : Bool) (g : GoodPacket) (later : List GoodPacket)
-      → IsFirst part s
-      → (few ≡ true → IsLost part s skipped)
+      → BeginsPes part s
+      → (few ≡ true → IsLostPes part s skipped)
       → begins_part g ≡ true
       → ((given' gap' : Bool)
-      → YieldsResults few (gapped given') more (carried_from (part_of g) given' gap' later))
-      → Opens few given (given && (gap || part.after_break)) s between skipped more
+      → YieldsResults few (previous_with_marker given') more
+      (carried_from (part_is_limited_suffix g) given' gap' later))
+      → FirstResultIsPacket few given (given && (gap || part.after_break)) s between skipped more
       (carried_from part given gap (g ∷ later))
   open-cut more part given gap s between skipped g later first lost cut go =
       elim (closing part given gap s first (lost-ends part s skipped lost)) [
@@ -659,43 +676,45 @@ module _ (distance number : ℕ) (wrong_after few : Bool) where
             (gives-one few (given && (gap || part.after_break)) s between skipped more
             one.is.pes_packet
             (carried_from part given gap (g ∷ later))
-            (carried_from (part_of g) true one.is.longer later) one.is.is_pes_packet one.is.prefix
+            (carried_from (part_is_limited_suffix g) true one.is.longer later) one.is.is_pes_packet
+            one.is.prefix
             (λ e. ((one.exact e).0, (one.exact e).1))
             (closed-by wrong_after part given gap
             (gap_marker_where (given && (gap || part.after_break)) ++ one.is.pes_packet) true
             one.is.longer g
             later one.is.closes cut)
             (gives-marked few one.is.pes_packet s between skipped more
-            (carried_from (part_of g) true one.is.longer later)
+            (carried_from (part_is_limited_suffix g) true one.is.longer later)
             (λ e. elim (lost e) [
               | inl broken ↦ absurd (cc (broken.1, (one.exact e).0))
-              | inr whole ↦ ap (λ (b : Bool). b || is_wrong_after s) whole.2
+              | inr whole ↦ ap (λ (b : Bool). b || is_damaged_after s) whole.2
             ])
             (go true one.is.longer)))
         | inr none ↦
             inr (
               none.1,
-              subst (YieldsResults few (gapped given) more)
+              subst (YieldsResults few (previous_with_marker given) more)
                   (sym (closed-by wrong_after part given gap [] given true g later none.0 cut))
                   (go given true),
             )
       ]
 
-  pub open-within : (more : List (SentPes Fated)) (part : Part) (given gap : Bool)
-      (s : SentPes Fated) (between : ℕ) (skipped : Bool) (n : ℕ) (wrong : Bool)
-      (cs : List (Carrier Fated)) (goods : List GoodPacket)
-      → Onward more
-      → IsFirst part s
+  pub open-within : (more : List (SentPes SentUnit)) (part : Part) (given gap : Bool)
+      (s : SentPes SentUnit) (between : ℕ) (skipped : Bool) (n : ℕ) (wrong : Bool)
+      (cs : List (Carrier SentUnit)) (goods : List GoodPacket)
+      → ContinuesReading more
+      → BeginsPes part s
       → PartContinues part s between skipped n wrong cs
-      → AllByRecursion (IsLeftCarrier distance number false) cs
-      → Traced distance number few true n wrong (cs ++ carriers_of more) goods
-      → Opens few given (given && (gap || part.after_break)) s between skipped more
+      → AllByRecursion (IsLossyCarrier distance number false) cs
+      → AreTraced distance number few true n wrong (cs ++ carriers_of more) goods
+      → FirstResultIsPacket few given (given && (gap || part.after_break)) s between skipped more
       (carried_from part given gap goods)
-  open-within more part given gap s between skipped n wrong [] goods go first going each traced =
-      go.opened part given gap s between skipped n wrong goods first going traced
+  open-within more part given gap s between skipped n wrong [] goods go first going each
+      carriers_are_traced =
+      go.opened part given gap s between skipped n wrong goods first going carriers_are_traced
   open-within more part given gap s between skipped n wrong (c ∷ cs) goods go first going each
-      traced =
-      elim traced [
+      carriers_are_traced =
+      elim carriers_are_traced [
         | inl gone ↦
             open-within more part given gap s between skipped (n + 1) gone.0 cs goods go first
             (going-gone part s between skipped n wrong gone.0 c cs first.is_pes_packet each.0 gone.1
@@ -704,7 +723,8 @@ module _ (distance number : ℕ) (wrong_after few : Bool) where
           | inl cut ↦
               subst
               (λ (goods : List GoodPacket).
-              Opens few given (given && (gap || part.after_break)) s between skipped more
+              FirstResultIsPacket few given (given && (gap || part.after_break)) s between skipped
+              more
               (carried_from part given gap goods))
               (sym here.2)
               (open-cut more part given gap s between skipped here.0 here.1 first
@@ -713,10 +733,12 @@ module _ (distance number : ℕ) (wrong_after few : Bool) where
               going)
               cut
               (λ given' gap'.
-              headless-within more (part_of here.0) given' gap' true 0 here.4 cs here.1 go
+              headless-within more (part_is_limited_suffix here.0) given' gap' true 0 here.4 cs
+              here.1 go
               (heard-begins true n wrong c here.0 each.0 here.3) each.1 here.6))
           | inr within ↦
-              subst (Opens few given (given && (gap || part.after_break)) s between skipped more)
+              subst (FirstResultIsPacket few given (given && (gap || part.after_break)) s between
+              skipped more)
               (sym
               (ap (carried_from part given gap) here.2
               ∙ ap (λ (ps : List Part). with_gap_markers given gap (outcomes wrong_after ps))
@@ -726,7 +748,7 @@ module _ (distance number : ℕ) (wrong_after few : Bool) where
               (first-with part s here.0 first)
               (going-follows part s between skipped n wrong here.4 c cs here.0 going
               here.3.copy.payload
-              ((here.3.linked refl).far (heard-follows n wrong c here.0 here.3 within))
+              ((here.3.linked_packet refl).far (heard-follows n wrong c here.0 here.3 within))
               (heard-still n wrong c here.0 here.3 within) here.5)
               each.1 here.6)
         ]

@@ -4,7 +4,7 @@ use Rattle.std.proofs.Common.{subst, arith, append_assoc}
 use Rattle.std.specs.List.{AllByRecursion, AllZip, concat}
 use Rattle.ttx_pes.specs.PesGrammar.{IsValidPesPacket, PesValue}
 use Rattle.ttx_pes.specs.PesPackets.{IsPesPacket}
-use Rattle.mpeg_ts.specs.Carried.{gap_marker}
+use Rattle.mpeg_ts.specs.CarriedPackets.{gap_marker}
 use Rattle.recording_laws.specs.Multiplex.{sent_pes_packets}
 use Rattle.recording_laws.specs.Pace.{KeepPace, up_to_pts}
 use Rattle.recording_laws.proofs.PesPacketLemmas.{one-way}
@@ -32,12 +32,12 @@ pes_packets-right : (xs ys : List (List ℕ))
 pes_packets-right [] ys each = each
 pes_packets-right (x ∷ xs) ys each = pes_packets-right xs ys each.1
 
-record HasLast (packets : List (List ℕ)) : Type 0 where
+record HasLastPacket (packets : List (List ℕ)) : Type 0 where
   pub run : List (List ℕ)
   pub last : List ℕ
   pub are : packets ≡ run ++ last ∷ []
 
-has-last : (p : List ℕ) (packets : List (List ℕ)) → HasLast (p ∷ packets)
+has-last : (p : List ℕ) (packets : List (List ℕ)) → HasLastPacket (p ∷ packets)
 has-last p [] = record { run = []; last = p; are = refl }
 has-last p (q ∷ packets) =
     let rest = has-last q packets in
@@ -52,7 +52,7 @@ sent-last : (options : OptionsValue) (within : ℕ) (values : List PesValue)
     → AllZip IsValidPesPacket values packets
     → AllZip (IsReadAs (clock_of options)) values sendings
     → 0 < length (joined within sendings)
-    → HasLast packets
+    → HasLastPacket packets
 unfolding joined_after
 sent-last options within values (p ∷ packets) sendings each read some = has-last p packets
 sent-last options within (v ∷ values) [] sendings each read some = absurd each
@@ -65,12 +65,12 @@ law_of_paced_check number distance pace m recording before packets following pro
     record {
       run = parts.run;
       last = parts.last;
-      packets_are = parts.are;
+      packets_are_equal = parts.are;
       earlier = sent.0;
       later = sent.1;
       next = sent.2;
       sent_bytes_eq = sent.3;
-      last_is = sent.4;
+      last_matches_up_to_pts = sent.4;
     }
   where
     same : carries.packets ≡ packets
@@ -83,7 +83,7 @@ law_of_paced_check number distance pace m recording before packets following pro
     are_packets : AllZip IsValidPesPacket carries.values packets
     are_packets = subst (AllZip IsValidPesPacket carries.values) same carries.each
 
-    parts : HasLast packets
+    parts : HasLastPacket packets
     parts =
         sent-last options options.within carries.values packets carries.sendings are_packets
         carries.read
@@ -102,8 +102,8 @@ law_of_paced_check number distance pace m recording before packets following pro
         (keeps-pace options pace carries.values packets carries.sendings are_packets carries.read
         near)
 
-    unmarked : AllByRecursion (λ (p : List ℕ). p ≡ gap_marker → ⊥) packets
-    unmarked =
+    has_no_gap_marker : AllByRecursion (λ (p : List ℕ). p ≡ gap_marker → ⊥) packets
+    has_no_gap_marker =
         (law_of_complete_file number distance recording before following carries.values packets
         (pes_packets-left before (packets ++ following) each)
         (pes_packets-right packets following (pes_packets-right before (packets ++ following) each))
@@ -123,5 +123,5 @@ law_of_paced_check number distance pace m recording before packets following pro
         following parts.last losses holds far
         (subst (AllByRecursion IsPesPacket) all each)
         (carried_are ∙ ap concat all)
-        (subst (AllByRecursion (λ (p : List ℕ). p ≡ gap_marker → ⊥)) parts.are unmarked)
+        (subst (AllByRecursion (λ (p : List ℕ). p ≡ gap_marker → ⊥)) parts.are has_no_gap_marker)
         keep

@@ -23,8 +23,8 @@ numbers frames = map (λ (s : SentFrame). s.frame) frames
 
 -- Each frame from the first to the last is in the list, or less than `pace` after a frame in the
 -- list.
-abbrev pub AreCovering : ℕ → Transmission → Type 0
-AreCovering pace frames =
+abbrev pub AreFramesCovered : ℕ → Transmission → Type 0
+AreFramesCovered pace frames =
     (f : ℕ)
     → first_frame frames ≤ f
     → f ≤ last_frame frames
@@ -60,23 +60,23 @@ rising-last t (u ∷ more) rising =
     omega (arith, rest, rising-first t u more rising)
 
 module _ (pace : ℕ) (s t : SentFrame) (more : Transmission) (rising : IsRising (s ∷ t ∷ more)) where
-  uncovered : (j : ℕ)
+  frame_is_not_covered : (j : ℕ)
       → s.frame + pace < t.frame
       → j < length (s ∷ t ∷ more)
       → frame_at (s ∷ t ∷ more) j ≤ s.frame + pace
       → s.frame + pace < frame_at (s ∷ t ∷ more) j + pace
       → ⊥
-  uncovered zero gap l from to = absurd (omega arith)
-  uncovered (suc i) gap l from to =
+  frame_is_not_covered zero gap l from to = absurd (omega arith)
+  frame_is_not_covered (suc i) gap l from to =
       let rest = rising-at t more i (rising-tail s (t ∷ more) rising) (omega arith) in
       absurd (omega (arith, rest, from, gap))
 
-  near-first : AreCovering pace (s ∷ t ∷ more) → t.frame ≤ s.frame + pace
+  near-first : AreFramesCovered pace (s ∷ t ∷ more) → t.frame ≤ s.frame + pace
   near-first covered = elim (cases_lt (s.frame + pace) t.frame) [
     | inl gap ↦
         let last = rising-last t more (rising-tail s (t ∷ more) rising) in
         let at = covered (s.frame + pace) (omega arith) (omega (arith, gap, last)) in
-        absurd (uncovered at.0 gap at.1 at.2 at.3)
+        absurd (frame_is_not_covered at.0 gap at.1 at.2 at.3)
     | inr near ↦ near
   ]
 
@@ -93,7 +93,7 @@ module _ (pace : ℕ) (s t : SentFrame) (more : Transmission) (rising : IsRising
       (0, omega arith, begun, omega (arith, to, rising-first s t more rising))
   covered-by f (suc i) begun l from to = (i, omega arith, from, to)
 
-  covering-tail : AreCovering pace (s ∷ t ∷ more) → AreCovering pace (t ∷ more)
+  covering-tail : AreFramesCovered pace (s ∷ t ∷ more) → AreFramesCovered pace (t ∷ more)
   covering-tail covered f begun lasts =
       let first = rising-first s t more rising in
       let at = covered f (omega (arith, first, begun)) lasts in
@@ -101,7 +101,7 @@ module _ (pace : ℕ) (s t : SentFrame) (more : Transmission) (rising : IsRising
 
 pub near-covered : (pace : ℕ) (frames : Transmission)
     → IsRising frames
-    → AreCovering pace frames
+    → AreFramesCovered pace frames
     → AreNear pace (numbers frames)
 near-covered pace [] rising covered = tt
 near-covered pace (s ∷ []) rising covered = tt

@@ -7,17 +7,18 @@ use Rattle.std.specs.List.{concat}
 use Rattle.std.proofs.lemmas.List.{append-nil}
 use Rattle.std.proofs.lemmas.List.Folds.{concat-append}
 use Rattle.std.proofs.Math.Seq.{take-length}
-use Rattle.ttx_pes.proofs.PesHeaderLemmas.{head_complete}
+use Rattle.ttx_pes.proofs.PesHeaderLemmas.{valid_header_decodes}
 use Rattle.ttx_pes.specs.PesPackets.{IsPesPacket}
 use Rattle.ttx_pes.specs.Reading.{size_at}
 use Rattle.mpeg_ts.specs.Parts.{Part, Pes, part_bytes, outcome, gap_where}
 use Rattle.mpeg_ts.specs.GoodPackets.{GoodPacket}
-use Rattle.mpeg_ts.specs.Parts.{begins_part, may_be_cut_off, outcomes, part_of, parts_from}
+use Rattle.mpeg_ts.specs.Parts.{begins_part, may_be_cut_off, outcomes, part_is_limited_suffix}
+use Rattle.mpeg_ts.specs.Parts.{parts_from}
 use Rattle.mpeg_ts.specs.Parts.{with_packet}
-use Rattle.mpeg_ts.specs.Carried.{with_gap_markers}
+use Rattle.mpeg_ts.specs.CarriedPackets.{with_gap_markers}
 
 pub pes_packet-size : (b : List ℕ) → IsPesPacket b → size_at (take 6 b) ≡ Ok (length b)
-pes_packet-size b h1 = grind (arith, nat_tests, head_complete)
+pes_packet-size b h1 = grind (arith, nat_tests, valid_header_decodes)
 
 pub pes_packet-long : (b : List ℕ) → IsPesPacket b → 184 ≤ length b
 pes_packet-long b h1 = grind (arith, nat_tests)
@@ -25,7 +26,7 @@ pes_packet-long b h1 = grind (arith, nat_tests)
 -- The joined payloads start a PES packet, and are exactly its bytes.
 pub record IsCompletePart (part : Part) (bytes : List ℕ) : Type 0 where
   pub begins : part.begins ≡ true
-  pub bytes_are : part_bytes part ≡ bytes
+  pub bytes_are_equal : part_bytes part ≡ bytes
   pub is_pes_packet : IsPesPacket bytes
 
 pub outcome-whole : (cut_off : Bool) (part : Part) (bytes : List ℕ)
@@ -36,7 +37,7 @@ outcome-whole cut_off part bytes h =
     let long = pes_packet-long bytes h.is_pes_packet in
     let size = pes_packet-size bytes h.is_pes_packet in
     let all = take-length bytes in
-    grind (arith, nat_tests, h.begins, h.bytes_are)
+    grind (arith, nat_tests, h.begins, h.bytes_are_equal)
 
 pub outcomes-whole : (wrong_after : Bool) (part : Part) (more : List Part) (bytes : List ℕ)
     → IsCompletePart part bytes
@@ -60,7 +61,7 @@ with_gap_markers-whole given wrong_after part more bytes h whole =
 
 pub parts_from-cut : (part : Part) (g : GoodPacket) (more : List GoodPacket)
     → begins_part g ≡ true
-    → parts_from part (g ∷ more) ≡ part ∷ parts_from (part_of g) more
+    → parts_from part (g ∷ more) ≡ part ∷ parts_from (part_is_limited_suffix g) more
 unfolding parts_from
 parts_from-cut part g more cut = rw cut
 

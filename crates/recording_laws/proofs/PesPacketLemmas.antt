@@ -7,16 +7,17 @@ use Rattle.std.proofs.lemmas.List.{take-append-le}
 use Rattle.std.proofs.Math.Seq.{drop-append_seam, take-append_seam}
 use Rattle.ttx_pes.specs.PesPackets.{IsPesPacket}
 use Rattle.ttx_pes.specs.Reading.{size_at}
-use Rattle.mpeg_ts.specs.Carried.{gap_marker, gap_marker_where}
-use Rattle.recording_laws.specs.Losses.{Fated}
+use Rattle.mpeg_ts.specs.CarriedPackets.{gap_marker, gap_marker_where}
+use Rattle.recording_laws.specs.Losses.{SentUnit}
 use Rattle.recording_laws.specs.Multiplex.{SentPes}
 use Rattle.recording_laws.proofs.PartLemmas.{pes_packet-long, pes_packet-size}
 
-pub heads : {A : Type 0} (x y : A) (xs ys : List A) → x ∷ xs ≡ y ∷ ys → x ≡ y
-heads x y xs ys e = cc
+pub equal_lists_have_equal_heads : {A : Type 0} (x y : A) (xs ys : List A) → x ∷ xs ≡ y ∷ ys → x ≡ y
+equal_lists_have_equal_heads x y xs ys e = cc
 
-pub tails : {A : Type 0} (x y : A) (xs ys : List A) → x ∷ xs ≡ y ∷ ys → xs ≡ ys
-tails x y xs ys e = cc
+pub equal_lists_have_equal_tails : {A : Type 0} (x y : A) (xs ys : List A) → x ∷ xs ≡ y ∷ ys → xs ≡
+    ys
+equal_lists_have_equal_tails x y xs ys e = cc
 
 pub not-empty : {A : Type 0} (xs ys : List A) (y : A) → [] ≡ xs ++ (y ∷ ys) → ⊥
 not-empty [] ys y e = cc
@@ -96,5 +97,5 @@ pes_packets-append (x ∷ xs) ys each others = (each.0, pes_packets-append xs ys
 abbrev pub HasNoGapMarker : List (List ℕ) → Type 0
 HasNoGapMarker run = AllByRecursion (λ p. p ≡ gap_marker → ⊥) run
 
-abbrev pub sent_bytes : List (SentPes Fated) → List (List ℕ)
+abbrev pub sent_bytes : List (SentPes SentUnit) → List (List ℕ)
 sent_bytes sent = map (λ s. s.bytes) sent

@@ -6,76 +6,78 @@ use Rattle.std.proofs.Common.{◌∷◌, ◌++◌, length, refl, sym, ap, ◌∙
 use Rattle.std.specs.Bool.{⊤}
 use Rattle.std.proofs.lemmas.Bool.{cases_Bool}
 use Rattle.std.specs.List.{AllByRecursion}
-use Rattle.mpeg_ts.specs.Carried.{gap_marker}
-use Rattle.recording_laws.specs.Losses.{Fated, any_unit_damaged, arrives, is_wrong_after}
-use Rattle.recording_laws.specs.Losses.{units_before}
+use Rattle.mpeg_ts.specs.CarriedPackets.{gap_marker}
+use Rattle.recording_laws.specs.Losses.{SentUnit, any_unit_damaged, arrives, is_damaged_after}
+use Rattle.recording_laws.specs.Losses.{units_before_copy}
 use Rattle.recording_laws.specs.Multiplex.{SentPes, carriers_of_pes}
-use Rattle.recording_laws.specs.Pace.{AreFarApart, AreFarFrom, KeepPace, KeepPaceFrom, frame_by}
+use Rattle.recording_laws.specs.Pace.{AreFarApart, AreFarFrom, KeepPace, KeepPaceFrom, frame_of_pts}
 use Rattle.recording_laws.specs.Pace.{up_to_pts}
-use Rattle.recording_laws.proofs.PesPacketLemmas.{HasNoGapMarker, heads, gap_markers_where}
+use Rattle.recording_laws.proofs.PesPacketLemmas.{HasNoGapMarker, equal_lists_have_equal_heads}
+use Rattle.recording_laws.proofs.PesPacketLemmas.{gap_markers_where}
 use Rattle.recording_laws.proofs.PesPacketLemmas.{not-empty}
-use Rattle.recording_laws.proofs.PesPacketLemmas.{sent_bytes, tails}
+use Rattle.recording_laws.proofs.PesPacketLemmas.{sent_bytes, equal_lists_have_equal_tails}
 
 -- The state before a result of reading: no result yet; a gap after a result; or the result `x` for
 -- the PES packet `s`, which has the same start. In the last case the next PES packet starts
 -- `between` TS packets with payload after the start of `s`, and `skipped` means that PES packets
 -- between them have no result.
-pub data Previous : Type 0 where
-  Nothing : Previous
-  Marked : Previous
-  After : List ℕ → SentPes Fated → ℕ → Bool → Previous
+pub data PreviousResult : Type 0 where
+  Nothing : PreviousResult
+  PreviousMarker : PreviousResult
+  PreviousPes : List ℕ → SentPes SentUnit → ℕ → Bool → PreviousResult
 
-abbrev pub skip : Previous → SentPes Fated → Previous
+abbrev pub skip : PreviousResult → SentPes SentUnit → PreviousResult
 skip Nothing t = Nothing
-skip Marked t = Marked
-skip (After x s between skipped) t = After x s (between + length (carriers_of_pes t)) true
+skip PreviousMarker t = PreviousMarker
+skip (PreviousPes x s between skipped) t = PreviousPes x s (between + length (carriers_of_pes t))
+    true
 
 -- A gap marker may be missing before the next result only in three cases: there is no earlier
 -- result; the earlier result is the PES packet as sent, and all PES packets after it have results;
 -- or 16 or more TS packets with payload are between them.
-abbrev pub Fits : Previous → Bool → Type 0
+abbrev pub Fits : PreviousResult → Bool → Type 0
 Fits Nothing marked = ⊤
-Fits Marked marked = marked ≡ true
-Fits (After x s between skipped) marked =
+Fits PreviousMarker marked = marked ≡ true
+Fits (PreviousPes x s between skipped) marked =
     marked ≡ false → (16 ≤ between) ⊎ ((skipped ≡ false) × (x ≡ s.bytes))
 
-abbrev pub has_previous : Previous → Bool
+abbrev pub has_previous : PreviousResult → Bool
 has_previous Nothing = false
-has_previous Marked = true
-has_previous (After x s between skipped) = true
+has_previous PreviousMarker = true
+has_previous (PreviousPes x s between skipped) = true
 
-abbrev pub is_gap : Previous → Bool
+abbrev pub is_gap : PreviousResult → Bool
 is_gap Nothing = true
-is_gap Marked = true
-is_gap (After x s between skipped) = skipped || is_wrong_after s
+is_gap PreviousMarker = true
+is_gap (PreviousPes x s between skipped) = skipped || is_damaged_after s
 
-abbrev pub IsGapMarkerExact : Bool → Previous → SentPes Fated → Bool → Type 0
-IsGapMarkerExact few previous s marked =
+abbrev pub IsMarkerExpected : Bool → PreviousResult → SentPes SentUnit → Bool → Type 0
+IsMarkerExpected few previous s marked =
     few ≡ true → marked ≡
-    (has_previous previous && (is_gap previous || any_unit_damaged (units_before s.first)))
+    (has_previous previous && (is_gap previous || any_unit_damaged (units_before_copy s.first)))
 
 -- The results of reading PES packets, in order. Each result has the same start as its PES packet.
 -- If fewer than 15 consecutive TS packets with payload are missing, the results are exactly the PES
 -- packets that arrive.
-abbrev pub Reads : Bool → Previous → List (SentPes Fated) → List (List ℕ) → Type 0
-Reads few previous [] pes_packets =
+abbrev pub ReadsSent : Bool → PreviousResult → List (SentPes SentUnit) → List (List ℕ) → Type 0
+ReadsSent few previous [] pes_packets =
     (marked : Bool) × (pes_packets ≡ gap_markers_where marked) × (marked ≡ true → has_previous
     previous ≡ true)
-Reads few previous (s ∷ more) pes_packets =
-    ((few ≡ true → arrives s ≡ false) × Reads few (skip previous s) more pes_packets)
+ReadsSent few previous (s ∷ more) pes_packets =
+    ((few ≡ true → arrives s ≡ false) × ReadsSent few (skip previous s) more pes_packets)
     ⊎ ((marked : Bool) × (x : List ℕ) × (rest : List (List ℕ))
     × (pes_packets ≡ gap_markers_where marked ++ (x ∷ rest))
     × (up_to_pts x ≡ up_to_pts s.bytes)
     × Fits previous marked
-    × Reads few (After x s (length s.others) false) more rest
+    × ReadsSent few (PreviousPes x s (length s.others) false) more rest
     × (few ≡ true → (arrives s ≡ true) × (x ≡ s.bytes))
-    × IsGapMarkerExact few previous s marked)
+    × IsMarkerExpected few previous s marked)
 
-pub reads-marked : (few : Bool) (x : List ℕ) (s : SentPes Fated) (between : ℕ) (skipped : Bool)
-    (sent : List (SentPes Fated)) (pes_packets : List (List ℕ))
-    → (few ≡ true → (skipped || is_wrong_after s) ≡ true)
-    → Reads few Marked sent pes_packets
-    → Reads few (After x s between skipped) sent pes_packets
+pub reads-marked : (few : Bool) (x : List ℕ) (s : SentPes SentUnit) (between : ℕ) (skipped : Bool)
+    (sent : List (SentPes SentUnit)) (pes_packets : List (List ℕ))
+    → (few ≡ true → (skipped || is_damaged_after s) ≡ true)
+    → ReadsSent few PreviousMarker sent pes_packets
+    → ReadsSent few (PreviousPes x s between skipped) sent pes_packets
 reads-marked few x s between skipped [] pes_packets gap h = (h.0, h.1, λ e. refl)
 reads-marked few x s between skipped (t ∷ more) pes_packets gap h = elim h [
   | inl later ↦
@@ -96,7 +98,7 @@ reads-marked few x s between skipped (t ∷ more) pes_packets gap h = elim h [
         here.6,
         here.7,
         λ e. here.8 e
-            ∙ ap (λ (z : Bool). z || any_unit_damaged (units_before t.first)) (sym (gap e)),
+            ∙ ap (λ (z : Bool). z || any_unit_damaged (units_before_copy t.first)) (sym (gap e)),
       )
 ]
 
@@ -109,55 +111,58 @@ pub no-pes_packet : (pes_packets before tail : List (List ℕ)) (x : List ℕ)
     → pes_packets ≡ before ++ (x ∷ tail)
     → x ≡ gap_marker
 no-pes_packet [] before tail x all e = absurd (not-empty before tail x e)
-no-pes_packet (p ∷ pes_packets) [] tail x all e = sym (heads p x pes_packets tail e) ∙ all.0
+no-pes_packet (p ∷ pes_packets) [] tail x all e = sym (equal_lists_have_equal_heads p x pes_packets
+    tail e) ∙ all.0
 no-pes_packet (p ∷ pes_packets) (q ∷ before) tail x all e =
-    no-pes_packet pes_packets before tail x all.1 (tails p q pes_packets (before ++ (x ∷ tail)) e)
+    no-pes_packet pes_packets before tail x all.1 (equal_lists_have_equal_tails p q pes_packets
+    (before ++ (x ∷ tail)) e)
 
-module _ (few : Bool) (IsFar : List (SentPes Fated) → Type 0)
-    (following-far : (s : SentPes Fated) (more : List (SentPes Fated)) → IsFar (s ∷ more) → IsFar
+module _ (few : Bool) (IsFar : List (SentPes SentUnit) → Type 0)
+    (following-far : (s : SentPes SentUnit) (more : List (SentPes SentUnit)) → IsFar (s ∷ more) →
+    IsFar
     more)
   where
     -- A result `x` other than a gap marker has the same start as one of the PES packets sent. It is
     -- equal to that PES packet if fewer than 15 consecutive TS packets with payload are missing.
-    pub record Located
-        (x : List ℕ) (tail : List (List ℕ)) (sent : List (SentPes Fated))
+    pub record IsLocated
+        (x : List ℕ) (tail : List (List ℕ)) (sent : List (SentPes SentUnit))
         : Type 0 where
       pub earlier : List (List ℕ)
-      pub here : SentPes Fated
-      pub later : List (SentPes Fated)
+      pub here : SentPes SentUnit
+      pub later : List (SentPes SentUnit)
       pub sent_bytes_eq : sent_bytes sent ≡ earlier ++ (here.bytes ∷ sent_bytes later)
       pub prefix : up_to_pts x ≡ up_to_pts here.bytes
-      pub reads : Reads few (After x here (length here.others) false) later tail
-      pub as_sent : few ≡ true → x ≡ here.bytes
+      pub reads : ReadsSent few (PreviousPes x here (length here.others) false) later tail
+      pub equals_sent_bytes : few ≡ true → x ≡ here.bytes
       pub far : IsFar (here ∷ later)
 
-    located-following : (x : List ℕ) (tail : List (List ℕ)) (s : SentPes Fated)
-        (more : List (SentPes Fated))
-        → Located x tail more
-        → Located x tail (s ∷ more)
-    located-following x tail s more h = record {
+    read_packet_was_sent-following : (x : List ℕ) (tail : List (List ℕ)) (s : SentPes SentUnit)
+        (more : List (SentPes SentUnit))
+        → IsLocated x tail more
+        → IsLocated x tail (s ∷ more)
+    read_packet_was_sent-following x tail s more h = record {
       earlier = s.bytes ∷ h.earlier;
       here = h.here;
       later = h.later;
       sent_bytes_eq = ap (λ (l : List (List ℕ)). s.bytes ∷ l) h.sent_bytes_eq;
       prefix = h.prefix;
       reads = h.reads;
-      as_sent = h.as_sent;
+      equals_sent_bytes = h.equals_sent_bytes;
       far = h.far;
     }
 
-    located-here : (s : SentPes Fated) (more : List (SentPes Fated)) (y : List ℕ)
+    read_packet_was_sent-here : (s : SentPes SentUnit) (more : List (SentPes SentUnit)) (y : List ℕ)
         (rest before tail : List (List ℕ)) (x : List ℕ)
         → y ∷ rest ≡ before ++ (x ∷ tail)
         → up_to_pts y ≡ up_to_pts s.bytes
-        → Reads few (After y s (length s.others) false) more rest
+        → ReadsSent few (PreviousPes y s (length s.others) false) more rest
         → (few ≡ true → y ≡ s.bytes)
         → IsFar (s ∷ more)
-        → ((others : List (List ℕ)) → rest ≡ others ++ (x ∷ tail) → Located x tail more)
-        → Located x tail (s ∷ more)
-    located-here s more y rest [] tail x e prefix reads as_sent far go =
-        let same = heads y x rest tail e in
-        let following = tails y x rest tail e in
+        → ((others : List (List ℕ)) → rest ≡ others ++ (x ∷ tail) → IsLocated x tail more)
+        → IsLocated x tail (s ∷ more)
+    read_packet_was_sent-here s more y rest [] tail x e prefix reads equals_sent_bytes far go =
+        let same = equal_lists_have_equal_heads y x rest tail e in
+        let following = equal_lists_have_equal_tails y x rest tail e in
         record {
           earlier = [];
           here = s;
@@ -165,64 +170,78 @@ module _ (few : Bool) (IsFar : List (SentPes Fated) → Type 0)
           sent_bytes_eq = refl;
           prefix = ap up_to_pts (sym same) ∙ prefix;
           reads =
-              subst (λ (z : List ℕ). Reads few (After z s (length s.others) false) more tail) same
-              (subst (Reads few (After y s (length s.others) false) more) following reads);
-          as_sent = λ f. sym same ∙ as_sent f;
+              subst (λ (z : List ℕ). ReadsSent few (PreviousPes z s (length s.others) false) more
+              tail) same
+              (subst (ReadsSent few (PreviousPes y s (length s.others) false) more) following
+              reads);
+          equals_sent_bytes = λ f. sym same ∙ equals_sent_bytes f;
           far = far;
         }
-    located-here s more y rest (z ∷ before) tail x e prefix reads as_sent far go =
-        located-following x tail s more (go before (tails y z rest (before ++ (x ∷ tail)) e))
+    read_packet_was_sent-here s more y rest (z ∷ before) tail x e prefix reads equals_sent_bytes far
+        go =
+        read_packet_was_sent-following x tail s more
+        (go before (equal_lists_have_equal_tails y z rest (before ++ (x ∷ tail)) e))
 
-    located-marked : (marked : Bool) (s : SentPes Fated) (more : List (SentPes Fated)) (y : List ℕ)
+    read_packet_was_sent-marked : (marked : Bool) (s : SentPes SentUnit)
+        (more : List (SentPes SentUnit)) (y : List ℕ)
         (rest before tail : List (List ℕ)) (x : List ℕ)
         → gap_markers_where marked ++ (y ∷ rest) ≡ before ++ (x ∷ tail)
         → (x ≡ gap_marker → ⊥)
         → up_to_pts y ≡ up_to_pts s.bytes
-        → Reads few (After y s (length s.others) false) more rest
+        → ReadsSent few (PreviousPes y s (length s.others) false) more rest
         → (few ≡ true → y ≡ s.bytes)
         → IsFar (s ∷ more)
-        → ((others : List (List ℕ)) → rest ≡ others ++ (x ∷ tail) → Located x tail more)
-        → Located x tail (s ∷ more)
-    located-marked false s more y rest before tail x e none prefix reads as_sent far go =
-        located-here s more y rest before tail x e prefix reads as_sent far go
-    located-marked true s more y rest [] tail x e none prefix reads as_sent far go =
-        absurd (none (sym (heads gap_marker x (y ∷ rest) tail e)))
-    located-marked true s more y rest (z ∷ before) tail x e none prefix reads as_sent far go =
-        located-here s more y rest before tail x
-        (tails gap_marker z (y ∷ rest) (before ++ (x ∷ tail)) e)
-        prefix reads as_sent far go
+        → ((others : List (List ℕ)) → rest ≡ others ++ (x ∷ tail) → IsLocated x tail more)
+        → IsLocated x tail (s ∷ more)
+    read_packet_was_sent-marked false s more y rest before tail x e none prefix reads
+        equals_sent_bytes far go =
+        read_packet_was_sent-here s more y rest before tail x e prefix reads equals_sent_bytes far
+        go
+    read_packet_was_sent-marked true s more y rest [] tail x e none prefix reads equals_sent_bytes
+        far go =
+        absurd (none (sym (equal_lists_have_equal_heads gap_marker x (y ∷ rest) tail e)))
+    read_packet_was_sent-marked true s more y rest (z ∷ before) tail x e none prefix reads
+        equals_sent_bytes far go =
+        read_packet_was_sent-here s more y rest before tail x
+        (equal_lists_have_equal_tails gap_marker z (y ∷ rest) (before ++ (x ∷ tail)) e)
+        prefix reads equals_sent_bytes far go
 
-    pub located : (previous : Previous) (sent : List (SentPes Fated)) (pes_packets before tail :
+    pub read_packet_was_sent : (previous : PreviousResult) (sent : List (SentPes SentUnit))
+        (pes_packets before tail :
         List (List ℕ))
         (x : List ℕ)
-        → Reads few previous sent pes_packets
+        → ReadsSent few previous sent pes_packets
         → pes_packets ≡ before ++ (x ∷ tail)
         → (x ≡ gap_marker → ⊥)
         → IsFar sent
-        → Located x tail sent
-    located previous [] pes_packets before tail x reads e none far =
+        → IsLocated x tail sent
+    read_packet_was_sent previous [] pes_packets before tail x reads e none far =
         absurd
         (none
         (no-pes_packet pes_packets before tail x
         (subst (AllByRecursion (λ p. p ≡ gap_marker)) (sym reads.1) (gap_markers-same reads.0)) e))
-    located previous (s ∷ more) pes_packets before tail x reads e none far = elim reads [
-      | inl later ↦
-          located-following x tail s more
-          (located (skip previous s) more pes_packets before tail x later.1 e none
-          (following-far s more far))
-      | inr here ↦
-          located-marked here.0 s more here.1 here.2 before tail x (sym here.3 ∙ e) none here.4
-          here.6 (λ f. (here.7 f).1) far
-          (λ others f.
-          located (After here.1 s (length s.others) false) more here.2 others tail x here.6 f none
-          (following-far s more far))
-    ]
+    read_packet_was_sent previous (s ∷ more) pes_packets before tail x reads e none
+        far = elim reads [
+          | inl later ↦
+              read_packet_was_sent-following x tail s more
+              (read_packet_was_sent (skip previous s) more pes_packets before tail x later.1 e none
+              (following-far s more far))
+          | inr here ↦
+              read_packet_was_sent-marked here.0 s more here.1 here.2 before tail x (sym here.3 ∙ e)
+              none here.4
+              here.6 (λ f. (here.7 f).1) far
+              (λ others f.
+              read_packet_was_sent (PreviousPes here.1 s (length s.others) false) more here.2 others
+              tail x here.6 f none
+              (following-far s more far))
+        ]
 
 module _ (frame_of : List ℕ → ℕ) (pace : ℕ) where
-  record Follows (x : List ℕ) (s : SentPes Fated) (skipped : Bool) (more : List (SentPes Fated))
+  record Follows (x : List ℕ) (s : SentPes SentUnit) (skipped : Bool)
+      (more : List (SentPes SentUnit))
       (run : List (List ℕ)) (last : List ℕ) : Type 0 where
-    unskipped : skipped ≡ false
-    as_sent : x ≡ s.bytes
+    skips_nothing : skipped ≡ false
+    equals_sent_bytes : x ≡ s.bytes
     later : List (List ℕ)
     next : List ℕ
     sent_bytes_eq : sent_bytes more ≡ run ++ (next ∷ later)
@@ -232,8 +251,8 @@ module _ (frame_of : List ℕ → ℕ) (pace : ℕ) where
   too-far : (x y a b : List ℕ) (between : ℕ)
       → up_to_pts x ≡ up_to_pts a
       → up_to_pts y ≡ up_to_pts b
-      → (16 ≤ between → frame_by frame_of a + pace < frame_by frame_of b)
-      → frame_by frame_of y ≤ frame_by frame_of x + pace
+      → (16 ≤ between → frame_of_pts frame_of a + pace < frame_of_pts frame_of b)
+      → frame_of_pts frame_of y ≤ frame_of_pts frame_of x + pace
       → 16 ≤ between
       → ⊥
   too-far x y a b between h1 h2 h3 h4 h5 =
@@ -242,44 +261,45 @@ module _ (frame_of : List ℕ → ℕ) (pace : ℕ) where
       let second = ap frame_of h2 in
       omega (arith, far, h4, first, second)
 
-  as-sent : (x y : List ℕ) (s t : SentPes Fated) (between : ℕ) (skipped : Bool)
+  as-sent : (x y : List ℕ) (s t : SentPes SentUnit) (between : ℕ) (skipped : Bool)
       → up_to_pts x ≡ up_to_pts s.bytes
       → up_to_pts y ≡ up_to_pts t.bytes
       → (16 ≤ between
-      → frame_by frame_of s.bytes + pace < frame_by frame_of t.bytes)
-      → frame_by frame_of y ≤ frame_by frame_of x + pace
+      → frame_of_pts frame_of s.bytes + pace < frame_of_pts frame_of t.bytes)
+      → frame_of_pts frame_of y ≤ frame_of_pts frame_of x + pace
       → (16 ≤ between) ⊎ ((skipped ≡ false) × (x ≡ s.bytes))
       → (skipped ≡ false) × (x ≡ s.bytes)
   as-sent x y s t between skipped h1 h2 h3 h4 (inl far) =
       absurd (too-far x y s.bytes t.bytes between h1 h2 h3 h4 far)
   as-sent x y s t between skipped h1 h2 h3 h4 (inr next) = next
 
-  follows-here : (x : List ℕ) (s : SentPes Fated) (between : ℕ) (skipped : Bool)
-      (t : SentPes Fated) (more : List (SentPes Fated)) (y : List ℕ) (rest run : List (List ℕ))
+  follows-here : (x : List ℕ) (s : SentPes SentUnit) (between : ℕ) (skipped : Bool)
+      (t : SentPes SentUnit) (more : List (SentPes SentUnit)) (y : List ℕ)
+      (rest run : List (List ℕ))
       (last : List ℕ) (following : List (List ℕ))
       → y ∷ rest ≡ run ++ (last ∷ following)
       → HasNoGapMarker (run ++ last ∷ [])
-      → KeepPaceFrom frame_of pace (frame_by frame_of x) (run ++ last ∷ [])
+      → KeepPaceFrom frame_of pace (frame_of_pts frame_of x) (run ++ last ∷ [])
       → up_to_pts x ≡ up_to_pts s.bytes
       → up_to_pts y ≡ up_to_pts t.bytes
       → (16 ≤ between) ⊎ ((skipped ≡ false) × (x ≡ s.bytes))
-      → (16 ≤ between → frame_by frame_of s.bytes + pace < frame_by frame_of t.bytes)
+      → (16 ≤ between → frame_of_pts frame_of s.bytes + pace < frame_of_pts frame_of t.bytes)
       → ((others : List (List ℕ))
       → rest ≡ others ++ (last ∷ following)
       → HasNoGapMarker (others ++ last ∷ [])
-      → KeepPaceFrom frame_of pace (frame_by frame_of y) (others ++ last ∷ [])
+      → KeepPaceFrom frame_of pace (frame_of_pts frame_of y) (others ++ last ∷ [])
       → Follows y t false more others last)
       → Follows x s skipped (t ∷ more) run last
   follows-here x s between skipped t more y rest [] last following e none keep prefix second fits
       far
       go =
-      let same = heads y last rest following e in
-      let close = subst (λ (z : List ℕ). frame_by frame_of z ≤ frame_by frame_of x + pace)
+      let same = equal_lists_have_equal_heads y last rest following e in
+      let close = subst (λ (z : List ℕ). frame_of_pts frame_of z ≤ frame_of_pts frame_of x + pace)
       (sym same) keep.0 in
       let first = as-sent x y s t between skipped prefix second far close fits in
       record {
-        unskipped = first.0;
-        as_sent = first.1;
+        skips_nothing = first.0;
+        equals_sent_bytes = first.1;
         later = sent_bytes more;
         next = t.bytes;
         sent_bytes_eq = refl;
@@ -287,36 +307,38 @@ module _ (frame_of : List ℕ → ℕ) (pace : ℕ) where
       }
   follows-here x s between skipped t more y rest (z ∷ run) last following e none keep prefix second
       fits far go =
-      let same = heads y z rest (run ++ (last ∷ following)) e in
-      let close = subst (λ (w : List ℕ). frame_by frame_of w ≤ frame_by frame_of x + pace)
+      let same = equal_lists_have_equal_heads y z rest (run ++ (last ∷ following)) e in
+      let close = subst (λ (w : List ℕ). frame_of_pts frame_of w ≤ frame_of_pts frame_of x + pace)
       (sym same) keep.0 in
       let first = as-sent x y s t between skipped prefix second far close fits in
-      let more_eq = go run (tails y z rest (run ++ (last ∷ following)) e) none.1
-      (subst (λ (w : List ℕ). KeepPaceFrom frame_of pace (frame_by frame_of w) (run ++ last ∷ []))
+      let more_eq = go run (equal_lists_have_equal_tails y z rest (run ++ (last ∷ following)) e)
+      none.1
+      (subst (λ (w : List ℕ). KeepPaceFrom frame_of pace (frame_of_pts frame_of w)
+      (run ++ last ∷ []))
       (sym same) keep.1) in
       record {
-        unskipped = first.0;
-        as_sent = first.1;
+        skips_nothing = first.0;
+        equals_sent_bytes = first.1;
         later = more_eq.later;
         next = more_eq.next;
-        sent_bytes_eq = cc (more_eq.as_sent, same, more_eq.sent_bytes_eq);
+        sent_bytes_eq = cc (more_eq.equals_sent_bytes, same, more_eq.sent_bytes_eq);
         prefix = more_eq.prefix;
       }
 
-  follows-marked : (marked : Bool) (x : List ℕ) (s : SentPes Fated) (between : ℕ)
-      (skipped : Bool) (t : SentPes Fated) (more : List (SentPes Fated)) (y : List ℕ)
+  follows-marked : (marked : Bool) (x : List ℕ) (s : SentPes SentUnit) (between : ℕ)
+      (skipped : Bool) (t : SentPes SentUnit) (more : List (SentPes SentUnit)) (y : List ℕ)
       (rest run : List (List ℕ)) (last : List ℕ) (following : List (List ℕ))
       → gap_markers_where marked ++ (y ∷ rest) ≡ run ++ (last ∷ following)
       → HasNoGapMarker (run ++ last ∷ [])
-      → KeepPaceFrom frame_of pace (frame_by frame_of x) (run ++ last ∷ [])
+      → KeepPaceFrom frame_of pace (frame_of_pts frame_of x) (run ++ last ∷ [])
       → up_to_pts x ≡ up_to_pts s.bytes
       → up_to_pts y ≡ up_to_pts t.bytes
-      → Fits (After x s between skipped) marked
-      → (16 ≤ between → frame_by frame_of s.bytes + pace < frame_by frame_of t.bytes)
+      → Fits (PreviousPes x s between skipped) marked
+      → (16 ≤ between → frame_of_pts frame_of s.bytes + pace < frame_of_pts frame_of t.bytes)
       → ((others : List (List ℕ))
       → rest ≡ others ++ (last ∷ following)
       → HasNoGapMarker (others ++ last ∷ [])
-      → KeepPaceFrom frame_of pace (frame_by frame_of y) (others ++ last ∷ [])
+      → KeepPaceFrom frame_of pace (frame_of_pts frame_of y) (others ++ last ∷ [])
       → Follows y t false more others last)
       → Follows x s skipped (t ∷ more) run last
   follows-marked false x s between skipped t more y rest run last following e none keep prefix
@@ -326,10 +348,11 @@ module _ (frame_of : List ℕ → ℕ) (pace : ℕ) where
       (fits refl) far go
   follows-marked true x s between skipped t more y rest [] last following e none keep prefix second
       fits far go =
-      absurd (none.0 (sym (heads gap_marker last (y ∷ rest) following e)))
+      absurd (none.0 (sym (equal_lists_have_equal_heads gap_marker last (y ∷ rest) following e)))
   follows-marked true x s between skipped t more y rest (z ∷ run) last following e none keep prefix
       second fits far go =
-      absurd (none.0 (sym (heads gap_marker z (y ∷ rest) (run ++ (last ∷ following)) e)))
+      absurd (none.0 (sym (equal_lists_have_equal_heads gap_marker z (y ∷ rest)
+      (run ++ (last ∷ following)) e)))
 
   nothing-follows : (rest run : List (List ℕ)) (last : List ℕ) (following : List (List ℕ))
       → AllByRecursion (λ p. p ≡ gap_marker) rest
@@ -341,21 +364,21 @@ module _ (frame_of : List ℕ → ℕ) (pace : ℕ) where
   nothing-follows rest (z ∷ run) last following all e none =
       none.0 (no-pes_packet rest [] (run ++ (last ∷ following)) z all e)
 
-  follows-later : (x : List ℕ) (s : SentPes Fated) (skipped : Bool) (t : SentPes Fated)
-      (more : List (SentPes Fated)) (run : List (List ℕ)) (last : List ℕ)
+  follows-later : (x : List ℕ) (s : SentPes SentUnit) (skipped : Bool) (t : SentPes SentUnit)
+      (more : List (SentPes SentUnit)) (run : List (List ℕ)) (last : List ℕ)
       → Follows x s true more run last
       → Follows x s skipped (t ∷ more) run last
-  follows-later x s skipped t more run last h = absurd (cc h.unskipped)
+  follows-later x s skipped t more run last h = absurd (cc h.skips_nothing)
 
-  follows : (x : List ℕ) (s : SentPes Fated) (between : ℕ) (skipped : Bool)
-      (more : List (SentPes Fated)) (rest run : List (List ℕ)) (last : List ℕ)
+  follows : (x : List ℕ) (s : SentPes SentUnit) (between : ℕ) (skipped : Bool)
+      (more : List (SentPes SentUnit)) (rest run : List (List ℕ)) (last : List ℕ)
       (following : List (List ℕ))
-      → Reads false (After x s between skipped) more rest
+      → ReadsSent false (PreviousPes x s between skipped) more rest
       → rest ≡ run ++ (last ∷ following)
       → HasNoGapMarker (run ++ last ∷ [])
-      → KeepPaceFrom frame_of pace (frame_by frame_of x) (run ++ last ∷ [])
+      → KeepPaceFrom frame_of pace (frame_of_pts frame_of x) (run ++ last ∷ [])
       → up_to_pts x ≡ up_to_pts s.bytes
-      → AreFarFrom frame_of pace (frame_by frame_of s.bytes) between more
+      → AreFarFrom frame_of pace (frame_of_pts frame_of s.bytes) between more
       → AreFarApart frame_of pace more
       → Follows x s skipped more run last
   follows x s between skipped [] rest run last following reads e none keep prefix far apart =
@@ -373,14 +396,14 @@ module _ (frame_of : List ℕ → ℕ) (pace : ℕ) where
         | inr here ↦
             follows-marked here.0 x s between skipped t more here.1 here.2 run last following
             (sym here.3 ∙ e) none keep prefix here.4 here.5 far.0
-            (λ others f unmarked paced.
+            (λ others f has_no_gap_marker paced.
             follows here.1 t (length t.others) false more here.2 others last following here.6 f
-            unmarked paced here.4 apart.0 apart.1)
+            has_no_gap_marker paced here.4 apart.0 apart.1)
       ]
 
   -- The PES packets sent contain the PES packets `run`, directly followed by a PES packet with the
   -- same start as `last`.
-  pub record WasSent (sent : List (SentPes Fated)) (run : List (List ℕ)) (last : List ℕ)
+  pub record WasSentInOrder (sent : List (SentPes SentUnit)) (run : List (List ℕ)) (last : List ℕ)
       : Type 0 where
     pub earlier : List (List ℕ)
     pub later : List (List ℕ)
@@ -390,16 +413,17 @@ module _ (frame_of : List ℕ → ℕ) (pace : ℕ) where
 
   -- PES packets that are read within the maximum distance, with no gap marker between them, were
   -- sent one after another.
-  pub read-run : (previous : Previous) (sent : List (SentPes Fated)) (before run : List (List ℕ))
+  pub read-run : (previous : PreviousResult) (sent : List (SentPes SentUnit))
+      (before run : List (List ℕ))
       (last : List ℕ) (following : List (List ℕ))
-      → Reads false previous sent (before ++ (run ++ (last ∷ following)))
+      → ReadsSent false previous sent (before ++ (run ++ (last ∷ following)))
       → HasNoGapMarker (run ++ last ∷ [])
       → KeepPace frame_of pace (run ++ last ∷ [])
       → AreFarApart frame_of pace sent
-      → WasSent sent run last
+      → WasSentInOrder sent run last
   read-run previous sent before [] last following reads none keep far =
       let found =
-      located false (AreFarApart frame_of pace) (λ s more far. far.1) previous sent
+      read_packet_was_sent false (AreFarApart frame_of pace) (λ s more far. far.1) previous sent
       (before ++ (last ∷ following)) before following last reads refl none.0 far in
       record {
         earlier = found.earlier;
@@ -410,7 +434,7 @@ module _ (frame_of : List ℕ → ℕ) (pace : ℕ) where
       }
   read-run previous sent before (x ∷ run) last following reads none keep far =
       let found =
-      located false (AreFarApart frame_of pace) (λ s more far. far.1) previous sent
+      read_packet_was_sent false (AreFarApart frame_of pace) (λ s more far. far.1) previous sent
       (before ++ (x ∷ (run ++ (last ∷ following)))) before (run ++ (last ∷ following)) x reads refl
       none.0
       far in
@@ -424,13 +448,14 @@ module _ (frame_of : List ℕ → ℕ) (pace : ℕ) where
         sent_bytes_eq =
             found.sent_bytes_eq
             ∙ ap (λ (l : List (List ℕ)). found.earlier ++ l)
-            (cc (after_it.as_sent, after_it.sent_bytes_eq));
+            (cc (after_it.equals_sent_bytes, after_it.sent_bytes_eq));
         prefix = after_it.prefix;
       }
 
-gap_marker-first : (x : List ℕ) (s : SentPes Fated) (between : ℕ) (sent : List (SentPes Fated))
+gap_marker-first : (x : List ℕ) (s : SentPes SentUnit) (between : ℕ)
+    (sent : List (SentPes SentUnit))
     (pes_packets : List (List ℕ)) (y : List ℕ) (tail : List (List ℕ))
-    → Reads true (After x s between true) sent pes_packets
+    → ReadsSent true (PreviousPes x s between true) sent pes_packets
     → pes_packets ≡ y ∷ tail
     → y ≡ gap_marker
 gap_marker-first x s between [] pes_packets y tail reads e =
@@ -441,14 +466,14 @@ gap_marker-first x s between (t ∷ more) pes_packets y tail reads e = elim read
       gap_marker-first x s (between + length (carriers_of_pes t)) more pes_packets y tail later.1 e
   | inr here ↦
       sym
-      (heads gap_marker y (here.1 ∷ here.2) tail
+      (equal_lists_have_equal_heads gap_marker y (here.1 ∷ here.2) tail
       (ap (λ (b : Bool). gap_markers_where b ++ (here.1 ∷ here.2)) (sym (here.8 refl))
       ∙ sym here.3 ∙ e))
 ]
 
-pub sent-next : (x : List ℕ) (s : SentPes Fated) (between : ℕ) (sent : List (SentPes Fated))
+pub sent-next : (x : List ℕ) (s : SentPes SentUnit) (between : ℕ) (sent : List (SentPes SentUnit))
     (pes_packets run following : List (List ℕ))
-    → Reads true (After x s between false) sent pes_packets
+    → ReadsSent true (PreviousPes x s between false) sent pes_packets
     → pes_packets ≡ run ++ following
     → HasNoGapMarker run
     → (later : List (List ℕ)) × (sent_bytes sent ≡ run ++ later)
@@ -470,15 +495,16 @@ sent-next x s between (t ∷ more) pes_packets (y ∷ run) following reads e non
         absurd
         (none.0
         (sym
-        (heads gap_marker y (here.1 ∷ here.2) (run ++ following)
+        (equal_lists_have_equal_heads gap_marker y (here.1 ∷ here.2) (run ++ following)
         (ap (λ (b : Bool). gap_markers_where b ++ (here.1 ∷ here.2)) (sym is) ∙ sym here.3 ∙ e))))
     | inr not ↦
         let same =
         ap (λ (b : Bool). gap_markers_where b ++ (here.1 ∷ here.2)) (sym not) ∙ sym here.3 ∙ e in
         let next =
         sent-next here.1 t (length t.others) more here.2 run following here.6
-        (tails here.1 y here.2 (run ++ following) same) none.1 in
-        let first = sym (here.7 refl).1 ∙ heads here.1 y here.2 (run ++ following) same in
+        (equal_lists_have_equal_tails here.1 y here.2 (run ++ following) same) none.1 in
+        let first = sym (here.7 refl).1 ∙ equal_lists_have_equal_heads here.1 y here.2
+        (run ++ following) same in
         (next.0, cc (first, next.1))
   ]
 ]

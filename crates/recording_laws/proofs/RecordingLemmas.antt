@@ -7,15 +7,15 @@ use Rattle.std.proofs.lemmas.Bool.Decides.{nat_tests}
 use Rattle.std.proofs.lemmas.List.{drop-append-le, drop-drop, drop_all, get_or-take, take_all}
 use Rattle.std.proofs.lemmas.List.{take-append-le}
 use Rattle.std.proofs.Math.Seq.{drop-nil, drop-append-add}
-use Rattle.mpeg_ts.specs.GoodPackets.{Note, note_of, notes}
-use Rattle.mpeg_ts.specs.PacketsInStep.{Item, Packet, items, items_of, lead_size, most_bytes}
+use Rattle.mpeg_ts.specs.GoodPackets.{PidEvent, event_of_packet, pid_events}
+use Rattle.mpeg_ts.specs.PacketsInStep.{Item, Packet, items, items_of, lead_size, max_stream_bytes}
 use Rattle.mpeg_ts.specs.PacketsInStep.{read_bytes}
 use Rattle.mpeg_ts.specs.TransportPacket.{packet_size, sync_byte, pid}
 use Rattle.recording_laws.specs.Multiplex.{AreRecordedUnits, IsRecordedUnit, IsRecording, packet_in}
 
 -- The event of a TS packet of the PID; no event for a packet of another PID.
-abbrev pub noted : ℕ → List ℕ → List Note
-noted number p = if pid p == number then note_of p ∷ [] else []
+abbrev pub notes_of_packet : ℕ → List ℕ → List PidEvent
+notes_of_packet number p = if pid p == number then event_of_packet p ∷ [] else []
 
 items-packet : (distance room : ℕ) (b : List ℕ)
     → packet_size ≤ length b
@@ -107,27 +107,27 @@ few-units-following distance [] each = grind (arith, nat_tests)
 few-units-following distance (u ∷ more) each =
     grind (arith, nat_tests, few-units, length-append, length-drop)
 
-notes-packets : {A : Type 0} (packet_of : A → List ℕ) (distance number run : ℕ) (xs : List A)
-    → notes distance number run (map (λ x. Packet (packet_of x)) xs)
-    ≡ flat_map (λ x. noted number (packet_of x)) xs
-unfolding notes
-notes-packets packet_of distance number run [] = refl
-notes-packets packet_of distance number run (x ∷ xs) =
-    let rest = notes-packets packet_of distance number 0 xs in
+pid_events-packets : {A : Type 0} (packet_of : A → List ℕ) (distance number run : ℕ) (xs : List A)
+    → pid_events distance number run (map (λ x. Packet (packet_of x)) xs)
+    ≡ flat_map (λ x. notes_of_packet number (packet_of x)) xs
+unfolding pid_events
+pid_events-packets packet_of distance number run [] = refl
+pid_events-packets packet_of distance number run (x ∷ xs) =
+    let rest = pid_events-packets packet_of distance number 0 xs in
     grind (arith, nat_tests)
 
 -- The events of a PID in a recording are the events of the TS packets in its units.
-pub notes-units : (distance number : ℕ) (units : List (List ℕ)) (recording : List ℕ)
+pub pid_events-units : (distance number : ℕ) (units : List (List ℕ)) (recording : List ℕ)
     → IsRecording distance units recording
-    → notes distance number 0 (items_of distance recording)
-    ≡ flat_map (λ u. noted number (packet_in distance u)) units
-notes-units distance number units recording is =
-    ap (notes distance number 0) (
+    → pid_events distance number 0 (items_of distance recording)
+    ≡ flat_map (λ u. notes_of_packet number (packet_in distance u)) units
+pid_events-units distance number units recording is =
+    ap (pid_events distance number 0) (
     ap (λ (b : List ℕ). items distance true (length b) b) all
     ∙ items-units distance (length (drop (lead_size distance) (concat units))) units is.each
     (few-units-following distance units is.each)
     )
-    ∙ notes-packets (packet_in distance) distance number 0 units
+    ∙ pid_events-packets (packet_in distance) distance number 0 units
   where
     all : read_bytes distance recording ≡ drop (lead_size distance) (concat units)
-    all = ap (drop (lead_size distance)) (take_all most_bytes recording is.few ∙ is.joined)
+    all = ap (drop (lead_size distance)) (take_all max_stream_bytes recording is.few ∙ is.joined)

@@ -3,10 +3,10 @@ use Rattle.std.specs.Prelude.{◌≡◌, ℕ, List, [], ◌∷◌, ◌++◌}
 use Rattle.std.specs.List.{AllByRecursion, AllZip, concat}
 use Rattle.ttx_pes.specs.PesGrammar.{IsValidPesPacket, PesValue}
 use Rattle.ttx_pes.specs.PesPackets.{IsPesPacket}
-use Rattle.mpeg_ts.specs.Carried.{carried, gap_marker}
-use Rattle.recording_laws.specs.Losses.{AreArriving, AreLosses, Fated, IsLossy}
+use Rattle.mpeg_ts.specs.CarriedPackets.{carried_bytes, gap_marker}
+use Rattle.recording_laws.specs.Losses.{CarriesArrivingPackets, AreLosses, SentUnit, IsLossy}
 use Rattle.recording_laws.specs.Multiplex.{IsMultiplexed, Multiplex, sent_pes_packets}
-use Rattle.recording_laws.specs.Pace.{AreFarApart, HoldsPts, KeepPace, up_to_pts}
+use Rattle.recording_laws.specs.Pace.{AreFarApart, FirstPacketContainsPts, KeepPace, up_to_pts}
 
 -- The TS packets of a PID carry exactly the PES packets that a multiplexer sent in them. So a
 -- complete recording loses no PES packet and contains no gap marker.
@@ -14,7 +14,7 @@ abbrev pub LawOfMultiplex : Type 0
 LawOfMultiplex =
     (number distance : ℕ) (packets : List (List ℕ)) (recording : List ℕ)
     → IsMultiplexed number distance packets recording
-    → carried number distance recording ≡ concat packets
+    → carried_bytes number distance recording ≡ concat packets
 
 -- If TS packets are missing or damaged, the recording carries exactly the PES packets that arrive,
 -- unchanged and in order. If a PES packet is missing between two of them, there is a gap marker
@@ -22,19 +22,19 @@ LawOfMultiplex =
 -- unnoticed.
 abbrev pub LawOfLosses : Type 0
 LawOfLosses =
-    (number distance : ℕ) (m : Multiplex Fated) (recording : List ℕ)
+    (number distance : ℕ) (m : Multiplex SentUnit) (recording : List ℕ)
     → IsLossy number distance m recording
-    → AreArriving m.sent (carried number distance recording)
+    → CarriesArrivingPackets m.sent (carried_bytes number distance recording)
 
 -- PES packets in a recording with no gap marker between them were sent one after another: the
 -- multiplexer sent no other PES packet between the first and the last of them.
 abbrev pub LawOfNeighbours : Type 0
 LawOfNeighbours =
-    (number distance : ℕ) (m : Multiplex Fated) (recording : List ℕ)
+    (number distance : ℕ) (m : Multiplex SentUnit) (recording : List ℕ)
     (before run following : List (List ℕ))
     → IsLossy number distance m recording
     → AllByRecursion IsPesPacket (before ++ (run ++ following))
-    → carried number distance recording ≡ concat (before ++ (run ++ following))
+    → carried_bytes number distance recording ≡ concat (before ++ (run ++ following))
     → AllByRecursion (λ p. p ≡ gap_marker → ⊥) run
     → (earlier later : List (List ℕ)) × (sent_pes_packets m ≡ earlier ++ (run ++ later))
 
@@ -48,13 +48,13 @@ LawOfNeighbours =
 -- continuity counters happen to match.
 abbrev pub LawOfPace : Type 0
 LawOfPace =
-    (number distance pace : ℕ) (frame_of : List ℕ → ℕ) (m : Multiplex Fated) (recording : List ℕ)
+    (number distance pace : ℕ) (frame_of : List ℕ → ℕ) (m : Multiplex SentUnit) (recording : List ℕ)
     (before run following : List (List ℕ)) (last : List ℕ)
     → AreLosses number distance m recording
-    → AllByRecursion (HoldsPts distance) m.sent
+    → AllByRecursion (FirstPacketContainsPts distance) m.sent
     → AreFarApart frame_of pace m.sent
     → AllByRecursion IsPesPacket (before ++ (run ++ (last ∷ following)))
-    → carried number distance recording ≡ concat (before ++ (run ++ (last ∷ following)))
+    → carried_bytes number distance recording ≡ concat (before ++ (run ++ (last ∷ following)))
     → AllByRecursion (λ p. p ≡ gap_marker → ⊥) (run ++ last ∷ [])
     → KeepPace frame_of pace (run ++ last ∷ [])
     → (earlier later : List (List ℕ)) × (next : List ℕ)
@@ -72,8 +72,8 @@ LawOfCompleteFile =
     → AllByRecursion IsPesPacket before
     → AllByRecursion IsPesPacket following
     → AllZip IsValidPesPacket values packets
-    → carried number distance recording ≡ concat (before ++ (packets ++ following))
+    → carried_bytes number distance recording ≡ concat (before ++ (packets ++ following))
     → AllByRecursion (λ p. p ≡ gap_marker → ⊥) packets
-    × ((m : Multiplex Fated)
+    × ((m : Multiplex SentUnit)
     → IsLossy number distance m recording
     → (earlier later : List (List ℕ)) × (sent_pes_packets m ≡ earlier ++ (packets ++ later)))

@@ -10,24 +10,24 @@ use Rattle.std.specs.Prelude.{[], ◌∷◌, ◌++◌, length, map, take, drop, 
 use Rattle.std.specs.List.{AllByRecursion, concat, flat_map, list_any}
 use Rattle.std.specs.Option.{option_to_list, is_some}
 use Rattle.ttx_pes.specs.PesPackets.{IsPesPacket}
-use Rattle.mpeg_ts.specs.GoodPackets.{counts_on, is_same}
-use Rattle.mpeg_ts.specs.PacketsInStep.{lead_size, most_bytes}
-use Rattle.mpeg_ts.specs.TransportPacket.{packet_size, sync_byte, pid, begins, is_wrong}
+use Rattle.mpeg_ts.specs.GoodPackets.{counter_is_next, is_same}
+use Rattle.mpeg_ts.specs.PacketsInStep.{lead_size, max_stream_bytes}
+use Rattle.mpeg_ts.specs.TransportPacket.{packet_size, sync_byte, pid, begins, is_erroneous}
 use Rattle.mpeg_ts.specs.TransportPacket.{has_payload, announces_jump, payload}
 
 -- ---- TS packets of a PID
 
 -- The TS packet has another PID, or it is usable and has no payload.
 abbrev pub is_irrelevant : ℕ → List ℕ → Bool
-is_irrelevant number p = not (pid p == number) || (not (is_wrong p) && not (has_payload p))
+is_irrelevant number p = not (pid p == number) || (not (is_erroneous p) && not (has_payload p))
 
 -- The TS packet has the PID, is usable and has a payload.
 abbrev pub carries : ℕ → List ℕ → Bool
-carries number p = (pid p == number) && (not (is_wrong p) && has_payload p)
+carries number p = (pid p == number) && (not (is_erroneous p) && has_payload p)
 
 -- The TS packet has the PID and announces a jump of the continuity counter.
-abbrev pub announces : ℕ → List ℕ → Bool
-announces number p = (pid p == number) && announces_jump p
+abbrev pub pid_announces_jump : ℕ → List ℕ → Bool
+pid_announces_jump number p = (pid p == number) && announces_jump p
 
 -- The TS packet `q` repeats the packet `p`, and announces a jump only if `p` does.
 pub record IsRepetition (number : ℕ) (p q : List ℕ) : Type 0 where
@@ -80,7 +80,7 @@ pub record IsCarrier {A : Type 0} (packet_of : A → List ℕ) (number : ℕ) (f
   pub carries : carries number (packet_of c.packet) ≡ true
   pub begins : begins (packet_of c.packet) ≡ first
   pub before : AllByRecursion (λ x. is_irrelevant number (packet_of x) ≡ true) c.before
-  pub no_jump : AllByRecursion (λ x. announces number (packet_of x) ≡ false) c.before
+  pub no_jump : AllByRecursion (λ x. pid_announces_jump number (packet_of x) ≡ false) c.before
   pub again :
       AllByRecursion (λ x. IsRepetition number (packet_of c.packet) (packet_of x))
       (option_to_list c.again)
@@ -98,9 +98,9 @@ pub record IsSentPes {A : Type 0} (packet_of : A → List ℕ) (number : ℕ) (s
 -- A jump of the continuity counter is announced between the packets of the carriers `c` and `d`, by
 -- a packet without payload or by the packet of `d`. A receiver can't take the packet of `d` for a
 -- repeat, since `c` already has a repeat or the two packets differ.
-abbrev pub IsJump : {A : Type 0} → (A → List ℕ) → ℕ → Carrier A → Carrier A → Type 0
-IsJump packet_of number c d =
-    (list_any (λ x. announces number (packet_of x)) c.after ≡ true)
+abbrev pub IsJumpBetween : {A : Type 0} → (A → List ℕ) → ℕ → Carrier A → Carrier A → Type 0
+IsJumpBetween packet_of number c d =
+    (list_any (λ x. pid_announces_jump number (packet_of x)) c.after ≡ true)
     ⊎ ((announces_jump (packet_of d.packet) ≡ true)
     × ((is_some c.again || not (is_same (packet_of c.packet) (packet_of d.packet))) ≡ true))
 
@@ -109,10 +109,11 @@ IsJump packet_of number c d =
 pub record IsNextCarrier {A : Type 0} (packet_of : A → List ℕ) (number : ℕ) (c d : Carrier A)
     : Type 0 where
   pub counter :
-      (counts_on (packet_of c.packet) (packet_of d.packet) ≡ true) ⊎ IsJump packet_of number c d
+      (counter_is_next (packet_of c.packet) (packet_of d.packet) ≡ true) ⊎ IsJumpBetween packet_of
+      number c d
   pub within :
       begins (packet_of d.packet) ≡ false
-      → (list_any (λ x. announces number (packet_of x)) c.after ≡ false)
+      → (list_any (λ x. pid_announces_jump number (packet_of x)) c.after ≡ false)
       × (announces_jump (packet_of d.packet) ≡ false)
 
 -- Each TS packet with payload in the list may follow the one before it, and the first may follow
@@ -132,7 +133,7 @@ pub record IsMultiplex {A : Type 0} (packet_of : A → List ℕ) (number : ℕ) 
     : Type 0 where
   pub lead : AllByRecursion (λ x. is_irrelevant number (packet_of x) ≡ true) m.lead
   pub sent : AllByRecursion (IsSentPes packet_of number) m.sent
-  pub linked : AreInSequence packet_of number (carriers_of m.sent)
+  pub linked_packet : AreInSequence packet_of number (carriers_of m.sent)
 
 -- The bytes of the PES packets in a multiplex.
 abbrev pub sent_pes_packets : {A : Type 0} → Multiplex A → List (List ℕ)
@@ -164,7 +165,7 @@ AreRecordedUnits distance (unit ∷ more) =
 pub record IsRecording (distance : ℕ) (units : List (List ℕ)) (recording : List ℕ) : Type 0 where
   pub each : AreRecordedUnits distance units
   pub joined : recording ≡ concat units
-  pub few : length recording ≤ most_bytes
+  pub few : length recording ≤ max_stream_bytes
 
 -- The recording contains everything that a multiplexer sent: these PES packets in the TS packets of
 -- the PID.
@@ -172,5 +173,5 @@ pub record IsMultiplexed (number distance : ℕ) (packets : List (List ℕ)) (re
     : Type 0 where
   pub multiplex : Multiplex (List ℕ)
   pub is_multiplex : IsMultiplex (packet_in distance) number multiplex
-  pub packets_are : sent_pes_packets multiplex ≡ packets
+  pub packets_are_equal : sent_pes_packets multiplex ≡ packets
   pub is_recording : IsRecording distance (items_of_multiplex multiplex) recording

@@ -3,15 +3,15 @@ use Rattle.std.specs.Prelude.{◌≡◌, ℕ, List, [], ◌∷◌, ◌++◌, dro
 use Rattle.std.specs.List.{AllByRecursion, concat}
 use Rattle.ttx_pes.specs.PesPackets.{IsPesPacket}
 use Rattle.ttx_pes.specs.Reading.{pts_bits}
-use Rattle.mpeg_ts.specs.Carried.{carried}
-use Rattle.recording_laws.specs.Losses.{AreLosses, Fated}
+use Rattle.mpeg_ts.specs.CarriedPackets.{carried_bytes}
+use Rattle.recording_laws.specs.Losses.{AreLosses, SentUnit}
 use Rattle.recording_laws.specs.Multiplex.{Multiplex, sent_pes_packets}
-use Rattle.recording_laws.specs.Pace.{AreFarApart, HoldsPts, up_to_pts}
+use Rattle.recording_laws.specs.Pace.{AreFarApart, FirstPacketContainsPts, up_to_pts}
 use Rattle.stl_rows.specs.Programme.{ProgrammeValue}
 use Rattle.sub_plan.specs.FrameTime.{clock_of}
 use Rattle.sub_plan.specs.Options.{OptionsValue}
-use Rattle.sub_rules.specs.PesFrames.{CarriesBy}
-use Rattle.sub_rules.specs.Repeats.{GoodBy}
+use Rattle.sub_rules.specs.PesFrames.{CarriesOnClock}
+use Rattle.sub_rules.specs.Repeats.{GoodWithRepeats}
 use Rattle.sub_rules.specs.Transmission.{Transmission}
 
 -- The frame of a PES packet, computed from the bytes up to its PTS with the clock of the options; 0
@@ -21,15 +21,15 @@ frame_by_clock options prefix = unwrap_or (clock_of options (pts_bits (drop 6 pr
 
 -- The PES packets of the list `packets`, at least one, were sent one after another, and none
 -- between them is missing. All have the bytes that were sent, the last of them only up to its PTS.
-pub record WereSent (sent packets : List (List ℕ)) : Type 0 where
+pub record AreConsecutiveSent (sent packets : List (List ℕ)) : Type 0 where
   pub run : List (List ℕ)
   pub last : List ℕ
-  pub packets_are : packets ≡ run ++ last ∷ []
+  pub packets_are_equal : packets ≡ run ++ last ∷ []
   pub earlier : List (List ℕ)
   pub next : List ℕ
   pub later : List (List ℕ)
   pub sent_bytes_eq : sent ≡ earlier ++ (run ++ (next ∷ later))
-  pub last_is : up_to_pts next ≡ up_to_pts last
+  pub last_matches_up_to_pts : up_to_pts next ≡ up_to_pts last
 
 -- The law of `check --pace`. Assumptions: the first TS packet of each PES packet contains its PTS,
 -- and two PES packets are more than `pace` frames apart by the clock of the options if they start
@@ -39,15 +39,15 @@ pub record WereSent (sent packets : List (List ℕ)) : Type 0 where
 -- accepts a recording, no loss went unnoticed.
 abbrev pub LawOfPacedCheck : Type 0
 LawOfPacedCheck =
-    (number distance pace : ℕ) (m : Multiplex Fated) (recording : List ℕ)
+    (number distance pace : ℕ) (m : Multiplex SentUnit) (recording : List ℕ)
     (before packets following : List (List ℕ))
     (programme : ProgrammeValue) (transmission : Transmission) (options : OptionsValue)
     → AreLosses number distance m recording
-    → AllByRecursion (HoldsPts distance) m.sent
+    → AllByRecursion (FirstPacketContainsPts distance) m.sent
     → AreFarApart (frame_by_clock options) pace m.sent
     → AllByRecursion IsPesPacket (before ++ (packets ++ following))
-    → carried number distance recording ≡ concat (before ++ (packets ++ following))
-    → CarriesBy (clock_of options) options.within (concat packets) transmission
-    → GoodBy options.keeps programme transmission options
+    → carried_bytes number distance recording ≡ concat (before ++ (packets ++ following))
+    → CarriesOnClock (clock_of options) options.within (concat packets) transmission
+    → GoodWithRepeats options.keeps programme transmission options
     → options.pace ≡ Some pace
-    → WereSent (sent_pes_packets m) packets
+    → AreConsecutiveSent (sent_pes_packets m) packets

@@ -11,122 +11,138 @@ use Rattle.stl_file.specs.declared.counts.Counts.{Counts}
 use Rattle.stl_file.specs.declared.fault.StlFault.{StlFault}
 use Rattle.stl_file.specs.declared.fault.NormalFault.{NormalFault}
 use Rattle.stl_file.specs.declared.fault.NormalFault.TheVariants.{Refused, Write}
-use Rattle.stl_file.specs.Tti.{is_kept, most_blocks}
+use Rattle.stl_file.specs.Tti.{is_subtitle_block, max_blocks}
 use Rattle.stl_file.specs.SubtitleBlocks.{IsBlock, AreLinked, AreSubtitleBlocks, AreBlocksOf}
-use Rattle.stl_file.specs.Reader.{ReaderValue, findings_for, gsi_of, outcome_from, outcome_of}
+use Rattle.stl_file.specs.Reader.{ReaderValue, findings_within_scope, checked_gsi_of_file}
+use Rattle.stl_file.specs.Reader.{outcome_from, outcome_of_file}
 use Rattle.stl_file.specs.Reader.{open_result}
 use Rattle.stl_file.specs.Scope.{whole}
 use Rattle.stl_file.specs.Gsi.{with_counts}
 use Rattle.stl_file.specs.Subtitle.{SubtitleValue}
 use Rattle.stl_file.specs.File.{IsFile}
-use Rattle.stl_file.specs.NormalForm.{Judged, all_blocks, counted_gsi, normal_form, subtitles_of}
+use Rattle.stl_file.specs.NormalForm.{Judged, blocks_of_subtitles, gsi_with_counts, normal_form}
+use Rattle.stl_file.specs.NormalForm.{subtitles_of}
 use Rattle.stl_file.specs.NormalForm.{WritesNormal, WritesPrefix, NormalAnswers, blocks_of}
-use Rattle.stl_file.specs.NormalCounts.{normal_counts, given}
-use Rattle.stl_file.proofs.SubtitleBlocksLemmas.{kept_at_most}
-use Rattle.stl_file.proofs.GsiLemmas.{counted_is_gsi, counts_twice}
-use Rattle.stl_file.proofs.OpeningLemmas.{good, opened_bad, opened_good, opened_sound}
-use Rattle.stl_file.proofs.FileLemmas.{body_sound, one_file}
-use Rattle.stl_file.proofs.RestLemmas.{groups_of}
-use Rattle.stl_file.proofs.ScopeLemmas.{all_inside, none_outside}
-use Rattle.stl_file.proofs.BlocksOfLemmas.{blocks_again}
+use Rattle.stl_file.specs.NormalCounts.{normal_counts, accepted_subtitles}
+use Rattle.stl_file.proofs.SubtitleBlocksLemmas.{filtering_adds_no_blocks}
+use Rattle.stl_file.proofs.GsiLemmas.{setting_counts_keeps_gsi_valid, setting_counts_is_idempotent}
+use Rattle.stl_file.proofs.OpeningLemmas.{good, opening_fault_is_gsi_fault, opened_reader_has_gsi}
+use Rattle.stl_file.proofs.OpeningLemmas.{opened_file_has_valid_gsi}
+use Rattle.stl_file.proofs.FileLemmas.{accepted_body_makes_file, file_has_one_reading}
+use Rattle.stl_file.proofs.RestLemmas.{joined_groups}
+use Rattle.stl_file.proofs.ScopeLemmas.{whole_scope_keeps_all_groups, whole_scope_drops_no_group}
+use Rattle.stl_file.proofs.BlocksOfLemmas.{respelling_needs_no_more_blocks}
 
 -- The blocks of one subtitle have 128 bytes each, and none of the blocks is a comment or user data.
-linked_kept : (sgn_is sn_is : ℕ) (g : List (List ℕ))
+linked_blocks_are_subtitle_blocks : (sgn_is sn_is : ℕ) (g : List (List ℕ))
     → AreLinked sgn_is sn_is g
-    → AllByRecursion IsBlock g × (filter is_kept g ≡ g)
-linked_kept sgn_is sn_is [] c = absurd c
-linked_kept sgn_is sn_is (b ∷ []) c = grind (arith, nat_tests)
-linked_kept sgn_is sn_is (b ∷ x ∷ g) c =
-    let rest = linked_kept sgn_is sn_is (x ∷ g) c.2 in grind (arith, nat_tests)
+    → AllByRecursion IsBlock g × (filter is_subtitle_block g ≡ g)
+linked_blocks_are_subtitle_blocks sgn_is sn_is [] c = absurd c
+linked_blocks_are_subtitle_blocks sgn_is sn_is (b ∷ []) c = grind (arith, nat_tests)
+linked_blocks_are_subtitle_blocks sgn_is sn_is (b ∷ x ∷ g) c =
+    let rest = linked_blocks_are_subtitle_blocks sgn_is sn_is (x ∷ g) c.2 in grind
+    (arith, nat_tests)
 
-each_append : (xs ys : List (List ℕ))
+appended_blocks_are_complete : (xs ys : List (List ℕ))
     → AllByRecursion IsBlock xs
     → AllByRecursion IsBlock ys
     → AllByRecursion IsBlock (xs ++ ys)
-each_append [] ys h k = k
-each_append (x ∷ xs) ys h k = (h.0, each_append xs ys h.1 k)
+appended_blocks_are_complete [] ys h k = k
+appended_blocks_are_complete (x ∷ xs) ys h k = (h.0, appended_blocks_are_complete xs ys h.1 k)
 
 -- The subtitles of a file can be written in their normal form, in no more blocks than the file has.
-respelled : (ss : List SubtitleValue) (gs : List (List (List ℕ)))
+respelled_subtitles_are_blocks : (ss : List SubtitleValue) (gs : List (List (List ℕ)))
     → AllZip AreBlocksOf ss gs
-    → AreSubtitleBlocks whole (length (groups_of gs)) (all_blocks ss) ss
-respelled [] gs h = grind (arith, nat_tests)
-respelled (s ∷ ss) [] h = absurd h
-respelled (s ∷ ss) (g ∷ gs) h =
-    let one = blocks_again s g h.0 in
-    let own = linked_kept s.sgn s.sn (blocks_of s) one.0.linked in
-    let rest = respelled ss gs h.1 in
+    → AreSubtitleBlocks whole (length (joined_groups gs)) (blocks_of_subtitles ss) ss
+respelled_subtitles_are_blocks [] gs h = grind (arith, nat_tests)
+respelled_subtitles_are_blocks (s ∷ ss) [] h = absurd h
+respelled_subtitles_are_blocks (s ∷ ss) (g ∷ gs) h =
+    let one = respelling_needs_no_more_blocks s g h.0 in
+    let own = linked_blocks_are_subtitle_blocks s.sgn s.sn (blocks_of s) one.0.linked in
+    let rest = respelled_subtitles_are_blocks ss gs h.1 in
     let few = rest.few in
     record {
-      each = each_append (blocks_of s) (all_blocks ss) own.0 rest.each;
+      each = appended_blocks_are_complete (blocks_of s) (blocks_of_subtitles ss) own.0 rest.each;
       few = omega (
         arith,
         one.1,
-        length-append (blocks_of s) (all_blocks ss),
-        length-append g (groups_of gs),
+        length-append (blocks_of s) (blocks_of_subtitles ss),
+        length-append g (joined_groups gs),
       );
       groups = blocks_of s ∷ rest.groups;
-      kept = filter-append is_kept (blocks_of s) (all_blocks ss) ∙ rw (own.1, rest.kept) refl;
-      outside = rw (none_outside (blocks_of s ∷ rest.groups)) tt;
-      are_of = rw (all_inside (blocks_of s ∷ rest.groups))
-          (one.0, rw (all_inside rest.groups) at rest.are_of);
+      kept = filter-append is_subtitle_block (blocks_of s) (blocks_of_subtitles ss) ∙ rw
+          (own.1, rest.kept) refl;
+      outside = rw (whole_scope_drops_no_group (blocks_of s ∷ rest.groups)) tt;
+      are_subtitle_blocks = rw (whole_scope_keeps_all_groups (blocks_of s ∷ rest.groups))
+          (one.0, rw (whole_scope_keeps_all_groups rest.groups) at rest.are_subtitle_blocks);
     }
 
 -- The normal form of a file's subtitles has the blocks of a valid file.
-own_rest : (bs : List (List ℕ)) (ts : List SubtitleValue)
-    → AreSubtitleBlocks whole most_blocks bs ts
-    → AreSubtitleBlocks whole most_blocks (all_blocks ts) ts
-own_rest bs ts r =
-    let own = respelled ts r.groups (rw (all_inside r.groups) at r.are_of) in
+respelling_keeps_the_subtitles : (bs : List (List ℕ)) (ts : List SubtitleValue)
+    → AreSubtitleBlocks whole max_blocks bs ts
+    → AreSubtitleBlocks whole max_blocks (blocks_of_subtitles ts) ts
+respelling_keeps_the_subtitles bs ts r =
+    let own = respelled_subtitles_are_blocks ts r.groups (rw (whole_scope_keeps_all_groups r.groups)
+    at r.are_subtitle_blocks) in
     record {
       each = own.each;
-      few = omega (arith, own.few, ap length r.kept, kept_at_most bs, r.few);
+      few = omega (arith, own.few, ap length r.kept, filtering_adds_no_blocks bs, r.few);
       groups = own.groups;
       kept = own.kept;
       outside = own.outside;
-      are_of = own.are_of;
+      are_subtitle_blocks = own.are_subtitle_blocks;
     }
 
 -- The normal form of a file is a file with the same subtitles.
-pub normal_is_file : (s g : List ℕ) (ts : List SubtitleValue)
+pub normal_form_is_file : (s g : List ℕ) (ts : List SubtitleValue)
     → IsFile s g ts
-    → IsFile (normal_form g ts) (counted_gsi g ts) ts
-normal_is_file s g ts h = search (rules, counted_is_gsi, own_rest)
+    → IsFile (normal_form g ts) (gsi_with_counts g ts) ts
+normal_form_is_file s g ts h = search
+    (rules, setting_counts_keeps_gsi_valid, respelling_keeps_the_subtitles)
 
 -- The normal form of a normal form is the normal form itself.
-pub normal_twice : (s g h : List ℕ) (ts us : List SubtitleValue)
+pub normal_form_is_idempotent : (s g h : List ℕ) (ts us : List SubtitleValue)
     → IsFile s g ts
     → IsFile (normal_form g ts) h us
     → normal_form h us ≡ normal_form g ts
-normal_twice s g h ts us a b =
-    let o = one_file (normal_form g ts) h (counted_gsi g ts) us ts b (normal_is_file s g ts a) in
-    grind (arith, nat_tests, counts_twice)
+normal_form_is_idempotent s g h ts us a b =
+    let o = file_has_one_reading (normal_form g ts) h (gsi_with_counts g ts) us ts b
+    (normal_form_is_file s g ts a) in
+    grind (arith, nat_tests, setting_counts_is_idempotent)
 
-unchanged_keeps : (o : Option (List ℕ)) → Keeps o o
-unchanged_keeps o = grind (arith, nat_tests)
+unchanged_sink_keeps_contents : (o : Option (List ℕ)) → Keeps o o
+unchanged_sink_keeps_contents o = grind (arith, nat_tests)
 
 -- If the GSI block is rejected, `normal` writes nothing and reports block 0.
-pub refused_open : (s : List ℕ) (f : StlFault) (old : Option (List ℕ))
+pub refused_opening_writes_nothing : (s : List ℕ) (f : StlFault) (old : Option (List ℕ))
     → open_result s ≡ Err f
     → NormalAnswers s old old (Err (Refused f 0))
-unfolding findings_for
-refused_open s f old e =
-    (rw (opened_bad (gsi_of false s) f e) refl, unchanged_keeps old)
+unfolding findings_within_scope
+refused_opening_writes_nothing s f old e = (
+  rw (opening_fault_is_gsi_fault (checked_gsi_of_file false s) f e) refl,
+  unchanged_sink_keeps_contents old,
+)
 
-file_body : (s : List ℕ) (r : ReaderValue)
+subtitles_come_from_body : (s : List ℕ) (r : ReaderValue)
     → open_result s ≡ good r
-    → subtitles_of (outcome_of s) ≡ subtitles_of (outcome_from 0 (drop 1024 s))
-unfolding findings_for
-file_body s r e =
-    rw (opened_good (gsi_of false s) r e).0 refl
+    → subtitles_of (outcome_of_file s) ≡ subtitles_of (outcome_from 0 (drop 1024 s))
+unfolding findings_within_scope
+subtitles_come_from_body s r e =
+    rw (opened_reader_has_gsi (checked_gsi_of_file false s) r e).0 refl
 
 -- If a TTI block is rejected, `normal` writes nothing and reports the file's first fault.
-pub refused_body : (s : List ℕ) (r : ReaderValue) (f : NormalFault) (old : Option (List ℕ))
+pub refused_body_writes_nothing : (s : List ℕ) (r : ReaderValue) (f : NormalFault)
+    (old : Option (List ℕ))
     → open_result s ≡ good r
     → (f ≡ Write → ⊥)
     → normal_counts (subtitles_of (outcome_from 0 (drop 1024 s))) ≡ Err f
     → NormalAnswers s old old (Err f)
-refused_body s r f old e never c = grind (arith, nat_tests, file_body, unchanged_keeps)
+refused_body_writes_nothing s r f old e never c = grind (
+  arith,
+  nat_tests,
+  subtitles_come_from_body,
+  unchanged_sink_keeps_contents,
+)
 
 -- The facts about an accepted file: its subtitles, their counts, and the bytes of the normal form.
 record Accepted (s : List ℕ) (r : ReaderValue) (c : Counts) : Type 0 where
@@ -134,39 +150,48 @@ record Accepted (s : List ℕ) (r : ReaderValue) (c : Counts) : Type 0 where
   is_file : IsFile s (take 1024 s) ts
   count : c.tns ≡ length ts
   form : with_counts c.tnb c.tns r.gsi
-      ++ concat (all_blocks (given (subtitles_of (outcome_from 0 (drop 1024 s)))))
+      ++ concat (blocks_of_subtitles
+      (accepted_subtitles (subtitles_of (outcome_from 0 (drop 1024 s)))))
       ≡ normal_form (take 1024 s) ts
 
-counted_ok : (j : Judged) (c : Counts)
+counts_match_accepted_subtitles : (j : Judged) (c : Counts)
     → normal_counts j ≡ Ok c
-    → (ts : List SubtitleValue) × (j ≡ Ok ts) × (c.tnb ≡ length (all_blocks ts))
+    → (ts : List SubtitleValue) × (j ≡ Ok ts) × (c.tnb ≡ length (blocks_of_subtitles ts))
     × (c.tns ≡ length ts)
-counted_ok j c e = grind (arith, nat_tests)
+counts_match_accepted_subtitles j c e = grind (arith, nat_tests)
 
 -- If the file was opened and the first pass counted its subtitles, the file is accepted.
 accepted : (s : List ℕ) (r : ReaderValue) (c : Counts)
     → open_result s ≡ good r
     → normal_counts (subtitles_of (outcome_from 0 (drop 1024 s))) ≡ Ok c
     → Accepted s r c
-accepted s r c opened judged =
-    let o = opened_sound s r opened in
-    let j = counted_ok _ c judged in
+accepted s r c reader_after_gsi judged =
+    let o = opened_file_has_valid_gsi s r reader_after_gsi in
+    let j = counts_match_accepted_subtitles _ c judged in
     record {
       ts = j.0;
-      is_file = body_sound whole s j.0 o.1 j.1;
+      is_file = accepted_body_makes_file whole s j.0 o.1 j.1;
       count = j.3;
-      form = cc (ap given j.1, ap (λ (x : ReaderValue). x.gsi) o.2);
+      form = cc (ap accepted_subtitles j.1, ap (λ (x : ReaderValue). x.gsi) o.2);
     }
 
-module _ (s : List ℕ) (r : ReaderValue) (c : Counts) (g : List ℕ) (opened : open_result s ≡ good r)
+module _ (s : List ℕ) (r : ReaderValue) (c : Counts) (g : List ℕ) (reader_after_gsi : open_result s
+    ≡ good r)
     (judged : normal_counts (subtitles_of (outcome_from 0 (drop 1024 s))) ≡ Ok c)
     (set : g ≡ with_counts c.tnb c.tns r.gsi) (old new : Option (List ℕ)) where
-  pub all_written : Appends old new
-      (g ++ concat (all_blocks (given (subtitles_of (outcome_from 0 (drop 1024 s))))))
+  pub complete_writes_make_normal_form : Appends old new
+      (g ++ concat (blocks_of_subtitles
+      (accepted_subtitles (subtitles_of (outcome_from 0 (drop 1024 s))))))
       → WritesNormal s old new c.tns
-  all_written w = grind (arith, nat_tests, accepted s r c opened judged)
+  complete_writes_make_normal_form w = grind (
+    arith,
+    nat_tests,
+    accepted s r c reader_after_gsi
+        judged,
+  )
 
-  pub prefix_written : AppendsPrefix old new
-      (g ++ concat (all_blocks (given (subtitles_of (outcome_from 0 (drop 1024 s))))))
+  pub failed_writes_make_prefix : AppendsPrefix old new
+      (g ++ concat (blocks_of_subtitles
+      (accepted_subtitles (subtitles_of (outcome_from 0 (drop 1024 s))))))
       → WritesPrefix s old new
-  prefix_written w = grind (arith, nat_tests, accepted s r c opened judged)
+  failed_writes_make_prefix w = grind (arith, nat_tests, accepted s r c reader_after_gsi judged)

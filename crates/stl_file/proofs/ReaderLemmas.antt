@@ -9,26 +9,29 @@ use Rattle.stl_file.specs.declared.fault.StlFault.{StlFault}
 use Rattle.stl_file.specs.declared.resuming.Found.{Found}
 use Rattle.stl_file.specs.declared.resuming.Found.TheVariants as found
 use Rattle.stl_file.specs.Fault.{is_cut}
-use Rattle.stl_file.specs.Tti.{is_kept, most_blocks}
+use Rattle.stl_file.specs.Tti.{is_subtitle_block, max_blocks}
 use Rattle.stl_file.specs.SubtitleBlocks.{IsBlock, AreBlocksOf}
-use Rattle.stl_file.specs.Reader.{EndsKept, LastIsKept, Refuses, TakesSkipped, TakesSubtitle}
+use Rattle.stl_file.specs.Reader.{EndsWithSubtitleBlock, LastIsSubtitleBlock, Refuses}
+use Rattle.stl_file.specs.Reader.{ConsumesSkippedBlocks, ConsumesSubtitle}
 use Rattle.stl_file.specs.Subtitle.{SubtitleValue}
-use Rattle.stl_file.specs.Reading.{StartedSubtitle, fails, findings_from, started_skipped, stopped}
+use Rattle.stl_file.specs.Reading.{StartedSubtitle, fails, findings_from, skipped_subtitle_from}
+use Rattle.stl_file.specs.Reading.{stopped}
 use Rattle.stl_file.specs.Scope.{whole}
 use Rattle.stl_file.specs.declared.scope.Scope.{Scope}
-use Rattle.stl_file.specs.Resuming.{LeadsOn, findings_by, depends_on_end, found_of}
+use Rattle.stl_file.specs.Resuming.{LeadsToResult, findings_after_call, depends_on_end, found_of}
 use Rattle.stl_file.proofs.SubtitleBlocksLemmas.{length-concat}
-use Rattle.stl_file.proofs.FindingsLemmas.{findings_end}
-use Rattle.stl_file.proofs.RestLemmas.{read_complete, read_sound, groups_of}
-use Rattle.stl_file.proofs.ScopeLemmas.{all_inside}
+use Rattle.stl_file.proofs.FindingsLemmas.{empty_bytes_end_the_findings}
+use Rattle.stl_file.proofs.RestLemmas.{valid_blocks_are_read, accepted_bytes_are_valid_blocks}
+use Rattle.stl_file.proofs.RestLemmas.{joined_groups}
+use Rattle.stl_file.proofs.ScopeLemmas.{whole_scope_keeps_all_groups}
 
 -- The bytes left before a call are the bytes consumed, followed by the bytes left after the call.
 pub left-then : (old new : Option (List ℕ)) (rest : List ℕ) {scope : Scope} {from to : ℕ}
     {refused next : Option StartedSubtitle} {t : SubtitleValue} {result : Result Found StlFault}
-    → LeadsOn scope from to refused next old new t result
+    → LeadsToResult scope from to refused next old new t result
     → old ≡ Some rest
     → (more : List ℕ) × (new ≡ Some more)
-    × (findings_from scope from refused rest ≡ findings_by scope to next more t result)
+    × (findings_from scope from refused rest ≡ findings_after_call scope to next more t result)
 left-then None new rest l is = absurd cc
 left-then (Some all) None rest l is = absurd l.consumed
 left-then (Some all) (Some more) rest l is =
@@ -37,10 +40,10 @@ left-then (Some all) (Some more) rest l is =
 
 -- A reader that stops at the first fault reports nothing after a fault, even if reading could
 -- continue.
-by_fault : (to : ℕ) (next : Option StartedSubtitle) (more : List ℕ) (s : SubtitleValue)
+stopped_findings_fail : (to : ℕ) (next : Option StartedSubtitle) (more : List ℕ) (s : SubtitleValue)
     (f : StlFault)
-    → stopped (findings_by whole to next more s (found_of (Err f))) ≡ fails f to
-by_fault to next more s f = grind arith
+    → stopped (findings_after_call whole to next more s (found_of (Err f))) ≡ fails f to
+stopped_findings_fail to next more s f = grind arith
 
 -- If more bytes could remove a fault, the fault is `Truncated` or `Unfinished`.
 is_cut-by : (f : StlFault) → depends_on_end (found_of (Err f)) ≡ true → is_cut f ≡ true
@@ -50,75 +53,83 @@ is_cut-by f e = grind arith
 pub refuses : (from to : ℕ) (old new : Option (List ℕ)) (s : SubtitleValue)
     (next : Option StartedSubtitle)
     (x : StlFault)
-    → LeadsOn whole from to None next old new s (found_of (Err x))
+    → LeadsToResult whole from to None next old new s (found_of (Err x))
     → Refuses from to old new x
 refuses from to old new s next x l = record {
   bytes = l.bytes;
   consumed = l.consumed;
   block = l.block;
   none = λ more cut bs ts r e.
-      let good = read_complete whole bs (most_blocks - from) ts r in
+      let good = valid_blocks_are_read whole bs (max_blocks - from) ts r in
       let bad = ap stopped (l.findings more (λ end. cut (is_cut-by x end)))
-      ∙ by_fault to next more s x in
+      ∙ stopped_findings_fail to next more s x in
       grind arith;
 }
 
 -- The blocks of a single subtitle form one group.
-one_group : (s : SubtitleValue) (gs : List (List (List ℕ)))
+one_subtitle_has_one_group : (s : SubtitleValue) (gs : List (List (List ℕ)))
     → AllZip AreBlocksOf (s ∷ []) gs
-    → AreBlocksOf s (groups_of gs)
-one_group s gs h = grind (arith, nat_tests, append-nil)
+    → AreBlocksOf s (joined_groups gs)
+one_subtitle_has_one_group s gs h = grind (arith, nat_tests, append-nil)
 
-no_group : (gs : List (List (List ℕ))) → AllZip AreBlocksOf [] gs → groups_of gs ≡ []
-no_group gs h = grind (arith, nat_tests)
+no_subtitle_has_no_group : (gs : List (List (List ℕ))) → AllZip AreBlocksOf [] gs → joined_groups gs
+    ≡ []
+no_subtitle_has_no_group gs h = grind (arith, nat_tests)
 
-ends_kept : (prefix b : List ℕ) (bs : List (List ℕ))
+last_block_is_subtitle_block : (prefix b : List ℕ) (bs : List (List ℕ))
     → AllByRecursion IsBlock (b ∷ bs)
-    → LastIsKept (prefix ++ concat (b ∷ bs))
-    → EndsKept (b ∷ bs)
-ends_kept prefix b [] h k = k prefix b (ap (λ (x : List ℕ). prefix ++ x) (append-nil b)) h.0
-ends_kept prefix b (c ∷ bs) h k = ends_kept (prefix ++ b) c bs h.1
+    → LastIsSubtitleBlock (prefix ++ concat (b ∷ bs))
+    → EndsWithSubtitleBlock (b ∷ bs)
+last_block_is_subtitle_block prefix b [] h k = k prefix b (ap (λ (x : List ℕ). prefix ++ x)
+    (append-nil b)) h.0
+last_block_is_subtitle_block prefix b (c ∷ bs) h k = last_block_is_subtitle_block (prefix ++ b) c bs
+    h.1
     (λ start last e size. k start last (sym (append_assoc prefix b (concat (c ∷ bs))) ∙ e) size)
 
 -- The blocks of a subtitle end with a block that is not skipped.
-ends_group : (s : SubtitleValue) (bs : List (List ℕ))
-    → AreBlocksOf s (filter is_kept bs)
+subtitle_blocks_end_the_list : (s : SubtitleValue) (bs : List (List ℕ))
+    → AreBlocksOf s (filter is_subtitle_block bs)
     → AllByRecursion IsBlock bs
-    → LastIsKept (concat bs)
-    → EndsKept bs
-ends_group s [] a h k = absurd cc
-ends_group s (b ∷ bs) a h k = ends_kept [] b bs h k
+    → LastIsSubtitleBlock (concat bs)
+    → EndsWithSubtitleBlock bs
+subtitle_blocks_end_the_list s [] a h k = absurd cc
+subtitle_blocks_end_the_list s (b ∷ bs) a h k = last_block_is_subtitle_block [] b bs h k
 
 -- If a call returns a subtitle, the bytes consumed are the blocks of the subtitle.
-pub takes_subtitle : (from to : ℕ) (old new : Option (List ℕ)) (s : SubtitleValue)
+pub found_subtitle_is_consumed : (from to : ℕ) (old new : Option (List ℕ)) (s : SubtitleValue)
     (kept : Option (List ℕ))
     → kept ≡ None
-    → LeadsOn whole from to None (option_map started_skipped kept) old new s (Ok found.Subtitle)
-    → TakesSubtitle from to old new s
-takes_subtitle from to old new s kept over l =
-    let r = read_sound whole (most_blocks - from) None [] l.bytes (s ∷ []) refl
-    (let o = rw over at (l.findings [] (λ e. refl)) in grind (arith, append-nil, findings_end)) in
-    let are_of : AreBlocksOf s (filter is_kept r.blocks) =
-    rw r.kept (one_group s r.groups (rw (all_inside r.groups) at r.are_groups)) in
+    → LeadsToResult whole from to None (option_map skipped_subtitle_from kept) old new s
+    (Ok found.Subtitle)
+    → ConsumesSubtitle from to old new s
+found_subtitle_is_consumed from to old new s kept over l =
+    let r = accepted_bytes_are_valid_blocks whole (max_blocks - from) None [] l.bytes (s ∷ []) refl
+    (let o = rw over at (l.findings [] (λ e. refl)) in grind
+    (arith, append-nil, empty_bytes_end_the_findings)) in
+    let are_subtitle_blocks : AreBlocksOf s (filter is_subtitle_block r.blocks) =
+    rw r.kept (one_subtitle_has_one_group s r.groups (rw (whole_scope_keeps_all_groups r.groups) at
+    r.inside_groups_match)) in
     record {
       blocks = r.blocks;
       counted = omega (arith, length-concat r.blocks r.each, ap length r.bytes);
       each = r.each;
-      are_of = are_of;
-      ends = ends_group s r.blocks are_of r.each (rw r.bytes at (l.kept refl));
+      are_subtitle_blocks = are_subtitle_blocks;
+      ends = subtitle_blocks_end_the_list s r.blocks are_subtitle_blocks r.each
+          (rw r.bytes at (l.kept refl));
       consumed = rw r.bytes at l.consumed;
     }
 
 -- If a call returns `None`, the bytes consumed are only skipped blocks.
-pub takes_skipped : (from to : ℕ) (old new : Option (List ℕ)) (s : SubtitleValue)
+pub file_end_consumes_skipped_blocks : (from to : ℕ) (old new : Option (List ℕ)) (s : SubtitleValue)
     (next : Option StartedSubtitle)
-    → LeadsOn whole from to None next old new s (Ok found.End)
-    → TakesSkipped from to old new
-takes_skipped from to old new s next l =
-    let r = read_sound whole (most_blocks - from) None [] l.bytes [] refl
+    → LeadsToResult whole from to None next old new s (Ok found.End)
+    → ConsumesSkippedBlocks from to old new
+file_end_consumes_skipped_blocks from to old new s next l =
+    let r = accepted_bytes_are_valid_blocks whole (max_blocks - from) None [] l.bytes [] refl
     (let o = l.findings [] (λ e. refl) in grind (arith, append-nil)) in
-    let none : groups_of r.groups ≡ [] =
-    no_group r.groups (rw (all_inside r.groups) at r.are_groups) in
+    let none : joined_groups r.groups ≡ [] =
+    no_subtitle_has_no_group r.groups
+    (rw (whole_scope_keeps_all_groups r.groups) at r.inside_groups_match) in
     record {
       blocks = r.blocks;
       counted =
@@ -132,4 +143,4 @@ takes_skipped from to old new s next l =
       ended = l.ended refl;
     }
 
-pub ruleset led = (takes_subtitle, takes_skipped, refuses)
+pub ruleset led = (found_subtitle_is_consumed, file_end_consumes_skipped_blocks, refuses)

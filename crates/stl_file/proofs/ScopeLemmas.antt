@@ -6,17 +6,20 @@ use Rattle.stl_file.specs.Scope.{begins_outside, is_inside, is_outside, whole}
 use Rattle.stl_file.specs.Tti.{tci}
 use Rattle.stl_file.proofs.TimeCodeLemmas.{in_day}
 
-pub inside_day : (b : List ℕ) → begins_outside whole b ≡ false
+pub no_block_is_outside_day : (b : List ℕ) → begins_outside whole b ≡ false
 unfolding begins_outside
-inside_day b = grind (arith, nat_tests, in_day (tci b))
+no_block_is_outside_day b = grind (arith, nat_tests, in_day (tci b))
 
-pub all_inside : (gs : List (List (List ℕ))) → filter (is_inside whole) gs ≡ gs
-all_inside [] = refl
-all_inside ([] ∷ gs) = ap (λ (l : List (List (List ℕ))). [] ∷ l) (all_inside gs)
-all_inside ((b ∷ others) ∷ gs) =
-    rw (inside_day b) (ap (λ (l : List (List (List ℕ))). (b ∷ others) ∷ l) (all_inside gs))
+pub whole_scope_keeps_all_groups : (gs : List (List (List ℕ))) → filter (is_inside whole) gs ≡ gs
+whole_scope_keeps_all_groups [] = refl
+whole_scope_keeps_all_groups ([] ∷ gs) = ap (λ (l : List (List (List ℕ))). [] ∷ l)
+    (whole_scope_keeps_all_groups gs)
+whole_scope_keeps_all_groups ((b ∷ others) ∷ gs) =
+    rw (no_block_is_outside_day b) (ap (λ (l : List (List (List ℕ))). (b ∷ others) ∷ l)
+    (whole_scope_keeps_all_groups gs))
 
-pub none_outside : (gs : List (List (List ℕ))) → filter (is_outside whole) gs ≡ []
-none_outside [] = refl
-none_outside ([] ∷ gs) = none_outside gs
-none_outside ((b ∷ others) ∷ gs) = rw (inside_day b) (none_outside gs)
+pub whole_scope_drops_no_group : (gs : List (List (List ℕ))) → filter (is_outside whole) gs ≡ []
+whole_scope_drops_no_group [] = refl
+whole_scope_drops_no_group ([] ∷ gs) = whole_scope_drops_no_group gs
+whole_scope_drops_no_group ((b ∷ others) ∷ gs) = rw (no_block_is_outside_day b)
+    (whole_scope_drops_no_group gs)

@@ -6,11 +6,11 @@ use Rattle.std.proofs.lemmas.List.Sums.{count_by-le-length, length-filter}
 use Rattle.std.specs.Prelude.{filter}
 use Rattle.std.specs.List.{AllByRecursion, flat_map, concat}
 use Rattle.std.proofs.lemmas.List.{append-nil}
-use Rattle.stl_file.specs.Tti.{is_kept, ebn, text_of}
+use Rattle.stl_file.specs.Tti.{is_subtitle_block, ebn, text_of_block}
 use Rattle.stl_file.specs.SubtitleBlocks.{IsBlock, BelongsTo, AreLinked, AreBlocksOf}
 use Rattle.stl_file.specs.Subtitle.{SubtitleValue, IsSubtitle}
 use Rattle.stl_file.proofs.TimeCodeLemmas.{in_day}
-use Rattle.stl_file.proofs.SubtitleLemmas.{text_short, has_no_unused-texts}
+use Rattle.stl_file.proofs.SubtitleLemmas.{block_text_fits_in_field, has_no_unused_space-texts}
 
 pub length-concat : (bs : List (List ℕ))
     → AllByRecursion IsBlock bs
@@ -18,30 +18,51 @@ pub length-concat : (bs : List (List ℕ))
 length-concat [] h = refl
 length-concat (x ∷ bs) h = grind (arith, nat_tests, length-append, length-concat bs h.1)
 
-pub kept_at_most : (bs : List (List ℕ)) → length (filter is_kept bs) ≤ length bs
-kept_at_most bs = omega (arith, length-filter is_kept bs, count_by-le-length is_kept bs)
+pub filtering_adds_no_blocks : (bs : List (List ℕ)) → length (filter is_subtitle_block bs) ≤ length
+    bs
+filtering_adds_no_blocks bs = omega (
+  arith,
+  length-filter is_subtitle_block bs,
+  count_by-le-length
+      is_subtitle_block bs,
+)
 
-pub first_linked : (sgn_is sn_is : ℕ) (b : List ℕ) (bs : List (List ℕ))
+pub linked_first_block_belongs : (sgn_is sn_is : ℕ) (b : List ℕ) (bs : List (List ℕ))
     → AreLinked sgn_is sn_is (b ∷ bs)
     → BelongsTo sgn_is sn_is b
-first_linked sgn_is sn_is b bs h = grind (arith, nat_tests)
+linked_first_block_belongs sgn_is sn_is b bs h = grind (arith, nat_tests)
 
-pub linked_cons : (sgn_is sn_is : ℕ) (b : List ℕ) (bs : List (List ℕ))
+pub front_block_stays_linked : (sgn_is sn_is : ℕ) (b : List ℕ) (bs : List (List ℕ))
     → BelongsTo sgn_is sn_is b
     → ebn b < 240
     → AreLinked sgn_is sn_is bs
     → AreLinked sgn_is sn_is (b ∷ bs)
-linked_cons sgn_is sn_is b bs h lt c = grind (arith, nat_tests)
+front_block_stays_linked sgn_is sn_is b bs h lt c = grind (arith, nat_tests)
 
 -- The blocks of one subtitle have at most 112 bytes of text each.
-pub linked_text : (sgn_is sn_is : ℕ) (g : List (List ℕ))
+pub linked_text_fits_in_blocks : (sgn_is sn_is : ℕ) (g : List (List ℕ))
     → AreLinked sgn_is sn_is g
-    → length (flat_map text_of g) ≤ 112 * length g
-linked_text sgn_is sn_is [] c = absurd c
-linked_text sgn_is sn_is (b ∷ []) c = grind (arith, nat_tests, text_short, append-nil)
-linked_text sgn_is sn_is (b ∷ x ∷ g) c =
-    grind (arith, nat_tests, text_short, length-append, linked_text sgn_is sn_is (x ∷ g) c.2)
+    → length (flat_map text_of_block g) ≤ 112 * length g
+linked_text_fits_in_blocks sgn_is sn_is [] c = absurd c
+linked_text_fits_in_blocks sgn_is sn_is (b ∷ []) c = grind
+    (arith, nat_tests, block_text_fits_in_field, append-nil)
+linked_text_fits_in_blocks sgn_is sn_is (b ∷ x ∷ g) c =
+    grind (
+      arith,
+      nat_tests,
+      block_text_fits_in_field,
+      length-append,
+      linked_text_fits_in_blocks
+          sgn_is sn_is (x ∷ g) c.2,
+    )
 
 -- If blocks in a file belong to a subtitle, the values of the subtitle are valid.
-pub blocks_subtitle : (s : SubtitleValue) (g : List (List ℕ)) → AreBlocksOf s g → IsSubtitle s
-blocks_subtitle s g h = grind (arith, nat_tests, linked_text, in_day, has_no_unused-texts)
+pub blocks_make_valid_subtitle : (s : SubtitleValue) (g : List (List ℕ)) → AreBlocksOf s g →
+    IsSubtitle s
+blocks_make_valid_subtitle s g h = grind (
+  arith,
+  nat_tests,
+  linked_text_fits_in_blocks,
+  in_day,
+  has_no_unused_space-texts,
+)

@@ -6,71 +6,81 @@ use Rattle.std.proofs.lemmas.List.{append-nil, length-drop, drop_all, drop_more,
 use Rattle.std.proofs.lemmas.List.{take_more}
 use Rattle.std.proofs.lemmas.Bool.{ne_eqb}
 use Rattle.std.proofs.lemmas.Bool.Decides.{nat_tests}
-use Rattle.stl_file.specs.Tti.{text_of, unused_space, tf, before_unused}
-use Rattle.stl_file.specs.Subtitle.{has_no_unused}
+use Rattle.stl_file.specs.Tti.{text_of_block, unused_space, tf, bytes_before_unused_space}
+use Rattle.stl_file.specs.Subtitle.{has_no_unused_space}
 
-pub used_more : (xs : List ℕ) (i : ℕ)
+pub used_text_grows : (xs : List ℕ) (i : ℕ)
     → i < length xs
     → (get_or xs i 0 ≡ unused_space → ⊥)
-    → take (i + 1) xs ++ before_unused (drop (i + 1) xs) ≡ take i xs ++ before_unused (drop i xs)
-used_more xs i lt ne =
+    → take (i + 1) xs ++ bytes_before_unused_space (drop (i + 1) xs) ≡ take i xs ++
+    bytes_before_unused_space (drop i xs)
+used_text_grows xs i lt ne =
     rw (take_more xs i 0 lt, append_assoc, drop_more xs i 0 lt, ne_eqb _ unused_space ne) refl
 
-pub used_up : (xs : List ℕ) (i : ℕ)
+pub used_text_ends_at_unused : (xs : List ℕ) (i : ℕ)
     → i < length xs
     → get_or xs i 0 ≡ unused_space
-    → take i xs ++ before_unused (drop i xs) ≡ take i xs
-used_up xs i lt e = rw (drop_more xs i 0 lt, e) (append-nil (take i xs))
+    → take i xs ++ bytes_before_unused_space (drop i xs) ≡ take i xs
+used_text_ends_at_unused xs i lt e = rw (drop_more xs i 0 lt, e) (append-nil (take i xs))
 
-pub used_all : (xs : List ℕ) (i : ℕ)
+pub used_text_ends_with_field : (xs : List ℕ) (i : ℕ)
     → length xs ≤ i
-    → take i xs ++ before_unused (drop i xs) ≡ take (length xs) xs
-used_all xs i le = grind (arith, nat_tests, drop_all, take_all, append-nil)
+    → take i xs ++ bytes_before_unused_space (drop i xs) ≡ take (length xs) xs
+used_text_ends_with_field xs i le = grind (arith, nat_tests, drop_all, take_all, append-nil)
 
-pub ruleset used = (used_more, used_up, used_all)
+pub ruleset used = (used_text_grows, used_text_ends_at_unused, used_text_ends_with_field)
 
-pub has_no_unused-append : (xs ys : List ℕ)
-    → has_no_unused xs ≡ true
-    → has_no_unused ys ≡ true
-    → has_no_unused (xs ++ ys) ≡ true
-has_no_unused-append [] ys h k = k
-has_no_unused-append (x ∷ xs) ys h k = grind (arith, nat_tests, has_no_unused-append xs ys)
+pub has_no_unused_space-append : (xs ys : List ℕ)
+    → has_no_unused_space xs ≡ true
+    → has_no_unused_space ys ≡ true
+    → has_no_unused_space (xs ++ ys) ≡ true
+has_no_unused_space-append [] ys h k = k
+has_no_unused_space-append (x ∷ xs) ys h k = grind (
+  arith,
+  nat_tests,
+  has_no_unused_space-append xs
+      ys,
+)
 
-pub has_no_unused-before_unused : (xs : List ℕ) → has_no_unused (before_unused xs) ≡ true
-has_no_unused-before_unused [] = refl
-has_no_unused-before_unused (x ∷ xs) = grind (arith, nat_tests, has_no_unused-before_unused xs)
+pub has_no_unused_space-bytes_before_unused_space : (xs : List ℕ) → has_no_unused_space
+    (bytes_before_unused_space xs) ≡ true
+has_no_unused_space-bytes_before_unused_space [] = refl
+has_no_unused_space-bytes_before_unused_space (x ∷ xs) = grind
+    (arith, nat_tests, has_no_unused_space-bytes_before_unused_space xs)
 
-pub ruleset cleaned = (has_no_unused-append, has_no_unused-before_unused)
+pub ruleset cleaned = (has_no_unused_space-append, has_no_unused_space-bytes_before_unused_space)
 
-pub has_no_unused-texts : (g : List (List ℕ)) → has_no_unused (flat_map text_of g) ≡ true
-has_no_unused-texts [] = refl
-has_no_unused-texts (b ∷ g) =
-    has_no_unused-append (text_of b) (flat_map text_of g) (has_no_unused-before_unused (tf b))
-    (has_no_unused-texts g)
+pub has_no_unused_space-texts : (g : List (List ℕ)) → has_no_unused_space (flat_map text_of_block g)
+    ≡ true
+has_no_unused_space-texts [] = refl
+has_no_unused_space-texts (b ∷ g) =
+    has_no_unused_space-append (text_of_block b) (flat_map text_of_block g)
+    (has_no_unused_space-bytes_before_unused_space (tf b))
+    (has_no_unused_space-texts g)
 
-pub clean_take : (n : ℕ) (xs : List ℕ)
-    → has_no_unused xs ≡ true
-    → has_no_unused (take n xs) ≡ true
-clean_take zero xs h = refl
-clean_take (suc n) xs h = grind (arith, nat_tests, clean_take n)
+pub prefix_has_no_unused_space : (n : ℕ) (xs : List ℕ)
+    → has_no_unused_space xs ≡ true
+    → has_no_unused_space (take n xs) ≡ true
+prefix_has_no_unused_space zero xs h = refl
+prefix_has_no_unused_space (suc n) xs h = grind (arith, nat_tests, prefix_has_no_unused_space n)
 
-pub clean_drop : (n : ℕ) (xs : List ℕ)
-    → has_no_unused xs ≡ true
-    → has_no_unused (drop n xs) ≡ true
-clean_drop zero xs h = h
-clean_drop (suc n) xs h = grind (arith, nat_tests, clean_drop n)
+pub suffix_has_no_unused_space : (n : ℕ) (xs : List ℕ)
+    → has_no_unused_space xs ≡ true
+    → has_no_unused_space (drop n xs) ≡ true
+suffix_has_no_unused_space zero xs h = h
+suffix_has_no_unused_space (suc n) xs h = grind (arith, nat_tests, suffix_has_no_unused_space n)
 
 -- If a text without unused space is padded with unused space, reading returns the text.
-pub before_unused_of_text : (xs : List ℕ) (k : ℕ)
-    → has_no_unused xs ≡ true
-    → before_unused (xs ++ replicate k unused_space) ≡ xs
-before_unused_of_text [] zero h = refl
-before_unused_of_text [] (suc k) h = refl
-before_unused_of_text (x ∷ xs) k h = grind (arith, nat_tests, before_unused_of_text xs k)
+pub padding_is_unused_space : (xs : List ℕ) (k : ℕ)
+    → has_no_unused_space xs ≡ true
+    → bytes_before_unused_space (xs ++ replicate k unused_space) ≡ xs
+padding_is_unused_space [] zero h = refl
+padding_is_unused_space [] (suc k) h = refl
+padding_is_unused_space (x ∷ xs) k h = grind (arith, nat_tests, padding_is_unused_space xs k)
 
-before_unused_short : (xs : List ℕ) → length (before_unused xs) ≤ length xs
-before_unused_short [] = omega arith
-before_unused_short (x ∷ xs) = grind (arith, nat_tests, before_unused_short xs)
+used_text_is_no_longer : (xs : List ℕ) → length (bytes_before_unused_space xs) ≤ length xs
+used_text_is_no_longer [] = omega arith
+used_text_is_no_longer (x ∷ xs) = grind (arith, nat_tests, used_text_is_no_longer xs)
 
-pub text_short : (b : List ℕ) → length b ≡ 128 → length (text_of b) ≤ 112
-text_short b size = omega (arith, before_unused_short (tf b), length-drop 16 b)
+pub block_text_fits_in_field : (b : List ℕ) → length b ≡ 128 → length (text_of_block b) ≤ 112
+block_text_fits_in_field b size = omega (arith, used_text_is_no_longer (tf b), length-drop 16 b)

@@ -2,13 +2,13 @@
 -- valid time code.
 use Rattle.std.proofs.Common.{◌≡◌, ℕ, true, List, arith, ◌<◌, ◌/◌, ◌%◌}
 use Rattle.std.proofs.lemmas.Bool.Decides.{nat_tests}
-use Rattle.stl_file.specs.TimeCode.{day, frame_in, is_time, is_time_code}
+use Rattle.stl_file.specs.TimeCode.{day, frame_from_bytes, is_valid_time_field, is_time_code}
 
-pub in_day : (b : List ℕ) → is_time b ≡ true → frame_in b < day
-unfolding is_time frame_in
+pub in_day : (b : List ℕ) → is_valid_time_field b ≡ true → frame_from_bytes b < day
+unfolding is_valid_time_field frame_from_bytes
 in_day b e = grind (arith, nat_tests)
 
-pub time_in_range : (f : ℕ)
+pub frame_has_valid_time_code : (f : ℕ)
     → f < day
     → is_time_code (f / 90000) ((f / 1500) % 60) ((f / 25) % 60) (f % 25) ≡ true
-time_in_range f lt = grind (arith, nat_tests)
+frame_has_valid_time_code f lt = grind (arith, nat_tests)

@@ -3,7 +3,7 @@
 -- between them.
 use Rattle.std.specs.Prelude.{◌≡◌, ℕ, List, ◌++◌}
 use Rattle.std.specs.List.{concat}
-use Rattle.stl_file.specs.Tti.{most_blocks}
+use Rattle.stl_file.specs.Tti.{max_blocks}
 use Rattle.stl_file.specs.Subtitle.{SubtitleValue}
 use Rattle.stl_file.specs.SubtitleBlocks.{AreSubtitleBlocks}
 use Rattle.stl_file.specs.Gsi.{IsGsiFor}
@@ -16,7 +16,7 @@ pub record IsFileFor (scope : Scope) (s g : List ℕ) (ts : List SubtitleValue) 
   pub gsi : IsGsiFor scope.takes_open g
   pub blocks : List (List ℕ)
   pub bytes : s ≡ g ++ concat blocks
-  pub rest : AreSubtitleBlocks scope most_blocks blocks ts
+  pub rest : AreSubtitleBlocks scope max_blocks blocks ts
 
 -- The bytes s are a subtitle file for Teletext with the GSI block g and the subtitles ts.
 abbrev pub IsFile : List ℕ → List ℕ → List SubtitleValue → Type 0

@@ -55,60 +55,60 @@ abbrev pub stl_30 : List ℕ
 stl_30 = 0x53 ∷ 0x54 ∷ 0x4C ∷ 0x33 ∷ 0x30 ∷ 0x2E ∷ 0x30 ∷ 0x31 ∷ []
 
 -- The DSC "1": level 1 Teletext.
-abbrev pub level_1 : ℕ
-level_1 = 0x31
+abbrev pub teletext_level_1 : ℕ
+teletext_level_1 = 0x31
 
 -- The DSC "2": level 2 Teletext.
-abbrev pub level_2 : ℕ
-level_2 = 0x32
+abbrev pub teletext_level_2 : ℕ
+teletext_level_2 = 0x32
 
 -- The DSC "0": open subtitles, which are part of the picture.
 abbrev pub open_subtitles : ℕ
 open_subtitles = 0x30
 
 -- The DSC " ": the display is unspecified.
-abbrev pub no_display : ℕ
-no_display = 0x20
+abbrev pub unspecified_display : ℕ
+unspecified_display = 0x20
 
 -- The CCT "00": the Latin table.
-abbrev pub latin : List ℕ
-latin = 0x30 ∷ 0x30 ∷ []
+abbrev pub latin_alphabet : List ℕ
+latin_alphabet = 0x30 ∷ 0x30 ∷ []
 
 -- An accepted DSC: Teletext of level 1 or 2. If `takes_open` is set, open subtitles and an
 -- unspecified display are accepted too.
-abbrev pub IsDisplay : Bool → ℕ → Type 0
-IsDisplay takes_open display =
-    (display ≡ level_1) ⊎ (display ≡ level_2)
-    ⊎ ((takes_open ≡ true) × ((display ≡ open_subtitles) ⊎ (display ≡ no_display)))
+abbrev pub IsAcceptedDisplay : Bool → ℕ → Type 0
+IsAcceptedDisplay takes_open display =
+    (display ≡ teletext_level_1) ⊎ (display ≡ teletext_level_2)
+    ⊎ ((takes_open ≡ true) × ((display ≡ open_subtitles) ⊎ (display ≡ unspecified_display)))
 
 -- An accepted GSI block: DFC for 25 frames per second, an accepted DSC, and CCT for the Latin
 -- table.
 pub record IsGsiFor (takes_open : Bool) (g : List ℕ) : Type 0 where
   pub size : length g ≡ gsi_size
   pub format : dfc g ≡ stl_25
-  pub display : IsDisplay takes_open (dsc g)
-  pub alphabet : cct g ≡ latin
+  pub display : IsAcceptedDisplay takes_open (dsc g)
+  pub alphabet : cct g ≡ latin_alphabet
 
 -- An accepted GSI block of a file for Teletext.
 abbrev pub IsGsi : List ℕ → Type 0
 IsGsi g = IsGsiFor false g
 
 -- The checks of a GSI block: format, frame rate, display and character code table.
-abbrev pub required_of_gsi : Bool → List ℕ → Questions
-required_of_gsi takes_open g =
+abbrev pub gsi_checks : Bool → List ℕ → Questions
+gsi_checks takes_open g =
     (fault.Format, not (bytes_eq (dfc g) stl_25) && not (bytes_eq (dfc g) stl_30))
     ∷ (fault.Rate, bytes_eq (dfc g) stl_30)
     ∷ (
       fault.Display,
-      not (dsc g == level_1) && not (dsc g == level_2)
-          && not (takes_open && ((dsc g == open_subtitles) || (dsc g == no_display))),
+      not (dsc g == teletext_level_1) && not (dsc g == teletext_level_2)
+          && not (takes_open && ((dsc g == open_subtitles) || (dsc g == unspecified_display))),
     )
-    ∷ (fault.Alphabet, not (bytes_eq (cct g) latin))
+    ∷ (fault.Alphabet, not (bytes_eq (cct g) latin_alphabet))
     ∷ []
 
 -- The GSI block g itself, or its first fault.
-unfoldable pub gsi_at : Bool → List ℕ → Result (List ℕ) StlFault
-gsi_at takes_open g = requested (required_of_gsi takes_open g) (Ok g)
+unfoldable pub checked_gsi : Bool → List ℕ → Result (List ℕ) StlFault
+checked_gsi takes_open g = requested (gsi_checks takes_open g) (Ok g)
 
 -- The ASCII digit of a number below ten.
 abbrev pub digit : ℕ → ℕ

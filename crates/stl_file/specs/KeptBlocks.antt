@@ -4,12 +4,12 @@ use Rattle.std.specs.Prelude.{◌++◌, length, Option, Some, None}
 use Rattle.std.specs.List.{AllByRecursion, concat}
 use Rattle.stl_file.specs.declared.scope.Scope.{Scope}
 use Rattle.stl_file.specs.Gsi.{gsi_size}
-use Rattle.stl_file.specs.Reader.{findings_for}
+use Rattle.stl_file.specs.Reader.{findings_within_scope}
 use Rattle.stl_file.specs.Reading.{Findings, breaks, finds, no_more, refuses}
 use Rattle.stl_file.specs.Scope.{begins_outside}
 use Rattle.stl_file.specs.SubtitleBlocks.{IsBlock}
 use Rattle.stl_file.specs.TimeCode.{day}
-use Rattle.stl_file.specs.Tti.{ebn, is_skipped_block, last_block}
+use Rattle.stl_file.specs.Tti.{ebn, is_skipped_block, last_block_ebn}
 
 -- The block b, which is neither a comment nor user data, belongs to a subtitle that is not outside
 -- the scope. `within` is `None` if b is the first block of a subtitle; for a later block, it says
@@ -19,22 +19,23 @@ stays scope None b = not (begins_outside scope b)
 stays scope (Some stayed) b = stayed
 
 -- The argument `within` for the next block: a new subtitle begins after EBN FF.
-abbrev pub within_after : Scope → Option Bool → List ℕ → Option Bool
-within_after scope within b =
-    if ebn b == last_block then None else Some (stays scope within b)
+abbrev pub within_for_next_block : Scope → Option Bool → List ℕ → Option Bool
+within_for_next_block scope within b =
+    if ebn b == last_block_ebn then None else Some (stays scope within b)
 
 -- The blocks of a file without the blocks of subtitles outside the scope. Comments and user data
 -- stay in the list.
-abbrev pub kept_blocks : Scope → Option Bool → List (List ℕ) → List (List ℕ)
-kept_blocks scope within [] = []
-kept_blocks scope within (b ∷ bs) =
-    if is_skipped_block b then b ∷ kept_blocks scope within bs
-    else if stays scope within b then b ∷ kept_blocks scope (within_after scope within b) bs
-    else kept_blocks scope (within_after scope within b) bs
+abbrev pub scope_blocks : Scope → Option Bool → List (List ℕ) → List (List ℕ)
+scope_blocks scope within [] = []
+scope_blocks scope within (b ∷ bs) =
+    if is_skipped_block b then b ∷ scope_blocks scope within bs
+    else if stays scope within b then b ∷ scope_blocks scope (within_for_next_block scope within b)
+    bs
+    else scope_blocks scope (within_for_next_block scope within b) bs
 
 -- The scope of all subtitles of the day, for the same displays.
-abbrev pub all_day : Scope → Scope
-all_day scope = record scope { from = 0; to = day }
+abbrev pub whole_day_scope : Scope → Scope
+whole_day_scope scope = record scope { from = 0; to = day }
 
 -- The reader reaches the end of the file: the file is complete, and the blocks of each subtitle are
 -- linked.
@@ -59,10 +60,11 @@ LawOfScope =
     (scope : Scope) (gsi : List ℕ) (blocks : List (List ℕ))
     → length gsi ≡ gsi_size
     → AllByRecursion IsBlock blocks
-    → is_read_to_the_end (findings_for scope (gsi ++ concat blocks)) ≡ true
-    → unnumbered (findings_for scope (gsi ++ concat blocks))
-    ≡ unnumbered (findings_for (all_day scope) (gsi ++ concat (kept_blocks scope None blocks)))
+    → is_read_to_the_end (findings_within_scope scope (gsi ++ concat blocks)) ≡ true
+    → unnumbered (findings_within_scope scope (gsi ++ concat blocks))
+    ≡ unnumbered (findings_within_scope (whole_day_scope scope)
+    (gsi ++ concat (scope_blocks scope None blocks)))
 
 -- No subtitle is outside the scope of the whole day.
 abbrev pub LawOfWholeDay : Type 0
-LawOfWholeDay = (scope : Scope) (b : List ℕ) → begins_outside (all_day scope) b ≡ false
+LawOfWholeDay = (scope : Scope) (b : List ℕ) → begins_outside (whole_day_scope scope) b ≡ false

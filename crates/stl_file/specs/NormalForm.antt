@@ -8,11 +8,11 @@ use Rattle.sub_io.specs.Device.{AppendsPrefix}
 use Rattle.stl_file.specs.declared.fault.NormalFault.{NormalFault}
 use Rattle.stl_file.specs.declared.fault.NormalFault.TheVariants.{Refused, Write}
 use Rattle.stl_file.specs.TimeCode.{time_bytes}
-use Rattle.stl_file.specs.Tti.{unused_space, last_block, not_cumulative, no_comment}
+use Rattle.stl_file.specs.Tti.{unused_space, last_block_ebn, not_cumulative, no_comment}
 use Rattle.stl_file.specs.Subtitle.{SubtitleValue}
 use Rattle.stl_file.specs.Gsi.{gsi_size, with_counts}
 use Rattle.stl_file.specs.Reading.{Outcome, ends, fails, gives}
-use Rattle.stl_file.specs.Reader.{outcome_of}
+use Rattle.stl_file.specs.Reader.{outcome_of_file}
 use Rattle.stl_file.specs.File.{IsFile}
 
 -- ---- the blocks of one subtitle in the normal form
@@ -35,32 +35,32 @@ block_of s ebn chunk = block_head s ebn ++ text_field chunk
 -- The blocks of a subtitle: `full` blocks with full text fields, whose EBN counts up, then the last
 -- block.
 unfoldable pub blocks_from : SubtitleValue → ℕ → ℕ → List ℕ → List (List ℕ)
-blocks_from s zero ebn text = block_of s last_block text ∷ []
+blocks_from s zero ebn text = block_of s last_block_ebn text ∷ []
 blocks_from s (suc full) ebn text =
     block_of s ebn (take 112 text) ∷ blocks_from s full (ebn + 1) (drop 112 text)
 
 -- The number of full text fields, of 112 bytes each, before the last text field.
-abbrev pub full_chunks : List ℕ → ℕ
-full_chunks text = (length text - 1) / 112
+abbrev pub full_chunk_count : List ℕ → ℕ
+full_chunk_count text = (length text - 1) / 112
 
 -- The fewest blocks that hold the subtitle s, at least one.
 abbrev pub blocks_of : SubtitleValue → List (List ℕ)
-blocks_of s = blocks_from s (full_chunks s.text) 0x00 s.text
+blocks_of s = blocks_from s (full_chunk_count s.text) 0x00 s.text
 
 -- ---- the normal form of a whole file
 
 -- The blocks of all subtitles in the list.
-abbrev pub all_blocks : List SubtitleValue → List (List ℕ)
-all_blocks ts = flat_map blocks_of ts
+abbrev pub blocks_of_subtitles : List SubtitleValue → List (List ℕ)
+blocks_of_subtitles ts = flat_map blocks_of ts
 
 -- The GSI block g with TNB and TNS set for the normal form: to the number of blocks of all
 -- subtitles, and to the number of subtitles.
-abbrev pub counted_gsi : List ℕ → List SubtitleValue → List ℕ
-counted_gsi g ts = with_counts (length (all_blocks ts)) (length ts) g
+abbrev pub gsi_with_counts : List ℕ → List SubtitleValue → List ℕ
+gsi_with_counts g ts = with_counts (length (blocks_of_subtitles ts)) (length ts) g
 
 -- The normal form of a file with the GSI block g and the subtitles ts.
 abbrev pub normal_form : List ℕ → List SubtitleValue → List ℕ
-normal_form g ts = counted_gsi g ts ++ concat (all_blocks ts)
+normal_form g ts = gsi_with_counts g ts ++ concat (blocks_of_subtitles ts)
 
 -- ---- the subtitles of a file as one list
 
@@ -69,15 +69,15 @@ abbrev pub Judged : Type 0
 Judged = Result (List SubtitleValue) NormalFault
 
 -- Puts the subtitle s in front of the subtitles in a result.
-abbrev pub cons_judged : SubtitleValue → Judged → Judged
-cons_judged s (Ok ss) = Ok (s ∷ ss)
-cons_judged s (Err f) = Err f
+abbrev pub prepend_subtitle : SubtitleValue → Judged → Judged
+prepend_subtitle s (Ok ss) = Ok (s ∷ ss)
+prepend_subtitle s (Err f) = Err f
 
 -- The subtitles in a reader's results, or the first fault with the number of its block.
 abbrev pub subtitles_of : Outcome → Judged
 subtitles_of ends = Ok []
 subtitles_of (fails f block) = Err (Refused f block)
-subtitles_of (gives s block o) = cons_judged s (subtitles_of o)
+subtitles_of (gives s block o) = prepend_subtitle s (subtitles_of o)
 
 -- ---- the effect of `normal`
 
@@ -100,5 +100,5 @@ abbrev pub NormalAnswers :
     List ℕ → Option (List ℕ) → Option (List ℕ) → Result ℕ NormalFault → Type 0
 NormalAnswers s old new (Ok n) = WritesNormal s old new n
 NormalAnswers s old new (Err (Refused f block)) =
-    (subtitles_of (outcome_of s) ≡ Err (Refused f block)) × Keeps old new
+    (subtitles_of (outcome_of_file s) ≡ Err (Refused f block)) × Keeps old new
 NormalAnswers s old new (Err Write) = WritesPrefix s old new

@@ -8,11 +8,11 @@ use Rattle.stl_file.specs.declared.fault.StlFault.{StlFault}
 use Rattle.stl_file.specs.declared.fault.StlFault.TheVariants as fault
 use Rattle.stl_file.specs.declared.progress.Progress.{Progress}
 use Rattle.stl_file.specs.declared.progress.Progress.TheVariants.{Reading, AtEnd, Broken}
-use Rattle.stl_file.specs.Fault.{is_cut, is_file_read, is_format}
-use Rattle.stl_file.specs.Gsi.{gsi_size, gsi_at}
+use Rattle.stl_file.specs.Fault.{is_cut, is_file_read_failure, is_format_fault}
+use Rattle.stl_file.specs.Gsi.{gsi_size, checked_gsi}
 use Rattle.stl_file.specs.Scope.{whole}
 use Rattle.stl_file.specs.declared.scope.Scope.{Scope}
-use Rattle.stl_file.specs.Tti.{most_blocks, is_kept}
+use Rattle.stl_file.specs.Tti.{max_blocks, is_subtitle_block}
 use Rattle.stl_file.specs.Subtitle.{SubtitleValue}
 use Rattle.stl_file.specs.SubtitleBlocks.{IsBlock, AreBlocksOf, AreSubtitleBlocks}
 use Rattle.stl_file.specs.Reading.{StartedSubtitle, Findings, breaks, findings_from, finds, no_more}
@@ -28,9 +28,9 @@ pub record ReaderValue : Type 0 where
   pub progress : Progress
 
 -- A reader counts at most 99,999 blocks. Only after a fault may its block number be 100,000.
-abbrev pub HasPlace : Progress → ℕ → Type 0
-HasPlace Broken block = block ≤ most_blocks + 1
-HasPlace _ block = block ≤ most_blocks
+abbrev pub HasValidBlockNumber : Progress → ℕ → Type 0
+HasValidBlockNumber Broken block = block ≤ max_blocks + 1
+HasValidBlockNumber _ block = block ≤ max_blocks
 
 -- Converts a result of `next_into`, with its subtitle, to a result of `next`.
 abbrev pub yielded_subtitle :
@@ -46,21 +46,22 @@ abbrev pub outcome_from : ℕ → List ℕ → Outcome
 outcome_from block b = stopped (findings_from whole block None b)
 
 -- The results of all later calls, given the reader's progress, its block number and the bytes left.
-abbrev pub outcome_in : Progress → ℕ → List ℕ → Outcome
-outcome_in Reading block b = outcome_from block b
-outcome_in AtEnd block b = ends
-outcome_in Broken block b = fails fault.Ended block
+abbrev pub outcome_by_progress : Progress → ℕ → List ℕ → Outcome
+outcome_by_progress Reading block b = outcome_from block b
+outcome_by_progress AtEnd block b = ends
+outcome_by_progress Broken block b = fails fault.Ended block
 
 -- The results of all later calls of the reader r, given the bytes left.
-abbrev pub outcome_left : ReaderValue → List ℕ → Outcome
-outcome_left r b = outcome_in r.progress r.block b
+abbrev pub remaining_outcome : ReaderValue → List ℕ → Outcome
+remaining_outcome r b = outcome_by_progress r.progress r.block b
 
 -- The results of a call and of all later calls, given the call's result and the state after the
 -- call.
-abbrev pub outcome_with : ReaderValue → List ℕ → Result (Option SubtitleValue) StlFault → Outcome
-outcome_with r rest (Err f) = fails f r.block
-outcome_with r rest (Ok None) = ends
-outcome_with r rest (Ok (Some s)) = gives s r.block (outcome_left r rest)
+abbrev pub outcome_after_call : ReaderValue → List ℕ → Result (Option SubtitleValue) StlFault →
+    Outcome
+outcome_after_call r rest (Err f) = fails f r.block
+outcome_after_call r rest (Ok None) = ends
+outcome_after_call r rest (Ok (Some s)) = gives s r.block (remaining_outcome r rest)
 
 -- The call returns the first of the remaining results, with its block, and leaves the other
 -- results.
@@ -70,52 +71,52 @@ pub record GivesNextSubtitle
     : Type 0 where
   pub rest : List ℕ
   pub rest_eq : now ≡ Some rest
-  pub outcome : outcome_left old bytes ≡ outcome_with new rest result
+  pub outcome : remaining_outcome old bytes ≡ outcome_after_call new rest result
 
 -- ---- the results within one call of a reader
 
 -- The block to report for a fault after `block` blocks. `TooManyBlocks` and `Read` are reported for
 -- the block after the last block that was read.
-abbrev pub block_after : ℕ → StlFault → ℕ
-block_after block fault.TooManyBlocks = block + 1
-block_after block fault.Read = block + 1
-block_after block _ = block
+abbrev pub block_of_fault : ℕ → StlFault → ℕ
+block_of_fault block fault.TooManyBlocks = block + 1
+block_of_fault block fault.Read = block + 1
+block_of_fault block _ = block
 
 -- The block to report for a result, given the last block that was read or begun.
-abbrev pub block_by : ℕ → Result (Option SubtitleValue) StlFault → ℕ
-block_by block (Err f) = block_after block f
-block_by block (Ok found) = block
+abbrev pub reported_block : ℕ → Result (Option SubtitleValue) StlFault → ℕ
+reported_block block (Err f) = block_of_fault block f
+reported_block block (Ok found) = block
 
 -- If the bytes end with a complete block, that block is neither user data nor a comment.
-abbrev pub LastIsKept : List ℕ → Type 0
-LastIsKept bytes =
-    (prefix last : List ℕ) → bytes ≡ prefix ++ last → IsBlock last → is_kept last ≡ true
+abbrev pub LastIsSubtitleBlock : List ℕ → Type 0
+LastIsSubtitleBlock bytes =
+    (prefix last : List ℕ) → bytes ≡ prefix ++ last → IsBlock last → is_subtitle_block last ≡ true
 
 -- ---- the bytes that a call of a reader consumes
 
 -- The list of blocks has a last block, and the last block is neither user data nor a comment.
-abbrev pub EndsKept : List (List ℕ) → Type 0
-EndsKept [] = ⊥
-EndsKept (b ∷ []) = is_kept b ≡ true
-EndsKept (b ∷ c ∷ bs) = EndsKept (c ∷ bs)
+abbrev pub EndsWithSubtitleBlock : List (List ℕ) → Type 0
+EndsWithSubtitleBlock [] = ⊥
+EndsWithSubtitleBlock (b ∷ []) = is_subtitle_block b ≡ true
+EndsWithSubtitleBlock (b ∷ c ∷ bs) = EndsWithSubtitleBlock (c ∷ bs)
 
 -- The bytes consumed are the blocks of the subtitle s, with the skipped blocks before and inside
 -- them. The number of blocks read rises from `from` to `to`.
-pub record TakesSubtitle (from to : ℕ) (old new : Option (List ℕ)) (s : SubtitleValue) : Type 0
+pub record ConsumesSubtitle (from to : ℕ) (old new : Option (List ℕ)) (s : SubtitleValue) : Type 0
   where
     pub blocks : List (List ℕ)
     pub counted : from + length blocks ≡ to
     pub each : AllByRecursion IsBlock blocks
-    pub are_of : AreBlocksOf s (filter is_kept blocks)
-    pub ends : EndsKept blocks
+    pub are_subtitle_blocks : AreBlocksOf s (filter is_subtitle_block blocks)
+    pub ends : EndsWithSubtitleBlock blocks
     pub consumed : Consumes old new (concat blocks)
 
 -- The bytes consumed are only skipped blocks, followed by the end of the file.
-pub record TakesSkipped (from to : ℕ) (old new : Option (List ℕ)) : Type 0 where
+pub record ConsumesSkippedBlocks (from to : ℕ) (old new : Option (List ℕ)) : Type 0 where
   pub blocks : List (List ℕ)
   pub counted : from + length blocks ≡ to
   pub each : AllByRecursion IsBlock blocks
-  pub skipped : filter is_kept blocks ≡ []
+  pub skipped : filter is_subtitle_block blocks ≡ []
   pub consumed : Consumes old new (concat blocks)
   pub ended : IsAtEnd new
 
@@ -131,7 +132,7 @@ pub record Refuses (from to : ℕ) (old new : Option (List ℕ)) (f : StlFault) 
       → (is_cut f ≡ true → more ≡ [])
       → (bs : List (List ℕ))
       → (ts : List SubtitleValue)
-      → AreSubtitleBlocks whole (most_blocks - from) bs ts
+      → AreSubtitleBlocks whole (max_blocks - from) bs ts
       → concat bs ≡ bytes ++ more
       → ⊥
 
@@ -162,36 +163,36 @@ pub record FailsReading
 -- skipped blocks before and inside them. For `None`: only skipped blocks. For a fault of the
 -- format: bytes with which no file continues. If the source failed, the failure was at block `to`.
 -- Before the call, `from` blocks were read, and the next block begins a subtitle.
-abbrev pub TakesByAnswer :
+abbrev pub ConsumesByResult :
     ℕ → ℕ → Option (List ℕ) → Option (List ℕ) → Result (Option SubtitleValue) StlFault → Type 0
-TakesByAnswer from to old new (Ok (Some s)) = TakesSubtitle from to old new s
-TakesByAnswer from to old new (Ok None) = TakesSkipped from to old new
-TakesByAnswer from to old new (Err f) =
-    (is_format f ≡ true → Refuses from to old new f)
-    × (is_file_read f ≡ true → FailsReading whole from to None old new)
+ConsumesByResult from to old new (Ok (Some s)) = ConsumesSubtitle from to old new s
+ConsumesByResult from to old new (Ok None) = ConsumesSkippedBlocks from to old new
+ConsumesByResult from to old new (Err f) =
+    (is_format_fault f ≡ true → Refuses from to old new f)
+    × (is_file_read_failure f ≡ true → FailsReading whole from to None old new)
 
 -- The progress of a reader after a call, by the call's result.
-abbrev pub progress_after_answer : Progress → Result (Option SubtitleValue) StlFault → Progress
-progress_after_answer p (Err f) = Broken
-progress_after_answer p (Ok None) = AtEnd
-progress_after_answer p (Ok (Some s)) = p
+abbrev pub progress_after_result : Progress → Result (Option SubtitleValue) StlFault → Progress
+progress_after_result p (Err f) = Broken
+progress_after_result p (Ok None) = AtEnd
+progress_after_result p (Ok (Some s)) = p
 
 -- ---- opening a file
 
 -- The reader after the GSI block was read, or the fault of the GSI block.
-abbrev pub opened : Result (List ℕ) StlFault → Result ReaderValue StlFault
-opened (Err f) = Err f
-opened (Ok g) = Ok (record { gsi = g; block = 0; progress = Reading })
+abbrev pub reader_after_gsi : Result (List ℕ) StlFault → Result ReaderValue StlFault
+reader_after_gsi (Err f) = Err f
+reader_after_gsi (Ok g) = Ok (record { gsi = g; block = 0; progress = Reading })
 
 -- The GSI block of a file's bytes, or the block's first fault.
-unfoldable pub gsi_of : Bool → List ℕ → Result (List ℕ) StlFault
-gsi_of takes_open s =
+unfoldable pub checked_gsi_of_file : Bool → List ℕ → Result (List ℕ) StlFault
+checked_gsi_of_file takes_open s =
     if nat_lt (length s) gsi_size then Err fault.Truncated
-    else gsi_at takes_open (take gsi_size s)
+    else checked_gsi takes_open (take gsi_size s)
 
 -- The result of `open` for a file with the bytes s.
 abbrev pub open_result : List ℕ → Result ReaderValue StlFault
-open_result s = opened (gsi_of false s)
+open_result s = reader_after_gsi (checked_gsi_of_file false s)
 
 -- No file within the scope begins with the bytes consumed. For faults of a truncated file, no file
 -- consists of exactly these bytes.
@@ -216,19 +217,19 @@ RefusesOpening old new f = RefusesOpeningFor whole old new f
 
 -- The results of reading a whole file, given the result for its GSI block. A fault of the GSI block
 -- is reported for block 0.
-abbrev pub findings_opened : Scope → List ℕ → Result (List ℕ) StlFault → Findings
-findings_opened scope b (Err f) = breaks f 0
-findings_opened scope b (Ok g) = findings_from scope 0 None b
+abbrev pub findings_after_opening : Scope → List ℕ → Result (List ℕ) StlFault → Findings
+findings_after_opening scope b (Err f) = breaks f 0
+findings_after_opening scope b (Ok g) = findings_from scope 0 None b
 
 -- The results of reading the whole file s within the scope.
-unfoldable pub findings_for : Scope → List ℕ → Findings
-findings_for scope s =
-    findings_opened scope (drop gsi_size s) (gsi_of scope.takes_open s)
+unfoldable pub findings_within_scope : Scope → List ℕ → Findings
+findings_within_scope scope s =
+    findings_after_opening scope (drop gsi_size s) (checked_gsi_of_file scope.takes_open s)
 
 -- The results of reading the whole file s for Teletext.
-abbrev pub findings_of : List ℕ → Findings
-findings_of s = findings_for whole s
+abbrev pub findings_of_file : List ℕ → Findings
+findings_of_file s = findings_within_scope whole s
 
 -- The results of reading the whole file s, up to the first fault.
-abbrev pub outcome_of : List ℕ → Outcome
-outcome_of s = stopped (findings_of s)
+abbrev pub outcome_of_file : List ℕ → Outcome
+outcome_of_file s = stopped (findings_of_file s)

@@ -6,12 +6,14 @@ use Rattle.std.specs.Prelude.{if◌then◌else◌, Option, Some, None, Result, O
 use Rattle.sub_io.specs.Reading.{◌>>=◌}
 use Rattle.stl_file.specs.declared.fault.StlFault.{StlFault}
 use Rattle.stl_file.specs.declared.fault.StlFault.TheVariants as fault
-use Rattle.stl_file.specs.Fault.{is_of_first}
+use Rattle.stl_file.specs.Fault.{is_first_block_fault}
 use Rattle.stl_file.specs.Questions.{Questions, requested}
-use Rattle.stl_file.specs.TimeCode.{frame_in, is_time}
-use Rattle.stl_file.specs.Tti.{block_size, most_blocks, most_of_subtitle, first_reserved, user_data}
-use Rattle.stl_file.specs.Tti.{last_block, not_cumulative, is_comment, sgn, sn, ebn, cs, vp, jc, cf}
-use Rattle.stl_file.specs.Tti.{text_of, tci, tco}
+use Rattle.stl_file.specs.TimeCode.{frame_from_bytes, is_valid_time_field}
+use Rattle.stl_file.specs.Tti.{block_size, max_blocks, max_blocks_of_subtitle, first_reserved_ebn}
+use Rattle.stl_file.specs.Tti.{user_data_ebn}
+use Rattle.stl_file.specs.Tti.{last_block_ebn, not_cumulative, comment_flag, sgn, sn, ebn, cs, vp}
+use Rattle.stl_file.specs.Tti.{jc, cf}
+use Rattle.stl_file.specs.Tti.{text_of_block, tci, tco}
 use Rattle.stl_file.specs.Scope.{begins_outside}
 use Rattle.stl_file.specs.Subtitle.{SubtitleValue, empty_subtitle}
 use Rattle.stl_file.specs.declared.scope.Scope.{Scope}
@@ -34,98 +36,102 @@ pub data BlockStep : Type 0 where
   Yield : SubtitleValue → BlockStep
 
 -- The checks of the first block of a subtitle.
-abbrev pub required_of_first : List ℕ → Questions
-required_of_first b =
+abbrev pub first_block_checks : List ℕ → Questions
+first_block_checks b =
     (fault.Cumulative, not (cs b == not_cumulative))
     ∷ (fault.Justify, nat_lt 3 (jc b))
     ∷ (fault.Row, not (nat_le 1 (vp b) && nat_le (vp b) 23))
-    ∷ (fault.Time, not (is_time (tci b)))
-    ∷ (fault.Time, not (is_time (tco b)))
-    ∷ (fault.EmptyTime, not (nat_lt (frame_in (tci b)) (frame_in (tco b))))
+    ∷ (fault.Time, not (is_valid_time_field (tci b)))
+    ∷ (fault.Time, not (is_valid_time_field (tco b)))
+    ∷ (fault.EmptyTime, not (nat_lt (frame_from_bytes (tci b)) (frame_from_bytes (tco b))))
     ∷ []
 
 -- The subtitle that starts with the block b, with the text of that block.
-unfoldable pub first_at : List ℕ → Result SubtitleValue StlFault
-first_at b =
-    requested (required_of_first b) (Ok (record {
+unfoldable pub subtitle_of_first_block : List ℕ → Result SubtitleValue StlFault
+subtitle_of_first_block b =
+    requested (first_block_checks b) (Ok (record {
       sgn = sgn b;
       sn = sn b;
-      tci = frame_in (tci b);
-      tco = frame_in (tco b);
+      tci = frame_from_bytes (tci b);
+      tco = frame_from_bytes (tco b);
       vp = vp b;
       jc = jc b;
-      text = text_of b;
+      text = text_of_block b;
     }))
 
 -- The checks of the second and each later block of a subtitle.
-abbrev pub required_of_further : StartedSubtitle → List ℕ → Questions
-required_of_further begun b =
+abbrev pub later_block_checks : StartedSubtitle → List ℕ → Questions
+later_block_checks begun b =
     (fault.Sequence, not ((sgn b == begun.subtitle.sgn) && (sn b == begun.subtitle.sn)))
-    ∷ (fault.TooLong, begun.blocks == most_of_subtitle)
+    ∷ (fault.TooLong, begun.blocks == max_blocks_of_subtitle)
     ∷ []
 
 -- The effect of a block with EBN n: FF ends a subtitle, any other EBN continues it. A skipped
 -- subtitle is not returned.
-abbrev pub closed : ℕ → StartedSubtitle → BlockStep
-closed n begun =
-    if n == last_block then (if begun.is_skipped then More None else Yield begun.subtitle)
+abbrev pub step_after_block : ℕ → StartedSubtitle → BlockStep
+step_after_block n begun =
+    if n == last_block_ebn then (if begun.is_skipped then More None else Yield begun.subtitle)
     else More (Some begun)
 
 -- A skipped subtitle that starts with the block b. Its later blocks must have the same SGN and SN,
 -- and it must have at most 9 blocks.
-abbrev pub started_skipped : List ℕ → StartedSubtitle
-started_skipped b = record {
+abbrev pub skipped_subtitle_from : List ℕ → StartedSubtitle
+skipped_subtitle_from b = record {
   subtitle = record empty_subtitle { sgn = sgn b; sn = sn b };
   blocks = 1;
   is_skipped = true;
 }
 
 -- The skipped subtitle that continues after its first block b; `None` if b is also its last block.
-abbrev pub skipped_at : List ℕ → Option StartedSubtitle
-skipped_at b = if ebn b == last_block then None else Some (started_skipped b)
+abbrev pub skipped_after_first_block : List ℕ → Option StartedSubtitle
+skipped_after_first_block b = if ebn b == last_block_ebn then None else Some
+    (skipped_subtitle_from b)
 
 -- The effect of a block of a subtitle: its first block, or a later block of the current subtitle.
 -- The first block of a subtitle outside the scope is not checked.
-unfoldable pub block_step_at : Scope → Option StartedSubtitle → List ℕ → Result BlockStep StlFault
-block_step_at scope None b =
-    if begins_outside scope b then Ok (More (skipped_at b))
+unfoldable pub subtitle_block_step : Scope → Option StartedSubtitle → List ℕ → Result BlockStep
+    StlFault
+subtitle_block_step scope None b =
+    if begins_outside scope b then Ok (More (skipped_after_first_block b))
     else do
-      s ← first_at b
-      Ok (closed (ebn b) (record { subtitle = s; blocks = 1; is_skipped = false }))
-block_step_at scope (Some begun) b =
-    requested (required_of_further begun b) (Ok (closed (ebn b) (record begun {
-      subtitle = record begun.subtitle { text = begun.subtitle.text ++ text_of b };
+      s ← subtitle_of_first_block b
+      Ok (step_after_block (ebn b) (record { subtitle = s; blocks = 1; is_skipped = false }))
+subtitle_block_step scope (Some begun) b =
+    requested (later_block_checks begun b) (Ok (step_after_block (ebn b) (record begun {
+      subtitle = record begun.subtitle { text = begun.subtitle.text ++ text_of_block b };
       blocks = begun.blocks + 1;
     })))
 
 -- The current subtitle, given its contents so far and the state of reading its blocks.
-abbrev pub started_by : SubtitleValue → BlocksRead → StartedSubtitle
-started_by s read = record { subtitle = s; blocks = read.count; is_skipped = read.is_skipped }
+abbrev pub started_subtitle_of : SubtitleValue → BlocksRead → StartedSubtitle
+started_subtitle_of s read = record
+    { subtitle = s; blocks = read.count; is_skipped = read.is_skipped }
 
 -- The current subtitle; `None` before the first block of a subtitle.
-abbrev pub started_in : SubtitleValue → BlocksRead → Option StartedSubtitle
-started_in s read = if read.count == 0 then None else Some (started_by s read)
+abbrev pub current_subtitle : SubtitleValue → BlocksRead → Option StartedSubtitle
+current_subtitle s read = if read.count == 0 then None else Some (started_subtitle_of s read)
 
 -- The effect of a block, given the contents and the state that the block leaves, and whether the
 -- subtitle is complete.
-abbrev pub step_in : SubtitleValue → BlocksRead → Result Bool StlFault → Result BlockStep StlFault
-step_in s read (Err f) = Err f
-step_in s read (Ok true) = Ok (Yield s)
-step_in s read (Ok false) = Ok (More (started_in s read))
+abbrev pub step_by_result : SubtitleValue → BlocksRead → Result Bool StlFault → Result BlockStep
+    StlFault
+step_by_result s read (Err f) = Err f
+step_by_result s read (Ok true) = Ok (Yield s)
+step_by_result s read (Ok false) = Ok (More (current_subtitle s read))
 
 -- The checks of every block except user data.
-abbrev pub required_of_block : List ℕ → Questions
-required_of_block b =
-    (fault.Extension, nat_le first_reserved (ebn b) && not (ebn b == last_block))
-    ∷ (fault.CommentFlag, nat_lt is_comment (cf b))
+abbrev pub every_block_checks : List ℕ → Questions
+every_block_checks b =
+    (fault.Extension, nat_le first_reserved_ebn (ebn b) && not (ebn b == last_block_ebn))
+    ∷ (fault.CommentFlag, nat_lt comment_flag (cf b))
     ∷ []
 
 -- The effect of any block. User data and comments do not change the current subtitle.
-unfoldable pub step_at : Scope → Option StartedSubtitle → List ℕ → Result BlockStep StlFault
-step_at scope begun b =
-    if ebn b == user_data then Ok (More begun)
-    else requested (required_of_block b)
-    (if cf b == is_comment then Ok (More begun) else block_step_at scope begun b)
+unfoldable pub tti_block_step : Scope → Option StartedSubtitle → List ℕ → Result BlockStep StlFault
+tti_block_step scope begun b =
+    if ebn b == user_data_ebn then Ok (More begun)
+    else requested (every_block_checks b)
+    (if cf b == comment_flag then Ok (More begun) else subtitle_block_step scope begun b)
 
 -- ---- reading all following TTI blocks
 
@@ -144,30 +150,32 @@ pub data Findings : Type 0 where
   refuses : StlFault → ℕ → Findings → Findings
 
 -- The results after the block b, if `room` more blocks may follow.
-abbrev pub findings_after :
+abbrev pub findings_after_block :
     ℕ → (Option StartedSubtitle → Findings) → List ℕ → Result BlockStep StlFault → Findings
-findings_after room next b (Err f) =
-    if is_of_first f then refuses f (most_blocks - room) (next (skipped_at b))
-    else breaks f (most_blocks - room)
-findings_after room next b (Ok (More begun)) = next begun
-findings_after room next b (Ok (Yield s)) = finds s (most_blocks - room) (next None)
+findings_after_block room next b (Err f) =
+    if is_first_block_fault f then refuses f (max_blocks - room)
+    (next (skipped_after_first_block b))
+    else breaks f (max_blocks - room)
+findings_after_block room next b (Ok (More begun)) = next begun
+findings_after_block room next b (Ok (Yield s)) = finds s (max_blocks - room) (next None)
 
 -- The results for bytes after the GSI block, if `room` blocks may still follow and `begun` is the
 -- current subtitle. If the file ends within a subtitle, the last complete block is reported; for
 -- every other fault, the block that was begun. A byte after 99,999 blocks is a block too many.
-unfoldable pub findings_at : Scope → ℕ → Option StartedSubtitle → List ℕ → Findings
-findings_at scope room None [] = no_more
-findings_at scope room (Some begun) [] = breaks fault.Unfinished (most_blocks - room)
-findings_at scope zero begun (x ∷ b) = breaks fault.TooManyBlocks (most_blocks + 1)
-findings_at scope (suc room) begun (x ∷ b) =
-    if nat_lt (length (x ∷ b)) block_size then breaks fault.Truncated (most_blocks - room)
-    else findings_after room (λ next. findings_at scope room next (drop block_size (x ∷ b)))
-    (take block_size (x ∷ b)) (step_at scope begun (take block_size (x ∷ b)))
+unfoldable pub findings_with_room : Scope → ℕ → Option StartedSubtitle → List ℕ → Findings
+findings_with_room scope room None [] = no_more
+findings_with_room scope room (Some begun) [] = breaks fault.Unfinished (max_blocks - room)
+findings_with_room scope zero begun (x ∷ b) = breaks fault.TooManyBlocks (max_blocks + 1)
+findings_with_room scope (suc room) begun (x ∷ b) =
+    if nat_lt (length (x ∷ b)) block_size then breaks fault.Truncated (max_blocks - room)
+    else findings_after_block room
+    (λ next. findings_with_room scope room next (drop block_size (x ∷ b)))
+    (take block_size (x ∷ b)) (tti_block_step scope begun (take block_size (x ∷ b)))
 
 -- The results for the bytes b after `block` TTI blocks, either before the next subtitle or within a
 -- rejected subtitle.
 abbrev pub findings_from : Scope → ℕ → Option StartedSubtitle → List ℕ → Findings
-findings_from scope block refused b = findings_at scope (most_blocks - block) refused b
+findings_from scope block refused b = findings_with_room scope (max_blocks - block) refused b
 
 -- ---- reading up to the first fault
 
@@ -192,4 +200,4 @@ stopped (refuses f block more) = fails f block
 abbrev pub StartedSubtitleFits : Option StartedSubtitle → Type 0
 StartedSubtitleFits None = Unit {0}
 StartedSubtitleFits (Some begun) =
-    (length begun.subtitle.text ≤ 112 * begun.blocks) × (begun.blocks ≤ most_of_subtitle)
+    (length begun.subtitle.text ≤ 112 * begun.blocks) × (begun.blocks ≤ max_blocks_of_subtitle)

@@ -2,7 +2,7 @@
 -- TCI.
 use Rattle.std.specs.Prelude.{ℕ, Bool, false, not, ◌&&◌, nat_le, nat_lt, List, [], ◌∷◌}
 use Rattle.stl_file.specs.declared.scope.Scope.{Scope}
-use Rattle.stl_file.specs.TimeCode.{day, frame_in, is_time}
+use Rattle.stl_file.specs.TimeCode.{day, frame_from_bytes, is_valid_time_field}
 use Rattle.stl_file.specs.Tti.{tci}
 
 -- The scope of all subtitles of a file for Teletext.
@@ -12,8 +12,9 @@ whole = record { takes_open = false; from = 0; to = day }
 -- The TCI of the block b is a valid time code outside the scope's range of frames.
 unfoldable pub begins_outside : Scope → List ℕ → Bool
 begins_outside scope b =
-    is_time (tci b)
-    && not (nat_le scope.from (frame_in (tci b)) && nat_lt (frame_in (tci b)) scope.to)
+    is_valid_time_field (tci b)
+    && not (nat_le scope.from (frame_from_bytes (tci b)) && nat_lt (frame_from_bytes (tci b))
+    scope.to)
 
 -- The blocks of a subtitle are outside the scope: the TCI of the first block is.
 abbrev pub is_outside : Scope → List (List ℕ) → Bool

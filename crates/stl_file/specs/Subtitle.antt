@@ -26,14 +26,14 @@ abbrev pub empty_subtitle : SubtitleValue
 empty_subtitle = record { sgn = 0; sn = 0; tci = 0; tco = 1; vp = 1; jc = 0; text = [] }
 
 -- The maximum number of bytes of a subtitle's text: nine blocks of 112 bytes each.
-abbrev pub most_text : ℕ
-most_text = 1008
+abbrev pub max_text_size : ℕ
+max_text_size = 1008
 
 -- The text contains no unused space (8F). A text field is padded with 8F, and its text ends before
 -- the first 8F, so a subtitle's text never contains that byte.
-abbrev pub has_no_unused : List ℕ → Bool
-has_no_unused [] = true
-has_no_unused (x ∷ xs) = if x == unused_space then false else has_no_unused xs
+abbrev pub has_no_unused_space : List ℕ → Bool
+has_no_unused_space [] = true
+has_no_unused_space (x ∷ xs) = if x == unused_space then false else has_no_unused_space xs
 
 -- A valid subtitle: TCI is before TCO and both are in the day, the row is 1 to 23, the
 -- justification code 0 to 3, and the text has no unused space and at most 1008 bytes. SGN, SN and
@@ -43,5 +43,5 @@ pub record IsSubtitle (s : SubtitleValue) : Type 0 where
   pub in_day : s.tco < day
   pub vp : (1 ≤ s.vp) × (s.vp ≤ 23)
   pub jc : s.jc ≤ 3
-  pub text : has_no_unused s.text ≡ true
-  pub few : length s.text ≤ most_text
+  pub text : has_no_unused_space s.text ≡ true
+  pub few : length s.text ≤ max_text_size

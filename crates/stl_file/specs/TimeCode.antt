@@ -17,13 +17,14 @@ is_time_code hours minutes seconds frames =
     nat_lt hours 24 && nat_lt minutes 60 && nat_lt seconds 60 && nat_lt frames 25
 
 -- The four bytes b are a valid time code at 25 frames per second.
-unfoldable pub is_time : List ℕ → Bool
-is_time b =
+unfoldable pub is_valid_time_field : List ℕ → Bool
+is_valid_time_field b =
     is_time_code (slice_index b 0) (slice_index b 1) (slice_index b 2) (slice_index b 3)
 
 -- The frame of the day for the four bytes of a time code.
-unfoldable pub frame_in : List ℕ → ℕ
-frame_in b = frame_of (slice_index b 0) (slice_index b 1) (slice_index b 2) (slice_index b 3)
+unfoldable pub frame_from_bytes : List ℕ → ℕ
+frame_from_bytes b = frame_of (slice_index b 0) (slice_index b 1) (slice_index b 2)
+    (slice_index b 3)
 
 -- The four bytes of a time code: hours, minutes, seconds and frames of a frame of the day.
 abbrev pub time_bytes : ℕ → List ℕ

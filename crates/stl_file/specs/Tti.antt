@@ -22,24 +22,24 @@ abbrev pub block_size : ℕ
 block_size = 128
 
 -- The maximum number of TTI blocks of a file: TNB has five digits.
-abbrev pub most_blocks : ℕ
-most_blocks = 99999
+abbrev pub max_blocks : ℕ
+max_blocks = 99999
 
 -- The maximum number of blocks of a subtitle, this project's choice.
-abbrev pub most_of_subtitle : ℕ
-most_of_subtitle = 9
+abbrev pub max_blocks_of_subtitle : ℕ
+max_blocks_of_subtitle = 9
 
 -- The first reserved EBN: a subtitle continues after each smaller EBN.
-abbrev pub first_reserved : ℕ
-first_reserved = 0xF0
+abbrev pub first_reserved_ebn : ℕ
+first_reserved_ebn = 0xF0
 
 -- The EBN of a block with user data.
-abbrev pub user_data : ℕ
-user_data = 0xFE
+abbrev pub user_data_ebn : ℕ
+user_data_ebn = 0xFE
 
 -- The EBN of a subtitle's last block.
-abbrev pub last_block : ℕ
-last_block = 0xFF
+abbrev pub last_block_ebn : ℕ
+last_block_ebn = 0xFF
 
 -- The CS of a subtitle that is not part of a cumulative set.
 abbrev pub not_cumulative : ℕ
@@ -50,8 +50,8 @@ abbrev pub no_comment : ℕ
 no_comment = 0x00
 
 -- The CF of a block that is a comment.
-abbrev pub is_comment : ℕ
-is_comment = 0x01
+abbrev pub comment_flag : ℕ
+comment_flag = 0x01
 
 -- The byte of a text field that means unused space: the text ends before the first of these bytes.
 abbrev pub unused_space : ℕ
@@ -98,20 +98,21 @@ abbrev pub tf : List ℕ → List ℕ
 tf b = drop 16 b
 
 -- The bytes of a text field before the first unused space (8F).
-abbrev pub before_unused : List ℕ → List ℕ
-before_unused [] = []
-before_unused (x ∷ xs) = if x == unused_space then [] else x ∷ before_unused xs
+abbrev pub bytes_before_unused_space : List ℕ → List ℕ
+bytes_before_unused_space [] = []
+bytes_before_unused_space (x ∷ xs) = if x == unused_space then [] else x ∷ bytes_before_unused_space
+    xs
 
 -- The text of a TTI block: its text field before the first unused space.
-abbrev pub text_of : List ℕ → List ℕ
-text_of b = before_unused (tf b)
+abbrev pub text_of_block : List ℕ → List ℕ
+text_of_block b = bytes_before_unused_space (tf b)
 
 -- The block is skipped, because it is user data (whatever its CF) or a comment.
 abbrev pub is_skipped_block : List ℕ → Bool
 is_skipped_block b =
-    (ebn b == user_data)
-    || ((nat_lt (ebn b) first_reserved || (ebn b == last_block)) && (cf b == is_comment))
+    (ebn b == user_data_ebn)
+    || ((nat_lt (ebn b) first_reserved_ebn || (ebn b == last_block_ebn)) && (cf b == comment_flag))
 
 -- The block is not skipped: it is neither user data nor a comment.
-abbrev pub is_kept : List ℕ → Bool
-is_kept b = not (is_skipped_block b)
+abbrev pub is_subtitle_block : List ℕ → Bool
+is_subtitle_block b = not (is_skipped_block b)

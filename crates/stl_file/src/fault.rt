@@ -51,11 +51,11 @@ pub enum StlFault {
 }
 
 impl StlFault {
-    ghost use Rattle.stl_file.specs.Fault.{is_of_first, stl_code};
+    ghost use Rattle.stl_file.specs.Fault.{is_first_block_fault, code_of_stl_fault};
 
     /// Returns the number and the name of the fault for reports.
     pub fn code(self) -> FaultCode
-        ensures { result ≡ stl_code self }
+        ensures { result ≡ code_of_stl_fault self }
     {
         match self {
             StlFault::Truncated => FaultCode::new(10, "Truncated"),
@@ -81,8 +81,8 @@ impl StlFault {
 
     // Returns whether the fault is in the fields of a subtitle's first block, so the end of the
     // subtitle is still known.
-    pub(crate) fn is_of_first(&self) -> bool
-        ensures { result ≡ is_of_first self.now }
+    pub(crate) fn is_first_block_fault(&self) -> bool
+        ensures { result ≡ is_first_block_fault self.now }
     {
         match self {
             StlFault::Cumulative
@@ -118,11 +118,11 @@ pub enum NormalFault {
 }
 
 impl NormalFault {
-    ghost use Rattle.stl_file.specs.Fault.{normal_code};
+    ghost use Rattle.stl_file.specs.Fault.{code_of_normal_fault};
 
     /// Returns the number and the name of the error for reports.
     pub fn code(self) -> FaultCode
-        ensures { result ≡ normal_code self }
+        ensures { result ≡ code_of_normal_fault self }
     {
         match self {
             NormalFault::Refused { fault, .. } => fault.code(),

@@ -1,8 +1,8 @@
 //! GSI blocks (EBU Tech 3264), stored as the bytes that were read.
 
 ghost use Rattle.std.specs.Prelude.{◌≡◌, ◌+◌, ◌<◌, ◌≤◌, IfErr, IfOk, length, true};
-ghost use Rattle.stl_file.specs.Fault.{is_format};
-ghost use Rattle.stl_file.specs.Gsi.{IsGsiFor, cct, dfc, dsc, field, five_digits, gsi_at};
+ghost use Rattle.stl_file.specs.Fault.{is_format_fault};
+ghost use Rattle.stl_file.specs.Gsi.{IsGsiFor, cct, dfc, dsc, field, five_digits, checked_gsi};
 ghost use Rattle.stl_file.specs.Gsi.{with_counts};
 ghost use Rattle.stl_file.specs.GsiFields.{cd, co, cpn, dsn, ecd, en, lc, mnc, mnr, oet, opt};
 ghost use Rattle.stl_file.specs.GsiFields.{publisher, rd, rn, slr, spare, tcd, tcf, tcp, tcs};
@@ -73,7 +73,7 @@ impl Gsi {
 
     /// Sets TNB and TNS, the numbers of TTI blocks and of subtitles, to five decimal digits each
     /// with leading zeros. All other bytes are unchanged.
-    #[tactic(auto, using(crate::proofs::GsiLemmas::counts_put))]
+    #[tactic(auto, using(crate::proofs::GsiLemmas::counts_replace_ten_bytes))]
     pub fn set_counts(&mut self, tnb: u32, tns: u32)
         requires blocks { tnb < 100000 }
         requires subtitles { tns < 100000 }
@@ -97,10 +97,10 @@ impl Gsi {
     }
 
     // Returns the GSI block if a file with this block is accepted, or the block's first fault.
-    #[tactic(auto, unfolding(crate::specs::Gsi::gsi_at))]
-    pub(crate) fn checked(self, takes_open: bool) -> Result<Gsi, StlFault>
-        ensures exact { gsi_at takes_open self ≡ result }
-        ensures kind { IfErr result (λ fault. is_format fault ≡ true) }
+    #[tactic(auto, unfolding(crate::specs::Gsi::checked_gsi))]
+    pub(crate) fn validate(self, takes_open: bool) -> Result<Gsi, StlFault>
+        ensures exact { checked_gsi takes_open self ≡ result }
+        ensures kind { IfErr result (λ fault. is_format_fault fault ≡ true) }
         ensures sound { IfOk result (λ g. (g ≡ self) × IsGsiFor takes_open g) }
     {
         let dfc = self.dfc();
@@ -121,7 +121,7 @@ impl Gsi {
         Ok(self)
     }
 
-    fn field_at(&self, at: usize, len: usize) -> &[u8]
+    fn field_bytes(&self, at: usize, len: usize) -> &[u8]
         requires { at + len ≤ 1024 }
         ensures { result.now ≡ field at len self.now }
     {
@@ -134,14 +134,14 @@ impl Gsi {
     pub fn cpn(&self) -> &[u8]
         ensures { result.now ≡ cpn self.now }
     {
-        self.field_at(0, 3)
+        self.field_bytes(0, 3)
     }
 
     /// Returns the GSI field DFC, the disk format code: `STL25.01` in a file that is accepted.
     pub fn dfc(&self) -> &[u8]
         ensures { result.now ≡ dfc self.now }
     {
-        self.field_at(3, 8)
+        self.field_bytes(3, 8)
     }
 
     /// Returns the GSI field DSC, the display standard code: `1` or `2` in a file for Teletext.
@@ -155,84 +155,84 @@ impl Gsi {
     pub fn cct(&self) -> &[u8]
         ensures { result.now ≡ cct self.now }
     {
-        self.field_at(12, 2)
+        self.field_bytes(12, 2)
     }
 
     /// Returns the GSI field LC, the language code.
     pub fn lc(&self) -> &[u8]
         ensures { result.now ≡ lc self.now }
     {
-        self.field_at(14, 2)
+        self.field_bytes(14, 2)
     }
 
     /// Returns the GSI field OPT, the original programme title.
     pub fn opt(&self) -> &[u8]
         ensures { result.now ≡ opt self.now }
     {
-        self.field_at(16, 32)
+        self.field_bytes(16, 32)
     }
 
     /// Returns the GSI field OET, the original episode title.
     pub fn oet(&self) -> &[u8]
         ensures { result.now ≡ oet self.now }
     {
-        self.field_at(48, 32)
+        self.field_bytes(48, 32)
     }
 
     /// Returns the GSI field TPT, the translated programme title.
     pub fn tpt(&self) -> &[u8]
         ensures { result.now ≡ tpt self.now }
     {
-        self.field_at(80, 32)
+        self.field_bytes(80, 32)
     }
 
     /// Returns the GSI field TET, the translated episode title.
     pub fn tet(&self) -> &[u8]
         ensures { result.now ≡ tet self.now }
     {
-        self.field_at(112, 32)
+        self.field_bytes(112, 32)
     }
 
     /// Returns the GSI field TN, the translator's name.
     pub fn tn(&self) -> &[u8]
         ensures { result.now ≡ tn self.now }
     {
-        self.field_at(144, 32)
+        self.field_bytes(144, 32)
     }
 
     /// Returns the GSI field TCD, the translator's contact details.
     pub fn tcd(&self) -> &[u8]
         ensures { result.now ≡ tcd self.now }
     {
-        self.field_at(176, 32)
+        self.field_bytes(176, 32)
     }
 
     /// Returns the GSI field SLR, the subtitle list reference code.
     pub fn slr(&self) -> &[u8]
         ensures { result.now ≡ slr self.now }
     {
-        self.field_at(208, 16)
+        self.field_bytes(208, 16)
     }
 
     /// Returns the GSI field CD, the creation date, as YYMMDD.
     pub fn cd(&self) -> &[u8]
         ensures { result.now ≡ cd self.now }
     {
-        self.field_at(224, 6)
+        self.field_bytes(224, 6)
     }
 
     /// Returns the GSI field RD, the revision date, as YYMMDD.
     pub fn rd(&self) -> &[u8]
         ensures { result.now ≡ rd self.now }
     {
-        self.field_at(230, 6)
+        self.field_bytes(230, 6)
     }
 
     /// Returns the GSI field RN, the revision number.
     pub fn rn(&self) -> &[u8]
         ensures { result.now ≡ rn self.now }
     {
-        self.field_at(236, 2)
+        self.field_bytes(236, 2)
     }
 
     /// Returns the GSI field TNB, the number of TTI blocks. The value is not compared with the
@@ -240,35 +240,35 @@ impl Gsi {
     pub fn tnb(&self) -> &[u8]
         ensures { result.now ≡ tnb self.now }
     {
-        self.field_at(238, 5)
+        self.field_bytes(238, 5)
     }
 
     /// Returns the GSI field TNS, the number of subtitles. The value is not compared with the file.
     pub fn tns(&self) -> &[u8]
         ensures { result.now ≡ tns self.now }
     {
-        self.field_at(243, 5)
+        self.field_bytes(243, 5)
     }
 
     /// Returns the GSI field TNG, the number of subtitle groups.
     pub fn tng(&self) -> &[u8]
         ensures { result.now ≡ tng self.now }
     {
-        self.field_at(248, 3)
+        self.field_bytes(248, 3)
     }
 
     /// Returns the GSI field MNC, the maximum number of characters in a row.
     pub fn mnc(&self) -> &[u8]
         ensures { result.now ≡ mnc self.now }
     {
-        self.field_at(251, 2)
+        self.field_bytes(251, 2)
     }
 
     /// Returns the GSI field MNR, the maximum number of rows.
     pub fn mnr(&self) -> &[u8]
         ensures { result.now ≡ mnr self.now }
     {
-        self.field_at(253, 2)
+        self.field_bytes(253, 2)
     }
 
     /// Returns the GSI field TCS, the time code status.
@@ -282,14 +282,14 @@ impl Gsi {
     pub fn tcp(&self) -> &[u8]
         ensures { result.now ≡ tcp self.now }
     {
-        self.field_at(256, 8)
+        self.field_bytes(256, 8)
     }
 
     /// Returns the GSI field TCF, the time code of the first in-cue.
     pub fn tcf(&self) -> &[u8]
         ensures { result.now ≡ tcf self.now }
     {
-        self.field_at(264, 8)
+        self.field_bytes(264, 8)
     }
 
     /// Returns the GSI field TND, the number of disks.
@@ -310,41 +310,41 @@ impl Gsi {
     pub fn co(&self) -> &[u8]
         ensures { result.now ≡ co self.now }
     {
-        self.field_at(274, 3)
+        self.field_bytes(274, 3)
     }
 
     /// Returns the GSI field PUB, the publisher.
     pub fn publisher(&self) -> &[u8]
         ensures { result.now ≡ publisher self.now }
     {
-        self.field_at(277, 32)
+        self.field_bytes(277, 32)
     }
 
     /// Returns the GSI field EN, the editor's name.
     pub fn en(&self) -> &[u8]
         ensures { result.now ≡ en self.now }
     {
-        self.field_at(309, 32)
+        self.field_bytes(309, 32)
     }
 
     /// Returns the GSI field ECD, the editor's contact details.
     pub fn ecd(&self) -> &[u8]
         ensures { result.now ≡ ecd self.now }
     {
-        self.field_at(341, 32)
+        self.field_bytes(341, 32)
     }
 
     /// Returns the spare bytes of the GSI block, 373 to 447.
     pub fn spare(&self) -> &[u8]
         ensures { result.now ≡ spare self.now }
     {
-        self.field_at(373, 75)
+        self.field_bytes(373, 75)
     }
 
     /// Returns the GSI field UDA, the user-defined area.
     pub fn uda(&self) -> &[u8]
         ensures { result.now ≡ uda self.now }
     {
-        self.field_at(448, 576)
+        self.field_bytes(448, 576)
     }
 }

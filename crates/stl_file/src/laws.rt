@@ -2,8 +2,8 @@
 
 ghost use Rattle.std.specs.Prelude.{◌≡◌, ◌↔◌, ℕ, List, Ok, take};
 ghost use Rattle.stl_file.specs.File.{IsFile, IsFileFor};
-ghost use Rattle.stl_file.specs.NormalForm.{counted_gsi, normal_form, subtitles_of};
-ghost use Rattle.stl_file.specs.Reader.{findings_for};
+ghost use Rattle.stl_file.specs.NormalForm.{gsi_with_counts, normal_form, subtitles_of};
+ghost use Rattle.stl_file.specs.Reader.{findings_within_scope};
 ghost use Rattle.stl_file.specs.Reading.{stopped};
 ghost use Rattle.stl_file.specs.Subtitle.{SubtitleValue};
 ghost use Rattle.stl_file.specs.KeptBlocks.{LawOfWholeDay, LawOfScope};
@@ -18,7 +18,7 @@ pub fn law_of_files()
         → (s g : List ℕ)
         → (ts : List SubtitleValue)
         → IsFileFor scope s g ts
-        ↔ ((g ≡ take 1024 s) × (subtitles_of (stopped (findings_for scope s)) ≡ Ok ts)) }
+        ↔ ((g ≡ take 1024 s) × (subtitles_of (stopped (findings_within_scope scope s)) ≡ Ok ts)) }
 {}
 
 /// Reading a file with a scope gives the same results as reading, for the whole day, the file
@@ -44,7 +44,7 @@ pub fn law_of_normal_form()
     ensures { (s g : List ℕ)
         → (ts : List SubtitleValue)
         → IsFile s g ts
-        → IsFile (normal_form g ts) (counted_gsi g ts) ts }
+        → IsFile (normal_form g ts) (gsi_with_counts g ts) ts }
 {}
 
 /// The normal form of a normal form is the normal form itself.

@@ -3,14 +3,15 @@
 ghost use Rattle.std.specs.Prelude.{◌≡◌, ◌≢◌, ◌+◌, ◌<◌, ◌≤◌, ◌++◌, length, true};
 ghost use Rattle.std.specs.Prelude.{IfErr, IfOk, Ok, is_ok};
 ghost use Rattle.std.specs.List.{concat};
-ghost use Rattle.sub_io.specs.Device.{CanFail, CountsFailure, CountsIf, Writes, failed};
+ghost use Rattle.sub_io.specs.Device.{CanFail, CountsFailure, CountsFailureIf, Writes, failed};
 ghost use Rattle.stl_file.specs.declared.fault.NormalFault.TheVariants.{Write};
 ghost use Rattle.stl_file.specs.declared.progress.Progress.TheVariants.{Reading};
-ghost use Rattle.stl_file.specs.Fault.{is_normal_write};
-ghost use Rattle.stl_file.specs.NormalForm.{NormalAnswers, all_blocks, blocks_of, subtitles_of};
-ghost use Rattle.stl_file.specs.NormalCounts.{given, judged_on, normal_counts};
-ghost use Rattle.stl_file.specs.Reader.{outcome_from, outcome_left};
-ghost use Rattle.stl_file.specs.Tti.{most_blocks};
+ghost use Rattle.stl_file.specs.Fault.{is_normal_write_failure};
+ghost use Rattle.stl_file.specs.NormalForm.{NormalAnswers, blocks_of_subtitles, blocks_of};
+ghost use Rattle.stl_file.specs.NormalForm.{subtitles_of};
+ghost use Rattle.stl_file.specs.NormalCounts.{accepted_subtitles, judged_after_call, normal_counts};
+ghost use Rattle.stl_file.specs.Reader.{outcome_from, remaining_outcome};
+ghost use Rattle.stl_file.specs.Tti.{max_blocks};
 
 use crate::counts::Counts;
 use crate::fault::{NormalFault, StlFault};
@@ -33,7 +34,8 @@ use sub_io::{Failed, MemSource, Sink, put_all};
 pub fn normal<K: Sink>(file: &[u8], sink: &mut K) -> Result<u32, NormalFault>
     requires { CanFail (K.failure_count sink.old) }
     ensures answer { NormalAnswers file.now (K.contents sink.old) (K.contents sink.new) result }
-    ensures count { CountsIf K.failure_count sink.old (failed is_normal_write result) sink.new }
+    ensures count { CountsFailureIf K.failure_count sink.old (failed is_normal_write_failure result)
+        sink.new }
 {
     let mut source = MemSource::new(file);
     let reader = match StlReader::open(&mut source) {
@@ -42,15 +44,15 @@ pub fn normal<K: Sink>(file: &[u8], sink: &mut K) -> Result<u32, NormalFault>
     };
     let mut gsi = reader.gsi();
     let (_, body) = file.split_at(1024);
-    let counts = judge(gsi, body)?;
+    let counts = compute_counts(gsi, body)?;
     gsi.set_counts(counts.tnb, counts.tns);
-    put_normal(gsi, body, sink)?;
+    write_normal_form(gsi, body, sink)?;
     Ok(counts.tns)
 }
 
 // Reads all blocks after the GSI block, and computes the counts of the normal form.
 #[tactic(auto, using(crate::proofs::NormalCountsLemmas::judging))]
-fn judge(gsi: Gsi, body: &[u8]) -> Result<Counts, NormalFault>
+fn compute_counts(gsi: Gsi, body: &[u8]) -> Result<Counts, NormalFault>
     ensures exact { normal_counts (subtitles_of (outcome_from 0 body.now)) ≡ result }
     ensures kind { IfErr result (λ fault. fault ≢ Write) }
     ensures few { IfOk result (λ counts. (counts.tnb < 100000) × (counts.tns < 100000)) }
@@ -60,9 +62,9 @@ fn judge(gsi: Gsi, body: &[u8]) -> Result<Counts, NormalFault>
     let mut subtitle = Subtitle::empty();
     let mut counts = Counts { tnb: 0, tns: 0 };
     'subtitles: loop {
-        match read_on(&mut reader, &mut source, &mut subtitle) {
+        match read_ahead(&mut reader, &mut source, &mut subtitle) {
             Ok(true) => {
-                counts.tnb += count_of(&subtitle);
+                counts.tnb += block_count_of(&subtitle);
                 counts.tns += 1;
             }
             Ok(false) => return Ok(counts),
@@ -78,17 +80,17 @@ fn judge(gsi: Gsi, body: &[u8]) -> Result<Counts, NormalFault>
 
 // Reads the next subtitle. A subtitle in the file has at least as many blocks as its normal form,
 // so the counts cannot overflow.
-fn read_on(
+fn read_ahead(
     reader: &mut StlReader,
     source: &mut MemSource,
     subtitle: &mut Subtitle,
 ) -> Result<bool, StlFault>
     requires { reader.old.progress ≡ Reading }
-    ensures exact { subtitles_of (outcome_left reader.old source.old)
-        ≡ judged_on result subtitle.new reader.new.block
-        (subtitles_of (outcome_left reader.new source.new)) }
+    ensures exact { subtitles_of (remaining_outcome reader.old source.old)
+        ≡ judged_after_call result subtitle.new reader.new.block
+        (subtitles_of (remaining_outcome reader.new source.new)) }
     ensures reading { result ≡ Ok true → reader.new.progress ≡ Reading }
-    ensures few { result ≡ Ok true → reader.new.block ≤ most_blocks }
+    ensures few { result ≡ Ok true → reader.new.block ≤ max_blocks }
     ensures room { result ≡ Ok true →
         reader.old.block + length (blocks_of subtitle.new) ≤ reader.new.block }
 {
@@ -96,8 +98,8 @@ fn read_on(
 }
 
 // Returns the number of blocks in the normal form of a subtitle.
-#[tactic(auto, using(crate::proofs::BlocksOfLemmas::blocks_count))]
-fn count_of(subtitle: &Subtitle) -> u32
+#[tactic(auto, using(crate::proofs::BlocksOfLemmas::one_block_more_than_chunks))]
+fn block_count_of(subtitle: &Subtitle) -> u32
     ensures { result ≡ length (blocks_of subtitle.now) }
 {
     (subtitle.text().len().saturating_sub(1) / 112) as u32 + 1
@@ -105,31 +107,33 @@ fn count_of(subtitle: &Subtitle) -> u32
 
 // Writes the GSI block and the blocks of all subtitles.
 #[tactic(auto, using(sub_io::proofs::DeviceLemmas::prefixes))]
-fn put_normal<K: Sink>(gsi: Gsi, body: &[u8], sink: &mut K) -> Result<(), Failed>
+fn write_normal_form<K: Sink>(gsi: Gsi, body: &[u8], sink: &mut K) -> Result<(), Failed>
     requires accepted { is_ok (subtitles_of (outcome_from 0 body.now)) ≡ true }
     requires count { CanFail (K.failure_count sink.old) }
     ensures bytes { Writes (K.contents sink.old) (K.contents sink.new)
-        (gsi ++ concat (all_blocks (given (subtitles_of (outcome_from 0 body.now))))) result }
+        (gsi ++ concat (blocks_of_subtitles
+        (accepted_subtitles (subtitles_of (outcome_from 0 body.now))))) result }
     ensures count { CountsFailure (K.failure_count sink.old) result (K.failure_count sink.new) }
 {
     put_all(sink, gsi.bytes().as_slice())?;
-    put_subtitles(gsi, body, sink)
+    write_subtitles(gsi, body, sink)
 }
 
 // Reads all blocks after the GSI block again, and writes the subtitles in their normal form.
-#[tactic(auto, using(crate::proofs::BlocksOfLemmas::blocks_count))]
-fn put_subtitles<K: Sink>(gsi: Gsi, body: &[u8], sink: &mut K) -> Result<(), Failed>
+#[tactic(auto, using(crate::proofs::BlocksOfLemmas::one_block_more_than_chunks))]
+fn write_subtitles<K: Sink>(gsi: Gsi, body: &[u8], sink: &mut K) -> Result<(), Failed>
     requires accepted { is_ok (subtitles_of (outcome_from 0 body.now)) ≡ true }
     requires count { CanFail (K.failure_count sink.old) }
     ensures bytes { Writes (K.contents sink.old) (K.contents sink.new)
-        (concat (all_blocks (given (subtitles_of (outcome_from 0 body.now))))) result }
+        (concat (blocks_of_subtitles (accepted_subtitles (subtitles_of (outcome_from 0 body.now)))))
+        result }
     ensures count { CountsFailure (K.failure_count sink.old) result (K.failure_count sink.new) }
 {
     let mut source = MemSource::new(body);
     let mut reader = StlReader::following(gsi);
     let mut subtitle = Subtitle::empty();
     'subtitles: loop {
-        match read_on(&mut reader, &mut source, &mut subtitle) {
+        match read_ahead(&mut reader, &mut source, &mut subtitle) {
             Ok(true) => {
                 write_subtitle(&subtitle, sink)?;
             }

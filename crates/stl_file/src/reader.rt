@@ -5,19 +5,21 @@ ghost use Rattle.std.specs.Prelude.{List, length};
 ghost use Rattle.std.specs.Prelude.{false, true, None, Some, Ok, Err, IfErr, IfNone, IfOk, IfSome};
 ghost use Rattle.std.specs.Prelude.{option_map};
 ghost use Rattle.std.specs.Io.KnownBytes.{Consumes};
-ghost use Rattle.sub_io.specs.Device.{CanFail, CountsIf, failed};
+ghost use Rattle.sub_io.specs.Device.{CanFail, CountsFailureIf, failed};
 ghost use Rattle.sub_io.specs.Reading.{IfKnown};
 ghost use Rattle.stl_file.specs.declared.fault.StlFault.TheVariants.{Ended};
-ghost use Rattle.stl_file.specs.Fault.{is_format, is_file_read};
+ghost use Rattle.stl_file.specs.Fault.{is_format_fault, is_file_read_failure};
 ghost use Rattle.stl_file.specs.Gsi.{IsGsi, IsGsiFor};
-ghost use Rattle.stl_file.specs.Reader.{block_after, block_by, gsi_of, open_result, FailsReading};
-ghost use Rattle.stl_file.specs.Reader.{HasPlace, GivesNextSubtitle, Refuses, RefusesOpening};
-ghost use Rattle.stl_file.specs.Reader.{RefusesOpeningFor, TakesByAnswer, TakesSkipped};
-ghost use Rattle.stl_file.specs.Reader.{TakesSubtitle, yielded_subtitle, progress_after_answer};
-ghost use Rattle.stl_file.specs.Reading.{started_in, started_skipped};
-ghost use Rattle.stl_file.specs.Resuming.{LeadsOn, found_of};
+ghost use Rattle.stl_file.specs.Reader.{block_of_fault, reported_block, checked_gsi_of_file};
+ghost use Rattle.stl_file.specs.Reader.{open_result, FailsReading};
+ghost use Rattle.stl_file.specs.Reader.{HasValidBlockNumber, GivesNextSubtitle, Refuses};
+ghost use Rattle.stl_file.specs.Reader.{RefusesOpening};
+ghost use Rattle.stl_file.specs.Reader.{RefusesOpeningFor, ConsumesByResult, ConsumesSkippedBlocks};
+ghost use Rattle.stl_file.specs.Reader.{ConsumesSubtitle, yielded_subtitle, progress_after_result};
+ghost use Rattle.stl_file.specs.Reading.{current_subtitle, skipped_subtitle_from};
+ghost use Rattle.stl_file.specs.Resuming.{LeadsToResult, found_of};
 ghost use Rattle.stl_file.specs.Scope.{whole};
-ghost use Rattle.stl_file.specs.Tti.{most_blocks};
+ghost use Rattle.stl_file.specs.Tti.{max_blocks};
 
 use crate::fault::StlFault;
 use crate::gsi::Gsi;
@@ -42,13 +44,13 @@ pub struct StlReader {
 }
 
 impl Model for StlReader {
-    ghost use Rattle.stl_file.specs.Reader.{HasPlace, ReaderValue};
+    ghost use Rattle.stl_file.specs.Reader.{HasValidBlockNumber, ReaderValue};
 
     ghost Value = { ReaderValue };
 
     ghost view = { λ r. record { gsi = r.gsi; block = r.block; progress = r.progress } };
 
-    ghost invariant = { λ r. HasPlace r.progress r.block };
+    ghost invariant = { λ r. HasValidBlockNumber r.progress r.block };
 }
 
 impl StlReader {
@@ -65,7 +67,7 @@ impl StlReader {
         // If the source's bytes are known and the source does not fail, the bytes determine the
         // result.
         ensures exact { IfKnown (S.remaining source.old) (λ bytes.
-            failed is_file_read result ≡ false → open_result bytes ≡ result) }
+            failed is_file_read_failure result ≡ false → open_result bytes ≡ result) }
         // The call consumes only the GSI block.
         ensures taken { IfOk result (λ reader. IsGsi reader.gsi
             × Consumes (S.remaining source.old) (S.remaining source.new) reader.gsi) }
@@ -74,15 +76,15 @@ impl StlReader {
         ensures start { IfOk result (λ reader.
             (reader.block ≡ 0) × (reader.progress ≡ Reading)) }
         // No subtitle file begins with the rejected bytes.
-        ensures refused { IfErr result (λ fault. is_format fault ≡ true →
+        ensures refused { IfErr result (λ fault. is_format_fault fault ≡ true →
             RefusesOpening (S.remaining source.old) (S.remaining source.new) fault) }
         // If the source failed, it failed within the GSI block.
-        ensures failed { failed is_file_read result ≡ true →
+        ensures failed { failed is_file_read_failure result ≡ true →
             (bytes : List ℕ) × (length bytes < 1024)
             × Consumes (S.remaining source.old) (S.remaining source.new) bytes }
         ensures never { IfErr result (λ fault. fault ≢ Ended) }
-        ensures count { CountsIf S.failure_count source.old
-            (failed is_file_read result) source.new }
+        ensures count { CountsFailureIf S.failure_count source.old
+            (failed is_file_read_failure result) source.new }
     {
         match read_gsi(source, Scope::whole()) {
             Ok(gsi) => Ok(StlReader::following(gsi)),
@@ -115,7 +117,7 @@ impl StlReader {
     /// the block with the byte that could not be read.
     pub fn block(&self) -> u32
         ensures value { result ≡ self.now.block }
-        ensures place { HasPlace self.now.progress self.now.block }
+        ensures place { HasValidBlockNumber self.now.progress self.now.block }
     {
         self.block
     }
@@ -137,30 +139,30 @@ impl StlReader {
         // If the source's bytes are known and the source does not fail, the bytes determine the
         // result, its block number and the bytes left.
         ensures exact { IfKnown (S.remaining source.old) (λ bytes.
-            failed is_file_read result ≡ false →
+            failed is_file_read_failure result ≡ false →
             GivesNextSubtitle self.old bytes self.new (S.remaining source.new) result) }
 
         // The bytes consumed are the blocks of the returned subtitle, with the skipped blocks
         // before and inside them.
         ensures subtitle { self.old.progress ≡ Reading → IfOk result (λ found. IfSome found
-            (TakesSubtitle self.old.block self.new.block
+            (ConsumesSubtitle self.old.block self.new.block
             (S.remaining source.old) (S.remaining source.new))) }
         // If the result is `None`, the rest of the file had only skipped blocks: comments and user
         // data.
         ensures none { self.old.progress ≡ Reading → IfOk result (λ found. IfNone found
-            (TakesSkipped self.old.block self.new.block
+            (ConsumesSkippedBlocks self.old.block self.new.block
             (S.remaining source.old) (S.remaining source.new))) }
         // No subtitle file has the rejected bytes at this position.
         ensures refused { self.old.progress ≡ Reading → IfErr result (λ fault.
-            is_format fault ≡ true → Refuses self.old.block self.new.block
+            is_format_fault fault ≡ true → Refuses self.old.block self.new.block
             (S.remaining source.old) (S.remaining source.new) fault) }
         // If the source failed, it failed at the block with the number `self.new.block`.
-        ensures failed { self.old.progress ≡ Reading → failed is_file_read result ≡ true →
+        ensures failed { self.old.progress ≡ Reading → failed is_file_read_failure result ≡ true →
             FailsReading whole self.old.block self.new.block None
             (S.remaining source.old) (S.remaining source.new) }
 
-        ensures progress { self.new.progress ≡ progress_after_answer self.old.progress result }
-        ensures place { HasPlace self.new.progress self.new.block }
+        ensures progress { self.new.progress ≡ progress_after_result self.old.progress result }
+        ensures place { HasValidBlockNumber self.new.progress self.new.block }
         ensures gsi { self.new.gsi ≡ self.old.gsi }
         // After the end of the file and after a fault, a call consumes nothing, and the reader does
         // not change.
@@ -169,8 +171,8 @@ impl StlReader {
         ensures ended { (self.old.progress ≡ Broken) ↔ (result ≡ Err Ended) }
         ensures stays { self.old.progress ≡ Broken →
             (self.new ≡ self.old) × (source.new ≡ source.old) }
-        ensures count { CountsIf S.failure_count source.old
-            (failed is_file_read result) source.new }
+        ensures count { CountsFailureIf S.failure_count source.old
+            (failed is_file_read_failure result) source.new }
     {
         let mut subtitle = Subtitle::empty();
         match self.next_into(source, &mut subtitle) {
@@ -199,20 +201,20 @@ impl StlReader {
         // If the source's bytes are known and the source does not fail, the bytes determine the
         // result, its block number and the bytes left.
         ensures exact { IfKnown (S.remaining source.old) (λ bytes.
-            failed is_file_read result ≡ false →
+            failed is_file_read_failure result ≡ false →
             GivesNextSubtitle self.old bytes self.new (S.remaining source.new)
             (yielded_subtitle result subtitle.new)) }
 
         // If the result is `true`, the bytes consumed are the blocks of the subtitle; if `false`,
         // only skipped blocks. No file has the rejected bytes at this position. If the source
         // failed, it failed at the block `self.new.block`.
-        ensures taken { self.old.progress ≡ Reading → TakesByAnswer self.old.block self.new.block
+        ensures taken { self.old.progress ≡ Reading → ConsumesByResult self.old.block self.new.block
             (S.remaining source.old) (S.remaining source.new)
             (yielded_subtitle result subtitle.new) }
 
-        ensures progress { self.new.progress ≡ progress_after_answer self.old.progress
+        ensures progress { self.new.progress ≡ progress_after_result self.old.progress
             (yielded_subtitle result subtitle.new) }
-        ensures place { HasPlace self.new.progress self.new.block }
+        ensures place { HasValidBlockNumber self.new.progress self.new.block }
         ensures gsi { self.new.gsi ≡ self.old.gsi }
         // After the end of the file and after a fault, a call consumes nothing, and the reader does
         // not change.
@@ -221,8 +223,8 @@ impl StlReader {
         ensures ended { (self.old.progress ≡ Broken) ↔ (result ≡ Err Ended) }
         ensures stays { self.old.progress ≡ Broken →
             (self.new ≡ self.old) × (source.new ≡ source.old) }
-        ensures count { CountsIf S.failure_count source.old
-            (failed is_file_read result) source.new }
+        ensures count { CountsFailureIf S.failure_count source.old
+            (failed is_file_read_failure result) source.new }
     {
         let mut block = match self.progress {
             Progress::Reading => self.block,
@@ -254,24 +256,27 @@ impl StlReader {
 pub(crate) fn read_gsi<S: Source>(source: &mut S, scope: Scope) -> Result<Gsi, StlFault>
     requires { CanFail (S.failure_count source.old) }
     ensures exact { IfKnown (S.remaining source.old) (λ bytes.
-        failed is_file_read result ≡ false → gsi_of scope.takes_open bytes ≡ result) }
+        failed is_file_read_failure result ≡ false → checked_gsi_of_file scope.takes_open bytes ≡
+        result) }
     ensures taken { IfOk result (λ gsi. IsGsiFor scope.takes_open gsi
         × Consumes (S.remaining source.old) (S.remaining source.new) gsi) }
     ensures left { IfKnown (S.remaining source.old) (λ bytes.
         IfOk result (λ gsi. S.remaining source.new ≡ Some (drop 1024 bytes))) }
-    ensures refused { IfErr result (λ fault. is_format fault ≡ true →
+    ensures refused { IfErr result (λ fault. is_format_fault fault ≡ true →
         RefusesOpeningFor scope (S.remaining source.old) (S.remaining source.new) fault) }
-    ensures failed { failed is_file_read result ≡ true → (bytes : List ℕ) × (length bytes < 1024)
+    ensures failed { failed is_file_read_failure result ≡ true → (bytes : List ℕ) ×
+        (length bytes < 1024)
         × Consumes (S.remaining source.old) (S.remaining source.new) bytes }
     ensures never { IfErr result (λ fault. fault ≢ Ended) }
-    ensures count { CountsIf S.failure_count source.old (failed is_file_read result) source.new }
+    ensures count { CountsFailureIf S.failure_count source.old (failed is_file_read_failure result)
+        source.new }
 {
     let mut bytes = [0; 1024];
-    let got = fill(source, &mut bytes)?;
-    if got < 1024 {
+    let read_count = fill(source, &mut bytes)?;
+    if read_count < 1024 {
         return Err(StlFault::Truncated);
     }
-    Gsi::read(&bytes).checked(scope.takes_open)
+    Gsi::read(&bytes).validate(scope.takes_open)
 }
 
 // Reads blocks after `block`, up to the last block of a subtitle that is not skipped, the end of
@@ -285,25 +290,28 @@ pub(crate) fn read_blocks<S: Source>(
     subtitle: &mut Subtitle,
     refused: &mut Option<Tti>,
 ) -> Result<bool, StlFault>
-    requires few { block.old ≤ most_blocks }
+    requires few { block.old ≤ max_blocks }
     requires count { CanFail (S.failure_count source.old) }
-    ensures leads { failed is_file_read result ≡ false →
-        LeadsOn scope block.old (block_by block.new (yielded_subtitle result subtitle.new))
-        (option_map started_skipped refused.old) (option_map started_skipped refused.new)
+    ensures leads { failed is_file_read_failure result ≡ false →
+        LeadsToResult scope block.old
+        (reported_block block.new (yielded_subtitle result subtitle.new))
+        (option_map skipped_subtitle_from refused.old) (option_map skipped_subtitle_from
+        refused.new)
         (S.remaining source.old) (S.remaining source.new) subtitle.new (found_of result) }
-    ensures failed { failed is_file_read result ≡ true →
-        FailsReading scope block.old (block.new + 1) (option_map started_skipped refused.old)
+    ensures failed { failed is_file_read_failure result ≡ true →
+        FailsReading scope block.old (block.new + 1) (option_map skipped_subtitle_from refused.old)
         (S.remaining source.old) (S.remaining source.new) }
     ensures never { IfErr result (λ fault. fault ≢ Ended) }
     ensures over { result ≡ Ok true → refused.new ≡ None }
-    ensures few { block.new ≤ most_blocks }
-    ensures count { CountsIf S.failure_count source.old (failed is_file_read result) source.new }
+    ensures few { block.new ≤ max_blocks }
+    ensures count { CountsFailureIf S.failure_count source.old (failed is_file_read_failure result)
+        source.new }
 {
     let mut read = resume(subtitle, refused);
     loop {
         let mut bytes = [0; 128];
-        let got = fill(source, &mut bytes)?;
-        if got == 0 {
+        let read_count = fill(source, &mut bytes)?;
+        if read_count == 0 {
             return if read.count == 0 {
                 Ok(false)
             } else {
@@ -314,7 +322,7 @@ pub(crate) fn read_blocks<S: Source>(
             return Err(StlFault::TooManyBlocks);
         }
         *block += 1;
-        if got < 128 {
+        if read_count < 128 {
             return Err(StlFault::Truncated);
         }
         let tti = Tti::read(&bytes);
@@ -335,7 +343,7 @@ pub(crate) fn read_blocks<S: Source>(
 // Continues a rejected subtitle whose first block is `refused`, if any. Returns the state of
 // reading the blocks of the current subtitle.
 fn resume(subtitle: &mut Subtitle, refused: &Option<Tti>) -> BlocksRead
-    ensures { started_in subtitle.new result ≡ option_map started_skipped refused.now }
+    ensures { current_subtitle subtitle.new result ≡ option_map skipped_subtitle_from refused.now }
 {
     let count = match refused {
         None => 0,
@@ -352,8 +360,8 @@ fn resume(subtitle: &mut Subtitle, refused: &Option<Tti>) -> BlocksRead
 
 // Returns the number of the block to report for a fault after `block` blocks.
 pub(crate) fn block_of(block: u32, fault: &StlFault) -> u32
-    requires { block ≤ most_blocks }
-    ensures { block_after block fault.now ≡ result }
+    requires { block ≤ max_blocks }
+    ensures { block_of_fault block fault.now ≡ result }
 {
     match fault {
         StlFault::TooManyBlocks | StlFault::Read => block + 1,

@@ -3,15 +3,16 @@
 ghost use Rattle.std.specs.Prelude.{◌≡◌, ◌≢◌, ◌<◌, false, true, IfErr, IfOk, List, None, Some};
 ghost use Rattle.std.specs.Prelude.{drop, length, option_map, ℕ};
 ghost use Rattle.std.specs.Io.KnownBytes.{Consumes};
-ghost use Rattle.sub_io.specs.Device.{CanFail, CountsIf, failed};
+ghost use Rattle.sub_io.specs.Device.{CanFail, CountsFailureIf, failed};
 ghost use Rattle.sub_io.specs.Reading.{IfKnown};
 ghost use Rattle.stl_file.specs.declared.fault.StlFault.TheVariants.{Ended};
 ghost use Rattle.stl_file.specs.declared.progress.Progress.TheVariants.{Reading};
-ghost use Rattle.stl_file.specs.Fault.{is_format, is_file_read};
+ghost use Rattle.stl_file.specs.Fault.{is_format_fault, is_file_read_failure};
 ghost use Rattle.stl_file.specs.Gsi.{IsGsiFor};
-ghost use Rattle.stl_file.specs.Reader.{FailsReading, HasPlace, RefusesOpeningFor};
-ghost use Rattle.stl_file.specs.Reading.{started_skipped};
-ghost use Rattle.stl_file.specs.Resuming.{IsFirstBlockFault, LeadsOn, started_at, progress_found};
+ghost use Rattle.stl_file.specs.Reader.{FailsReading, HasValidBlockNumber, RefusesOpeningFor};
+ghost use Rattle.stl_file.specs.Reading.{skipped_subtitle_from};
+ghost use Rattle.stl_file.specs.Resuming.{IsFirstBlockFault, LeadsToResult, resuming_open_result};
+ghost use Rattle.stl_file.specs.Resuming.{progress_after_finding};
 
 use crate::fault::StlFault;
 use crate::progress::Progress;
@@ -50,8 +51,8 @@ pub struct ResumingReader {
 
 impl Model for ResumingReader {
     ghost use Rattle.std.specs.Prelude.{option_map};
-    ghost use Rattle.stl_file.specs.Reader.{HasPlace};
-    ghost use Rattle.stl_file.specs.Reading.{started_skipped};
+    ghost use Rattle.stl_file.specs.Reader.{HasValidBlockNumber};
+    ghost use Rattle.stl_file.specs.Reading.{skipped_subtitle_from};
     ghost use Rattle.stl_file.specs.Resuming.{ResumingValue};
 
     ghost Value = { ResumingValue };
@@ -60,10 +61,10 @@ impl Model for ResumingReader {
       scope = r.scope;
       block = r.block;
       progress = r.progress;
-      refused = option_map started_skipped r.refused;
+      refused = option_map skipped_subtitle_from r.refused;
     } };
 
-    ghost invariant = { λ r. HasPlace r.progress r.block };
+    ghost invariant = { λ r. HasValidBlockNumber r.progress r.block };
 }
 
 impl ResumingReader {
@@ -78,7 +79,8 @@ impl ResumingReader {
         // If the source's bytes are known and the source does not fail, the bytes determine the
         // result.
         ensures exact { IfKnown (S.remaining source.old) (λ bytes.
-            failed is_file_read result ≡ false → started_at scope bytes ≡ result) }
+            failed is_file_read_failure result ≡ false → resuming_open_result scope bytes ≡
+            result) }
         // The call consumes only the GSI block.
         ensures taken { IfOk result (λ reader. (gsi : List ℕ) × IsGsiFor scope.takes_open gsi
             × Consumes (S.remaining source.old) (S.remaining source.new) gsi) }
@@ -87,15 +89,15 @@ impl ResumingReader {
         ensures start { IfOk result (λ reader. reader
             ≡ record { scope = scope; block = 0; progress = Reading; refused = None }) }
         // No subtitle file begins with the rejected bytes.
-        ensures refused { IfErr result (λ fault. is_format fault ≡ true →
+        ensures refused { IfErr result (λ fault. is_format_fault fault ≡ true →
             RefusesOpeningFor scope (S.remaining source.old) (S.remaining source.new) fault) }
         // If the source failed, it failed within the GSI block.
-        ensures failed { failed is_file_read result ≡ true →
+        ensures failed { failed is_file_read_failure result ≡ true →
             (bytes : List ℕ) × (length bytes < 1024)
             × Consumes (S.remaining source.old) (S.remaining source.new) bytes }
         ensures never { IfErr result (λ fault. fault ≢ Ended) }
-        ensures count { CountsIf S.failure_count source.old
-            (failed is_file_read result) source.new }
+        ensures count { CountsFailureIf S.failure_count source.old
+            (failed is_file_read_failure result) source.new }
     {
         match read_gsi(source, scope) {
             Ok(_) => Ok(ResumingReader {
@@ -115,7 +117,7 @@ impl ResumingReader {
     /// the block with the byte that could not be read.
     pub fn block(&self) -> u32
         ensures value { result ≡ self.now.block }
-        ensures place { HasPlace self.now.progress self.now.block }
+        ensures place { HasValidBlockNumber self.now.progress self.now.block }
     {
         self.block
     }
@@ -139,20 +141,21 @@ impl ResumingReader {
         requires count { CanFail (S.failure_count source.old) }
         requires reading { self.old.progress ≡ Reading }
         // The bytes consumed determine the result, its block number and the bytes left.
-        ensures leads { failed is_file_read result ≡ false →
-            LeadsOn self.old.scope self.old.block self.new.block self.old.refused self.new.refused
+        ensures leads { failed is_file_read_failure result ≡ false →
+            LeadsToResult self.old.scope self.old.block self.new.block self.old.refused
+            self.new.refused
             (S.remaining source.old) (S.remaining source.new) subtitle.new result }
         // If the source failed, it failed at the block with the number `self.new.block`.
-        ensures failed { failed is_file_read result ≡ true →
+        ensures failed { failed is_file_read_failure result ≡ true →
             FailsReading self.old.scope self.old.block self.new.block self.old.refused
             (S.remaining source.old) (S.remaining source.new) }
         ensures first { IfOk result IsFirstBlockFault }
         ensures never { IfErr result (λ fault. fault ≢ Ended) }
         ensures scope { self.new.scope ≡ self.old.scope }
-        ensures progress { self.new.progress ≡ progress_found result }
-        ensures place { HasPlace self.new.progress self.new.block }
-        ensures count { CountsIf S.failure_count source.old
-            (failed is_file_read result) source.new }
+        ensures progress { self.new.progress ≡ progress_after_finding result }
+        ensures place { HasValidBlockNumber self.new.progress self.new.block }
+        ensures count { CountsFailureIf S.failure_count source.old
+            (failed is_file_read_failure result) source.new }
     {
         let mut block = self.block;
         match read_blocks(self.scope, &mut block, source, subtitle, &mut self.refused) {
@@ -167,7 +170,7 @@ impl ResumingReader {
             }
             Err(fault) => {
                 self.block = block_of(block, &fault);
-                if fault.is_of_first() {
+                if fault.is_first_block_fault() {
                     return Ok(Found::Refused(fault));
                 }
                 self.progress = Progress::Broken;

@@ -40,7 +40,7 @@ impl Scope {
     pub(crate) fn is_outside(self, first: &Tti) -> bool
         ensures { result ≡ begins_outside self first.now }
     {
-        match TimeCode::of_bytes(first.tci()) {
+        match TimeCode::from_bytes(first.tci()) {
             Some(tci) => tci.frame() < self.from || tci.frame() >= self.to,
             None => false,
         }

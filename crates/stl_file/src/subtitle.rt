@@ -4,12 +4,12 @@ ghost use Rattle.std.specs.Prelude.{◌≡◌, ◌+◌, ◌≤◌, ◌++◌, len
 ghost use Rattle.std.specs.Prelude.{Err, IfErr, IfOk, Ok, OnOk, is_ok};
 ghost use Rattle.std.specs.Option.{SomeIff};
 ghost use Rattle.stl_file.specs.declared.fault.StlFault.TheVariants.{Time};
-ghost use Rattle.stl_file.specs.Fault.{is_of_block};
-ghost use Rattle.stl_file.specs.Reading.{first_at};
+ghost use Rattle.stl_file.specs.Fault.{is_block_fault};
+ghost use Rattle.stl_file.specs.Reading.{subtitle_of_first_block};
 ghost use Rattle.stl_file.specs.Subtitle.{IsSubtitle, SubtitleValue, empty_subtitle};
-ghost use Rattle.stl_file.specs.Subtitle.{has_no_unused};
-ghost use Rattle.stl_file.specs.TimeCode.{frame_in, is_time};
-ghost use Rattle.stl_file.specs.Tti.{before_unused, sgn, sn, text_of};
+ghost use Rattle.stl_file.specs.Subtitle.{has_no_unused_space};
+ghost use Rattle.stl_file.specs.TimeCode.{frame_from_bytes, is_valid_time_field};
+ghost use Rattle.stl_file.specs.Tti.{bytes_before_unused_space, sgn, sn, text_of_block};
 
 use crate::fault::StlFault;
 use crate::time_code::TimeCode;
@@ -87,7 +87,7 @@ impl Subtitle {
         if tci.frame() >= tco.frame() || vp < 1 || vp > 23 || jc > 3 {
             return None;
         }
-        if text.len() > 1008 || !is_text(text) {
+        if text.len() > 1008 || !has_no_unused_byte(text) {
             return None;
         }
         let mut kept = ArrayVec::new();
@@ -174,12 +174,12 @@ impl Subtitle {
     }
 
     // Replaces the contents by the subtitle that starts with `block`, with the text of that block.
-    #[tactic(auto, unfolding(crate::specs::Reading::first_at))]
+    #[tactic(auto, unfolding(crate::specs::Reading::subtitle_of_first_block))]
     pub(crate) fn begin(&mut self, block: &Tti) -> Result<(), StlFault>
-        ensures ok { OnOk result (first_at block.now ≡ Ok self.new) }
-        ensures err { IfErr result (λ fault. first_at block.now ≡ Err fault) }
+        ensures ok { OnOk result (subtitle_of_first_block block.now ≡ Ok self.new) }
+        ensures err { IfErr result (λ fault. subtitle_of_first_block block.now ≡ Err fault) }
         ensures room { OnOk result (length self.new.text ≤ 112) }
-        ensures own { IfErr result (λ fault. is_of_block fault ≡ true) }
+        ensures own { IfErr result (λ fault. is_block_fault fault ≡ true) }
     {
         if block.cs() != 0 {
             return Err(StlFault::Cumulative);
@@ -192,8 +192,8 @@ impl Subtitle {
         if vp < 1 || vp > 23 {
             return Err(StlFault::Row);
         }
-        let tci = time_of(block.tci())?;
-        let tco = time_of(block.tco())?;
+        let tci = parse_time_code(block.tci())?;
+        let tco = parse_time_code(block.tco())?;
         if tci.frame() >= tco.frame() {
             return Err(StlFault::EmptyTime);
         }
@@ -220,14 +220,17 @@ impl Subtitle {
     // Appends the text of `block`, a later block of the subtitle.
     pub(crate) fn extend(&mut self, block: &Tti)
         requires { length self.old.text + 112 ≤ 1008 }
-        ensures text { self.new ≡ record self.old { text = self.old.text ++ text_of block.now } }
+        ensures text { self.new ≡ record self.old {
+          text = self.old.text ++ text_of_block
+              block.now;
+        } }
         ensures room { length self.new.text ≤ length self.old.text + 112 }
     {
         push_text(&mut self.text, block.tf());
     }
 
     // Returns whether `block` has the subtitle's SGN and SN.
-    pub(crate) fn is_of(&self, block: &Tti) -> bool
+    pub(crate) fn has_numbers_of(&self, block: &Tti) -> bool
         ensures { result ≡ ((sgn block.now == self.now.sgn) && (sn block.now == self.now.sn)) }
     {
         block.sgn() == self.sgn && block.sn() == self.sn
@@ -235,17 +238,17 @@ impl Subtitle {
 }
 
 // Returns the time code of the four bytes of TCI or TCO.
-fn time_of(bytes: [u8; 4]) -> Result<TimeCode, StlFault>
-    ensures is_one { is_time bytes ≡ is_ok result }
-    ensures value { IfOk result (λ time. frame_in bytes ≡ time) }
+fn parse_time_code(bytes: [u8; 4]) -> Result<TimeCode, StlFault>
+    ensures valid_time { is_valid_time_field bytes ≡ is_ok result }
+    ensures value { IfOk result (λ time. frame_from_bytes bytes ≡ time) }
     ensures fault { IfErr result (λ fault. fault ≡ Time) }
 {
-    TimeCode::of_bytes(bytes).ok_or(StlFault::Time)
+    TimeCode::from_bytes(bytes).ok_or(StlFault::Time)
 }
 
 // Returns whether a text contains no unused space (8F).
-fn is_text(text: &[u8]) -> bool
-    ensures { result ≡ has_no_unused text.now }
+fn has_no_unused_byte(text: &[u8]) -> bool
+    ensures { result ≡ has_no_unused_space text.now }
 {
     for byte in text {
         if *byte == 0x8f {
@@ -259,19 +262,20 @@ fn is_text(text: &[u8]) -> bool
 #[tactic(auto, using(crate::proofs::SubtitleLemmas::cleaned))]
 fn push_text(text: &mut ArrayVec<u8, 1008>, field: &[u8])
     requires { length text.old.items + length field.now ≤ 1008 }
-    ensures items { text.new.items ≡ text.old.items ++ before_unused field.now }
+    ensures items { text.new.items ≡ text.old.items ++ bytes_before_unused_space field.now }
     ensures room { length text.new.items ≤ length text.old.items + length field.now }
-    ensures clean { has_no_unused text.old.items ≡ true → has_no_unused text.new.items ≡ true }
+    ensures clean { has_no_unused_space text.old.items ≡ true → has_no_unused_space text.new.items ≡
+        true }
 {
-    let (used, _) = field.split_at(used_of(field));
+    let (used, _) = field.split_at(used_length(field));
     push_all(text, used);
 }
 
 // Returns the number of bytes of a text field before the first unused space.
 #[tactic(auto, using(crate::proofs::SubtitleLemmas::used))]
-fn used_of(field: &[u8]) -> usize
+fn used_length(field: &[u8]) -> usize
     ensures within { result ≤ length field.now }
-    ensures used { take result field.now ≡ before_unused field.now }
+    ensures used { take result field.now ≡ bytes_before_unused_space field.now }
 {
     for at in 0..field.len() {
         if field[at] == 0x8f {

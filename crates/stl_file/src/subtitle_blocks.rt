@@ -1,9 +1,10 @@
 //! Applies TTI blocks to the current subtitle, one after another.
 
 ghost use Rattle.std.specs.Prelude.{◌≡◌, IfErr, OnOk, None, Some, true};
-ghost use Rattle.stl_file.specs.Fault.{is_of_block};
-ghost use Rattle.stl_file.specs.Reading.{StartedSubtitleFits, started_by, started_in};
-ghost use Rattle.stl_file.specs.Reading.{block_step_at, step_at, step_in};
+ghost use Rattle.stl_file.specs.Fault.{is_block_fault};
+ghost use Rattle.stl_file.specs.Reading.{StartedSubtitleFits, started_subtitle_of};
+ghost use Rattle.stl_file.specs.Reading.{current_subtitle};
+ghost use Rattle.stl_file.specs.Reading.{subtitle_block_step, tti_block_step, step_by_result};
 
 use crate::fault::StlFault;
 use crate::scope::Scope;
@@ -30,18 +31,18 @@ pub(crate) struct BlocksRead {
 /// Returns `Extension` or `CommentFlag` for any block except user data. For a block that is not
 /// skipped: within a subtitle `Sequence` or `TooLong`; otherwise, if the subtitle is not outside
 /// the scope, `Cumulative`, `Justify`, `Row`, `Time` or `EmptyTime`.
-#[tactic(auto, unfolding(crate::specs::Reading::step_at))]
+#[tactic(auto, unfolding(crate::specs::Reading::tti_block_step))]
 pub(crate) fn take_block(
     scope: Scope,
     subtitle: &mut Subtitle,
     read: &mut BlocksRead,
     block: &Tti,
 ) -> Result<bool, StlFault>
-    requires { StartedSubtitleFits (started_in subtitle.old read.old) }
-    ensures exact { step_at scope (started_in subtitle.old read.old) block.now
-        ≡ step_in subtitle.new read.new result }
-    ensures room { OnOk result (StartedSubtitleFits (started_in subtitle.new read.new)) }
-    ensures own { IfErr result (λ fault. is_of_block fault ≡ true) }
+    requires { StartedSubtitleFits (current_subtitle subtitle.old read.old) }
+    ensures exact { tti_block_step scope (current_subtitle subtitle.old read.old) block.now
+        ≡ step_by_result subtitle.new read.new result }
+    ensures room { OnOk result (StartedSubtitleFits (current_subtitle subtitle.new read.new)) }
+    ensures own { IfErr result (λ fault. is_block_fault fault ≡ true) }
 {
     let ebn = block.ebn();
     if ebn == 0xfe {
@@ -57,40 +58,41 @@ pub(crate) fn take_block(
     if comment == 1 {
         return Ok(false);
     }
-    take_kept(scope, subtitle, read, block)
+    take_subtitle_block(scope, subtitle, read, block)
 }
 
 // Applies a block that is neither user data nor a comment.
-fn take_kept(
+fn take_subtitle_block(
     scope: Scope,
     subtitle: &mut Subtitle,
     read: &mut BlocksRead,
     block: &Tti,
 ) -> Result<bool, StlFault>
-    requires { StartedSubtitleFits (started_in subtitle.old read.old) }
-    ensures exact { block_step_at scope (started_in subtitle.old read.old) block.now
-        ≡ step_in subtitle.new read.new result }
-    ensures room { OnOk result (StartedSubtitleFits (started_in subtitle.new read.new)) }
-    ensures own { IfErr result (λ fault. is_of_block fault ≡ true) }
+    requires { StartedSubtitleFits (current_subtitle subtitle.old read.old) }
+    ensures exact { subtitle_block_step scope (current_subtitle subtitle.old read.old) block.now
+        ≡ step_by_result subtitle.new read.new result }
+    ensures room { OnOk result (StartedSubtitleFits (current_subtitle subtitle.new read.new)) }
+    ensures own { IfErr result (λ fault. is_block_fault fault ≡ true) }
 {
     if read.count == 0 {
-        take_first(scope, subtitle, read, block)
+        take_first_block(scope, subtitle, read, block)
     } else {
-        take_further(scope, subtitle, read, block)
+        take_later_block(scope, subtitle, read, block)
     }
 }
 
 // Applies the first block of a subtitle.
-#[tactic(auto, unfolding(crate::specs::Reading::block_step_at))]
-fn take_first(
+#[tactic(auto, unfolding(crate::specs::Reading::subtitle_block_step))]
+fn take_first_block(
     scope: Scope,
     subtitle: &mut Subtitle,
     read: &mut BlocksRead,
     block: &Tti,
 ) -> Result<bool, StlFault>
-    ensures exact { block_step_at scope None block.now ≡ step_in subtitle.new read.new result }
-    ensures room { OnOk result (StartedSubtitleFits (started_in subtitle.new read.new)) }
-    ensures own { IfErr result (λ fault. is_of_block fault ≡ true) }
+    ensures exact { subtitle_block_step scope None block.now ≡ step_by_result subtitle.new read.new
+        result }
+    ensures room { OnOk result (StartedSubtitleFits (current_subtitle subtitle.new read.new)) }
+    ensures own { IfErr result (λ fault. is_block_fault fault ≡ true) }
 {
     let is_last = block.ebn() == 0xff;
     if scope.is_outside(block) {
@@ -106,20 +108,21 @@ fn take_first(
 }
 
 // Applies a later block of a subtitle.
-#[tactic(auto, unfolding(crate::specs::Reading::block_step_at))]
-fn take_further(
+#[tactic(auto, unfolding(crate::specs::Reading::subtitle_block_step))]
+fn take_later_block(
     scope: Scope,
     subtitle: &mut Subtitle,
     read: &mut BlocksRead,
     block: &Tti,
 ) -> Result<bool, StlFault>
-    requires { StartedSubtitleFits (Some (started_by subtitle.old read.old)) }
-    ensures exact { block_step_at scope (Some (started_by subtitle.old read.old)) block.now
-        ≡ step_in subtitle.new read.new result }
-    ensures room { OnOk result (StartedSubtitleFits (started_in subtitle.new read.new)) }
-    ensures own { IfErr result (λ fault. is_of_block fault ≡ true) }
+    requires { StartedSubtitleFits (Some (started_subtitle_of subtitle.old read.old)) }
+    ensures exact { subtitle_block_step scope (Some (started_subtitle_of subtitle.old read.old))
+        block.now
+        ≡ step_by_result subtitle.new read.new result }
+    ensures room { OnOk result (StartedSubtitleFits (current_subtitle subtitle.new read.new)) }
+    ensures own { IfErr result (λ fault. is_block_fault fault ≡ true) }
 {
-    if !subtitle.is_of(block) {
+    if !subtitle.has_numbers_of(block) {
         return Err(StlFault::Sequence);
     }
     if read.count == 9 {

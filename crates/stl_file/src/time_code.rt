@@ -1,7 +1,8 @@
 //! Time codes of a day at 25 frames per second (EBU Tech 3264, TTI block, fields TCI and TCO).
 
 ghost use Rattle.std.specs.Prelude.{◌≡◌, ◌<◌, None, Some, if◌then◌else◌};
-ghost use Rattle.stl_file.specs.TimeCode.{day, frame_in, frame_of, is_time, is_time_code};
+ghost use Rattle.stl_file.specs.TimeCode.{day, frame_from_bytes, frame_of, is_valid_time_field};
+ghost use Rattle.stl_file.specs.TimeCode.{is_time_code};
 ghost use Rattle.stl_file.specs.TimeCode.{time_bytes};
 
 use std::marker::Model;
@@ -34,8 +35,8 @@ impl TimeCode {
             then Some (frame_of hours minutes seconds frames) else None) ≡ result }
     {
         if hours < 24 && minutes < 60 && seconds < 60 && frames < 25 {
-            let minute = hours as u32 * 60 + minutes as u32;
-            let frame = (minute * 60 + seconds as u32) * 25 + frames as u32;
+            let total_minutes = hours as u32 * 60 + minutes as u32;
+            let frame = (total_minutes * 60 + seconds as u32) * 25 + frames as u32;
             Some(TimeCode { frame })
         } else {
             None
@@ -44,9 +45,14 @@ impl TimeCode {
 
     // Returns the time code of the four bytes of TCI or TCO, or `None` if the bytes are no valid
     // time code.
-    #[tactic(auto, unfolding(crate::specs::TimeCode::is_time, crate::specs::TimeCode::frame_in))]
-    pub(crate) fn of_bytes(bytes: [u8; 4]) -> Option<TimeCode>
-        ensures { (if is_time bytes then Some (frame_in bytes) else None) ≡ result }
+    #[rattlefmt::skip]
+    #[tactic(auto, unfolding(
+        crate::specs::TimeCode::is_valid_time_field,
+        crate::specs::TimeCode::frame_from_bytes
+    ))]
+    pub(crate) fn from_bytes(bytes: [u8; 4]) -> Option<TimeCode>
+        ensures { (if is_valid_time_field bytes then Some (frame_from_bytes bytes) else None) ≡
+            result }
     {
         let [hours, minutes, seconds, frames] = bytes;
         TimeCode::new(hours, minutes, seconds, frames)

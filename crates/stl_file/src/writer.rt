@@ -11,7 +11,7 @@ use byteorder::{ByteOrder, LittleEndian};
 use sub_io::{Failed, Sink, put_all};
 
 /// A text field that has only unused space.
-const UNUSED: [u8; 112] = [0x8f; 112];
+const UNUSED_SPACE: [u8; 112] = [0x8f; 112];
 
 /// Writes a subtitle in the fewest blocks that hold its text, at least one, and returns their
 /// number.
@@ -29,14 +29,14 @@ pub fn write_subtitle<K: Sink>(subtitle: &Subtitle, sink: &mut K) -> Result<u8, 
     ensures number { IfOk result (λ n. n ≡ length (blocks_of subtitle.now)) }
     ensures count { CountsFailure (K.failure_count sink.old) result (K.failure_count sink.new) }
 {
-    let (blocks, count) = spell(subtitle);
+    let (blocks, count) = encode_blocks(subtitle);
     put_all(sink, blocks.as_slice())?;
     Ok(count)
 }
 
 // Returns the bytes of a subtitle's blocks, and the number of the blocks.
 #[tactic(auto, using(crate::proofs::BlocksOfLemmas::spelled))]
-fn spell(subtitle: &Subtitle) -> (ArrayVec<u8, 1152>, u8)
+fn encode_blocks(subtitle: &Subtitle) -> (ArrayVec<u8, 1152>, u8)
     ensures bytes { result.0.items ≡ concat (blocks_of subtitle.now) }
     ensures count { result.1 ≡ length (blocks_of subtitle.now) }
 {
@@ -54,22 +54,22 @@ fn spell(subtitle: &Subtitle) -> (ArrayVec<u8, 1152>, u8)
 }
 
 // Appends one TTI block of a subtitle, with the given EBN and part of the text.
-#[tactic(auto, using(crate::proofs::BlocksOfLemmas::pushed))]
+#[tactic(auto, using(crate::proofs::BlocksOfLemmas::text_span_after_packet))]
 fn push_block(out: &mut ArrayVec<u8, 1152>, subtitle: &Subtitle, ebn: u8, chunk: &[u8])
     requires room { length out.old.items + 128 ≤ 1152 }
     requires chunk { length chunk.now ≤ 112 }
     ensures items { out.new.items ≡ out.old.items ++ block_of subtitle.now ebn chunk.now }
     ensures len { length out.new.items ≡ length out.old.items + 128 }
 {
-    let head = head_of(subtitle, ebn);
+    let head = block_header(subtitle, ebn);
     push_all(out, &head);
     push_all(out, chunk);
-    let (_, pad) = UNUSED.split_at(chunk.len());
+    let (_, pad) = UNUSED_SPACE.split_at(chunk.len());
     push_all(out, pad);
 }
 
 // Returns the first 16 bytes of a TTI block: all fields before the text field.
-fn head_of(subtitle: &Subtitle, ebn: u8) -> [u8; 16]
+fn block_header(subtitle: &Subtitle, ebn: u8) -> [u8; 16]
     ensures { result ≡ block_head subtitle.now ebn }
 {
     let sn = sn_bytes(subtitle.sn());

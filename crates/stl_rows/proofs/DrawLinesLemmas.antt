@@ -6,55 +6,58 @@ use Rattle.std.specs.Borrow.{Bor}
 use Rattle.std.specs.Option.{option_map_or}
 use Rattle.ttx_page.specs.Page.{AreCodes, Rows}
 use Rattle.stl_rows.specs.declared.fault.RowFault.{RowFault}
-use Rattle.stl_rows.specs.declared.laid_out.Place.{Place}
+use Rattle.stl_rows.specs.declared.layout_drawing.Place.{Place}
 use Rattle.stl_rows.specs.declared.layout.LayoutItems.{LayoutItems}
-use Rattle.stl_rows.specs.LineByLayout.{HoldCodes, cut_lines, drawn_from, fault_at, page_with}
-use Rattle.stl_rows.specs.LineByLayout.{place_after, prepared_cut}
-use Rattle.stl_rows.specs.PreparedLine.{prepared_by}
-use Rattle.stl_rows.proofs.LineLemmas.{holds_at}
-use Rattle.stl_rows.proofs.PageShapeLemmas.{prepared_small}
+use Rattle.stl_rows.specs.LineByLayout.{HaveSevenBitCells, cut_lines, drawn_from_place}
+use Rattle.stl_rows.specs.LineByLayout.{line_fault_at, page_with_line}
+use Rattle.stl_rows.specs.LineByLayout.{next_place, prepared_cut_lines}
+use Rattle.stl_rows.specs.PreparedLine.{prepared_by_layout}
+use Rattle.stl_rows.proofs.LineLemmas.{property_holds_at_index}
+use Rattle.stl_rows.proofs.PageShapeLemmas.{prepared_line_is_seven_bit}
 
 abbrev pub lines_after_first : Option (Bor (List ℕ)) → List (List ℕ)
 lines_after_first following = option_map_or (λ more. cut_lines more.now) following []
 
-module _ (items : LayoutItems) (jc off : ℕ) (place : Place) (page : Rows)
+module _ (items : LayoutItems) (jc row_shift : ℕ) (place : Place) (page : Rows)
     (rest first line : List ℕ) (following : Option (Bor (List ℕ)))
     (cut : cut_lines rest ≡ first ∷ lines_after_first following)
-    (is : line ≡ prepared_by items first) where
-  all_lines : prepared_cut items rest ≡ line ∷ map (prepared_by items) (lines_after_first following)
-  all_lines =
-      ap (map (prepared_by items)) cut
-      ∙ ap (λ own. own ∷ map (prepared_by items) (lines_after_first following)) (sym is)
+    (is : line ≡ prepared_by_layout items first) where
+  prepared_cut_splits : prepared_cut_lines items rest ≡ line ∷ map (prepared_by_layout items)
+      (lines_after_first following)
+  prepared_cut_splits =
+      ap (map (prepared_by_layout items)) cut
+      ∙ ap (λ own. own ∷ map (prepared_by_layout items) (lines_after_first following)) (sym is)
 
   -- If the first line has a fault, that fault is the first fault of all lines.
   pub line-fault : (fault : RowFault)
-      → fault_at items off place line ≡ Some fault
-      → drawn_from items jc off place page (prepared_cut items rest) ≡ Err fault
-  unfolding drawn_from
-  line-fault fault reported = rw (all_lines, reported) refl
+      → line_fault_at items row_shift place line ≡ Some fault
+      → drawn_from_place items jc row_shift place page (prepared_cut_lines items rest) ≡ Err fault
+  unfolding drawn_from_place
+  line-fault fault reported = rw (prepared_cut_splits, reported) refl
 
   -- If the first line has no fault, drawing continues with the other lines.
-  pub line-next : fault_at items off place line ≡ None
-      → drawn_from items jc off place page (prepared_cut items rest)
-      ≡ drawn_from items jc off (place_after items place line)
-      (page_with items jc off place line page)
-      (map (prepared_by items) (lines_after_first following))
-  unfolding drawn_from
-  line-next sound = rw (all_lines, sound) refl
+  pub line-next : line_fault_at items row_shift place line ≡ None
+      → drawn_from_place items jc row_shift place page (prepared_cut_lines items rest)
+      ≡ drawn_from_place items jc row_shift (next_place items place line)
+      (page_with_line items jc row_shift place line page)
+      (map (prepared_by_layout items) (lines_after_first following))
+  unfolding drawn_from_place
+  line-next sound = rw (prepared_cut_splits, sound) refl
 
-  pub line-codes : HoldCodes (cut_lines rest) → AreCodes line
-  line-codes h1 = grind (arith, nat_tests, holds_at, prepared_small)
+  pub line-codes : HaveSevenBitCells (cut_lines rest) → AreCodes line
+  line-codes h1 = grind (arith, nat_tests, property_holds_at_index, prepared_line_is_seven_bit)
 
-  pub following-codes : HoldCodes (cut_lines rest) → HoldCodes (lines_after_first following)
+  pub following-codes : HaveSevenBitCells (cut_lines rest) → HaveSevenBitCells
+      (lines_after_first following)
   following-codes h = (rw cut at h).1
 
-pub line-end : (items : LayoutItems) (jc off : ℕ) (place : Place) (page : Rows)
-    → drawn_from items jc off place page [] ≡ Ok page
-unfolding drawn_from
-line-end items jc off place page = refl
+pub line-end : (items : LayoutItems) (jc row_shift : ℕ) (place : Place) (page : Rows)
+    → drawn_from_place items jc row_shift place page [] ≡ Ok page
+unfolding drawn_from_place
+line-end items jc row_shift place page = refl
 
 pub place-grows : (items : LayoutItems) (place : Place) (line : List ℕ)
-    → ((place_after items place line).number ≡ place.number + 1)
-    × ((place_after items place line).depth ≤ place.depth + 2)
-unfolding place_after
+    → ((next_place items place line).number ≡ place.number + 1)
+    × ((next_place items place line).depth ≤ place.depth + 2)
+unfolding next_place
 place-grows items place line = grind (arith, nat_tests)

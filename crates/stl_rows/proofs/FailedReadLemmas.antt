@@ -14,33 +14,33 @@ use Rattle.stl_file.specs.declared.scope.Scope.{Scope}
 use Rattle.stl_file.specs.Subtitle.{SubtitleValue}
 use Rattle.stl_file.specs.Reading.{StartedSubtitle, findings_from}
 use Rattle.stl_file.specs.Reader.{FailsReading, FindsFrom, block_of_byte}
-use Rattle.stl_file.specs.Resuming.{LeadsOn, ResumingValue}
+use Rattle.stl_file.specs.Resuming.{LeadsToResult, ResumingValue}
 use Rattle.stl_rows.specs.declared.layout.Drawing.{Drawing}
 use Rattle.stl_rows.specs.declared.fault.LoadFault.{LoadFault}
 use Rattle.stl_rows.specs.declared.times.Times.{Times}
 use Rattle.stl_rows.specs.EveryFault.{FailsReporting, faults, is_reported_before}
 use Rattle.stl_rows.specs.Keeping.{KeptRecords}
-use Rattle.stl_rows.proofs.LoadingLemmas.{LoadingInvariant, IsReportedBy, reports-unread}
+use Rattle.stl_rows.proofs.LoadingLemmas.{LoadingInvariant, IsReportedUpToBlock, reports-unread}
 
 -- The GSI block and `block` TTI blocks have been read completely.
-pub record HasTaken (old now : Option (List ℕ)) (block : ℕ) : Type 0 where
+pub record HasConsumedBlocks (old now : Option (List ℕ)) (block : ℕ) : Type 0 where
   pub bytes : List ℕ
   pub consumed : Consumes old now bytes
   pub long : length bytes ≡ 1024 + 128 * block
 
 pub has_taken-next : {old mid now : Option (List ℕ)} {scope : Scope} {from to : ℕ}
     {refused next : Option StartedSubtitle} {t : SubtitleValue} {result : Result Found StlFault}
-    → LeadsOn scope from to refused next mid now t result
+    → LeadsToResult scope from to refused next mid now t result
     → is_ok result ≡ true
-    → HasTaken old mid from
-    → HasTaken old now to
+    → HasConsumedBlocks old mid from
+    → HasConsumedBlocks old now to
 has_taken-next {old} {mid} {now} l goes h =
     grind (arith, nat_tests, Consumes-trans, length-append)
 
-left_over : (rest : List ℕ) (new : Option (List ℕ)) (bytes : List ℕ)
+consumed_bytes_leave_rest : (rest : List ℕ) (new : Option (List ℕ)) (bytes : List ℕ)
     → Consumes (Some rest) new bytes
     → (more : List ℕ) × (rest ≡ bytes ++ more)
-left_over rest new bytes p = grind (arith, nat_tests)
+consumed_bytes_leave_rest rest new bytes p = grind (arith, nat_tests)
 
 block-is : (bytes more : List ℕ) (from to : ℕ)
     → length bytes ≡ 1024 + 128 * from
@@ -48,9 +48,10 @@ block-is : (bytes more : List ℕ) (from to : ℕ)
     → to ≡ block_of_byte (length (bytes ++ more))
 block-is bytes more from to long at = grind (arith, nat_tests, length-append bytes more)
 
-none_before-0 : (all : List LoadFault) → filter (is_reported_before 0) all ≡ []
-none_before-0 [] = refl
-none_before-0 (f ∷ fs) = grind (arith, nat_tests, none_before-0 fs)
+frames_before_start_are_decided-0 : (all : List LoadFault) → filter (is_reported_before 0) all ≡ []
+frames_before_start_are_decided-0 [] = refl
+frames_before_start_are_decided-0 (f ∷ fs) = grind
+    (arith, nat_tests, frames_before_start_are_decided-0 fs)
 
 -- If the source fails while a subtitle is read, exactly the faults of earlier blocks have been
 -- reported.
@@ -58,8 +59,8 @@ pub fails-next : {drawing : Drawing} {start old new : Option (List ℕ)} {before
     {kept : KeptRecords} {early : List LoadFault} {D : Type 0}
     {IsReported : D → LoadFault → D → Type 0} {reported_old reported_new : D} {scope : Scope}
     (reader : ResumingValue) {block : ℕ}
-    → HasTaken start old reader.block
-    → All (IsReportedBy reader.block) early
+    → HasConsumedBlocks start old reader.block
+    → All (IsReportedUpToBlock reader.block) early
     → Reports IsReported reported_old reported_new early
     → ((all : List ℕ) → start ≡ Some all → (rest : List ℕ) × (old ≡ Some rest)
     × LoadingInvariant drawing all (findings_from scope reader.block reader.refused rest) before
@@ -75,12 +76,14 @@ fails-next {start = start} {old} {new} {scope = scope} reader {block} taken earl
           Consumes-trans start old new taken.bytes failed.bytes taken.consumed failed.consumed;
       block_eq = block-is taken.bytes failed.bytes reader.block block taken.long failed.block;
       reported = λ all is.
-          let here = goes all is in
-          let left = left_over here.0 new failed.bytes (rw here.1 at failed.consumed) in
-          let names : FindsFrom block (findings_from scope reader.block reader.refused here.0) =
+          let drop_splits_at_element = goes all is in
+          let left = consumed_bytes_leave_rest drop_splits_at_element.0 new failed.bytes
+          (rw drop_splits_at_element.1 at failed.consumed) in
+          let names : FindsFrom block (findings_from scope reader.block reader.refused
+          drop_splits_at_element.0) =
           rw left.1 (failed.none left.0) in
           reports-unread reader.block block (omega (arith, failed.block)) early_reported names
-          here.2
+          drop_splits_at_element.2
           reported;
     }
 
@@ -88,4 +91,9 @@ fails-next {start = start} {old} {new} {scope = scope} reader {block} taken earl
 pub reads-nothing : (drawing : Drawing) (file : List ℕ)
     {D : Type 0} {IsReported : D → LoadFault → D → Type 0} (reported : D)
     → Reports IsReported reported reported (filter (is_reported_before 0) (faults drawing file))
-reads-nothing drawing file reported = grind (arith, nat_tests, none_before-0, Reports-none)
+reads-nothing drawing file reported = grind (
+  arith,
+  nat_tests,
+  frames_before_start_are_decided-0,
+  Reports-none,
+)

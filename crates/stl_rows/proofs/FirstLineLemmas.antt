@@ -8,36 +8,45 @@ use Rattle.std.proofs.Math.Seq.{take-suc}
 use Rattle.std.proofs.lemmas.List.{drop_all, take_all}
 use Rattle.std.proofs.lemmas.List.Splits.{slice_split-cons_no, slice_split-cons_yes}
 use Rattle.stl_rows.specs.LineByLayout.{cut_lines}
-use Rattle.stl_rows.specs.LineByLine.{onto}
+use Rattle.stl_rows.specs.LineByLine.{cells_onto_lines}
 use Rattle.stl_rows.specs.TextCode.{new_line}
-use Rattle.stl_rows.proofs.LineByLineLemmas.{onto_code, onto_line_end}
+use Rattle.stl_rows.proofs.LineByLineLemmas.{code_joins_cells, line_end_closes_cells}
 
 module _ (cells : List ℕ) (at : ℕ) where
-  abbrev pub AreOnto : Type 0
-  AreOnto = cut_lines cells ≡ onto (take at cells) (cut_lines (drop at cells))
+  abbrev pub CellsBeginFirstLine : Type 0
+  CellsBeginFirstLine = cut_lines cells ≡ cells_onto_lines (take at cells)
+      (cut_lines (drop at cells))
 
-  here : at < length cells → drop at cells ≡ get_or cells at 0 ∷ drop (at + 1) cells
-  here low = rw (add-one, drop-cons cells at 0) refl
+  drop_splits_at_element : at < length cells → drop at cells ≡ get_or cells at 0 ∷ drop (at + 1)
+      cells
+  drop_splits_at_element low = rw (add-one, drop-cons cells at 0) refl
 
-  one_more : at < length cells
+  take_adds_next_element : at < length cells
       → take (at + 1) cells ≡ take at cells ++ get_or cells at 0 ∷ []
-  one_more low = rw add-one (take-suc cells at 0 low)
+  take_adds_next_element low = rw add-one (take-suc cells at 0 low)
 
   pub first_line-more : at < length cells
       → (get_or cells at 0 == new_line) ≡ false
-      → AreOnto
-      → cut_lines cells ≡ onto (take (at + 1) cells) (cut_lines (drop (at + 1) cells))
+      → CellsBeginFirstLine
+      → cut_lines cells ≡ cells_onto_lines (take (at + 1) cells) (cut_lines (drop (at + 1) cells))
   first_line-more low other h =
-      grind (arith, nat_tests, here, slice_split-cons_no, onto_code, one_more)
+      grind (
+        arith,
+        nat_tests,
+        drop_splits_at_element,
+        slice_split-cons_no,
+        code_joins_cells,
+        take_adds_next_element,
+      )
 
   pub first_line-end : (more : List ℕ)
       → at < length cells
       → (get_or cells at 0 == new_line) ≡ true
-      → AreOnto
+      → CellsBeginFirstLine
       → more ≡ drop 1 (drop at cells)
       → cut_lines cells ≡ take at cells ∷ cut_lines more
   first_line-end more low own h is =
-      grind (arith, nat_tests, here, slice_split-cons_yes, onto_line_end)
+      grind (arith, nat_tests, drop_splits_at_element, slice_split-cons_yes, line_end_closes_cells)
 
-  pub first_line-all : length cells ≤ at → AreOnto → cut_lines cells ≡ cells ∷ []
-  first_line-all past h = grind (arith, nat_tests, drop_all, onto_line_end, take_all)
+  pub first_line-all : length cells ≤ at → CellsBeginFirstLine → cut_lines cells ≡ cells ∷ []
+  first_line-all past h = grind (arith, nat_tests, drop_all, line_end_closes_cells, take_all)

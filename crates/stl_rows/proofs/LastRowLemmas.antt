@@ -9,28 +9,37 @@ use Rattle.stl_rows.specs.declared.layout.LayoutItems.{LayoutItems}
 use Rattle.stl_rows.specs.DrawnPage.{PlacedLine, drawn, page_of_placed, placed_faults}
 use Rattle.stl_rows.specs.DuePage.{due}
 use Rattle.stl_rows.proofs.DuePageLemmas.{due_has_property}
-use Rattle.stl_rows.proofs.LaidOutLemmas.{drawn_by-lines, lines_of_subtitle, none_below}
-use Rattle.stl_rows.proofs.LaidOutLemmas.{off_of_subtitle}
+use Rattle.stl_rows.proofs.LaidOutLemmas.{drawn_by-lines, lines_of_subtitle, no_line_in_row_24}
+use Rattle.stl_rows.proofs.LaidOutLemmas.{shift_of_subtitle}
 
-row_free : (items : LayoutItems) (jc off : ℕ) (lines : List PlacedLine)
-    → placed_faults items off lines ≡ []
-    → row_at (page_of_placed items jc off lines) 24 ≡ blank_row
+placed_lines_avoid_row_24 : (items : LayoutItems) (jc row_shift : ℕ) (lines : List PlacedLine)
+    → placed_faults items row_shift lines ≡ []
+    → row_at (page_of_placed items jc row_shift lines) 24 ≡ blank_row
 unfolding page_of_placed
-row_free items jc off lines none = grind (arith, nat_tests, none_below)
+placed_lines_avoid_row_24 items jc row_shift lines none = grind
+    (arith, nat_tests, no_line_in_row_24)
 
-blank_row_24 : row_at blank 24 ≡ blank_row
+blank_has_blank_row_24 : row_at blank 24 ≡ blank_row
 unfolding blank
-blank_row_24 = refl
+blank_has_blank_row_24 = refl
 
-drawn_free : (drawing : Drawing) (t : SubtitleValue) (page : Rows)
+drawing_keeps_row_24_blank : (drawing : Drawing) (t : SubtitleValue) (page : Rows)
     → drawn drawing t ≡ Ok page
     → row_at page 24 ≡ blank_row
 unfolding drawn
-drawn_free drawing t page e =
-    grind (arith, nat_tests, drawn_by-lines, row_free, off_of_subtitle, lines_of_subtitle)
+drawing_keeps_row_24_blank drawing t page e =
+    grind (
+      arith,
+      nat_tests,
+      drawn_by-lines,
+      placed_lines_avoid_row_24,
+      shift_of_subtitle,
+      lines_of_subtitle,
+    )
 
-pub last_row_blank : (drawing : Drawing) (records : List SubtitleValue) (frame : ℕ)
+pub due_row_24_is_blank : (drawing : Drawing) (records : List SubtitleValue) (frame : ℕ)
     → row_at (due drawing records frame) 24 ≡ blank_row
-last_row_blank drawing records frame =
-    due_has_property (λ page. row_at page 24 ≡ blank_row) drawing records frame blank_row_24
-    (drawn_free drawing)
+due_row_24_is_blank drawing records frame =
+    due_has_property (λ page. row_at page 24 ≡ blank_row) drawing records frame
+    blank_has_blank_row_24
+    (drawing_keeps_row_24_blank drawing)

@@ -8,15 +8,15 @@ use Rattle.std.proofs.lemmas.List.FromFn.{fill_by_all, length-map-range_with_len
 use Rattle.std.specs.List.{AllByRecursion}
 use Rattle.ttx_page.specs.Page.{AreCodes, space}
 use Rattle.stl_rows.specs.Line.{code_in_column}
-use Rattle.stl_rows.specs.PreparedLine.{row_from}
+use Rattle.stl_rows.specs.PreparedLine.{row_starting_at}
 
-pub row_from-put : (start : ℕ) (line row : List ℕ)
+pub row_starting_at-put : (start : ℕ) (line row : List ℕ)
     → start + length line ≤ 40
     → row ≡ replicate 40 space
     → take start row ++ (line ++ drop (start + length line - start) (drop start row))
-    ≡ row_from start line
-unfolding row_from
-row_from-put start line row room is =
+    ≡ row_starting_at start line
+unfolding row_starting_at
+row_starting_at-put start line row room is =
     let blank : (k : ℕ) → k < 40 → get_or row k 0 ≡ space =
     λ k l. rw is (get_or-replicate 40 k space 0 l) in
     fill_by_all (code_in_column start line) _ 40 0 (grind (arith, places))
@@ -25,36 +25,43 @@ row_from-put start line row room is =
 abbrev pub AreSevenBitCodes : List ℕ → Type 0
 AreSevenBitCodes codes = AllByRecursion (λ (c : ℕ). c < 128) codes
 
-pub holds_at : {X : Type 0} (P : X → Type 0) (xs : List X) (k : ℕ) (d : X)
+pub property_holds_at_index : {X : Type 0} (P : X → Type 0) (xs : List X) (k : ℕ) (d : X)
     → P d
     → AllByRecursion P xs
     → P (get_or xs k d)
-holds_at P [] k d none h = none
-holds_at P (x ∷ xs) k d none h = grind (arith, nat_tests, holds_at P xs)
+property_holds_at_index P [] k d none h = none
+property_holds_at_index P (x ∷ xs) k d none h = grind (
+  arith,
+  nat_tests,
+  property_holds_at_index P
+      xs,
+)
 
-pub all_of_map : {X Y : Type 0} (P : Y → Type 0) (f : X → Y) (xs : List X)
+pub property_holds_on_map : {X Y : Type 0} (P : Y → Type 0) (f : X → Y) (xs : List X)
     → ((x : X) → P (f x))
     → AllByRecursion P (map f xs)
-all_of_map P f [] h = tt
-all_of_map P f (x ∷ xs) h = (h x, all_of_map P f xs h)
+property_holds_on_map P f [] h = tt
+property_holds_on_map P f (x ∷ xs) h = (h x, property_holds_on_map P f xs h)
 
-cell_small : (start column : ℕ) (line : List ℕ)
+column_code_is_seven_bit : (start column : ℕ) (line : List ℕ)
     → AreSevenBitCodes line
     → code_in_column start line column < 128
-cell_small start column line h = grind (arith, nat_tests, holds_at)
+column_code_is_seven_bit start column line h = grind (arith, nat_tests, property_holds_at_index)
 
-pub row_length : (start : ℕ) (line : List ℕ) → length (row_from start line) ≡ 40
-unfolding row_from
-row_length start line = grind (arith, nat_tests, length-map-range_with_len)
+pub row_has_40_columns : (start : ℕ) (line : List ℕ) → length (row_starting_at start line) ≡ 40
+unfolding row_starting_at
+row_has_40_columns start line = grind (arith, nat_tests, length-map-range_with_len)
 
-pub row_small : (start : ℕ) (line : List ℕ) → AreSevenBitCodes line → AreSevenBitCodes
-    (row_from start line)
-unfolding row_from
-row_small start line h = grind (arith, nat_tests, all_of_map, cell_small)
+pub row_is_seven_bit : (start : ℕ) (line : List ℕ) → AreSevenBitCodes line → AreSevenBitCodes
+    (row_starting_at start line)
+unfolding row_starting_at
+row_is_seven_bit start line h = grind
+    (arith, nat_tests, property_holds_on_map, column_code_is_seven_bit)
 
-pub row_from-codes : (start : ℕ) (line : List ℕ) → AreCodes line → AreCodes (row_from start line)
-row_from-codes start line codes column =
-    holds_at (λ c. c < 128) (row_from start line) column 0 (lit< tt)
-    (row_small start line
+pub row_starting_at-codes : (start : ℕ) (line : List ℕ) → AreCodes line → AreCodes
+    (row_starting_at start line)
+row_starting_at-codes start line codes column =
+    property_holds_at_index (λ c. c < 128) (row_starting_at start line) column 0 (lit< tt)
+    (row_is_seven_bit start line
     (recursion_from_All (λ c. c < 128) line
     (All-from_get_or (λ c. c < 128) line 0 (λ k l. codes k))))

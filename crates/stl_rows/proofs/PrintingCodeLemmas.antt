@@ -9,14 +9,16 @@ use Rattle.ttx_page.specs.Page.{space}
 use Rattle.stl_rows.specs.declared.layout.Attribute.{Attribute}
 use Rattle.stl_rows.specs.declared.layout.LayoutItems.{LayoutItems}
 use Rattle.stl_rows.specs.Layout.{attribute_code, codes_of_places}
-use Rattle.stl_rows.specs.PrintingCodes.{before_left, from_first, printing_codes, printed}
-use Rattle.stl_rows.specs.PrintingCodes.{printed_lines, prints}
-use Rattle.stl_rows.specs.PrintingCodes.{to_last}
-use Rattle.stl_rows.specs.PreparedLine.{ending, framed, headed, leading, prepared_by}
-use Rattle.stl_rows.specs.PreparedLine.{row_from, trailing, trimmed, whitened}
+use Rattle.stl_rows.specs.PrintingCodes.{cell_before_rest, from_first_printable, printing_codes}
+use Rattle.stl_rows.specs.PrintingCodes.{printed_part}
+use Rattle.stl_rows.specs.PrintingCodes.{printed_lines, is_printable_cell}
+use Rattle.stl_rows.specs.PrintingCodes.{up_to_last_printable}
+use Rattle.stl_rows.specs.PreparedLine.{codes_to_append, line_with_layout_codes}
+use Rattle.stl_rows.specs.PreparedLine.{line_with_before_codes, leading_count, prepared_by_layout}
+use Rattle.stl_rows.specs.PreparedLine.{row_starting_at, trailing, trimmed, codes_with_colour}
 use Rattle.stl_rows.specs.PreparedLine.{without_leading_spaces}
 use Rattle.stl_rows.specs.TextCode.{is_within}
-use Rattle.stl_rows.proofs.LineLemmas.{row_from-put}
+use Rattle.stl_rows.proofs.LineLemmas.{row_starting_at-put}
 
 abbrev pub AreNonPrinting : List ℕ → Type 0
 AreNonPrinting cells = AllByRecursion (λ (c : ℕ). c ≤ space) cells
@@ -39,11 +41,11 @@ none-spaces : (n : ℕ) → AreNonPrinting (replicate n space)
 none-spaces zero = tt
 none-spaces (suc n) = (omega arith, none-spaces n)
 
-none-leading : (first last : ℕ) (cells : List ℕ) → last ≤ space
-    → AreNonPrinting (take (leading first last cells) cells)
-none-leading first last [] low = tt
-none-leading first last (c ∷ cells) low =
-    grind (arith, nat_tests, none-leading first last cells low)
+none-leading_count : (first last : ℕ) (cells : List ℕ) → last ≤ space
+    → AreNonPrinting (take (leading_count first last cells) cells)
+none-leading_count first last [] low = tt
+none-leading_count first last (c ∷ cells) low =
+    grind (arith, nat_tests, none-leading_count first last cells low)
 
 none-all : (first last : ℕ) (cells : List ℕ) → last ≤ space
     → list_all (is_within first last) cells ≡ true
@@ -79,131 +81,170 @@ none-codes [] = tt
 none-codes (None ∷ places) = none-codes places
 none-codes (Some a ∷ places) = (attribute-low a, none-codes places)
 
-from_first-none : (xs cells : List ℕ) → AreNonPrinting xs → from_first (xs ++ cells) ≡ from_first
+from_first_printable-none : (xs cells : List ℕ) → AreNonPrinting xs → from_first_printable
+    (xs ++ cells) ≡ from_first_printable
     cells
-from_first-none [] cells h = refl
-from_first-none (x ∷ xs) cells h = grind (arith, nat_tests, from_first-none xs cells h.1)
+from_first_printable-none [] cells h = refl
+from_first_printable-none (x ∷ xs) cells h = grind (
+  arith,
+  nat_tests,
+  from_first_printable-none xs
+      cells h.1,
+)
 
-to_last-nothing : (xs : List ℕ) → AreNonPrinting xs → to_last xs ≡ []
-to_last-nothing [] h = refl
-to_last-nothing (x ∷ xs) h = grind (arith, nat_tests, to_last-nothing xs h.1)
+up_to_last_printable-nothing : (xs : List ℕ) → AreNonPrinting xs → up_to_last_printable xs ≡ []
+up_to_last_printable-nothing [] h = refl
+up_to_last_printable-nothing (x ∷ xs) h = grind (
+  arith,
+  nat_tests,
+  up_to_last_printable-nothing xs
+      h.1,
+)
 
-to_last-none : (cells xs : List ℕ) → AreNonPrinting xs → to_last (cells ++ xs) ≡ to_last cells
-to_last-none [] xs h = to_last-nothing xs h
-to_last-none (c ∷ cells) xs h = ap (before_left c) (to_last-none cells xs h)
+up_to_last_printable-none : (cells xs : List ℕ) → AreNonPrinting xs → up_to_last_printable
+    (cells ++ xs) ≡ up_to_last_printable cells
+up_to_last_printable-none [] xs h = up_to_last_printable-nothing xs h
+up_to_last_printable-none (c ∷ cells) xs h = ap (cell_before_rest c) (up_to_last_printable-none
+    cells xs h)
 
-printed-following : (cells xs : List ℕ) → AreNonPrinting xs → printed (cells ++ xs) ≡ printed cells
-unfolding printed
-printed-following [] xs h =
-    grind (arith, nat_tests, from_first-none xs [] h, append-nil, to_last-nothing)
-printed-following (c ∷ cells) xs h =
-    grind (arith, nat_tests, to_last-none (c ∷ cells) xs h, printed-following cells xs h)
-
-printed-ahead : (xs cells : List ℕ) → AreNonPrinting xs → printed (xs ++ cells) ≡ printed cells
-unfolding printed
-printed-ahead xs cells h = ap to_last (from_first-none xs cells h)
-
-printed-drop : (n : ℕ) (cells : List ℕ) → AreNonPrinting (take n cells)
-    → printed (drop n cells) ≡ printed cells
-printed-drop n cells h =
-    sym (printed-ahead (take n cells) (drop n cells) h) ∙ ap printed (take-append-drop n cells)
-
-printed-take : (n : ℕ) (cells : List ℕ) → AreNonPrinting (drop n cells)
-    → printed (take n cells) ≡ printed cells
-printed-take n cells h =
-    sym (printed-following (take n cells) (drop n cells) h) ∙ ap printed (take-append-drop n cells)
-
-printed-trimmed : (cells : List ℕ) → printed (trimmed cells) ≡ printed cells
-unfolding trimmed
-printed-trimmed cells =
-    printed-take _ (without_leading_spaces cells)
-    (none-trailing 0x20 0x20 (without_leading_spaces cells) (omega arith))
-    ∙ printed-drop _ cells (none-leading 0x20 0x20 cells (omega arith))
-
-none-whitened : (items : LayoutItems) (codes : List ℕ) → AreNonPrinting codes
-    → AreNonPrinting (whitened items codes)
-none-whitened items codes h =
-    grind (arith, nat_tests, none-append codes (0x07 ∷ []) h (omega arith, tt))
-
-none-ending : (items : LayoutItems) (n : ℕ) → AreNonPrinting (ending items n)
-none-ending items n = grind (arith, nat_tests, none-codes items.after, none-take)
-
-printed-headed : (items : LayoutItems) (cells : List ℕ)
-    → printed (headed items cells) ≡ printed cells
-unfolding headed
-printed-headed items cells =
+printed_part-following : (cells xs : List ℕ) → AreNonPrinting xs → printed_part (cells ++ xs) ≡
+    printed_part cells
+unfolding printed_part
+printed_part-following [] xs h =
     grind (
       arith,
       nat_tests,
-      none-leading,
-      printed-ahead,
-      none-append,
-      none-codes,
-      none-whitened,
-      printed-drop,
+      from_first_printable-none xs [] h,
+      append-nil,
+      up_to_last_printable-nothing,
+    )
+printed_part-following (c ∷ cells) xs h =
+    grind (
+      arith,
+      nat_tests,
+      up_to_last_printable-none (c ∷ cells) xs h,
+      printed_part-following
+          cells xs h,
     )
 
-printed-framed : (items : LayoutItems) (cells : List ℕ)
-    → printed (framed items cells) ≡ printed cells
-unfolding framed
-printed-framed items cells = grind (
+printed_part-ahead : (xs cells : List ℕ) → AreNonPrinting xs → printed_part (xs ++ cells) ≡
+    printed_part cells
+unfolding printed_part
+printed_part-ahead xs cells h = ap up_to_last_printable (from_first_printable-none xs cells h)
+
+printed_part-drop : (n : ℕ) (cells : List ℕ) → AreNonPrinting (take n cells)
+    → printed_part (drop n cells) ≡ printed_part cells
+printed_part-drop n cells h =
+    sym (printed_part-ahead (take n cells) (drop n cells) h) ∙ ap printed_part
+    (take-append-drop n cells)
+
+printed_part-take : (n : ℕ) (cells : List ℕ) → AreNonPrinting (drop n cells)
+    → printed_part (take n cells) ≡ printed_part cells
+printed_part-take n cells h =
+    sym (printed_part-following (take n cells) (drop n cells) h) ∙ ap printed_part
+    (take-append-drop n cells)
+
+printed_part-trimmed : (cells : List ℕ) → printed_part (trimmed cells) ≡ printed_part cells
+unfolding trimmed
+printed_part-trimmed cells =
+    printed_part-take _ (without_leading_spaces cells)
+    (none-trailing 0x20 0x20 (without_leading_spaces cells) (omega arith))
+    ∙ printed_part-drop _ cells (none-leading_count 0x20 0x20 cells (omega arith))
+
+none-codes_with_colour : (items : LayoutItems) (codes : List ℕ) → AreNonPrinting codes
+    → AreNonPrinting (codes_with_colour items codes)
+none-codes_with_colour items codes h =
+    grind (arith, nat_tests, none-append codes (0x07 ∷ []) h (omega arith, tt))
+
+none-codes_to_append : (items : LayoutItems) (n : ℕ) → AreNonPrinting (codes_to_append items n)
+none-codes_to_append items n = grind (arith, nat_tests, none-codes items.after, none-take)
+
+printed_part-line_with_before_codes : (items : LayoutItems) (cells : List ℕ)
+    → printed_part (line_with_before_codes items cells) ≡ printed_part cells
+unfolding line_with_before_codes
+printed_part-line_with_before_codes items cells =
+    grind (
+      arith,
+      nat_tests,
+      none-leading_count,
+      printed_part-ahead,
+      none-append,
+      none-codes,
+      none-codes_with_colour,
+      printed_part-drop,
+    )
+
+printed_part-line_with_layout_codes : (items : LayoutItems) (cells : List ℕ)
+    → printed_part (line_with_layout_codes items cells) ≡ printed_part cells
+unfolding line_with_layout_codes
+printed_part-line_with_layout_codes items cells = grind (
   arith,
   nat_tests,
-  printed-following,
-  none-ending,
-  printed-headed,
+  printed_part-following,
+  none-codes_to_append,
+  printed_part-line_with_before_codes,
 )
 
 -- The prepared form of a line has the same cells from the first printable cell to the last.
-pub printed-prepared : (items : LayoutItems) (cells : List ℕ)
-    → printed (prepared_by items cells) ≡ printed cells
-unfolding prepared_by
-printed-prepared items cells = grind (arith, nat_tests, printed-framed, printed-trimmed)
+pub printed_part-boxed_line : (items : LayoutItems) (cells : List ℕ)
+    → printed_part (prepared_by_layout items cells) ≡ printed_part cells
+unfolding prepared_by_layout
+printed_part-boxed_line items cells = grind (
+  arith,
+  nat_tests,
+  printed_part-line_with_layout_codes,
+  printed_part-trimmed,
+)
 
 -- The row that shows a line has the same cells as the line, from the first printable cell to the
 -- last.
-pub printed-row : (start : ℕ) (line : List ℕ) → start + length line ≤ 40
-    → printed (row_from start line) ≡ printed line
-printed-row start line room =
+pub printed_part-row : (start : ℕ) (line : List ℕ) → start + length line ≤ 40
+    → printed_part (row_starting_at start line) ≡ printed_part line
+printed_part-row start line room =
     let row : List ℕ = replicate 40 space in
     let all = none-spaces 40 in
-    ap printed (sym (row_from-put start line row room refl))
-    ∙ printed-ahead (take start row) _ (none-take start row all)
-    ∙ printed-following line _ (none-drop _ _ (none-drop start row all))
+    ap printed_part (sym (row_starting_at-put start line row room refl))
+    ∙ printed_part-ahead (take start row) _ (none-take start row all)
+    ∙ printed_part-following line _ (none-drop _ _ (none-drop start row all))
 
-printing_codes-from_first : (cells : List ℕ) → filter prints (from_first cells) ≡ filter prints
+printing_codes-from_first_printable : (cells : List ℕ) → filter is_printable_cell
+    (from_first_printable cells) ≡ filter is_printable_cell
     cells
-printing_codes-from_first [] = refl
-printing_codes-from_first (c ∷ cells) = grind (arith, nat_tests, printing_codes-from_first cells)
+printing_codes-from_first_printable [] = refl
+printing_codes-from_first_printable (c ∷ cells) = grind
+    (arith, nat_tests, printing_codes-from_first_printable cells)
 
-printing_codes-before_left : (c : ℕ) (cells : List ℕ)
-    → filter prints (before_left c cells) ≡ filter prints (c ∷ cells)
-printing_codes-before_left c [] = grind (arith, nat_tests)
-printing_codes-before_left c (x ∷ cells) = refl
+printing_codes-cell_before_rest : (c : ℕ) (cells : List ℕ)
+    → filter is_printable_cell (cell_before_rest c cells) ≡ filter is_printable_cell (c ∷ cells)
+printing_codes-cell_before_rest c [] = grind (arith, nat_tests)
+printing_codes-cell_before_rest c (x ∷ cells) = refl
 
-printing_codes-to_last : (cells : List ℕ) → filter prints (to_last cells) ≡ filter prints cells
-printing_codes-to_last [] = refl
-printing_codes-to_last (c ∷ cells) =
-    printing_codes-before_left c (to_last cells) ∙ grind (
+printing_codes-up_to_last_printable : (cells : List ℕ) → filter is_printable_cell
+    (up_to_last_printable cells) ≡ filter is_printable_cell cells
+printing_codes-up_to_last_printable [] = refl
+printing_codes-up_to_last_printable (c ∷ cells) =
+    printing_codes-cell_before_rest c (up_to_last_printable cells) ∙ grind (
       arith,
       nat_tests,
-      printing_codes-to_last
+      printing_codes-up_to_last_printable
           cells,
     )
 
-printing_codes-printed : (cells : List ℕ) → filter prints (printed cells) ≡ filter prints cells
-unfolding printed
-printing_codes-printed cells = printing_codes-to_last (from_first cells) ∙ printing_codes-from_first
+printing_codes-printed_part : (cells : List ℕ) → filter is_printable_cell (printed_part cells) ≡
+    filter is_printable_cell cells
+unfolding printed_part
+printing_codes-printed_part cells = printing_codes-up_to_last_printable (from_first_printable cells)
+    ∙ printing_codes-from_first_printable
     cells
 
 printing_codes-line : (line own : List ℕ) (lines : List (List ℕ))
-    → printed line ≡ own
+    → printed_part line ≡ own
     → printing_codes (printed_lines lines) ≡ printing_codes lines
     → printing_codes (printed_lines (line ∷ lines)) ≡ printing_codes (line ∷ lines)
-printing_codes-line line own lines is rest = grind (arith, nat_tests, printing_codes-printed)
+printing_codes-line line own lines is rest = grind (arith, nat_tests, printing_codes-printed_part)
 
 pub printing_codes-lines : (lines : List (List ℕ)) → printing_codes (printed_lines lines) ≡
     printing_codes lines
 printing_codes-lines [] = refl
 printing_codes-lines (line ∷ lines) =
-    printing_codes-line line (printed line) lines refl (printing_codes-lines lines)
+    printing_codes-line line (printed_part line) lines refl (printing_codes-lines lines)

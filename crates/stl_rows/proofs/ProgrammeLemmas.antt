@@ -12,46 +12,57 @@ use Rattle.stl_file.specs.Subtitle.{SubtitleValue, IsSubtitle}
 use Rattle.stl_rows.specs.declared.fault.RowFault.{RowFault}
 use Rattle.stl_rows.specs.declared.layout.Drawing.{Drawing}
 use Rattle.stl_rows.specs.DrawnPage.{drawn}
-use Rattle.stl_rows.specs.Programme.{AreInOrder, IsProgramme, follow_faults, last_of, order_faults}
+use Rattle.stl_rows.specs.Programme.{AreInOrder, IsProgramme, faults_of_next_subtitle, last_element}
+use Rattle.stl_rows.specs.Programme.{order_faults}
 use Rattle.stl_rows.specs.Programme.{row_faults, times_before, times_of}
-use Rattle.stl_rows.proofs.FaultlessLemmas.{empty_parts}
+use Rattle.stl_rows.proofs.FaultlessLemmas.{empty_append_has_empty_parts}
 
 pub draws_without_faults : (r : Result Rows RowFault) → row_faults r ≡ [] → IsOk r
 draws_without_faults r h = grind arith
 
 -- If a subtitle's times have no fault, its TCI is at or after the TCO of the previous subtitle.
-starts_after_last : (last t : SubtitleValue)
+tci_follows_last_tco : (last t : SubtitleValue)
     → order_faults (Some (times_of last)) (times_of t) ≡ []
     → last.tco ≤ t.tci
-starts_after_last last t h = grind (arith, nat_tests)
+tci_follows_last_tco last t h = grind (arith, nat_tests)
 
-last_before : (ts : List SubtitleValue) (t : SubtitleValue) (i : ℕ) (d : SubtitleValue)
+earlier_tcos_are_before_tci : (ts : List SubtitleValue) (t : SubtitleValue) (i : ℕ)
+    (d : SubtitleValue)
     → All IsSubtitle ts
     → AreInOrder ts
     → order_faults (times_before ts) (times_of t) ≡ []
     → i < length ts
     → (get_or ts i d).tco ≤ t.tci
-last_before ts t i d each ordered h inside =
+earlier_tcos_are_before_tci ts t i d each ordered_bits_order_subtitles h inside =
     let at : ℕ = length ts - 1 in
     let times = (each at d (omega arith)).times in
-    grind (arith, nat_tests, starts_after_last, slice_get-get_or)
+    grind (arith, nat_tests, tci_follows_last_tco, slice_get-get_or)
 
 in_order-push : (ts : List SubtitleValue) (t : SubtitleValue)
     → All IsSubtitle ts
     → AreInOrder ts
     → order_faults (times_before ts) (times_of t) ≡ []
     → AreInOrder (ts ++ t ∷ [])
-in_order-push ts t each ordered h i j d below inside =
-    grind (arith, nat_tests, length-append, get_or_append_left, cases_lt, get_or_push, last_before)
+in_order-push ts t each ordered_bits_order_subtitles h i j d below inside =
+    grind (
+      arith,
+      nat_tests,
+      length-append,
+      get_or_append_left,
+      cases_lt,
+      get_or_push,
+      earlier_tcos_are_before_tci,
+    )
 
 pub IsProgramme-push : (n : Drawing) (ts : List SubtitleValue) (t : SubtitleValue)
     → IsProgramme n ts
     → IsSubtitle t
-    → follow_faults n (times_before ts) t ≡ []
+    → faults_of_next_subtitle n (times_before ts) t ≡ []
     → IsProgramme n (ts ++ t ∷ [])
 IsProgramme-push n ts t ok subtitle h =
     let parts =
-    empty_parts (order_faults (times_before ts) (times_of t)) (row_faults (drawn n t)) h in
+    empty_append_has_empty_parts (order_faults (times_before ts) (times_of t))
+    (row_faults (drawn n t)) h in
     record {
       each = All-push IsSubtitle ts t ok.each subtitle;
       in_order = in_order-push ts t ok.each ok.in_order parts.0;
@@ -59,8 +70,8 @@ IsProgramme-push n ts t ok subtitle h =
           parts.1);
     }
 
-pub last_of-push : {A : Type 0} (xs : List A) (x : A) → last_of (xs ++ x ∷ []) ≡ Some x
-last_of-push xs x =
+pub last_element-push : {A : Type 0} (xs : List A) (x : A) → last_element (xs ++ x ∷ []) ≡ Some x
+last_element-push xs x =
     let size = length-append xs (x ∷ []) in
     let at : ℕ = length (xs ++ x ∷ []) - 1 in
     slice_get-get_or (xs ++ x ∷ []) at x (omega (arith, size))

@@ -14,54 +14,59 @@ use Rattle.stl_rows.specs.declared.text_code.TextCode.{TextCode}
 use Rattle.stl_rows.specs.declared.text_code.TextCode.TheVariants.{Cell, NoCell, NewLine, Refused}
 use Rattle.stl_rows.specs.declared.text_faults.OpenLine.{OpenLine}
 use Rattle.stl_rows.specs.PlainPage.{line_fault_kinds, line_faults, subtitle_faults}
-use Rattle.stl_rows.specs.Line.{has_cells, is_boxed, is_double, prepared}
-use Rattle.stl_rows.specs.LineByLine.{empty_line, line_under, prepared_lines}
-use Rattle.stl_rows.specs.LineByLine.{shape_fault_kinds, reported, reported_first, with_cell}
-use Rattle.stl_rows.specs.TextCode.{first_of, lines_of_codes, refused_codes, text_codes}
-use Rattle.stl_rows.proofs.LineByLineLemmas.{onto_code, onto_line_end}
+use Rattle.stl_rows.specs.Line.{has_cells, has_start_box_code, has_double_height, boxed_line}
+use Rattle.stl_rows.specs.LineByLine.{empty_line, next_empty_line, prepared_lines}
+use Rattle.stl_rows.specs.LineByLine.{shape_fault_kinds, reported, first_fault_up_to_line}
+use Rattle.stl_rows.specs.LineByLine.{with_cell}
+use Rattle.stl_rows.specs.TextCode.{first_of, lines_of_codes, faults_of_codes, text_codes}
+use Rattle.stl_rows.proofs.LineByLineLemmas.{code_joins_cells, line_end_closes_cells}
 
 -- The state of the current line has the number of its cells, and whether they contain a start box
 -- and double height.
 pub record HasShape (cells : List ℕ) (line : OpenLine) : Type 0 where
   pub count : length cells ≡ line.len
-  pub box : is_boxed cells ≡ line.is_boxed
-  pub is_double_eq : is_double cells ≡ line.is_double
+  pub box : has_start_box_code cells ≡ line.has_start_box_code
+  pub is_double_eq : has_double_height cells ≡ line.has_double_height
 
 shape-none : (number row : ℕ) (under : Bool) → HasShape [] (empty_line number row under)
-unfolding is_boxed is_double
+unfolding has_start_box_code has_double_height
 shape-none number row under = record { count = refl; box = refl; is_double_eq = refl }
 
 shape-push : (cells : List ℕ) (code : ℕ) (line : OpenLine)
     → HasShape cells line
     → HasShape (cells ++ code ∷ []) (with_cell line code)
-unfolding is_boxed is_double
+unfolding has_start_box_code has_double_height
 shape-push cells code line h = grind (arith, nat_tests, length-append, list_any-append, or-false)
 
-double_prepared : (cells : List ℕ) → is_double (prepared cells) ≡ is_double cells
-unfolding prepared is_double
-double_prepared cells = grind (arith, nat_tests, list_any-append, or-false)
+preparing_keeps_double_height : (cells : List ℕ) → has_double_height (boxed_line cells) ≡
+    has_double_height cells
+unfolding boxed_line has_double_height
+preparing_keeps_double_height cells = grind (arith, nat_tests, list_any-append, or-false)
 
-length_prepared : (c : ℕ) (cs : List ℕ)
-    → length (prepared (c ∷ cs)) ≡ cond (is_boxed (c ∷ cs)) (length (c ∷ cs)) (length (c ∷ cs) + 4)
-unfolding prepared
-length_prepared c cs = grind (arith, nat_tests, length-append)
+preparing_adds_box_codes : (c : ℕ) (cs : List ℕ)
+    → length (boxed_line (c ∷ cs)) ≡ cond (has_start_box_code (c ∷ cs)) (length (c ∷ cs))
+    (length (c ∷ cs) + 4)
+unfolding boxed_line
+preparing_adds_box_codes c cs = grind (arith, nat_tests, length-append)
 
-cells_prepared : (c : ℕ) (cs : List ℕ) → has_cells (prepared (c ∷ cs)) ≡ true
-unfolding prepared
-cells_prepared c cs = grind (arith, nat_tests)
+prepared_line_has_cells : (c : ℕ) (cs : List ℕ) → has_cells (boxed_line (c ∷ cs)) ≡ true
+unfolding boxed_line
+prepared_line_has_cells c cs = grind (arith, nat_tests)
 
-kinds_of_none : (line : OpenLine)
+empty_line_has_shape_faults : (line : OpenLine)
     → HasShape [] line
-    → line_fault_kinds line.row line.is_under_double (prepared []) ≡ shape_fault_kinds line
-unfolding line_fault_kinds shape_fault_kinds prepared is_boxed is_double
-kinds_of_none line h = rw (← h.count, ← h.box, ← h.is_double_eq) refl
+    → line_fault_kinds line.row line.is_below_double_height (boxed_line []) ≡ shape_fault_kinds line
+unfolding line_fault_kinds shape_fault_kinds boxed_line has_start_box_code has_double_height
+empty_line_has_shape_faults line h = rw (← h.count, ← h.box, ← h.is_double_eq) refl
 
-shape_kinds : (cells : List ℕ) (line : OpenLine)
+shape_decides_fault_kinds : (cells : List ℕ) (line : OpenLine)
     → HasShape cells line
-    → line_fault_kinds line.row line.is_under_double (prepared cells) ≡ shape_fault_kinds line
+    → line_fault_kinds line.row line.is_below_double_height (boxed_line cells) ≡ shape_fault_kinds
+    line
 unfolding line_fault_kinds shape_fault_kinds
-shape_kinds [] line h = kinds_of_none line h
-shape_kinds (c ∷ cs) line h = search (rules, length_prepared, cells_prepared, double_prepared)
+shape_decides_fault_kinds [] line h = empty_line_has_shape_faults line h
+shape_decides_fault_kinds (c ∷ cs) line h = search
+    (rules, preparing_adds_box_codes, prepared_line_has_cells, preparing_keeps_double_height)
 
 first_of-append : {A : Type 0} (xs ys : List A)
     → first_of (xs ++ ys) ≡ option_or (first_of xs) (first_of ys)
@@ -71,14 +76,23 @@ option_or_assoc : {A : Type 0} (a b c : Option A)
     → option_or (option_or a b) c ≡ option_or a (option_or b c)
 option_or_assoc a b c = grind (arith, nat_tests)
 
-reported_line : (before : Option RowFault) (cells : List ℕ) (line : OpenLine) (ls : List (List ℕ))
+reported_fault_is_first : (before : Option RowFault) (cells : List ℕ) (line : OpenLine)
+    (ls : List (List ℕ))
     → HasShape cells line
-    → option_or (reported_first before line)
-    (first_of (line_faults (line.number + 1) (line.row + 1) line.is_double ls))
+    → option_or (first_fault_up_to_line before line)
+    (first_of (line_faults (line.number + 1) (line.row + 1) line.has_double_height ls))
     ≡ option_or before
-    (first_of (line_faults line.number line.row line.is_under_double (prepared cells ∷ ls)))
-reported_line before cells line ls h =
-    grind (arith, nat_tests, shape_kinds, double_prepared, first_of-append, option_or_assoc)
+    (first_of (line_faults line.number line.row line.is_below_double_height
+    (boxed_line cells ∷ ls)))
+reported_fault_is_first before cells line ls h =
+    grind (
+      arith,
+      nat_tests,
+      shape_decides_fault_kinds,
+      preparing_keeps_double_height,
+      first_of-append,
+      option_or_assoc,
+    )
 
 -- The result is the fault of a rejected byte; otherwise a fault found before; otherwise the first
 -- fault of the lines left.
@@ -87,26 +101,30 @@ IsReported ss =
     (before : Option RowFault) (cells : List ℕ) (line : OpenLine)
     → HasShape cells line
     → reported before line ss
-    ≡ option_or (first_of (refused_codes ss)) (option_or before (first_of
-    (line_faults line.number line.row line.is_under_double (prepared_lines cells ss))))
+    ≡ option_or (first_of (faults_of_codes ss)) (option_or before (first_of
+    (line_faults line.number line.row line.is_below_double_height (prepared_lines cells ss))))
 
 reported-code : (at : ℕ) (s : TextCode) (ss : List (ℕ × TextCode)) → IsReported ss → IsReported
     ((at, s) ∷ ss)
-reported-code at (Cell code) ss after before cells line h = search (rules, onto_code, shape-push)
+reported-code at (Cell code) ss after before cells line h = search (
+  rules,
+  code_joins_cells,
+  shape-push,
+)
 reported-code at NoCell ss after before cells line h = after before cells line h
 reported-code at NewLine ss after before cells line h =
-    rw (onto_line_end cells (lines_of_codes ss))
-    (after (reported_first before line) [] (line_under line) (shape-none _ _ _)
-    ∙ ap (option_or (first_of (refused_codes ss)))
-    (reported_line before cells line (prepared_lines [] ss) h))
+    rw (line_end_closes_cells cells (lines_of_codes ss))
+    (after (first_fault_up_to_line before line) [] (next_empty_line line) (shape-none _ _ _)
+    ∙ ap (option_or (first_of (faults_of_codes ss)))
+    (reported_fault_is_first before cells line (prepared_lines [] ss) h))
 reported-code at (Refused kind) ss after before cells line h = refl
 
 reported-is : (ss : List (ℕ × TextCode)) → IsReported ss
 reported-is [] before cells line h = grind (
   arith,
   nat_tests,
-  onto_line_end,
-  shape_kinds,
+  line_end_closes_cells,
+  shape_decides_fault_kinds,
   append-nil,
 )
 reported-is (c ∷ ss) before cells line h = reported-code c.0 c.1 ss (reported-is ss) before cells
@@ -117,4 +135,4 @@ pub reported-faults : (n : National) (t : SubtitleValue)
     (subtitle_faults n t)
 reported-faults n t =
     reported-is (text_codes n 0 t.text) None [] (empty_line 0 t.vp false) (shape-none 0 t.vp false)
-    ∙ sym (first_of-append (refused_codes (text_codes n 0 t.text)) _)
+    ∙ sym (first_of-append (faults_of_codes (text_codes n 0 t.text)) _)

@@ -4,8 +4,8 @@ use Rattle.stl_file.specs.Subtitle.{IsSubtitle, SubtitleValue}
 use Rattle.stl_rows.specs.declared.cues.Cue.{Cue}
 
 -- The subtitle of the cue c, with its text taken from the buffer of all texts.
-abbrev pub subtitle_in : List ℕ → Cue → SubtitleValue
-subtitle_in texts c = record {
+abbrev pub subtitle_of_cue : List ℕ → Cue → SubtitleValue
+subtitle_of_cue texts c = record {
   sgn = c.sgn;
   sn = c.sn;
   tci = c.tci;
@@ -16,13 +16,13 @@ subtitle_in texts c = record {
 }
 
 -- The text of the cue c is within the buffer, and the cue has the fields of a valid subtitle.
-pub record IsCueAmong (texts : List ℕ) (c : Cue) : Type 0 where
+pub record IsCueInTexts (texts : List ℕ) (c : Cue) : Type 0 where
   pub within : c.start + c.len ≤ length texts
-  pub subtitle : IsSubtitle (subtitle_in texts c)
+  pub subtitle : IsSubtitle (subtitle_of_cue texts c)
 
 -- The cue of a subtitle whose text begins at position `start` of the buffer.
-abbrev pub cue_at : ℕ → SubtitleValue → Cue
-cue_at start s = record {
+abbrev pub cue_with_text_at : ℕ → SubtitleValue → Cue
+cue_with_text_at start s = record {
   start = start;
   tci = s.tci;
   tco = s.tco;

@@ -31,8 +31,8 @@ ends_at frame t = t.tco == frame
 
 -- The TCI of the subtitle whose TCO is the frame; `None` if no subtitle ends at the frame. If
 -- subtitles do not overlap (`AreInOrder`), at most one subtitle ends at each frame.
-unfoldable pub tci_of_ending : List SubtitleValue → ℕ → Option ℕ
-tci_of_ending records frame = option_map (λ t. t.tci) (find (ends_at frame) records)
+unfoldable pub tci_of_subtitle_ending_at : List SubtitleValue → ℕ → Option ℕ
+tci_of_subtitle_ending_at records frame = option_map (λ t. t.tci) (find (ends_at frame) records)
 
 -- The frame is a cue: the TCI or the TCO of a subtitle.
 abbrev pub IsEdge : List SubtitleValue → ℕ → Type 0

@@ -8,14 +8,14 @@ use Rattle.std.specs.Io.KnownBytes.{Consumes}
 use Rattle.sub_io.specs.Reading.{IfKnown}
 use Rattle.sub_io.specs.Reporting.{Reports, ReportsSome}
 use Rattle.stl_file.specs.declared.fault.StlFault.TheVariants.{Ended, Read, Unfinished}
-use Rattle.stl_file.specs.Reader.{block_of_byte, findings_for}
+use Rattle.stl_file.specs.Reader.{block_of_byte, findings_within_scope}
 use Rattle.stl_file.specs.Reading.{Findings, breaks, finds, no_more, refuses}
 use Rattle.stl_rows.specs.declared.fault.LoadFault.{LoadFault}
 use Rattle.stl_rows.specs.declared.fault.LoadFaultKind.{LoadFaultKind}
 use Rattle.stl_rows.specs.declared.fault.LoadFaultKind.TheVariants.{File, Memory}
 use Rattle.stl_rows.specs.declared.layout.Drawing.{Drawing}
 use Rattle.stl_rows.specs.declared.times.Times.{Times}
-use Rattle.stl_rows.specs.Programme.{follow_faults, times_of}
+use Rattle.stl_rows.specs.Programme.{faults_of_next_subtitle, times_of}
 
 -- A fault of this kind at a TTI block.
 abbrev pub load_fault : ℕ → LoadFaultKind → LoadFault
@@ -34,51 +34,52 @@ faults_after drawing before (breaks fault block) = load_fault block (File fault)
 faults_after drawing before (refuses fault block more) =
     load_fault block (File fault) ∷ faults_after drawing before more
 faults_after drawing before (finds t block more) =
-    map (load_fault block) (follow_faults drawing before t)
+    map (load_fault block) (faults_of_next_subtitle drawing before t)
     ++ faults_after drawing (Some (times_of t)) more
 
 -- All faults of a subtitle file, in the order of the file's blocks.
 unfoldable pub faults : Drawing → List ℕ → List LoadFault
-faults drawing file = faults_after drawing None (findings_for drawing.scope file)
+faults drawing file = faults_after drawing None (findings_within_scope drawing.scope file)
 
 -- The fault is in the bytes of the file, not in the source or the memory.
-abbrev pub is_of_file : LoadFaultKind → Bool
-is_of_file (File Read) = false
-is_of_file (File Ended) = false
-is_of_file Memory = false
-is_of_file _ = true
+abbrev pub is_file_fault : LoadFaultKind → Bool
+is_file_fault (File Read) = false
+is_file_fault (File Ended) = false
+is_file_fault Memory = false
+is_file_fault _ = true
 
 -- At least one fault was reported, and all reported faults are in the bytes of the file.
-pub record ReportsOfFile {D : Type 0} (IsReported : D → LoadFault → D → Type 0) (old new : D) : Type
+pub record ReportsSomeFileFaults {D : Type 0} (IsReported : D → LoadFault → D → Type 0)
+    (old new : D) : Type
     0
   where
     pub faults : List LoadFault
     pub some : 0 < length faults
-    pub of_file : list_all (λ (f : LoadFault). is_of_file f.kind) faults ≡ true
+    pub fault_is_in_file : list_all (λ (f : LoadFault). is_file_fault f.kind) faults ≡ true
     pub reported : Reports IsReported old new faults
 
 -- All faults that were reported, if any, are in the bytes of the file.
-pub record ReportsAnyOfFile
+pub record ReportsOnlyFileFaults
     {D : Type 0} (IsReported : D → LoadFault → D → Type 0) (old new : D)
     : Type 0 where
   pub faults : List LoadFault
-  pub of_file : list_all (λ (f : LoadFault). is_of_file f.kind) faults ≡ true
+  pub fault_is_in_file : list_all (λ (f : LoadFault). is_file_fault f.kind) faults ≡ true
   pub reported : Reports IsReported old new faults
 
 -- The reports by a result of `load_all`, even if the source's bytes are unknown. If subtitles are
 -- returned: no report, or faults of the file. If none are returned: at least one fault of the file.
 -- If the source failed or memory could not be allocated: any number of faults.
-abbrev pub ReportsByAnswer : {D A : Type 0}
+abbrev pub ReportsByLoadResult : {D A : Type 0}
     → (D → LoadFault → D → Type 0) → D → D → Result (Option A) LoadFault → Type 0
-ReportsByAnswer IsReported old new (Ok (Some found)) = ReportsAnyOfFile IsReported old new
-ReportsByAnswer IsReported old new (Ok None) = ReportsOfFile IsReported old new
-ReportsByAnswer IsReported old new (Err f) = ReportsSome IsReported old new
+ReportsByLoadResult IsReported old new (Ok (Some found)) = ReportsOnlyFileFaults IsReported old new
+ReportsByLoadResult IsReported old new (Ok None) = ReportsSomeFileFaults IsReported old new
+ReportsByLoadResult IsReported old new (Err f) = ReportsSome IsReported old new
 
 -- The receiver of the reports stopped them at one of the faults `items`: it got the faults up to
 -- and including that one.
-abbrev pub StopsWithin : {D : Type 0}
+abbrev pub StopsAtOneOf : {D : Type 0}
     → (D → LoadFault → D → Type 0) → D → D → List LoadFault → Type 0
-StopsWithin IsReported old new items =
+StopsAtOneOf IsReported old new items =
     (n : ℕ) × (0 < n) × (n ≤ length items) × Reports IsReported old new (take n items)
 
 -- The receiver of the reports got all of the faults `items`; or, if it stopped the reports, a
@@ -88,7 +89,7 @@ pub record ReportsFaults
     (items : List LoadFault)
     : Type 0 where
   pub all : has_stopped ≡ false → Reports IsReported old new items
-  pub prefix : StopsWithin IsReported old new items
+  pub prefix : StopsAtOneOf IsReported old new items
 
 -- The fault means that the file ends within a subtitle.
 abbrev pub ends_in_subtitle : LoadFaultKind → Bool
@@ -124,14 +125,14 @@ EndsSubtitleAfter drawing before reported at (refuses fault block more) =
     × (reported ≡ load_fault block (File fault) ∷ rest)
     × EndsSubtitleAfter drawing before rest at more
 EndsSubtitleAfter drawing before reported at (finds t block more) =
-    ((at ≡ block) × (reported ≡ []) × (follow_faults drawing before t ≡ []))
+    ((at ≡ block) × (reported ≡ []) × (faults_of_next_subtitle drawing before t ≡ []))
     ⊎ ((rest : List LoadFault)
-    × (reported ≡ map (load_fault block) (follow_faults drawing before t) ++ rest)
+    × (reported ≡ map (load_fault block) (faults_of_next_subtitle drawing before t) ++ rest)
     × EndsSubtitleAfter drawing (Some (times_of t)) rest at more)
 
 -- Memory could not be allocated for the subtitle that ends at `block`. The subtitle has no fault,
 -- and exactly the faults before it were reported.
-pub record WantsMemory
+pub record RunsOutOfMemory
     {D : Type 0} (drawing : Drawing) (file : List ℕ) (IsReported : D → LoadFault → D → Type 0)
     (old new : D) (block : ℕ)
     : Type 0 where
@@ -139,4 +140,4 @@ pub record WantsMemory
       (filter (is_reported_before block) (faults drawing file))
   pub ends :
       EndsSubtitleAfter drawing None (filter (is_reported_before block) (faults drawing file)) block
-      (findings_for drawing.scope file)
+      (findings_within_scope drawing.scope file)

@@ -3,7 +3,7 @@
 use Rattle.std.specs.Prelude.{Bool, false, codes}
 use Rattle.sub_io.specs.FaultCode.{FaultCodeValue, fault_code}
 use Rattle.stl_file.specs.Fault as stl
-use Rattle.stl_file.specs.Fault.{stl_code}
+use Rattle.stl_file.specs.Fault.{code_of_stl_fault}
 use Rattle.stl_rows.specs.declared.fault.LoadFault.{LoadFault}
 use Rattle.stl_rows.specs.declared.fault.LoadFaultKind.{LoadFaultKind}
 use Rattle.stl_rows.specs.declared.fault.LoadFaultKind.TheVariants as load
@@ -21,17 +21,17 @@ row_code row.Hidden = fault_code 55 (codes "Hidden")
 
 -- The number and the name of a fault of loading a file.
 abbrev pub load_code : LoadFaultKind → FaultCodeValue
-load_code (load.File fault) = stl_code fault
+load_code (load.File fault) = code_of_stl_fault fault
 load_code load.OutOfOrder = fault_code 56 (codes "OutOfOrder")
 load_code load.Overlap = fault_code 57 (codes "Overlap")
 load_code (load.Row fault) = row_code fault.kind
 load_code load.Memory = fault_code 58 (codes "Memory")
 
 -- The fault of loading means that the source failed.
-abbrev pub is_read_kind : LoadFaultKind → Bool
-is_read_kind (load.File fault) = stl.is_file_read fault
-is_read_kind _ = false
+abbrev pub is_read_failure_kind : LoadFaultKind → Bool
+is_read_failure_kind (load.File fault) = stl.is_file_read_failure fault
+is_read_failure_kind _ = false
 
 -- The fault of loading, with its block, means that the source failed.
-abbrev pub is_load_read : LoadFault → Bool
-is_load_read fault = is_read_kind fault.kind
+abbrev pub is_load_read_failure : LoadFault → Bool
+is_load_read_failure fault = is_read_failure_kind fault.kind

@@ -7,7 +7,7 @@
 use Rattle.std.specs.Prelude.{◌≡◌, ℕ, Bool, false, true, ◌&&◌, ◌||◌, nat_le, nat_lt, List, [], ◌∷◌}
 use Rattle.std.specs.Prelude.{if◌then◌else◌, is_none, map, Option, Some, None, All, IsOk, Ok, ◌⊎◌}
 use Rattle.std.specs.List.{list_any}
-use Rattle.stl_file.specs.Reader.{findings_for}
+use Rattle.stl_file.specs.Reader.{findings_within_scope}
 use Rattle.stl_file.specs.Reading.{Findings, breaks, finds, no_more, refuses}
 use Rattle.stl_file.specs.Subtitle.{SubtitleValue}
 use Rattle.stl_file.specs.KeptBlocks.{is_read_to_the_end}
@@ -15,19 +15,20 @@ use Rattle.stl_rows.specs.declared.layout.Drawing.{Drawing}
 use Rattle.stl_rows.specs.declared.times.Times.{Times}
 use Rattle.stl_rows.specs.DrawnPage.{drawn}
 use Rattle.stl_rows.specs.EveryFault.{faults}
-use Rattle.stl_rows.specs.Loading.{loaded, records_of}
-use Rattle.stl_rows.specs.Programme.{ProgrammeValue, follow_faults, order_faults, times_of}
+use Rattle.stl_rows.specs.Loading.{loaded_programme, subtitles_of_findings}
+use Rattle.stl_rows.specs.Programme.{ProgrammeValue, faults_of_next_subtitle, order_faults}
+use Rattle.stl_rows.specs.Programme.{times_of}
 use Rattle.stl_rows.specs.TextCode.{first_of}
 
 -- A reliable subtitle, and whether an unreliable subtitle of the file directly precedes it.
 pub record JudgedSubtitle : Type 0 where
   pub subtitle : SubtitleValue
-  pub is_after_other : Bool
+  pub is_after_unreliable : Bool
 
 -- The reliable subtitles of a file, and whether an unreliable subtitle follows the last one.
 pub record AllJudged : Type 0 where
   pub judged : List JudgedSubtitle
-  pub is_before_other : Bool
+  pub is_before_unreliable : Bool
 
 -- The next subtitle in the file that is not rejected starts neither before the TCI of `times` nor
 -- before the TCO.
@@ -39,46 +40,46 @@ is_followed_in_order times (finds t block more) =
     is_none (first_of (order_faults (Some times) (times_of t)))
 
 -- Puts a reliable subtitle in front of the other reliable subtitles.
-abbrev pub judged_before : JudgedSubtitle → AllJudged → AllJudged
-judged_before j all =
-    record { judged = j ∷ all.judged; is_before_other = all.is_before_other }
+abbrev pub with_judged_in_front : JudgedSubtitle → AllJudged → AllJudged
+with_judged_in_front j all =
+    record { judged = j ∷ all.judged; is_before_unreliable = all.is_before_unreliable }
 
 -- The reliable subtitles of the rest of a file, after a subtitle with the times `before`. `other`:
 -- an unreliable subtitle follows the last reliable one. A subtitle is reliable if it has no fault
 -- and the next subtitle is in order with it.
 unfoldable pub judged_after : Drawing → Option Times → Bool → Findings → AllJudged
-judged_after drawing before other no_more = record { judged = []; is_before_other = other }
+judged_after drawing before other no_more = record { judged = []; is_before_unreliable = other }
 judged_after drawing before other (breaks fault block) =
-    record { judged = []; is_before_other = other }
+    record { judged = []; is_before_unreliable = other }
 judged_after drawing before other (refuses fault block more) =
     judged_after drawing before true more
 judged_after drawing before other (finds t block more) =
-    if is_none (first_of (follow_faults drawing before t))
+    if is_none (first_of (faults_of_next_subtitle drawing before t))
     && is_followed_in_order (times_of t) more
-    then judged_before (record { subtitle = t; is_after_other = other })
+    then with_judged_in_front (record { subtitle = t; is_after_unreliable = other })
     (judged_after drawing (Some (times_of t)) false more)
     else judged_after drawing (Some (times_of t)) true more
 
 -- The reliable subtitles of a whole file.
 unfoldable pub judged_of : Drawing → List ℕ → AllJudged
-judged_of drawing file = judged_after drawing None false (findings_for drawing.scope file)
+judged_of drawing file = judged_after drawing None false (findings_within_scope drawing.scope file)
 
 -- ---- whether a transmission can be checked
 
 -- All subtitles in the list start at this frame or later.
-abbrev pub start_from : ℕ → List JudgedSubtitle → Bool
-start_from frame [] = true
-start_from frame (j ∷ js) = nat_le frame j.subtitle.tci && start_from frame js
+abbrev pub start_no_earlier_than : ℕ → List JudgedSubtitle → Bool
+start_no_earlier_than frame [] = true
+start_no_earlier_than frame (j ∷ js) = nat_le frame j.subtitle.tci && start_no_earlier_than frame js
 
 -- No subtitle in the list starts before the TCO of an earlier subtitle.
 abbrev pub are_in_order : List JudgedSubtitle → Bool
 are_in_order [] = true
-are_in_order (j ∷ js) = start_from j.subtitle.tco js && are_in_order js
+are_in_order (j ∷ js) = start_no_earlier_than j.subtitle.tco js && are_in_order js
 
 -- The list has at least one subtitle.
-abbrev pub are_some : List JudgedSubtitle → Bool
-are_some [] = false
-are_some (j ∷ js) = true
+abbrev pub has_any_subtitle : List JudgedSubtitle → Bool
+has_any_subtitle [] = false
+has_any_subtitle (j ∷ js) = true
 
 -- A transmission can be checked against the reliable subtitles of the file: the file was read to
 -- its end, and it has at least one reliable subtitle, without overlap between the reliable
@@ -86,7 +87,8 @@ are_some (j ∷ js) = true
 abbrev pub can_judge : Drawing → List ℕ → Bool
 can_judge drawing file =
     let judged = (judged_of drawing file).judged in
-    is_read_to_the_end (findings_for drawing.scope file) && are_some judged && are_in_order judged
+    is_read_to_the_end (findings_within_scope drawing.scope file) && has_any_subtitle judged &&
+    are_in_order judged
 
 -- ---- frames with an unknown expected page
 
@@ -96,13 +98,13 @@ can_judge drawing file =
 abbrev pub is_undecided_from : ℕ → List JudgedSubtitle → Bool → ℕ → Bool
 is_undecided_from start [] other frame = nat_le start frame && other
 is_undecided_from start (j ∷ js) other frame =
-    (nat_le start frame && nat_lt frame j.subtitle.tci && j.is_after_other)
+    (nat_le start frame && nat_lt frame j.subtitle.tci && j.is_after_unreliable)
     || is_undecided_from j.subtitle.tco js other frame
 
 -- The expected page is unknown at this frame, because the frame is in a gap with an unreliable
 -- subtitle.
 abbrev pub is_undecided : AllJudged → ℕ → Bool
-is_undecided all frame = is_undecided_from 0 all.judged all.is_before_other frame
+is_undecided all frame = is_undecided_from 0 all.judged all.is_before_unreliable frame
 
 -- ---- the model of a `JudgedProgramme`
 
@@ -111,51 +113,52 @@ is_undecided all frame = is_undecided_from 0 all.judged all.is_before_other fram
 -- unreliable subtitle follows the last.
 pub record JudgedValue : Type 0 where
   pub programme : ProgrammeValue
-  pub after_other : List Bool
-  pub is_before_other : Bool
+  pub after_unreliable_bits : List Bool
+  pub is_before_unreliable : Bool
 
 -- Combines each reliable subtitle with its bit: whether an unreliable subtitle directly precedes
 -- it. A missing bit means false.
-abbrev pub with_bits : List SubtitleValue → List Bool → List JudgedSubtitle
-with_bits [] bits = []
-with_bits (t ∷ ts) [] = record { subtitle = t; is_after_other = false } ∷ with_bits ts []
-with_bits (t ∷ ts) (bit ∷ bits) =
-    record { subtitle = t; is_after_other = bit } ∷ with_bits ts bits
+abbrev pub judged_subtitles_with_bits : List SubtitleValue → List Bool → List JudgedSubtitle
+judged_subtitles_with_bits [] bits = []
+judged_subtitles_with_bits (t ∷ ts) [] = record { subtitle = t; is_after_unreliable = false } ∷
+    judged_subtitles_with_bits ts []
+judged_subtitles_with_bits (t ∷ ts) (bit ∷ bits) =
+    record { subtitle = t; is_after_unreliable = bit } ∷ judged_subtitles_with_bits ts bits
 
 -- The reliable subtitles of a `JudgedProgramme`, each with its bit.
-abbrev pub all_judged_of : JudgedValue → AllJudged
-all_judged_of j = record {
-  judged = with_bits j.programme.records j.after_other;
-  is_before_other = j.is_before_other;
+abbrev pub all_judged_of_programme : JudgedValue → AllJudged
+all_judged_of_programme j = record {
+  judged = judged_subtitles_with_bits j.programme.records j.after_unreliable_bits;
+  is_before_unreliable = j.is_before_unreliable;
 }
 
 -- The expected page of a `JudgedProgramme` is unknown at this frame.
 unfoldable pub is_undecided_in : JudgedValue → ℕ → Bool
-is_undecided_in j frame = is_undecided (all_judged_of j) frame
+is_undecided_in j frame = is_undecided (all_judged_of_programme j) frame
 
 -- The file of a `JudgedProgramme` has at least one unreliable subtitle.
-abbrev pub has_refused : JudgedValue → Bool
-has_refused j = j.is_before_other || list_any (λ bit. bit) j.after_other
+abbrev pub has_unreliable_subtitle : JudgedValue → Bool
+has_unreliable_subtitle j = j.is_before_unreliable || list_any (λ bit. bit) j.after_unreliable_bits
 
 -- The `JudgedProgramme` of a file in which all subtitles are reliable.
 abbrev pub known : ProgrammeValue → JudgedValue
 known programme =
-    record { programme = programme; after_other = []; is_before_other = false }
+    record { programme = programme; after_unreliable_bits = []; is_before_unreliable = false }
 
 -- The programme against which a transmission is checked: if the file has no faults, all its
 -- subtitles; otherwise its reliable subtitles, if a transmission can be checked against them.
-pub record JudgesBy (drawing : Drawing) (file : List ℕ) (j : JudgedValue) : Type 0 where
-  pub all : all_judged_of j ≡ judged_of drawing file
+pub record JudgesFile (drawing : Drawing) (file : List ℕ) (j : JudgedValue) : Type 0 where
+  pub all : all_judged_of_programme j ≡ judged_of drawing file
   pub enough : (can_judge drawing file ≡ true) ⊎ (faults drawing file ≡ [])
   pub whole :
       faults drawing file ≡ []
-      → (loaded drawing file ≡ Ok j.programme) × (j ≡ known j.programme)
+      → (loaded_programme drawing file ≡ Ok j.programme) × (j ≡ known j.programme)
 
 -- ---- laws of reliable subtitles
 
 -- If all subtitles of a file are reliable, the expected page is known at every frame.
-abbrev pub LawOfKnown : Type 0
-LawOfKnown =
+abbrev pub LawOfReliableFiles : Type 0
+LawOfReliableFiles =
     (programme : ProgrammeValue) (frame : ℕ) → is_undecided_in (known programme) frame ≡ false
 
 -- Each reliable subtitle of a file can be drawn.
@@ -166,10 +169,10 @@ LawOfJudged =
 
 -- If a file has no faults, all its subtitles are reliable, and the expected page is known at every
 -- frame.
-abbrev pub LawOfDecided : Type 0
-LawOfDecided =
+abbrev pub LawOfFaultlessFiles : Type 0
+LawOfFaultlessFiles =
     (drawing : Drawing) (file : List ℕ)
     → faults drawing file ≡ []
     → (map (λ (j : JudgedSubtitle). j.subtitle) (judged_of drawing file).judged
-    ≡ records_of (findings_for drawing.scope file))
+    ≡ subtitles_of_findings (findings_within_scope drawing.scope file))
     × ((frame : ℕ) → is_undecided (judged_of drawing file) frame ≡ false)

@@ -7,93 +7,100 @@ use Rattle.stl_file.specs.Subtitle.{SubtitleValue}
 use Rattle.stl_rows.specs.declared.layout.Drawing.{Drawing}
 use Rattle.stl_rows.specs.declared.fault.LoadFault.{LoadFault}
 use Rattle.stl_rows.specs.declared.fault.LoadFaultKind.TheVariants.{Memory}
-use Rattle.stl_rows.specs.EveryFault.{ReportsFaults, WantsMemory, faults}
-use Rattle.stl_rows.specs.Judged.{JudgedSubtitle, JudgedValue, JudgesBy, are_in_order, are_some}
-use Rattle.stl_rows.specs.Judged.{can_judge, with_bits}
+use Rattle.stl_rows.specs.EveryFault.{ReportsFaults, RunsOutOfMemory, faults}
+use Rattle.stl_rows.specs.Judged.{JudgedSubtitle, JudgedValue, JudgesFile, are_in_order}
+use Rattle.stl_rows.specs.Judged.{has_any_subtitle}
+use Rattle.stl_rows.specs.Judged.{can_judge, judged_subtitles_with_bits}
 
 -- The state of loading: the kept subtitles; for each, whether an unreliable subtitle directly
 -- precedes it (a missing bit means false); whether an unreliable subtitle follows the last; and
 -- whether the times of the next subtitle are compared with the times of the last kept subtitle.
 pub record KeptRecords : Type 0 where
   pub records : List SubtitleValue
-  pub after_other : List Bool
-  pub is_before_other : Bool
-  pub is_latest : Bool
+  pub after_unreliable_bits : List Bool
+  pub is_before_unreliable : Bool
+  pub was_last_kept : Bool
 
 -- The state of loading before the first subtitle.
 abbrev pub no_subtitles_yet : KeptRecords
 no_subtitles_yet =
-    record { records = []; after_other = []; is_before_other = false; is_latest = false }
+    record {
+      records = [];
+      after_unreliable_bits = [];
+      is_before_unreliable = false;
+      was_last_kept = false;
+    }
 
 -- The kept subtitles, each with its bit: whether an unreliable subtitle directly precedes it.
 abbrev pub all_kept : KeptRecords → List JudgedSubtitle
-all_kept k = with_bits k.records k.after_other
+all_kept k = judged_subtitles_with_bits k.records k.after_unreliable_bits
 
 -- The programme of the kept subtitles, against which a transmission is checked.
-abbrev pub judged_with : Drawing → KeptRecords → JudgedValue
-judged_with drawing k = record {
+abbrev pub judged_value_of : Drawing → KeptRecords → JudgedValue
+judged_value_of drawing k = record {
   programme = record { drawing = drawing; records = k.records };
-  after_other = k.after_other;
-  is_before_other = k.is_before_other;
+  after_unreliable_bits = k.after_unreliable_bits;
+  is_before_unreliable = k.is_before_unreliable;
 }
 
 -- ---- the effect of the next subtitle
 
 -- The bits of the kept subtitles after adding the bit of subtitle number n. Missing bits are filled
 -- with false.
-abbrev pub bits_after : ℕ → Bool → List Bool → List Bool
-bits_after n other bits =
+abbrev pub bits_with_next : ℕ → Bool → List Bool → List Bool
+bits_with_next n other bits =
     if other then take n bits ++ (replicate (n - length bits) false ++ true ∷ []) else bits
 
 -- The state after keeping the subtitle t.
-abbrev pub with_kept : SubtitleValue → KeptRecords → KeptRecords
-with_kept t k = record {
+abbrev pub after_kept_subtitle : SubtitleValue → KeptRecords → KeptRecords
+after_kept_subtitle t k = record {
   records = k.records ++ t ∷ [];
-  after_other = bits_after (length k.records) k.is_before_other k.after_other;
-  is_before_other = false;
-  is_latest = true;
+  after_unreliable_bits = bits_with_next (length k.records) k.is_before_unreliable
+      k.after_unreliable_bits;
+  is_before_unreliable = false;
+  was_last_kept = true;
 }
 
 -- The state after a rejected subtitle. The times of the next subtitle are not compared with the
 -- times of a rejected subtitle.
-abbrev pub with_rejected : KeptRecords → KeptRecords
-with_rejected k = record k { is_before_other = true }
+abbrev pub after_rejected_subtitle : KeptRecords → KeptRecords
+after_rejected_subtitle k = record k { is_before_unreliable = true }
 
 -- The state after a subtitle with a fault, which is not kept.
-abbrev pub with_faulty : KeptRecords → KeptRecords
-with_faulty k = record k { is_before_other = true; is_latest = false }
+abbrev pub after_faulty_subtitle : KeptRecords → KeptRecords
+after_faulty_subtitle k = record k { is_before_unreliable = true; was_last_kept = false }
 
 -- The state without the last kept subtitle, which is not reliable.
-abbrev pub without_last : KeptRecords → KeptRecords
-without_last k = record k {
+abbrev pub without_last_kept : KeptRecords → KeptRecords
+without_last_kept k = record k {
   records = take (length k.records - 1) k.records;
-  after_other = take (length k.records - 1) k.after_other;
+  after_unreliable_bits = take (length k.records - 1) k.after_unreliable_bits;
 }
 
 -- The state after the next subtitle. `clean`: the subtitle has no fault. `in_order`: its times are
 -- in order with the times of the previous subtitle; if they are not, the previous subtitle is not
 -- reliable either.
-abbrev pub records_after : Bool → Bool → SubtitleValue → KeptRecords → KeptRecords
-records_after in_order clean t k =
-    if clean then with_kept t k
-    else if k.is_latest && not in_order then with_faulty (without_last k)
-    else with_faulty k
+abbrev pub records_after_subtitle : Bool → Bool → SubtitleValue → KeptRecords → KeptRecords
+records_after_subtitle in_order clean t k =
+    if clean then after_kept_subtitle t k
+    else if k.was_last_kept && not in_order then after_faulty_subtitle (without_last_kept k)
+    else after_faulty_subtitle k
 
 -- ---- the kept subtitles at the end of the file
 
 -- The list has no bits, so no kept subtitle directly follows an unreliable subtitle.
-abbrev pub are_none : List Bool → Bool
-are_none [] = true
-are_none (bit ∷ bits) = false
+abbrev pub has_no_bits : List Bool → Bool
+has_no_bits [] = true
+has_no_bits (bit ∷ bits) = false
 
 -- All subtitles of the file are kept, so no fault was reported.
 abbrev pub are_all_kept : KeptRecords → Bool
-are_all_kept k = are_none k.after_other && not k.is_before_other
+are_all_kept k = has_no_bits k.after_unreliable_bits && not k.is_before_unreliable
 
 -- A transmission can be checked against the kept subtitles: no fault was reported, or there is at
 -- least one kept subtitle and the kept subtitles do not overlap.
-abbrev pub is_enough : KeptRecords → Bool
-is_enough k = are_all_kept k || (are_some (all_kept k) && are_in_order (all_kept k))
+abbrev pub is_checkable : KeptRecords → Bool
+is_checkable k = are_all_kept k || (has_any_subtitle (all_kept k) && are_in_order (all_kept k))
 
 -- ---- results of loading a whole file
 
@@ -106,10 +113,10 @@ abbrev pub LoadsAll : {D : Type 0}
     → Drawing → List ℕ → (D → LoadFault → D → Type 0) → D → D → Bool
     → Result (Option KeptRecords) LoadFault → Type 0
 LoadsAll drawing file IsReported old new has_stopped (Ok (Some kept)) =
-    JudgesBy drawing file (judged_with drawing kept) × Reports IsReported old new
+    JudgesFile drawing file (judged_value_of drawing kept) × Reports IsReported old new
     (faults drawing file)
 LoadsAll drawing file IsReported old new has_stopped (Ok None) =
     ReportsFaults IsReported old new has_stopped (faults drawing file)
     × ((has_stopped ≡ true) ⊎ (can_judge drawing file ≡ false))
 LoadsAll drawing file IsReported old new has_stopped (Err f) =
-    f.kind ≡ Memory → WantsMemory drawing file IsReported old new f.block
+    f.kind ≡ Memory → RunsOutOfMemory drawing file IsReported old new f.block

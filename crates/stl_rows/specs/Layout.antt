@@ -53,8 +53,8 @@ codes_of_places (Some a ∷ places) = attribute_code a ∷ codes_of_places place
 -- ---- layout items and their defaults
 
 -- A list of n empty places for spacing attributes.
-abbrev pub no_codes : ℕ → List (Option Attribute)
-no_codes n = replicate n None
+abbrev pub empty_places : ℕ → List (Option Attribute)
+empty_places n = replicate n None
 
 -- The default layout items: two start boxes before a line's own leading codes, two end boxes at the
 -- line's end, and nothing else.
@@ -71,12 +71,12 @@ default_items = record {
   up = false;
   left = 0;
   right = 0;
-  free = 1;
+  free_jc = 1;
   double = false;
   pack = false;
   last = false;
-  lower = 0;
-  higher = 0;
+  rows_down = 0;
+  rows_up = 0;
 }
 
 -- The default layout.
@@ -88,8 +88,8 @@ abbrev pub items_of_layout : Layout → LayoutItems
 items_of_layout layout = unwrap_or layout.items default_items
 
 -- The layout item `strip` names this byte, 00 to 1F, so the byte of a text has no cell.
-abbrev pub strips : LayoutItems → ℕ → Bool
-strips items byte = nat_lt byte 0x20 && slice_index_or items.strip byte false
+abbrev pub strips_byte : LayoutItems → ℕ → Bool
+strips_byte items byte = nat_lt byte 0x20 && slice_index_or items.strip byte false
 
 -- Creates a drawing from a national option, a layout and a scope.
 abbrev pub drawing_within : National → Layout → Scope → Drawing

@@ -9,14 +9,14 @@ use Rattle.ttx_packet.specs.PacketAddress.{◌>>=◌}
 use Rattle.stl_rows.specs.declared.layout.Attribute.{Attribute}
 use Rattle.stl_rows.specs.declared.layout.Layout.{Layout}
 use Rattle.stl_rows.specs.declared.layout.LayoutItems.{LayoutItems}
-use Rattle.stl_rows.specs.Layout.{attribute_of, default_items, no_codes}
+use Rattle.stl_rows.specs.Layout.{attribute_of, default_items, empty_places}
 use Rattle.stl_rows.specs.TextCode.{is_within}
 
 -- ---- separators of a layout's text
 
 -- The comma, which separates the items of a layout.
-abbrev pub between_items : ℕ
-between_items = 0x2C
+abbrev pub item_separator : ℕ
+item_separator = 0x2C
 
 -- The equals sign, which separates the name and the value of a layout item.
 abbrev pub equals_sign : ℕ
@@ -29,8 +29,8 @@ asterisk = 0x2A
 
 -- The text before the first `mark`, and the text after it; `None` for the second part if the text
 -- has no `mark`.
-unfoldable pub cut_at : ℕ → List ℕ → List ℕ × Option (List ℕ)
-cut_at mark text =
+unfoldable pub split_at_mark : ℕ → List ℕ → List ℕ × Option (List ℕ)
+split_at_mark mark text =
     if nat_lt (position_or_len (λ c. c == mark) text) (length text)
     then (before_first (λ c. c == mark) text, Some (after_first (λ c. c == mark) text))
     else (text, None)
@@ -82,54 +82,56 @@ byte_of_digits high low = do
 
 -- Fills a list of places with the spacing attributes of pairs of hexadecimal digits. The first
 -- `filled` places are taken.
-unfoldable pub codes_filled :
+unfoldable pub places_with_codes :
     List (Option Attribute) → ℕ → List ℕ → Option (List (Option Attribute))
-codes_filled places filled [] = Some places
-codes_filled places filled (high ∷ []) = None
-codes_filled places filled (high ∷ low ∷ digits) = do
+places_with_codes places filled [] = Some places
+places_with_codes places filled (high ∷ []) = None
+places_with_codes places filled (high ∷ low ∷ digits) = do
   code ← byte_of_digits high low
   attribute ← attribute_of code
   if nat_lt filled (length places)
-      then codes_filled (slice_set places filled (Some attribute)) (filled + 1) digits
+      then places_with_codes (slice_set places filled (Some attribute)) (filled + 1) digits
       else None
 
 -- The spacing attributes of pairs of hexadecimal digits: at most `most`, each from 01 to 0D.
 abbrev pub codes_of_text : ℕ → List ℕ → Option (List (Option Attribute))
-codes_of_text most text = codes_filled (no_codes most) 0 text
+codes_of_text most text = places_with_codes (empty_places most) 0 text
 
 -- Adds the bytes of pairs of hexadecimal digits, 00 to 1F, to the bytes of the layout item `strip`.
 -- A duplicate is rejected.
-unfoldable pub stripped_with : List Bool → List ℕ → Option (List Bool)
-stripped_with strip [] = Some strip
-stripped_with strip (high ∷ []) = None
-stripped_with strip (high ∷ low ∷ digits) = do
+unfoldable pub strip_with_bytes : List Bool → List ℕ → Option (List Bool)
+strip_with_bytes strip [] = Some strip
+strip_with_bytes strip (high ∷ []) = None
+strip_with_bytes strip (high ∷ low ∷ digits) = do
   code ← byte_of_digits high low
   if slice_index_or strip code true then None
-      else stripped_with (slice_set strip code true) digits
+      else strip_with_bytes (slice_set strip code true) digits
 
 -- The codes of the layout item `before`, given the parts of its value around `*`: at most 6 codes
 -- in total.
-abbrev pub before_of_parts :
+abbrev pub before_codes_of_parts :
     List ℕ → Option (List ℕ) → Option (List (Option Attribute) × List (Option Attribute))
-before_of_parts ahead None = option_map (λ codes. (codes, no_codes 6)) (codes_of_text 6 ahead)
-before_of_parts ahead (Some following) = do
+before_codes_of_parts ahead None = option_map (λ codes. (codes, empty_places 6))
+    (codes_of_text 6 ahead)
+before_codes_of_parts ahead (Some following) = do
   first ← codes_of_text 6 ahead
   second ← codes_of_text 6 following
   if nat_le (length ahead + length following) 12 then Some (first, second) else None
 
 -- The codes of the layout item `before`: those before a line's own leading codes, and those after
 -- them.
-unfoldable pub before_of_text :
+unfoldable pub before_codes_of_text :
     List ℕ → Option (List (Option Attribute) × List (Option Attribute))
-before_of_text text =
-    let parts : List ℕ × Option (List ℕ) = cut_at asterisk text in before_of_parts parts.0 parts.1
+before_codes_of_text text =
+    let parts : List ℕ × Option (List ℕ) = split_at_mark asterisk text in before_codes_of_parts
+    parts.0 parts.1
 
 -- ---- layout items by name and value
 
 -- Sets the layout item with this name, which takes no value. Returns the number of the item, to
 -- find duplicates, and the changed items.
-unfoldable pub flag_set : LayoutItems → List ℕ → Option (ℕ × LayoutItems)
-flag_set items name =
+unfoldable pub items_with_flag : LayoutItems → List ℕ → Option (ℕ × LayoutItems)
+items_with_flag items name =
     if bytes_eq name (codes "fit") then Some (0, record items { fit = true })
     else (if bytes_eq name (codes "white") then Some (1, record items { white = true })
     else (if bytes_eq name (codes "trim") then Some (2, record items { trim = true })
@@ -142,60 +144,61 @@ flag_set items name =
 
 -- Sets the layout item with this name to a decimal value. Returns the number of the item, to find
 -- duplicates, and the changed items.
-unfoldable pub number_set : LayoutItems → List ℕ → List ℕ → Option (ℕ × LayoutItems)
-number_set items name value =
+unfoldable pub items_with_number : LayoutItems → List ℕ → List ℕ → Option (ℕ × LayoutItems)
+items_with_number items name value =
     if bytes_eq name (codes "left")
     then option_map (λ n. (11, record items { left = n })) (number_within 0 39 value)
     else (if bytes_eq name (codes "right")
     then option_map (λ n. (12, record items { right = n })) (number_within 0 39 value)
     else (if bytes_eq name (codes "free")
-    then option_map (λ n. (13, record items { free = n })) (number_within 1 3 value)
+    then option_map (λ n. (13, record items { free_jc = n })) (number_within 1 3 value)
     else (if bytes_eq name (codes "row")
-    then option_map (λ (r : ℕ × ℕ). (14, record items { lower = r.0; higher = r.1 }))
+    then option_map (λ (r : ℕ × ℕ). (14, record items { rows_down = r.0; rows_up = r.1 }))
     (rows_of_text value)
     else None)))
 
 -- Sets the layout item with this name to a value. Returns the number of the item, to find
 -- duplicates, and the changed items.
-unfoldable pub value_set : LayoutItems → List ℕ → List ℕ → Option (ℕ × LayoutItems)
-value_set items name value =
+unfoldable pub items_with_value : LayoutItems → List ℕ → List ℕ → Option (ℕ × LayoutItems)
+items_with_value items name value =
     if bytes_eq name (codes "strip")
     then option_map (λ s. (8, record items { strip = s }))
-    (stripped_with (replicate 32 false) value)
+    (strip_with_bytes (replicate 32 false) value)
     else (if bytes_eq name (codes "before")
     then option_map
     (λ (b : List (Option Attribute) × List (Option Attribute)).
     (9, record items { ahead = b.0; following = b.1 }))
-    (before_of_text value)
+    (before_codes_of_text value)
     else (if bytes_eq name (codes "after")
     then option_map (λ a. (10, record items { after = a })) (codes_of_text 4 value)
-    else number_set items name value))
+    else items_with_number items name value))
 
 -- Sets the layout item with this name, with or without a value. Returns the number of the item, to
 -- find duplicates, and the changed items.
-abbrev pub item_set_of : LayoutItems → List ℕ → Option (List ℕ) → Option (ℕ × LayoutItems)
-item_set_of items name None = flag_set items name
-item_set_of items name (Some value) = value_set items name value
+abbrev pub items_with_parts : LayoutItems → List ℕ → Option (List ℕ) → Option (ℕ × LayoutItems)
+items_with_parts items name None = items_with_flag items name
+items_with_parts items name (Some value) = items_with_value items name value
 
 -- Sets the layout item that a text names, with the value after an equals sign, if any. Returns the
 -- number of the item, to find duplicates, and the changed items.
-unfoldable pub item_set : LayoutItems → List ℕ → Option (ℕ × LayoutItems)
-item_set items text =
-    let parts : List ℕ × Option (List ℕ) = cut_at equals_sign text in
-    item_set_of items parts.0 parts.1
+unfoldable pub items_with_item : LayoutItems → List ℕ → Option (ℕ × LayoutItems)
+items_with_item items text =
+    let parts : List ℕ × Option (List ℕ) = split_at_mark equals_sign text in
+    items_with_parts items parts.0 parts.1
 
 -- Sets the layout items that several texts name. `None` if a text names no item, or an item that
 -- was already set.
-unfoldable pub items_set : LayoutItems → List Bool → List (List ℕ) → Option LayoutItems
-items_set items received [] = Some items
-items_set items received (text ∷ texts) = do
-  next ← item_set items text
+unfoldable pub items_with_all : LayoutItems → List Bool → List (List ℕ) → Option LayoutItems
+items_with_all items received [] = Some items
+items_with_all items received (text ∷ texts) = do
+  next ← items_with_item items text
   if slice_index_or received next.0 true
       then None
-      else items_set next.1 (slice_set received next.0 true) texts
+      else items_with_all next.1 (slice_set received next.0 true) texts
 
 -- The layout that a text describes; `None` if the text does not match the syntax.
 unfoldable pub layout_of_text : List ℕ → Option Layout
 layout_of_text text =
     option_map (λ items. record { items = Some items })
-    (items_set default_items (replicate 15 false) (slice_split (λ c. c == between_items) text))
+    (items_with_all default_items (replicate 15 false) (slice_split (λ c. c == item_separator)
+    text))

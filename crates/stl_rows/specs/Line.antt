@@ -27,19 +27,19 @@ has_cells [] = false
 has_cells (c ∷ cells) = true
 
 -- The line of cells contains a start box.
-unfoldable pub is_boxed : List ℕ → Bool
-is_boxed line = list_any (λ c. c == start_box) line
+unfoldable pub has_start_box_code : List ℕ → Bool
+has_start_box_code line = list_any (λ c. c == start_box) line
 
 -- The line of cells contains double height.
-unfoldable pub is_double : List ℕ → Bool
-is_double line = list_any (λ c. c == double_height) line
+unfoldable pub has_double_height : List ℕ → Bool
+has_double_height line = list_any (λ c. c == double_height) line
 
 -- The prepared form of a line: if the line has cells but no start box, two start boxes are added
 -- before it and two end boxes after it. EN 300 706 requires each box code twice; adding the box is
 -- this project's choice.
-unfoldable pub prepared : List ℕ → List ℕ
-prepared cells =
-    if has_cells cells && not (is_boxed cells)
+unfoldable pub boxed_line : List ℕ → List ℕ
+boxed_line cells =
+    if has_cells cells && not (has_start_box_code cells)
     then (start_box ∷ start_box ∷ []) ++ cells ++ (end_box ∷ end_box ∷ [])
     else cells
 

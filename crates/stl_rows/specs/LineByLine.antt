@@ -14,33 +14,34 @@ use Rattle.stl_rows.specs.declared.text_code.TextCode.{TextCode}
 use Rattle.stl_rows.specs.declared.text_code.TextCode.TheVariants.{Cell, NoCell, NewLine, Refused}
 use Rattle.stl_rows.specs.declared.text_faults.OpenLine.{OpenLine}
 use Rattle.stl_rows.specs.TextCode.{fault_of, first_of, lines_of_codes}
-use Rattle.stl_rows.specs.Line.{columns, double_height, prepared, row_of}
+use Rattle.stl_rows.specs.Line.{columns, double_height, boxed_line, row_of}
 use Rattle.stl_rows.specs.Line.{start_box}
-use Rattle.stl_rows.specs.PlainPage.{last_row, when}
+use Rattle.stl_rows.specs.PlainPage.{last_row, fault_if}
 
 -- ---- the lines of a text, read cell by cell
 
 -- Puts cells in front of the first line in a list of lines.
-abbrev pub onto : List ℕ → List (List ℕ) → List (List ℕ)
-onto [] lines = lines
-onto (c ∷ cells) lines = onto_first c (onto cells lines)
+abbrev pub cells_onto_lines : List ℕ → List (List ℕ) → List (List ℕ)
+cells_onto_lines [] lines = lines
+cells_onto_lines (c ∷ cells) lines = onto_first c (cells_onto_lines cells lines)
 
 -- The prepared lines of text codes, if the first cells of the first line, `cells`, were already
 -- read.
 abbrev pub prepared_lines : List ℕ → List (ℕ × TextCode) → List (List ℕ)
-prepared_lines cells codes = map prepared (onto cells (lines_of_codes codes))
+prepared_lines cells codes = map boxed_line (cells_onto_lines cells (lines_of_codes codes))
 
 -- The page after drawing a line in a row. An empty line changes nothing.
-abbrev pub put_line : ℕ → ℕ → List ℕ → Rows → Rows
-put_line jc row cells page =
-    if nat_lt 0 (length cells) then slice_set page (row - 1) (row_of jc (prepared cells)) else page
+abbrev pub draw_line : ℕ → ℕ → List ℕ → Rows → Rows
+draw_line jc row cells page =
+    if nat_lt 0 (length cells) then slice_set page (row - 1) (row_of jc (boxed_line cells))
+    else page
 
 -- The line fits in the row: the prepared line has at most 40 cells, and the row is 1 to 23. An
 -- empty line fits in any row from 1 on.
 pub record FitsRow (row : ℕ) (cells : List ℕ) : Type 0 where
   pub first : 1 ≤ row
   pub last : 0 < length cells → row ≤ last_row
-  pub few : length (prepared cells) ≤ columns
+  pub few : length (boxed_line cells) ≤ columns
 
 -- ---- the faults of a line, from its properties
 
@@ -49,51 +50,53 @@ abbrev pub with_cell : OpenLine → ℕ → OpenLine
 with_cell line code =
     record line {
       len = line.len + 1;
-      is_boxed = line.is_boxed || (code == start_box);
-      is_double = line.is_double || (code == double_height);
+      has_start_box_code = line.has_start_box_code || (code == start_box);
+      has_double_height = line.has_double_height || (code == double_height);
     }
 
 -- The properties of a line that has no cells yet.
 abbrev pub empty_line : ℕ → ℕ → Bool → OpenLine
-empty_line number row is_under_double =
+empty_line number row is_below_double_height =
     record {
       number = number;
       row = row;
-      is_under_double = is_under_double;
+      is_below_double_height = is_below_double_height;
       len = 0;
-      is_boxed = false;
-      is_double = false;
+      has_start_box_code = false;
+      has_double_height = false;
     }
 
 -- The properties of the next line, which has no cells yet.
-abbrev pub line_under : OpenLine → OpenLine
-line_under line = empty_line (line.number + 1) (line.row + 1) line.is_double
+abbrev pub next_empty_line : OpenLine → OpenLine
+next_empty_line line = empty_line (line.number + 1) (line.row + 1) line.has_double_height
 
 -- The faults of a line, in the order of reports. A line without a start box gets two codes on each
 -- side.
 unfoldable pub shape_fault_kinds : OpenLine → List RowFaultKind
 shape_fault_kinds line =
-    when (nat_lt columns (if line.is_boxed then line.len else line.len + 4)) RowTooLong
-    ++ when (nat_lt 0 line.len && nat_lt last_row line.row) PastBottom
-    ++ when (line.is_double && (line.row == last_row)) DoubleRow
-    ++ when (nat_lt 0 line.len && line.is_under_double) Hidden
+    fault_if (nat_lt columns (if line.has_start_box_code then line.len else line.len + 4))
+    RowTooLong
+    ++ fault_if (nat_lt 0 line.len && nat_lt last_row line.row) PastBottom
+    ++ fault_if (line.has_double_height && (line.row == last_row)) DoubleRow
+    ++ fault_if (nat_lt 0 line.len && line.is_below_double_height) Hidden
 
 -- The fault found before the line, or else the first fault of the line.
-abbrev pub reported_first : Option RowFault → OpenLine → Option RowFault
-reported_first before line =
+abbrev pub first_fault_up_to_line : Option RowFault → OpenLine → Option RowFault
+first_fault_up_to_line before line =
     option_or before (first_of (map (fault_of line.number) (shape_fault_kinds line)))
 
 -- The first fault, given one text code of the current line and the rest of the text as a function
 -- `next`.
-abbrev pub reported_of_code : ℕ → TextCode → Option RowFault → OpenLine
+abbrev pub fault_after_code : ℕ → TextCode → Option RowFault → OpenLine
     → (Option RowFault → OpenLine → Option RowFault) → Option RowFault
-reported_of_code at (Cell code) before line next = next before (with_cell line code)
-reported_of_code at NoCell before line next = next before line
-reported_of_code at NewLine before line next = next (reported_first before line) (line_under line)
-reported_of_code at (Refused kind) before line next = Some (fault_of at kind)
+fault_after_code at (Cell code) before line next = next before (with_cell line code)
+fault_after_code at NoCell before line next = next before line
+fault_after_code at NewLine before line next = next (first_fault_up_to_line before line)
+    (next_empty_line line)
+fault_after_code at (Refused kind) before line next = Some (fault_of at kind)
 
 -- The first fault of a text, given a fault found before, if any, the properties of the current
 -- line, and the text codes left.
 abbrev pub reported : Option RowFault → OpenLine → List (ℕ × TextCode) → Option RowFault
-reported before line [] = reported_first before line
-reported before line (c ∷ codes) = reported_of_code c.0 c.1 before line (λ f l. reported f l codes)
+reported before line [] = first_fault_up_to_line before line
+reported before line (c ∷ codes) = fault_after_code c.0 c.1 before line (λ f l. reported f l codes)

@@ -7,9 +7,9 @@ use Rattle.sub_io.specs.Reading.{IfKnown}
 use Rattle.stl_file.specs.declared.fault.StlFault.TheVariants.{Read, Unfinished}
 use Rattle.stl_file.specs.File.{IsFileFor}
 use Rattle.stl_file.specs.Gsi.{gsi_size}
-use Rattle.stl_file.specs.Reader.{block_of_byte, findings_for}
+use Rattle.stl_file.specs.Reader.{block_of_byte, findings_within_scope}
 use Rattle.stl_file.specs.SubtitleBlocks.{IsBlock}
-use Rattle.stl_file.specs.KeptBlocks.{all_day, is_read_to_the_end, kept_blocks}
+use Rattle.stl_file.specs.KeptBlocks.{whole_day_scope, is_read_to_the_end, scope_blocks}
 use Rattle.stl_file.specs.Subtitle.{SubtitleValue}
 use Rattle.stl_file.specs.Reading.{Findings, breaks, finds, no_more, refuses}
 use Rattle.stl_rows.specs.declared.layout.Drawing.{Drawing}
@@ -19,25 +19,30 @@ use Rattle.stl_rows.specs.declared.fault.LoadFaultKind.TheVariants.{File, Memory
 use Rattle.stl_rows.specs.declared.times.Times.{Times}
 use Rattle.stl_rows.specs.DrawnPage.{drawn}
 use Rattle.stl_rows.specs.EveryFault.{faults, load_fault}
-use Rattle.stl_rows.specs.Programme.{AreInOrder, ProgrammeValue, follow_faults, times_of}
+use Rattle.stl_rows.specs.Programme.{AreInOrder, ProgrammeValue, faults_of_next_subtitle, times_of}
 
 -- The subtitles of a file that are not rejected.
-abbrev pub records_of : Findings → List SubtitleValue
-records_of no_more = []
-records_of (breaks fault block) = []
-records_of (refuses fault block more) = records_of more
-records_of (finds t block more) = t ∷ records_of more
+abbrev pub subtitles_of_findings : Findings → List SubtitleValue
+subtitles_of_findings no_more = []
+subtitles_of_findings (breaks fault block) = []
+subtitles_of_findings (refuses fault block more) = subtitles_of_findings more
+subtitles_of_findings (finds t block more) = t ∷ subtitles_of_findings more
 
 -- The programme if the list of faults is empty; otherwise the first fault.
-abbrev pub unless_reported : List LoadFault → ProgrammeValue → Result ProgrammeValue LoadFault
-unless_reported [] programme = Ok programme
-unless_reported (fault ∷ more) programme = Err fault
+abbrev pub programme_unless_faulty : List LoadFault → ProgrammeValue → Result ProgrammeValue
+    LoadFault
+programme_unless_faulty [] programme = Ok programme
+programme_unless_faulty (fault ∷ more) programme = Err fault
 
 -- The result of loading a file: the programme of its subtitles, or its first fault.
-unfoldable pub loaded : Drawing → List ℕ → Result ProgrammeValue LoadFault
-loaded drawing file =
-    unless_reported (faults drawing file)
-    (record { drawing = drawing; records = records_of (findings_for drawing.scope file) })
+unfoldable pub loaded_programme : Drawing → List ℕ → Result ProgrammeValue LoadFault
+loaded_programme drawing file =
+    programme_unless_faulty (faults drawing file)
+    (record {
+      drawing = drawing;
+      records = subtitles_of_findings
+          (findings_within_scope drawing.scope file);
+    })
 
 -- A subtitle ends at block `at`, and no fault comes up to that block. The previous subtitle has the
 -- times `before`.
@@ -46,27 +51,28 @@ EndsAfterTimes drawing before at no_more = ⊥
 EndsAfterTimes drawing before at (breaks fault block) = ⊥
 EndsAfterTimes drawing before at (refuses fault block more) = ⊥
 EndsAfterTimes drawing before at (finds t block more) =
-    (follow_faults drawing before t ≡ [])
+    (faults_of_next_subtitle drawing before t ≡ [])
     × ((at ≡ block) ⊎ EndsAfterTimes drawing (Some (times_of t)) at more)
 
 -- A subtitle of the file ends at block `at`, and no fault comes up to that block.
-abbrev pub EndsRecord : Drawing → List ℕ → ℕ → Type 0
-EndsRecord drawing file at = EndsAfterTimes drawing None at (findings_for drawing.scope file)
+abbrev pub EndsFaultlessSubtitle : Drawing → List ℕ → ℕ → Type 0
+EndsFaultlessSubtitle drawing file at = EndsAfterTimes drawing None at
+    (findings_within_scope drawing.scope file)
 
 -- The meaning of an error of `load`. `Memory`: a subtitle ends at the block, and no fault comes up
 -- to that block. `Read`: the source failed, which is no fault of the file. Any other error is the
 -- first fault of the file.
 abbrev pub ReportsFault : Drawing → List ℕ → ℕ → LoadFaultKind → Type 0
 ReportsFault drawing file block (File Read) = ⊤
-ReportsFault drawing file block Memory = EndsRecord drawing file block
-ReportsFault drawing file block kind = loaded drawing file ≡ Err (load_fault block kind)
+ReportsFault drawing file block Memory = EndsFaultlessSubtitle drawing file block
+ReportsFault drawing file block kind = loaded_programme drawing file ≡ Err (load_fault block kind)
 
 -- No fault of the file comes before this block. If a file ends within a subtitle, the fault has the
 -- number of the last complete block, but is found only when the next block is read.
 abbrev pub NoFaultBefore : Drawing → List ℕ → ℕ → Type 0
 NoFaultBefore drawing file block =
     (fault : LoadFault)
-    → loaded drawing file ≡ Err fault
+    → loaded_programme drawing file ≡ Err fault
     → (fault.kind ≡ File Unfinished) ⊎ (block ≤ fault.block)
 
 -- The source failed at `block`, the block of the first byte that could not be read. A fault in the
@@ -83,15 +89,15 @@ pub record FailsLoading (drawing : Drawing) (old new : Option (List ℕ)) (block
 abbrev pub LawOfLoading : Type 0
 LawOfLoading =
     (drawing : Drawing) (s : List ℕ) (ts : List SubtitleValue)
-    → (loaded drawing s ≡ Ok (record { drawing = drawing; records = ts }))
+    → (loaded_programme drawing s ≡ Ok (record { drawing = drawing; records = ts }))
     ↔ ((g : List ℕ)
     × IsFileFor drawing.scope s g ts
     × AreInOrder ts
     × All (λ t. IsOk (drawn drawing t)) ts)
 
 -- The same drawing for all subtitles of the day.
-abbrev pub of_day : Drawing → Drawing
-of_day drawing = record drawing { scope = all_day drawing.scope }
+abbrev pub full_day_drawing : Drawing → Drawing
+full_day_drawing drawing = record drawing { scope = whole_day_scope drawing.scope }
 
 -- The kinds of faults, without their block numbers.
 abbrev pub kinds_of : List LoadFault → List LoadFaultKind
@@ -104,9 +110,10 @@ LawOfParts =
     (drawing : Drawing) (gsi : List ℕ) (blocks : List (List ℕ))
     → length gsi ≡ gsi_size
     → AllByRecursion IsBlock blocks
-    → is_read_to_the_end (findings_for drawing.scope (gsi ++ concat blocks)) ≡ true
+    → is_read_to_the_end (findings_within_scope drawing.scope (gsi ++ concat blocks)) ≡ true
     → (kinds_of (faults drawing (gsi ++ concat blocks))
-    ≡ kinds_of (faults (of_day drawing) (gsi ++ concat (kept_blocks drawing.scope None blocks))))
-    × (records_of (findings_for drawing.scope (gsi ++ concat blocks))
-    ≡ records_of (findings_for (all_day drawing.scope)
-    (gsi ++ concat (kept_blocks drawing.scope None blocks))))
+    ≡ kinds_of (faults (full_day_drawing drawing)
+    (gsi ++ concat (scope_blocks drawing.scope None blocks))))
+    × (subtitles_of_findings (findings_within_scope drawing.scope (gsi ++ concat blocks))
+    ≡ subtitles_of_findings (findings_within_scope (whole_day_scope drawing.scope)
+    (gsi ++ concat (scope_blocks drawing.scope None blocks))))

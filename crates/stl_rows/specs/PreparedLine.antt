@@ -4,16 +4,16 @@ use Rattle.std.specs.Prelude.{if◌then◌else◌, length, take, drop, map, min}
 use Rattle.std.specs.List.{list_all, list_any, range_with_len}
 use Rattle.stl_rows.specs.declared.layout.LayoutItems.{LayoutItems}
 use Rattle.stl_rows.specs.Layout.{codes_of_places}
-use Rattle.stl_rows.specs.Line.{code_in_column, columns, is_boxed}
+use Rattle.stl_rows.specs.Line.{code_in_column, columns, has_start_box_code}
 use Rattle.stl_rows.specs.TextCode.{is_within}
 
 -- ---- the codes and spaces at the ends of a line
 
 -- The number of cells at the start of a line that are in a range of codes.
-abbrev pub leading : ℕ → ℕ → List ℕ → ℕ
-leading first last [] = 0
-leading first last (c ∷ cells) =
-    if is_within first last c then suc (leading first last cells) else 0
+abbrev pub leading_count : ℕ → ℕ → List ℕ → ℕ
+leading_count first last [] = 0
+leading_count first last (c ∷ cells) =
+    if is_within first last c then suc (leading_count first last cells) else 0
 
 -- The number of cells at the end of a line that are in a range of codes.
 abbrev pub trailing : ℕ → ℕ → List ℕ → ℕ
@@ -25,7 +25,7 @@ trailing first last (c ∷ cells) =
 
 -- The number of spacing attributes (codes below 20) at the start of a line.
 abbrev pub leading_codes : List ℕ → ℕ
-leading_codes cells = leading 0 0x1F cells
+leading_codes cells = leading_count 0 0x1F cells
 
 -- The number of spacing attributes (codes below 20) at the end of a line.
 abbrev pub trailing_codes : List ℕ → ℕ
@@ -33,7 +33,7 @@ trailing_codes cells = trailing 0 0x1F cells
 
 -- The line without leading spaces.
 abbrev pub without_leading_spaces : List ℕ → List ℕ
-without_leading_spaces cells = drop (leading 0x20 0x20 cells) cells
+without_leading_spaces cells = drop (leading_count 0x20 0x20 cells) cells
 
 -- The line without trailing spaces.
 abbrev pub without_trailing_spaces : List ℕ → List ℕ
@@ -47,46 +47,47 @@ trimmed cells = without_trailing_spaces (without_leading_spaces cells)
 
 -- The layout item `white`: the leading codes of a line, followed by 07 (alpha white) if none of the
 -- codes is a colour.
-abbrev pub whitened : LayoutItems → List ℕ → List ℕ
-whitened items codes =
+abbrev pub codes_with_colour : LayoutItems → List ℕ → List ℕ
+codes_with_colour items codes =
     if items.white && not (list_any (is_within 0x01 0x07) codes) then codes ++ 0x07 ∷ [] else codes
 
 -- The layout item `before`: a line with the codes of the layout before and after the line's own
 -- leading codes.
-unfoldable pub headed : LayoutItems → List ℕ → List ℕ
-headed items cells =
+unfoldable pub line_with_before_codes : LayoutItems → List ℕ → List ℕ
+line_with_before_codes items cells =
     codes_of_places items.ahead
-    ++ whitened items (take (leading_codes cells) cells)
+    ++ codes_with_colour items (take (leading_codes cells) cells)
     ++ codes_of_places items.following
     ++ drop (leading_codes cells) cells
 
 -- The layout item `after`: the codes to add at the end of a line of n cells. With `fit`, only as
 -- many codes as there is room for.
-abbrev pub ending : LayoutItems → ℕ → List ℕ
-ending items n =
+abbrev pub codes_to_append : LayoutItems → ℕ → List ℕ
+codes_to_append items n =
     if items.fit
     then take (columns - n) (codes_of_places items.after)
     else codes_of_places items.after
 
 -- The line with the codes that a layout adds. An empty line gets no codes.
-unfoldable pub framed : LayoutItems → List ℕ → List ℕ
-framed items [] = []
-framed items (c ∷ cells) =
-    headed items (c ∷ cells) ++ ending items (length (headed items (c ∷ cells)))
+unfoldable pub line_with_layout_codes : LayoutItems → List ℕ → List ℕ
+line_with_layout_codes items [] = []
+line_with_layout_codes items (c ∷ cells) =
+    line_with_before_codes items (c ∷ cells) ++ codes_to_append items
+    (length (line_with_before_codes items (c ∷ cells)))
 
 -- The form of a line prepared by a layout. A line with a start box of its own does not change.
-unfoldable pub prepared_by : LayoutItems → List ℕ → List ℕ
-prepared_by items cells =
-    if is_boxed cells then cells
-    else framed items (if items.trim then trimmed cells else cells)
+unfoldable pub prepared_by_layout : LayoutItems → List ℕ → List ℕ
+prepared_by_layout items cells =
+    if has_start_box_code cells then cells
+    else line_with_layout_codes items (if items.trim then trimmed cells else cells)
 
 -- ---- the column of a prepared line
 
 -- The layout item `text`: the numbers of cells at the start and at the end of a prepared line that
 -- do not count for its column. If the line has only spacing attributes, all cells count as its
 -- start.
-abbrev pub uncounted : LayoutItems → List ℕ → ℕ × ℕ
-uncounted items line =
+abbrev pub uncounted_cells : LayoutItems → List ℕ → ℕ × ℕ
+uncounted_cells items line =
     if items.text
     then (
       leading_codes line,
@@ -94,10 +95,10 @@ uncounted items line =
     )
     else (0, 0)
 
--- The layout item `free`: the JC to use for a subtitle whose JC is 0 (EBU Tech 3264, TTI block,
+-- The layout item `free_jc`: the JC to use for a subtitle whose JC is 0 (EBU Tech 3264, TTI block,
 -- field JC).
-abbrev pub jc_read : LayoutItems → ℕ → ℕ
-jc_read items jc = if jc == 0 then items.free else jc
+abbrev pub effective_jc : LayoutItems → ℕ → ℕ
+effective_jc items jc = if jc == 0 then items.free_jc else jc
 
 -- The layout items `left`, `right` and `up`: the column at which a line should start, at least 0,
 -- if `width` cells of the line count, after `ahead` cells that do not.
@@ -109,12 +110,13 @@ start_column_for items jc ahead width =
 
 -- The column at which a prepared line starts. It is moved left if the line would not fit in its
 -- row.
-unfoldable pub start_by : LayoutItems → ℕ → List ℕ → ℕ
-start_by items jc line =
-    let free : ℕ × ℕ = uncounted items line in
-    min (start_column_for items (jc_read items jc) free.0 (length line - (free.0 + free.1)))
+unfoldable pub start_column_by_layout : LayoutItems → ℕ → List ℕ → ℕ
+start_column_by_layout items jc line =
+    let free_jc : ℕ × ℕ = uncounted_cells items line in
+    min (start_column_for items (effective_jc items jc) free_jc.0
+    (length line - (free_jc.0 + free_jc.1)))
     (columns - length line)
 
 -- The 40 codes of the row that shows a line from column `start` on.
-unfoldable pub row_from : ℕ → List ℕ → List ℕ
-row_from start line = map (code_in_column start line) (range_with_len 0 columns)
+unfoldable pub row_starting_at : ℕ → List ℕ → List ℕ
+row_starting_at start line = map (code_in_column start line) (range_with_len 0 columns)

@@ -5,42 +5,43 @@ use Rattle.ttx_page.specs.Page.{Rows, space}
 use Rattle.stl_file.specs.Subtitle.{SubtitleValue}
 use Rattle.stl_rows.specs.declared.layout.Layout.{Layout}
 use Rattle.stl_rows.specs.declared.national.National.{National}
-use Rattle.stl_rows.specs.DrawnPage.{codes_by, drawn}
+use Rattle.stl_rows.specs.DrawnPage.{codes_by_layout, drawn}
 use Rattle.stl_rows.specs.Layout.{drawing_by, items_of_layout}
 use Rattle.stl_rows.specs.Line.{has_cells}
 use Rattle.stl_rows.specs.TextCode.{lines_of_codes, text_codes}
 
 -- The cell is a printable character: a code above 20.
-abbrev pub prints : ℕ → Bool
-prints code = nat_lt space code
+abbrev pub is_printable_cell : ℕ → Bool
+is_printable_cell code = nat_lt space code
 
 -- The line from its first printable cell on.
-abbrev pub from_first : List ℕ → List ℕ
-from_first [] = []
-from_first (c ∷ cells) = if prints c then c ∷ cells else from_first cells
+abbrev pub from_first_printable : List ℕ → List ℕ
+from_first_printable [] = []
+from_first_printable (c ∷ cells) = if is_printable_cell c then c ∷ cells else from_first_printable
+    cells
 
 -- Puts the cell c in front of the rest of a line. If the rest is empty, c stays only if it is
 -- printable.
-abbrev pub before_left : ℕ → List ℕ → List ℕ
-before_left c [] = if prints c then c ∷ [] else []
-before_left c (x ∷ cells) = c ∷ x ∷ cells
+abbrev pub cell_before_rest : ℕ → List ℕ → List ℕ
+cell_before_rest c [] = if is_printable_cell c then c ∷ [] else []
+cell_before_rest c (x ∷ cells) = c ∷ x ∷ cells
 
 -- The line up to its last printable cell.
-abbrev pub to_last : List ℕ → List ℕ
-to_last [] = []
-to_last (c ∷ cells) = before_left c (to_last cells)
+abbrev pub up_to_last_printable : List ℕ → List ℕ
+up_to_last_printable [] = []
+up_to_last_printable (c ∷ cells) = cell_before_rest c (up_to_last_printable cells)
 
 -- The line from its first printable cell to its last.
-unfoldable pub printed : List ℕ → List ℕ
-printed cells = to_last (from_first cells)
+unfoldable pub printed_part : List ℕ → List ℕ
+printed_part cells = up_to_last_printable (from_first_printable cells)
 
 -- Each line from its first printable cell to its last, without lines that have no printable cell.
 abbrev pub printed_lines : List (List ℕ) → List (List ℕ)
-printed_lines lines = filter has_cells (map printed lines)
+printed_lines lines = filter has_cells (map printed_part lines)
 
 -- The printable cells of all lines, line by line.
 abbrev pub printing_codes : List (List ℕ) → List ℕ
-printing_codes lines = flat_map (filter prints) lines
+printing_codes lines = flat_map (filter is_printable_cell) lines
 
 -- The page has the printable characters of the text.
 pub record HasPrintingCodes (national : National) (layout : Layout) (text : List ℕ) (page : Rows)
@@ -54,7 +55,7 @@ pub record HasPrintingCodes (national : National) (layout : Layout) (text : List
   -- the cells of bytes that `strip` names.
   pub lines :
       printed_lines page
-      ≡ printed_lines (lines_of_codes (codes_by national (items_of_layout layout) text))
+      ≡ printed_lines (lines_of_codes (codes_by_layout national (items_of_layout layout) text))
 
 -- No layout adds, changes, loses or reorders printable characters. So a layout can change only
 -- rows, columns and spacing attributes.

@@ -40,8 +40,8 @@ abbrev pub last_tco : List SubtitleValue → Option ℕ
 last_tco records = option_map (λ t. t.tco) (slice_get records (length records - 1))
 
 -- The last element of a list; `None` if the list is empty.
-abbrev pub last_of : {A : Type 0} → List A → Option A
-last_of xs = slice_get xs (length xs - 1)
+abbrev pub last_element : {A : Type 0} → List A → Option A
+last_element xs = slice_get xs (length xs - 1)
 
 -- TCI and TCO of a subtitle.
 abbrev pub times_of : SubtitleValue → Times
@@ -49,7 +49,7 @@ times_of t = record { tci = t.tci; tco = t.tco }
 
 -- TCI and TCO of the last subtitle in the list.
 abbrev pub times_before : List SubtitleValue → Option Times
-times_before records = option_map times_of (last_of records)
+times_before records = option_map times_of (last_element records)
 
 -- The fault of a subtitle's times, compared with the times of the previous subtitle: `OutOfOrder`
 -- if the TCI is before the previous TCI, otherwise `Overlap` if the TCI is before the previous TCO.
@@ -67,6 +67,6 @@ row_faults (Err fault) = Row fault ∷ []
 
 -- The faults of a subtitle in the order of reports, if the previous subtitle has the times
 -- `before`: the fault of its times, then the fault of drawing.
-abbrev pub follow_faults : Drawing → Option Times → SubtitleValue → List LoadFaultKind
-follow_faults drawing before t =
+abbrev pub faults_of_next_subtitle : Drawing → Option Times → SubtitleValue → List LoadFaultKind
+faults_of_next_subtitle drawing before t =
     order_faults before (times_of t) ++ row_faults (drawn drawing t)

@@ -34,8 +34,8 @@ abbrev pub plain : ℕ → ℕ → NationalCharacter
 plain cell byte = record { cell = cell; mark = None; byte = byte }
 
 -- The character at the place `cell` that is encoded as a diacritical mark and a letter.
-abbrev pub with_mark : ℕ → ℕ → ℕ → NationalCharacter
-with_mark cell mark letter = record { cell = cell; mark = Some mark; byte = letter }
+abbrev pub marked_character : ℕ → ℕ → ℕ → NationalCharacter
+marked_character cell mark letter = record { cell = cell; mark = Some mark; byte = letter }
 
 -- The table of national options.
 --
@@ -61,13 +61,13 @@ sub_set German = record {
       ∷ plain 0x24 0x24  -- $
       ∷ plain 0x24 0xA4  -- $
       ∷ plain 0x40 0xA7  -- §
-      ∷ with_mark 0x5B 0xC8 0x41  -- Ä
-      ∷ with_mark 0x5C 0xC8 0x4F  -- Ö
-      ∷ with_mark 0x5D 0xC8 0x55  -- Ü
+      ∷ marked_character 0x5B 0xC8 0x41  -- Ä
+      ∷ marked_character 0x5C 0xC8 0x4F  -- Ö
+      ∷ marked_character 0x5D 0xC8 0x55  -- Ü
       ∷ plain 0x60 0xB0  -- °
-      ∷ with_mark 0x7B 0xC8 0x61  -- ä
-      ∷ with_mark 0x7C 0xC8 0x6F  -- ö
-      ∷ with_mark 0x7D 0xC8 0x75  -- ü
+      ∷ marked_character 0x7B 0xC8 0x61  -- ä
+      ∷ marked_character 0x7C 0xC8 0x6F  -- ö
+      ∷ marked_character 0x7D 0xC8 0x75  -- ü
       ∷ plain 0x7E 0xFB  -- ß
       ∷ [];
 }
@@ -77,17 +77,17 @@ sub_set Swedish = record {
   characters =
       plain 0x23 0x23  -- #
       ∷ plain 0x24 0xA8  -- ¤
-      ∷ with_mark 0x40 0xC2 0x45  -- É
-      ∷ with_mark 0x5B 0xC8 0x41  -- Ä
-      ∷ with_mark 0x5C 0xC8 0x4F  -- Ö
-      ∷ with_mark 0x5D 0xCA 0x41  -- Å
-      ∷ with_mark 0x5E 0xC8 0x55  -- Ü
+      ∷ marked_character 0x40 0xC2 0x45  -- É
+      ∷ marked_character 0x5B 0xC8 0x41  -- Ä
+      ∷ marked_character 0x5C 0xC8 0x4F  -- Ö
+      ∷ marked_character 0x5D 0xCA 0x41  -- Å
+      ∷ marked_character 0x5E 0xC8 0x55  -- Ü
       ∷ plain 0x5F 0x5F  -- _
-      ∷ with_mark 0x60 0xC2 0x65  -- é
-      ∷ with_mark 0x7B 0xC8 0x61  -- ä
-      ∷ with_mark 0x7C 0xC8 0x6F  -- ö
-      ∷ with_mark 0x7D 0xCA 0x61  -- å
-      ∷ with_mark 0x7E 0xC8 0x75  -- ü
+      ∷ marked_character 0x60 0xC2 0x65  -- é
+      ∷ marked_character 0x7B 0xC8 0x61  -- ä
+      ∷ marked_character 0x7C 0xC8 0x6F  -- ö
+      ∷ marked_character 0x7D 0xCA 0x61  -- å
+      ∷ marked_character 0x7E 0xC8 0x75  -- ü
       ∷ [];
 }
 sub_set Italian = record {
@@ -97,56 +97,56 @@ sub_set Italian = record {
       plain 0x23 0xA3  -- £
       ∷ plain 0x24 0x24  -- $
       ∷ plain 0x24 0xA4  -- $
-      ∷ with_mark 0x40 0xC2 0x65  -- é
+      ∷ marked_character 0x40 0xC2 0x65  -- é
       ∷ plain 0x5B 0xB0  -- °
-      ∷ with_mark 0x5C 0xCB 0x63  -- ç
+      ∷ marked_character 0x5C 0xCB 0x63  -- ç
       ∷ plain 0x5D 0xAE  -- →
       ∷ plain 0x5E 0xAD  -- ↑
       ∷ plain 0x5F 0x23  -- #
-      ∷ with_mark 0x60 0xC1 0x75  -- ù
-      ∷ with_mark 0x7B 0xC1 0x61  -- à
-      ∷ with_mark 0x7C 0xC1 0x6F  -- ò
-      ∷ with_mark 0x7D 0xC1 0x65  -- è
-      ∷ with_mark 0x7E 0xC1 0x69  -- ì
+      ∷ marked_character 0x60 0xC1 0x75  -- ù
+      ∷ marked_character 0x7B 0xC1 0x61  -- à
+      ∷ marked_character 0x7C 0xC1 0x6F  -- ò
+      ∷ marked_character 0x7D 0xC1 0x65  -- è
+      ∷ marked_character 0x7E 0xC1 0x69  -- ì
       ∷ [];
 }
 sub_set French = record {
   word = codes "french";
   bits = three_bits 1 0 0;
   characters =
-      with_mark 0x23 0xC2 0x65  -- é
-      ∷ with_mark 0x24 0xC8 0x69  -- ï
-      ∷ with_mark 0x40 0xC1 0x61  -- à
-      ∷ with_mark 0x5B 0xC8 0x65  -- ë
-      ∷ with_mark 0x5C 0xC3 0x65  -- ê
-      ∷ with_mark 0x5D 0xC1 0x75  -- ù
-      ∷ with_mark 0x5E 0xC3 0x69  -- î
+      marked_character 0x23 0xC2 0x65  -- é
+      ∷ marked_character 0x24 0xC8 0x69  -- ï
+      ∷ marked_character 0x40 0xC1 0x61  -- à
+      ∷ marked_character 0x5B 0xC8 0x65  -- ë
+      ∷ marked_character 0x5C 0xC3 0x65  -- ê
+      ∷ marked_character 0x5D 0xC1 0x75  -- ù
+      ∷ marked_character 0x5E 0xC3 0x69  -- î
       ∷ plain 0x5F 0x23  -- #
-      ∷ with_mark 0x60 0xC1 0x65  -- è
-      ∷ with_mark 0x7B 0xC3 0x61  -- â
-      ∷ with_mark 0x7C 0xC3 0x6F  -- ô
-      ∷ with_mark 0x7D 0xC3 0x75  -- û
-      ∷ with_mark 0x7E 0xCB 0x63  -- ç
+      ∷ marked_character 0x60 0xC1 0x65  -- è
+      ∷ marked_character 0x7B 0xC3 0x61  -- â
+      ∷ marked_character 0x7C 0xC3 0x6F  -- ô
+      ∷ marked_character 0x7D 0xC3 0x75  -- û
+      ∷ marked_character 0x7E 0xCB 0x63  -- ç
       ∷ [];
 }
 sub_set Spanish = record {
   word = codes "spanish";
   bits = three_bits 1 0 1;
   characters =
-      with_mark 0x23 0xCB 0x63  -- ç
+      marked_character 0x23 0xCB 0x63  -- ç
       ∷ plain 0x24 0x24  -- $
       ∷ plain 0x24 0xA4  -- $
       ∷ plain 0x40 0xA1  -- ¡
-      ∷ with_mark 0x5B 0xC2 0x61  -- á
-      ∷ with_mark 0x5C 0xC2 0x65  -- é
-      ∷ with_mark 0x5D 0xC2 0x69  -- í
-      ∷ with_mark 0x5E 0xC2 0x6F  -- ó
-      ∷ with_mark 0x5F 0xC2 0x75  -- ú
+      ∷ marked_character 0x5B 0xC2 0x61  -- á
+      ∷ marked_character 0x5C 0xC2 0x65  -- é
+      ∷ marked_character 0x5D 0xC2 0x69  -- í
+      ∷ marked_character 0x5E 0xC2 0x6F  -- ó
+      ∷ marked_character 0x5F 0xC2 0x75  -- ú
       ∷ plain 0x60 0xBF  -- ¿
-      ∷ with_mark 0x7B 0xC8 0x75  -- ü
-      ∷ with_mark 0x7C 0xC4 0x6E  -- ñ
-      ∷ with_mark 0x7D 0xC1 0x65  -- è
-      ∷ with_mark 0x7E 0xC1 0x61  -- à
+      ∷ marked_character 0x7B 0xC8 0x75  -- ü
+      ∷ marked_character 0x7C 0xC4 0x6E  -- ñ
+      ∷ marked_character 0x7D 0xC1 0x65  -- è
+      ∷ marked_character 0x7E 0xC1 0x61  -- à
       ∷ [];
 }
 sub_set Czech = record {
@@ -154,18 +154,18 @@ sub_set Czech = record {
   bits = three_bits 1 1 0;
   characters =
       plain 0x23 0x23  -- #
-      ∷ with_mark 0x24 0xCA 0x75  -- ů
-      ∷ with_mark 0x40 0xCF 0x63  -- č
-      ∷ with_mark 0x5B 0xCF 0x74  -- ť
-      ∷ with_mark 0x5C 0xCF 0x7A  -- ž
-      ∷ with_mark 0x5D 0xC2 0x79  -- ý
-      ∷ with_mark 0x5E 0xC2 0x69  -- í
-      ∷ with_mark 0x5F 0xCF 0x72  -- ř
-      ∷ with_mark 0x60 0xC2 0x65  -- é
-      ∷ with_mark 0x7B 0xC2 0x61  -- á
-      ∷ with_mark 0x7C 0xCF 0x65  -- ě
-      ∷ with_mark 0x7D 0xC2 0x75  -- ú
-      ∷ with_mark 0x7E 0xCF 0x73  -- š
+      ∷ marked_character 0x24 0xCA 0x75  -- ů
+      ∷ marked_character 0x40 0xCF 0x63  -- č
+      ∷ marked_character 0x5B 0xCF 0x74  -- ť
+      ∷ marked_character 0x5C 0xCF 0x7A  -- ž
+      ∷ marked_character 0x5D 0xC2 0x79  -- ý
+      ∷ marked_character 0x5E 0xC2 0x69  -- í
+      ∷ marked_character 0x5F 0xCF 0x72  -- ř
+      ∷ marked_character 0x60 0xC2 0x65  -- é
+      ∷ marked_character 0x7B 0xC2 0x61  -- á
+      ∷ marked_character 0x7C 0xCF 0x65  -- ě
+      ∷ marked_character 0x7D 0xC2 0x75  -- ú
+      ∷ marked_character 0x7E 0xCF 0x73  -- š
       ∷ [];
 }
 
@@ -174,16 +174,16 @@ abbrev pub options : List National
 options = English ∷ German ∷ Swedish ∷ Italian ∷ French ∷ Spanish ∷ Czech ∷ []
 
 -- The national option with this name, in lower case.
-unfoldable pub option_named : List ℕ → Option National
-option_named text = find (λ n. bytes_eq (sub_set n).word text) options
+unfoldable pub named_option : List ℕ → Option National
+named_option text = find (λ n. bytes_eq (sub_set n).word text) options
 
 -- The character c has this byte, and this diacritical mark or none.
-unfoldable pub has_bytes : Option ℕ → ℕ → NationalCharacter → Bool
-has_bytes mark byte c = c.byte == byte && option_eq nat_eq c.mark mark
+unfoldable pub is_encoded_by : Option ℕ → ℕ → NationalCharacter → Bool
+is_encoded_by mark byte c = c.byte == byte && option_eq nat_eq c.mark mark
 
 -- The cell of the character with this byte and this diacritical mark, or none. `None` if no
 -- character in the list matches.
-abbrev pub cell_in : List NationalCharacter → Option ℕ → ℕ → Option ℕ
-cell_in [] mark byte = None
-cell_in (c ∷ characters) mark byte =
-    if has_bytes mark byte c then Some c.cell else cell_in characters mark byte
+abbrev pub cell_of_character : List NationalCharacter → Option ℕ → ℕ → Option ℕ
+cell_of_character [] mark byte = None
+cell_of_character (c ∷ characters) mark byte =
+    if is_encoded_by mark byte c then Some c.cell else cell_of_character characters mark byte

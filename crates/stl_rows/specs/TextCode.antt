@@ -11,7 +11,7 @@ use Rattle.stl_rows.specs.declared.national.National.{National}
 use Rattle.stl_rows.specs.declared.fault.RowFault.{RowFault}
 use Rattle.stl_rows.specs.declared.fault.RowFaultKind.{RowFaultKind}
 use Rattle.stl_rows.specs.declared.fault.RowFaultKind.TheVariants.{Character, Control}
-use Rattle.stl_rows.specs.SubSets.{cell_in, sub_set}
+use Rattle.stl_rows.specs.SubSets.{cell_of_character, sub_set}
 
 -- ---- kinds of bytes in a text
 
@@ -24,8 +24,8 @@ abbrev pub is_within : ℕ → ℕ → ℕ → Bool
 is_within first last byte = nat_le first byte && nat_le byte last
 
 -- The byte switches italics, underline or boxing on or off, so it has no cell.
-abbrev pub is_no_cell : ℕ → Bool
-is_no_cell byte = is_within 0x80 0x85 byte
+abbrev pub is_style_code : ℕ → Bool
+is_style_code byte = is_within 0x80 0x85 byte
 
 -- The byte is a control code: 00 to 1F or 80 to 9F.
 abbrev pub is_control : ℕ → Bool
@@ -59,18 +59,19 @@ is_common byte =
 -- option. `None` if the byte has no cell.
 unfoldable pub cell_of : National → ℕ → Option ℕ
 cell_of national byte =
-    if is_common byte then Some byte else cell_in (sub_set national).characters None byte
+    if is_common byte then Some byte else cell_of_character (sub_set national).characters None byte
 
 -- The text code of a byte without a cell: no cell, a new line, or a rejected byte.
-unfoldable pub code_of_other : ℕ → TextCode
-code_of_other byte =
-    if is_no_cell byte then NoCell
+unfoldable pub code_without_cell : ℕ → TextCode
+code_without_cell byte =
+    if is_style_code byte then NoCell
     else (if byte == new_line then NewLine
     else (if is_control byte then Refused Control else Refused Character))
 
 -- The text code of a single byte.
 abbrev pub text_code : National → ℕ → TextCode
-text_code national byte = unwrap_or (option_map Cell (cell_of national byte)) (code_of_other byte)
+text_code national byte = unwrap_or (option_map Cell (cell_of national byte))
+    (code_without_cell byte)
 
 -- The cell of a pair of bytes, a diacritical mark and its letter, if the national option has this
 -- character. Otherwise the mark is rejected, since without its accent the letter would show a
@@ -78,7 +79,7 @@ text_code national byte = unwrap_or (option_map Cell (cell_of national byte)) (c
 unfoldable pub cell_of_pair : National → ℕ → Option ℕ → Option ℕ
 cell_of_pair national byte next =
     if is_diacritical byte
-    then option_and_then (cell_in (sub_set national).characters (Some byte)) next
+    then option_and_then (cell_of_character (sub_set national).characters (Some byte)) next
     else None
 
 -- ---- the text codes and lines of a whole text
@@ -90,37 +91,38 @@ first_of (x ∷ xs) = Some x
 
 -- The text code that begins with `byte`, and the number of further bytes that belong to the code: 1
 -- if the byte and the next byte are a pair with one cell, otherwise 0.
-abbrev pub code_before : National → ℕ → List ℕ → TextCode × ℕ
-code_before national byte bytes =
+abbrev pub code_and_extra_bytes : National → ℕ → List ℕ → TextCode × ℕ
+code_and_extra_bytes national byte bytes =
     unwrap_or
     (option_map (λ code. (Cell code, 1)) (cell_of_pair national byte (first_of bytes)))
     (text_code national byte, 0)
 
 -- The text codes of bytes from `place` on, each with its place. The first `taken` bytes belong to
 -- the text code before them.
-abbrev pub codes_after : National → ℕ → ℕ → List ℕ → List (ℕ × TextCode)
-codes_after national place taken [] = []
-codes_after national place (suc taken) (byte ∷ bytes) = codes_after national (place + 1) taken bytes
-codes_after national place zero (byte ∷ bytes) =
-    (place, (code_before national byte bytes).0)
-    ∷ codes_after national (place + 1) (code_before national byte bytes).1 bytes
+abbrev pub text_codes_after_skip : National → ℕ → ℕ → List ℕ → List (ℕ × TextCode)
+text_codes_after_skip national place taken [] = []
+text_codes_after_skip national place (suc taken) (byte ∷ bytes) = text_codes_after_skip national
+    (place + 1) taken bytes
+text_codes_after_skip national place zero (byte ∷ bytes) =
+    (place, (code_and_extra_bytes national byte bytes).0)
+    ∷ text_codes_after_skip national (place + 1) (code_and_extra_bytes national byte bytes).1 bytes
 
 -- The text codes of bytes from `place` on, each with its place.
 abbrev pub text_codes : National → ℕ → List ℕ → List (ℕ × TextCode)
-text_codes national place bytes = codes_after national place 0 bytes
+text_codes national place bytes = text_codes_after_skip national place 0 bytes
 
 -- A fault of this kind at a place.
 abbrev pub fault_of : ℕ → RowFaultKind → RowFault
 fault_of place kind = record { kind = kind; at = place }
 
 -- The fault of a rejected text code, at the place of its byte; `None` if the text code is accepted.
-abbrev pub refused_code : ℕ → TextCode → Option RowFault
-refused_code place (Refused kind) = Some (fault_of place kind)
-refused_code place _ = None
+abbrev pub fault_of_code : ℕ → TextCode → Option RowFault
+fault_of_code place (Refused kind) = Some (fault_of place kind)
+fault_of_code place _ = None
 
 -- The faults of all rejected text codes, in the order of their bytes.
-abbrev pub refused_codes : List (ℕ × TextCode) → List RowFault
-refused_codes codes = filter_map (λ (c : ℕ × TextCode). refused_code c.0 c.1) codes
+abbrev pub faults_of_codes : List (ℕ × TextCode) → List RowFault
+faults_of_codes codes = filter_map (λ (c : ℕ × TextCode). fault_of_code c.0 c.1) codes
 
 -- If the text code has a cell, the code of the cell has 7 bits.
 abbrev pub HasSevenBits : TextCode → Type 0
@@ -128,13 +130,13 @@ HasSevenBits (Cell code) = IsCode code
 HasSevenBits _ = ⊤
 
 -- Puts a text code in front of lines of cells. A new line starts another line.
-abbrev pub with_code : TextCode → List (List ℕ) → List (List ℕ)
-with_code (Cell code) lines = onto_first code lines
-with_code NewLine lines = [] ∷ lines
-with_code _ lines = lines
+abbrev pub lines_with_code : TextCode → List (List ℕ) → List (List ℕ)
+lines_with_code (Cell code) lines = onto_first code lines
+lines_with_code NewLine lines = [] ∷ lines
+lines_with_code _ lines = lines
 
 -- The lines of cells of text codes. New lines separate them, so the number of lines is one more
 -- than the number of new lines.
 abbrev pub lines_of_codes : List (ℕ × TextCode) → List (List ℕ)
 lines_of_codes [] = [] ∷ []
-lines_of_codes (c ∷ codes) = with_code c.1 (lines_of_codes codes)
+lines_of_codes (c ∷ codes) = lines_with_code c.1 (lines_of_codes codes)

@@ -10,7 +10,7 @@ ghost use Rattle.std.specs.Prelude.{Some, length, take};
 ghost use Rattle.std.specs.Prelude.{OnErr, OnOk, slice_get, slice_index_or};
 ghost use Rattle.std.specs.List.Sorted.{IsNonDecreasingBy};
 ghost use Rattle.stl_file.specs.Subtitle.{SubtitleValue};
-ghost use Rattle.stl_rows.specs.Cues.{cue_at};
+ghost use Rattle.stl_rows.specs.Cues.{cue_with_text_at};
 
 use crate::record::Record;
 use std::alloc::{AllocError, Allocator};
@@ -46,16 +46,16 @@ impl<A: Allocator + Copy> Model for Cues<A> {
 
     ghost Value = { List SubtitleValue };
 
-    ghost use Rattle.stl_rows.specs.Cues.{IsCueAmong, subtitle_in};
+    ghost use Rattle.stl_rows.specs.Cues.{IsCueInTexts, subtitle_of_cue};
 
-    ghost view = { λ c. map (subtitle_in c.texts.items) c.cues.items };
+    ghost view = { λ c. map (subtitle_of_cue c.texts.items) c.cues.items };
 
-    ghost invariant = { λ c. All (IsCueAmong c.texts.items) c.cues.items };
+    ghost invariant = { λ c. All (IsCueInTexts c.texts.items) c.cues.items };
 }
 
 // Returns the cue of a subtitle whose text begins at position `start` of the buffer.
-fn cue_at(start: usize, subtitle: &Subtitle) -> Cue
-    ensures { result ≡ cue_at start subtitle.now }
+fn cue_with_text_at(start: usize, subtitle: &Subtitle) -> Cue
+    ensures { result ≡ cue_with_text_at start subtitle.now }
 {
     Cue {
         start,
@@ -151,7 +151,7 @@ impl<A: Allocator + Copy> Cues<A> {
         ensures ok { OnOk result (self.new ≡ self.old ++ subtitle.now ∷ []) }
         ensures err { OnErr result (self.new ≡ self.old) }
     {
-        let cue = cue_at(self.texts.as_slice().len(), subtitle);
+        let cue = cue_with_text_at(self.texts.as_slice().len(), subtitle);
         self.texts.extend_from_slice(subtitle.text())?;
         self.cues.push(cue)?;
         Ok(())
@@ -166,7 +166,7 @@ impl<A: Allocator + Copy> Cues<A> {
 
     /// Returns the number of subtitles that have ended by a frame, by binary search. The TCOs must
     /// not decrease.
-    pub(crate) fn ended_by(&self, frame: u32) -> usize
+    pub(crate) fn count_ended_by(&self, frame: u32) -> usize
         requires { IsNonDecreasingBy (λ (t : SubtitleValue). t.tco) self.now }
         ensures bound { result ≤ length self.now }
         ensures before { (k : ℕ) (d : SubtitleValue)

@@ -6,12 +6,12 @@ ghost use Rattle.stl_rows.specs.DrawnPage.{LawOfDefaultLayout, drawn};
 ghost use Rattle.stl_rows.specs.Layout.{drawing_by};
 ghost use Rattle.stl_rows.specs.PlainPage.{line_faults, page_of_lines};
 ghost use Rattle.stl_rows.specs.PrintingCodes.{LawOfPrintingCodes};
-ghost use Rattle.stl_rows.specs.LineByLine.{FitsRow, put_line, prepared_lines};
+ghost use Rattle.stl_rows.specs.LineByLine.{FitsRow, draw_line, prepared_lines};
 ghost use Rattle.stl_rows.specs.TextCode.{text_codes};
 
 use crate::fault::RowFault;
-use crate::laid_out::draw_by;
 use crate::layout::{Drawing, Layout};
+use crate::layout_drawing::draw_with_layout;
 use crate::line::{prepare, row_codes};
 use crate::national::National;
 use crate::record::Record;
@@ -31,10 +31,10 @@ fn push_cell(cells: &mut ArrayVec<u8, 40>, cell: u8)
 
 // Draws a line of cells in a row of the page.
 #[tactic(auto, using(std::proofs::lemmas::Bool::Decides::nat_tests))]
-fn put_line(jc: u8, row: u16, cells: &[u8], page: &mut Page)
+fn draw_line(jc: u8, row: u16, cells: &[u8], page: &mut Page)
     requires fits { FitsRow row cells.now }
     requires codes { AreCodes cells.now }
-    ensures { page.new ≡ put_line jc row cells.now page.old }
+    ensures { page.new ≡ draw_line jc row cells.now page.old }
 {
     if cells.is_empty() {
         return;
@@ -47,7 +47,7 @@ fn put_line(jc: u8, row: u16, cells: &[u8], page: &mut Page)
 fn draw_text(national: National, jc: u8, vp: u8, text: &[u8], page: &mut Page)
     requires first { 1 ≤ vp }
     requires last { vp ≤ 23 }
-    requires short { length text.now ≤ 1008 }
+    requires at_most_1008 { length text.now ≤ 1008 }
     requires whole { line_faults 0 vp false (prepared_lines [] (text_codes national 0 text.now))
         ≡ [] }
     ensures { page_of_lines jc vp (prepared_lines [] (text_codes national 0 text.now)) ≡ page.new }
@@ -61,7 +61,7 @@ fn draw_text(national: National, jc: u8, vp: u8, text: &[u8], page: &mut Page)
         match code {
             TextCode::Cell(cell) => push_cell(&mut cells, cell),
             TextCode::NewLine => {
-                put_line(jc, row, cells.as_slice(), page);
+                draw_line(jc, row, cells.as_slice(), page);
                 row += 1;
                 cells.clear();
             }
@@ -69,12 +69,12 @@ fn draw_text(national: National, jc: u8, vp: u8, text: &[u8], page: &mut Page)
         }
         at = next;
     }
-    put_line(jc, row, cells.as_slice(), page);
+    draw_line(jc, row, cells.as_slice(), page);
 }
 
 /// Draws the page of a subtitle without faults over the contents of `page`, which avoids copying a
 /// page.
-pub(crate) fn draw_on(subtitle: &Record<'_>, drawing: &Drawing, page: &mut Page)
+pub(crate) fn draw_subtitle_on(subtitle: &Record<'_>, drawing: &Drawing, page: &mut Page)
     requires { IsOk (drawn drawing.now subtitle.now) }
     ensures { drawn drawing.now subtitle.now ≡ Ok page.new }
 {
@@ -86,7 +86,7 @@ pub(crate) fn draw_on(subtitle: &Record<'_>, drawing: &Drawing, page: &mut Page)
             subtitle.text(),
             page,
         ),
-        Some(items) => match draw_by(drawing.national, items, subtitle) {
+        Some(items) => match draw_with_layout(drawing.national, items, subtitle) {
             Ok(drawn) => *page = drawn,
             Err(_) => unreachable!(),
         },
@@ -113,7 +113,7 @@ pub fn draw(subtitle: &Subtitle, national: National, layout: Layout) -> Result<P
         Some(fault) => Err(fault),
         None => {
             let mut page = Page::blank();
-            draw_on(&subtitle, &drawing, &mut page);
+            draw_subtitle_on(&subtitle, &drawing, &mut page);
             Ok(page)
         }
     }
@@ -121,7 +121,7 @@ pub fn draw(subtitle: &Subtitle, national: National, layout: Layout) -> Result<P
 
 /// The default layout draws each line of a subtitle in a box of its own, one row below the line
 /// before.
-#[tactic(auto, using(crate::proofs::DefaultLayoutLemmas::default_is_plain))]
+#[tactic(auto, using(crate::proofs::DefaultLayoutLemmas::default_layout_draws_plainly))]
 pub fn law_of_default_layout()
     ensures { LawOfDefaultLayout }
 {}

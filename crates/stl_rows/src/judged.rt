@@ -2,11 +2,12 @@
 
 ghost use Rattle.std.specs.Prelude.{◌≡◌};
 ghost use Rattle.std.specs.List.{list_any};
-ghost use Rattle.stl_rows.specs.Judged.{LawOfKnown, has_refused, is_undecided_in, known};
-ghost use Rattle.stl_rows.specs.Keeping.{judged_with};
+ghost use Rattle.stl_rows.specs.Judged.{LawOfReliableFiles, has_unreliable_subtitle};
+ghost use Rattle.stl_rows.specs.Judged.{is_undecided_in, known};
+ghost use Rattle.stl_rows.specs.Keeping.{judged_value_of};
 ghost use Rattle.stl_rows.specs.Programme.{IsProgramme};
 
-use crate::keeping::Kept;
+use crate::keeping::KeptSubtitles;
 use crate::layout::Drawing;
 use crate::programme::Programme;
 use std::alloc::Global;
@@ -22,8 +23,8 @@ pub struct JudgedProgramme {
     programme: Programme,
     // For each subtitle in order, whether an unreliable subtitle directly precedes it. A missing
     // bit means false.
-    after_other: Vec<bool>,
-    is_before_other: bool,
+    after_unreliable_bits: Vec<bool>,
+    is_before_unreliable: bool,
 }
 
 impl Model for JudgedProgramme {
@@ -33,8 +34,8 @@ impl Model for JudgedProgramme {
 
     ghost view = { λ j. record {
       programme = j.programme;
-      after_other = j.after_other.items;
-      is_before_other = j.is_before_other;
+      after_unreliable_bits = j.after_unreliable_bits.items;
+      is_before_unreliable = j.is_before_unreliable;
     } };
 }
 
@@ -45,8 +46,8 @@ impl Model for JudgedProgramme {
 #[derive(Drop)]
 pub struct Judging<'a> {
     programme: &'a Programme,
-    after_other: &'a [bool],
-    is_before_other: bool,
+    after_unreliable_bits: &'a [bool],
+    is_before_unreliable: bool,
 }
 
 impl<'a> Model for Judging<'a> {
@@ -56,27 +57,27 @@ impl<'a> Model for Judging<'a> {
 
     ghost view = { λ j. record {
       programme = j.programme.now;
-      after_other = j.after_other.now;
-      is_before_other = j.is_before_other;
+      after_unreliable_bits = j.after_unreliable_bits.now;
+      is_before_unreliable = j.is_before_unreliable;
     } };
 }
 
 impl JudgedProgramme {
     // Creates a `JudgedProgramme` from the reliable subtitles of a file and their bits.
-    pub(crate) fn of(drawing: Drawing, kept: Kept<Global>) -> JudgedProgramme
+    pub(crate) fn of(drawing: Drawing, kept: KeptSubtitles<Global>) -> JudgedProgramme
         requires { IsProgramme drawing kept.records }
-        ensures { result ≡ judged_with drawing kept }
+        ensures { result ≡ judged_value_of drawing kept }
     {
-        let Kept {
+        let KeptSubtitles {
             subtitles,
-            after_other,
-            is_before_other,
-            is_latest: _,
+            after_unreliable_bits,
+            is_before_unreliable,
+            was_last_kept: _,
         } = kept;
         JudgedProgramme {
             programme: Programme::of(drawing, subtitles),
-            after_other,
-            is_before_other,
+            after_unreliable_bits,
+            is_before_unreliable,
         }
     }
 
@@ -93,8 +94,8 @@ impl JudgedProgramme {
     {
         Judging {
             programme: &self.programme,
-            after_other: self.after_other.as_slice(),
-            is_before_other: self.is_before_other,
+            after_unreliable_bits: self.after_unreliable_bits.as_slice(),
+            is_before_unreliable: self.is_before_unreliable,
         }
     }
 }
@@ -106,8 +107,8 @@ impl<'a> Judging<'a> {
     {
         Judging {
             programme,
-            after_other: &[],
-            is_before_other: false,
+            after_unreliable_bits: &[],
+            is_before_unreliable: false,
         }
     }
 
@@ -119,10 +120,10 @@ impl<'a> Judging<'a> {
     }
 
     /// Returns whether the file has an unreliable subtitle.
-    pub fn has_refused(&self) -> bool
-        ensures { result ≡ has_refused self.now }
+    pub fn has_unreliable_subtitle(&self) -> bool
+        ensures { result ≡ has_unreliable_subtitle self.now }
     {
-        self.is_before_other || is_one_set(self.after_other)
+        self.is_before_unreliable || has_set_bit(self.after_unreliable_bits)
     }
 
     /// Returns whether the expected page is unknown at a frame: the frame is in a gap between
@@ -132,20 +133,19 @@ impl<'a> Judging<'a> {
     pub fn is_undecided(&self, frame: u32) -> bool
         ensures { result ≡ is_undecided_in self.now frame }
     {
-        self.programme
-            .is_undecided(self.after_other, self.is_before_other, frame)
+        self.programme.is_undecided(self.after_unreliable_bits, self.is_before_unreliable, frame)
     }
 }
 
 // Returns whether any bit in the list is set.
-fn is_one_set(bits: &[bool]) -> bool
+fn has_set_bit(bits: &[bool]) -> bool
     ensures { result ≡ list_any (λ bit. bit) bits.now }
 {
     bits.iter().any(|bit| *bit)
 }
 
 /// If all subtitles of a file are reliable, the expected page is known at every frame.
-#[tactic(auto, using(crate::proofs::JudgedLemmas::all_known))]
-pub fn law_of_known()
-    ensures { LawOfKnown }
+#[tactic(auto, using(crate::proofs::JudgedLemmas::reliable_file_decides_every_frame))]
+pub fn law_of_reliable_files()
+    ensures { LawOfReliableFiles }
 {}

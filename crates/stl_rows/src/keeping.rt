@@ -1,10 +1,12 @@
 //! The reliable subtitles kept while a file is read.
 
 ghost use Rattle.std.specs.Prelude.{◌≡◌, [], true, if◌then◌else◌, IfErr, IfSome, None, OnOk, Some};
-ghost use Rattle.stl_rows.specs.Judged.{are_in_order, with_bits};
-ghost use Rattle.stl_rows.specs.Keeping.{bits_after, is_enough, are_all_kept, records_after};
+ghost use Rattle.stl_rows.specs.Judged.{are_in_order, judged_subtitles_with_bits};
+ghost use Rattle.stl_rows.specs.Keeping.{bits_with_next, is_checkable, are_all_kept};
+ghost use Rattle.stl_rows.specs.Keeping.{records_after_subtitle};
 ghost use Rattle.stl_rows.specs.Keeping.{no_subtitles_yet};
-ghost use Rattle.stl_rows.specs.Keeping.{with_rejected, with_faulty, without_last, with_kept};
+ghost use Rattle.stl_rows.specs.Keeping.{after_rejected_subtitle, after_faulty_subtitle};
+ghost use Rattle.stl_rows.specs.Keeping.{without_last_kept, after_kept_subtitle};
 ghost use Rattle.stl_rows.specs.declared.fault.LoadFaultKind.TheVariants.{Memory};
 
 use crate::cues::Cues;
@@ -18,33 +20,33 @@ use stl_file::Subtitle;
 /// The model has the subtitles; for each, a bit that says whether an unreliable subtitle of the
 /// file directly precedes it; and whether an unreliable subtitle follows the last.
 #[derive(Drop)]
-pub struct Kept<A: Allocator + Copy> {
+pub struct KeptSubtitles<A: Allocator + Copy> {
     pub(crate) subtitles: Cues<A>,
     // For each subtitle in order, whether an unreliable subtitle directly precedes it, up to the
     // last bit that is set.
-    pub(crate) after_other: Vec<bool, A>,
+    pub(crate) after_unreliable_bits: Vec<bool, A>,
     // Whether an unreliable subtitle follows the last kept subtitle.
-    pub(crate) is_before_other: bool,
+    pub(crate) is_before_unreliable: bool,
     // Whether the times of the next subtitle are compared with the times of the last kept subtitle.
-    pub(crate) is_latest: bool,
+    pub(crate) was_last_kept: bool,
 }
 
-impl<A: Allocator + Copy> Model for Kept<A> {
+impl<A: Allocator + Copy> Model for KeptSubtitles<A> {
     ghost use Rattle.stl_rows.specs.Keeping.{KeptRecords};
 
     ghost Value = { KeptRecords };
 
     ghost view = { λ k. record {
       records = k.subtitles;
-      after_other = k.after_other.items;
-      is_before_other = k.is_before_other;
-      is_latest = k.is_latest;
+      after_unreliable_bits = k.after_unreliable_bits.items;
+      is_before_unreliable = k.is_before_unreliable;
+      was_last_kept = k.was_last_kept;
     } };
 }
 
 // Sets the bit number `at`, and fills the missing bits before it with false.
 fn push_bit<A: Allocator + Copy>(bits: &mut Vec<bool, A>, at: usize) -> Result<(), LoadFaultKind>
-    ensures bits { OnOk result (bits.new.items ≡ bits_after at true bits.old.items) }
+    ensures bits { OnOk result (bits.new.items ≡ bits_with_next at true bits.old.items) }
     ensures memory { IfErr result (λ kind. kind ≡ Memory) }
 {
     let Ok(()) = bits.resize(at, false) else {
@@ -58,7 +60,7 @@ fn push_bit<A: Allocator + Copy>(bits: &mut Vec<bool, A>, at: usize) -> Result<(
 
 // Returns whether no subtitle starts before the TCO of an earlier subtitle.
 fn are_in_order<A: Allocator + Copy>(subtitles: &Cues<A>) -> bool
-    ensures { result ≡ are_in_order (with_bits subtitles.now []) }
+    ensures { result ≡ are_in_order (judged_subtitles_with_bits subtitles.now []) }
 {
     let mut last = 0;
     let mut i = 0;
@@ -73,49 +75,49 @@ fn are_in_order<A: Allocator + Copy>(subtitles: &Cues<A>) -> bool
     true
 }
 
-impl<A: Allocator + Copy> Kept<A> {
+impl<A: Allocator + Copy> KeptSubtitles<A> {
     // Creates the state before the first subtitle of a file.
-    pub(crate) fn new(alloc: A) -> Kept<A>
+    pub(crate) fn new(alloc: A) -> KeptSubtitles<A>
         ensures { result ≡ no_subtitles_yet }
     {
-        Kept {
+        KeptSubtitles {
             subtitles: Cues::new(alloc),
-            after_other: Vec::new(alloc),
-            is_before_other: false,
-            is_latest: false,
+            after_unreliable_bits: Vec::new(alloc),
+            is_before_unreliable: false,
+            was_last_kept: false,
         }
     }
 
     // Records that the next subtitle of the file is rejected.
-    pub(crate) fn refuse(&mut self)
-        ensures { self.new ≡ with_rejected self.old }
+    pub(crate) fn note_rejected(&mut self)
+        ensures { self.new ≡ after_rejected_subtitle self.old }
     {
-        self.is_before_other = true;
+        self.is_before_unreliable = true;
     }
 
     // Appends a reliable subtitle.
     fn push(&mut self, subtitle: &Subtitle) -> Result<(), LoadFaultKind>
-        ensures kept { OnOk result (self.new ≡ with_kept subtitle.now self.old) }
+        ensures kept { OnOk result (self.new ≡ after_kept_subtitle subtitle.now self.old) }
         ensures memory { IfErr result (λ kind. kind ≡ Memory) }
     {
-        if self.is_before_other {
-            push_bit(&mut self.after_other, self.subtitles.len())?;
+        if self.is_before_unreliable {
+            push_bit(&mut self.after_unreliable_bits, self.subtitles.len())?;
         }
         let Ok(()) = self.subtitles.push(subtitle) else {
             return Err(LoadFaultKind::Memory);
         };
-        self.is_before_other = false;
-        self.is_latest = true;
+        self.is_before_unreliable = false;
+        self.was_last_kept = true;
         Ok(())
     }
 
     // Removes the last kept subtitle, which is not reliable.
-    fn pop(&mut self)
-        ensures { self.new ≡ without_last self.old }
+    fn remove_last(&mut self)
+        ensures { self.new ≡ without_last_kept self.old }
     {
         let left = self.subtitles.len().saturating_sub(1);
         self.subtitles.truncate(left);
-        self.after_other.truncate(left);
+        self.after_unreliable_bits.truncate(left);
     }
 
     // Processes the next subtitle of the file. `clean`: the subtitle has no fault. `in_order`: its
@@ -127,17 +129,18 @@ impl<A: Allocator + Copy> Kept<A> {
         clean: bool,
         subtitle: &Subtitle,
     ) -> Result<(), LoadFaultKind>
-        ensures kept { OnOk result (self.new ≡ records_after in_order clean subtitle.now self.old) }
+        ensures kept { OnOk result (self.new ≡ records_after_subtitle in_order clean subtitle.now
+            self.old) }
         ensures memory { IfErr result (λ kind. (kind ≡ Memory) × (clean ≡ true)) }
     {
         if clean {
             return self.push(subtitle);
         }
-        if self.is_latest && !in_order {
-            self.pop();
+        if self.was_last_kept && !in_order {
+            self.remove_last();
         }
-        self.is_before_other = true;
-        self.is_latest = false;
+        self.is_before_unreliable = true;
+        self.was_last_kept = false;
         Ok(())
     }
 
@@ -145,13 +148,13 @@ impl<A: Allocator + Copy> Kept<A> {
     fn are_all_kept(&self) -> bool
         ensures { result ≡ are_all_kept self.now }
     {
-        self.after_other.is_empty() && !self.is_before_other
+        self.after_unreliable_bits.is_empty() && !self.is_before_unreliable
     }
 
     // Returns whether a transmission can be checked against the kept subtitles: all subtitles of
     // the file are kept, or at least one is, and the kept subtitles do not overlap.
-    fn is_enough(&self) -> bool
-        ensures { result ≡ is_enough self.now }
+    fn is_checkable(&self) -> bool
+        ensures { result ≡ is_checkable self.now }
     {
         if self.are_all_kept() {
             return true;
@@ -163,21 +166,25 @@ impl<A: Allocator + Copy> Kept<A> {
     }
 
     // Returns the kept subtitles if a transmission can be checked against them.
-    pub(crate) fn if_enough(self) -> Option<Self>
-        ensures { result ≡ (if is_enough self then Some self else None) }
+    pub(crate) fn into_checkable(self) -> Option<Self>
+        ensures { result ≡ (if is_checkable self then Some self else None) }
     {
-        if self.is_enough() { Some(self) } else { None }
+        if self.is_checkable() {
+            Some(self)
+        } else {
+            None
+        }
     }
 
     // Returns the kept subtitles without their bits.
     pub(crate) fn into_subtitles(self) -> Cues<A>
         ensures { result ≡ self.records }
     {
-        let Kept {
+        let KeptSubtitles {
             subtitles,
-            after_other: _,
-            is_before_other: _,
-            is_latest: _,
+            after_unreliable_bits: _,
+            is_before_unreliable: _,
+            was_last_kept: _,
         } = self;
         subtitles
     }

@@ -3,7 +3,7 @@
 ghost use Rattle.std.specs.Prelude.{◌≡◌};
 ghost use Rattle.stl_rows.specs.Layout.{attribute_code, attribute_of, default_items};
 ghost use Rattle.stl_rows.specs.Layout.{items_of_layout};
-ghost use Rattle.stl_rows.specs.Layout.{default_layout, drawing_within, strips};
+ghost use Rattle.stl_rows.specs.Layout.{default_layout, drawing_within, strips_byte};
 
 use crate::national::National;
 use stl_file::Scope;
@@ -98,8 +98,8 @@ pub(crate) struct LayoutItems {
     pub(crate) left: u8,
     /// Layout item `right`: the number of free columns to the right of a right-aligned line.
     pub(crate) right: u8,
-    /// Layout item `free`: the JC to use for a subtitle with JC 0.
-    pub(crate) free: u8,
+    /// Layout item `free_jc`: the JC to use for a subtitle with JC 0.
+    pub(crate) free_jc: u8,
     /// Layout item `double`: whether lines are two rows apart.
     pub(crate) double: bool,
     /// Layout item `pack`: whether empty lines take no row.
@@ -107,9 +107,9 @@ pub(crate) struct LayoutItems {
     /// Layout item `last`: whether VP is the row of the last line.
     pub(crate) last: bool,
     /// Layout item `row`: the number of rows that all lines are moved down; 0 if they are moved up.
-    pub(crate) lower: u8,
+    pub(crate) rows_down: u8,
     /// Layout item `row`: the number of rows that all lines are moved up; 0 if they are moved down.
-    pub(crate) higher: u8,
+    pub(crate) rows_up: u8,
 }
 
 impl LayoutItems {
@@ -132,18 +132,18 @@ impl LayoutItems {
             up: false,
             left: 0,
             right: 0,
-            free: 1,
+            free_jc: 1,
             double: false,
             pack: false,
             last: false,
-            lower: 0,
-            higher: 0,
+            rows_down: 0,
+            rows_up: 0,
         }
     }
 
     // Returns whether a byte of a text is dropped by `strip`, so has no cell.
-    pub(crate) fn strips(&self, byte: u8) -> bool
-        ensures { result ≡ strips self.now byte }
+    pub(crate) fn strips_byte(&self, byte: u8) -> bool
+        ensures { result ≡ strips_byte self.now byte }
     {
         byte < 0x20 && self.strip[byte as usize]
     }

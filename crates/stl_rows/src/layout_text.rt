@@ -6,21 +6,23 @@ ghost use Rattle.std.specs.Prelude.{false};
 ghost use Rattle.std.specs.List.{slice_split};
 ghost use Rattle.std.specs.Option.{option_map_or};
 ghost use Rattle.std.specs.Str.{IsUtf8};
-ghost use Rattle.stl_rows.specs.LayoutText.{before_of_text, byte_of_digits, codes_filled, cut_at};
-ghost use Rattle.stl_rows.specs.LayoutText.{codes_of_text, decimal_digit, flag_set};
+ghost use Rattle.stl_rows.specs.LayoutText.{before_codes_of_text, byte_of_digits};
+ghost use Rattle.stl_rows.specs.LayoutText.{places_with_codes, split_at_mark};
+ghost use Rattle.stl_rows.specs.LayoutText.{codes_of_text, decimal_digit, items_with_flag};
 ghost use Rattle.stl_rows.specs.LayoutText.{hex_digit_value};
-ghost use Rattle.stl_rows.specs.LayoutText.{items_set};
-ghost use Rattle.stl_rows.specs.LayoutText.{item_set, layout_of_text, number_within, rows_of_text};
-ghost use Rattle.stl_rows.specs.LayoutText.{number_set, stripped_with, value_set};
-ghost use Rattle.stl_rows.specs.Layout.{default_items, no_codes};
+ghost use Rattle.stl_rows.specs.LayoutText.{items_with_all};
+ghost use Rattle.stl_rows.specs.LayoutText.{items_with_item, layout_of_text, number_within};
+ghost use Rattle.stl_rows.specs.LayoutText.{rows_of_text};
+ghost use Rattle.stl_rows.specs.LayoutText.{items_with_number, strip_with_bytes, items_with_value};
+ghost use Rattle.stl_rows.specs.Layout.{default_items, empty_places};
 
 use crate::layout::{Attribute, Layout, LayoutItems};
 
 // Returns the text before the first `mark`, and the text after it, if the text has a `mark`.
-#[tactic(auto, unfolding(crate::specs::LayoutText::cut_at))]
-fn cut_at(text: &str, mark: char) -> (&str, Option<&str>)
+#[tactic(auto, unfolding(crate::specs::LayoutText::split_at_mark))]
+fn split_at_mark(text: &str, mark: char) -> (&str, Option<&str>)
     requires { mark < 128 }
-    ensures { (result.0.now, option_map (λ x. x.now) result.1) ≡ cut_at mark text.now }
+    ensures { (result.0.now, option_map (λ x. x.now) result.1) ≡ split_at_mark mark text.now }
 {
     match text.split_once(mark) {
         Some((prefix, following)) => (prefix, Some(following)),
@@ -67,11 +69,11 @@ fn rows_of_text(text: &[u8]) -> Option<(u8, u8)>
 {
     if !text.is_empty() && text[0] == b'-' {
         let (_, digits) = text.split_at(1);
-        let higher = number_within(0, 22, digits)?;
-        return Some((0, higher));
+        let rows_up = number_within(0, 22, digits)?;
+        return Some((0, rows_up));
     }
-    let lower = number_within(0, 22, text)?;
-    Some((lower, 0))
+    let rows_down = number_within(0, 22, text)?;
+    Some((rows_down, 0))
 }
 
 // Returns the value of a hexadecimal digit in ASCII, upper or lower case, or `None` for any other
@@ -124,7 +126,7 @@ fn codes_of_text<const N: usize>(text: &[u8]) -> Option<[Option<Attribute>; N]>
 // Parses the value of the layout item `strip`: pairs of hexadecimal digits, 00 to 1F, without
 // duplicates.
 fn stripped_of_text(text: &[u8]) -> Option<[bool; 32]>
-    ensures { result ≡ stripped_with (replicate 32 false) text.now }
+    ensures { result ≡ strip_with_bytes (replicate 32 false) text.now }
 {
     let mut strip = [false; 32];
     let mut at = 0;
@@ -144,11 +146,11 @@ fn stripped_of_text(text: &[u8]) -> Option<[bool; 32]>
 
 // Parses the value of the layout item `before`: the codes before and after a line's own leading
 // codes.
-#[tactic(auto, unfolding(crate::specs::LayoutText::before_of_text))]
-fn before_of_text(text: &str) -> Option<([Option<Attribute>; 6], [Option<Attribute>; 6])>
-    ensures { result ≡ before_of_text text.now }
+#[tactic(auto, unfolding(crate::specs::LayoutText::before_codes_of_text))]
+fn before_codes_of_text(text: &str) -> Option<([Option<Attribute>; 6], [Option<Attribute>; 6])>
+    ensures { result ≡ before_codes_of_text text.now }
 {
-    let (ahead, following) = cut_at(text, '*');
+    let (ahead, following) = split_at_mark(text, '*');
     let first = codes_of_text::<6>(ahead.as_bytes())?;
     let Some(following) = following else {
         return Some((first, [None; 6]));
@@ -162,9 +164,9 @@ fn before_of_text(text: &str) -> Option<([Option<Attribute>; 6], [Option<Attribu
 }
 
 // Sets the layout item with this name, which takes no value, and returns the item's number.
-#[tactic(auto, unfolding(crate::specs::LayoutText::flag_set))]
+#[tactic(auto, unfolding(crate::specs::LayoutText::items_with_flag))]
 fn set_flag(items: &mut LayoutItems, name: &str) -> Option<usize>
-    ensures value { option_map (λ n. (n, items.new)) result ≡ flag_set items.old name.now }
+    ensures value { option_map (λ n. (n, items.new)) result ≡ items_with_flag items.old name.now }
     ensures small { IfSome result (λ n. n < 15) }
 {
     match name {
@@ -205,10 +207,10 @@ fn set_flag(items: &mut LayoutItems, name: &str) -> Option<usize>
 }
 
 // Sets the layout item with this name to a decimal value, and returns the item's number.
-#[tactic(auto, unfolding(crate::specs::LayoutText::number_set))]
+#[tactic(auto, unfolding(crate::specs::LayoutText::items_with_number))]
 fn set_number(items: &mut LayoutItems, name: &str, value: &[u8]) -> Option<usize>
     ensures value { option_map (λ n. (n, items.new)) result
-        ≡ number_set items.old name.now value.now }
+        ≡ items_with_number items.old name.now value.now }
     ensures small { IfSome result (λ n. n < 15) }
 {
     match name {
@@ -221,13 +223,13 @@ fn set_number(items: &mut LayoutItems, name: &str, value: &[u8]) -> Option<usize
             Some(12)
         }
         "free" => {
-            items.free = number_within(1, 3, value)?;
+            items.free_jc = number_within(1, 3, value)?;
             Some(13)
         }
         "row" => {
-            let (lower, higher) = rows_of_text(value)?;
-            items.lower = lower;
-            items.higher = higher;
+            let (rows_down, rows_up) = rows_of_text(value)?;
+            items.rows_down = rows_down;
+            items.rows_up = rows_up;
             Some(14)
         }
         _ => None,
@@ -235,10 +237,10 @@ fn set_number(items: &mut LayoutItems, name: &str, value: &[u8]) -> Option<usize
 }
 
 // Sets the layout item with this name to a value, and returns the item's number.
-#[tactic(auto, unfolding(crate::specs::LayoutText::value_set))]
+#[tactic(auto, unfolding(crate::specs::LayoutText::items_with_value))]
 fn set_value(items: &mut LayoutItems, name: &str, value: &str) -> Option<usize>
     ensures value { option_map (λ n. (n, items.new)) result
-        ≡ value_set items.old name.now value.now }
+        ≡ items_with_value items.old name.now value.now }
     ensures small { IfSome result (λ n. n < 15) }
 {
     match name {
@@ -247,7 +249,7 @@ fn set_value(items: &mut LayoutItems, name: &str, value: &str) -> Option<usize>
             Some(8)
         }
         "before" => {
-            let (ahead, following) = before_of_text(value)?;
+            let (ahead, following) = before_codes_of_text(value)?;
             items.ahead = ahead;
             items.following = following;
             Some(9)
@@ -261,12 +263,12 @@ fn set_value(items: &mut LayoutItems, name: &str, value: &str) -> Option<usize>
 }
 
 // Sets the layout item that a text names, and returns the item's number.
-#[tactic(auto, unfolding(crate::specs::LayoutText::item_set))]
+#[tactic(auto, unfolding(crate::specs::LayoutText::items_with_item))]
 fn set_item(items: &mut LayoutItems, text: &str) -> Option<usize>
-    ensures value { option_map (λ n. (n, items.new)) result ≡ item_set items.old text.now }
+    ensures value { option_map (λ n. (n, items.new)) result ≡ items_with_item items.old text.now }
     ensures small { IfSome result (λ n. n < 15) }
 {
-    let (name, value) = cut_at(text, '=');
+    let (name, value) = split_at_mark(text, '=');
     match value {
         Some(value) => set_value(items, name, value),
         None => set_flag(items, name),
@@ -274,25 +276,26 @@ fn set_item(items: &mut LayoutItems, text: &str) -> Option<usize>
 }
 
 // Returns the text before the first comma, and the text after it, if the text has a comma.
-fn first_text(text: &str) -> (&str, Option<&str>)
+fn split_first_item(text: &str) -> (&str, Option<&str>)
     ensures texts { slice_split (λ c. c == 0x2C) text.now ≡ result.0.now
         ∷ option_map_or (λ more. slice_split (λ c. c == 0x2C) more.now) result.1 [] }
     ensures shorter { IfSome result.1 (λ more. length more.now < length text.now) }
-    ensures utf8 { IfSome result.1 (λ more. IsUtf8 more.now) }
+    ensures rest_is_utf8 { IfSome result.1 (λ more. IsUtf8 more.now) }
 {
-    cut_at(text, ',')
+    split_at_mark(text, ',')
 }
 
 // Parses the items of a layout, without duplicates.
 fn items_of_text(text: &str) -> Option<LayoutItems>
-    ensures { items_set default_items (replicate 15 false) (slice_split (λ c. c == 0x2C) text.now)
+    ensures { items_with_all default_items (replicate 15 false) (slice_split (λ c. c == 0x2C)
+        text.now)
         ≡ result }
 {
     let mut items = LayoutItems::new();
     let mut received = [false; 15];
     let mut rest = text;
     'texts: loop {
-        let (item, following) = first_text(rest);
+        let (item, following) = split_first_item(rest);
         let number = set_item(&mut items, item)?;
         if received[number] {
             return None;
@@ -310,7 +313,8 @@ impl Layout {
     /// for any other text.
     ///
     /// The items are `strip=HEX`, `before=HEX` or `before=HEX*HEX`, `after=HEX`, `fit`, `white`,
-    /// `trim`, `text`, `up`, `left=N`, `right=N`, `free=N`, `double`, `pack`, `last` and `row=N`.
+    /// `trim`, `text`, `up`, `left=N`, `right=N`, `free_jc=N`, `double`, `pack`, `last` and
+    /// `row=N`.
     #[tactic(auto, unfolding(crate::specs::LayoutText::layout_of_text))]
     pub fn parse(text: &str) -> Option<Layout>
         ensures { result ≡ layout_of_text text.now }

@@ -19,8 +19,8 @@ mod every_fault;
 mod fault;
 mod judged;
 mod keeping;
-mod laid_out;
 mod layout;
+mod layout_drawing;
 mod layout_text;
 mod line;
 mod loading;
@@ -35,12 +35,12 @@ mod times;
 
 pub use cues::Cues;
 pub use drawing::{draw, law_of_default_layout, law_of_printing_codes};
-pub use every_fault::{load_all, load_all_in};
+pub use every_fault::{load_all, load_all_with_allocator};
 pub use fault::{LoadFault, LoadFaultKind, RowFault, RowFaultKind};
-pub use judged::{JudgedProgramme, Judging, law_of_known};
-pub use keeping::Kept;
+pub use judged::{JudgedProgramme, Judging, law_of_reliable_files};
+pub use keeping::KeptSubtitles;
 pub use layout::{Drawing, Layout};
-pub use loading::{law_of_judged, law_of_loading, law_of_parts, load, load_in};
+pub use loading::{law_of_judged, law_of_loading, law_of_parts, load, load_with_allocator};
 pub use national::{National, NationalBits};
 pub use programme::{
     Programme, law_of_blank_pages, law_of_due_pages, law_of_due_subtitles, law_of_edges,

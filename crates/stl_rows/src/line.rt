@@ -2,8 +2,8 @@
 
 ghost use Rattle.std.specs.Prelude.{◌≡◌, ◌+◌, ◌≤◌, ◌++◌, length};
 ghost use Rattle.ttx_page.specs.Page.{AreCodes};
-ghost use Rattle.stl_rows.specs.Line.{is_boxed, prepared, row_of, start_column};
-ghost use Rattle.stl_rows.specs.PreparedLine.{row_from};
+ghost use Rattle.stl_rows.specs.Line.{has_start_box_code, boxed_line, row_of, start_column};
+ghost use Rattle.stl_rows.specs.PreparedLine.{row_starting_at};
 
 use arrayvec::ArrayVec;
 
@@ -15,19 +15,19 @@ fn append(line: &mut ArrayVec<u8, 40>, cells: &[u8])
     prove!(added.is_ok());
 }
 
-#[tactic(auto, unfolding(crate::specs::Line::is_boxed))]
+#[tactic(auto, unfolding(crate::specs::Line::has_start_box_code))]
 fn has_start_box(line: &[u8]) -> bool
-    ensures { result ≡ is_boxed line.now }
+    ensures { result ≡ has_start_box_code line.now }
 {
     line.iter().any(|c| *c == 0x0B)
 }
 
 /// Prepares a line of cells: adds a box if the line isn't empty and has no start box.
-#[tactic(auto, unfolding(crate::specs::Line::prepared))]
+#[tactic(auto, unfolding(crate::specs::Line::boxed_line))]
 pub(crate) fn prepare(cells: &[u8]) -> ArrayVec<u8, 40>
-    requires few { length (prepared cells.now) ≤ 40 }
+    requires few { length (boxed_line cells.now) ≤ 40 }
     requires codes { AreCodes cells.now }
-    ensures items { result.items ≡ prepared cells.now }
+    ensures items { result.items ≡ boxed_line cells.now }
     ensures codes { AreCodes result.items }
 {
     let mut line = ArrayVec::<u8, 40>::new();
@@ -42,7 +42,7 @@ pub(crate) fn prepare(cells: &[u8]) -> ArrayVec<u8, 40>
 }
 
 // Returns the column at which a line of `len` cells starts.
-fn start_of(jc: u8, len: usize) -> usize
+fn start_column_of(jc: u8, len: usize) -> usize
     requires { len ≤ 40 }
     ensures value { result ≡ start_column jc len }
     ensures within { result + len ≤ 40 }
@@ -58,7 +58,7 @@ fn start_of(jc: u8, len: usize) -> usize
 pub(crate) fn codes_from(start: usize, line: &[u8]) -> [u8; 40]
     requires room { start + length line.now ≤ 40 }
     requires codes { AreCodes line.now }
-    ensures value { result ≡ row_from start line.now }
+    ensures value { result ≡ row_starting_at start line.now }
     ensures codes { AreCodes result }
 {
     let mut codes = [0x20; 40];
@@ -67,12 +67,12 @@ pub(crate) fn codes_from(start: usize, line: &[u8]) -> [u8; 40]
 }
 
 /// Returns the 40 codes of the row that shows a line at the column given by JC.
-#[tactic(auto, unfolding(crate::specs::Line::row_of, crate::specs::PreparedLine::row_from))]
+#[tactic(auto, unfolding(crate::specs::Line::row_of, crate::specs::PreparedLine::row_starting_at))]
 pub(crate) fn row_codes(jc: u8, line: &[u8]) -> [u8; 40]
     requires room { length line.now ≤ 40 }
     requires codes { AreCodes line.now }
     ensures value { result ≡ row_of jc line.now }
     ensures codes { AreCodes result }
 {
-    codes_from(start_of(jc, line.len()), line)
+    codes_from(start_column_of(jc, line.len()), line)
 }

@@ -1,19 +1,19 @@
 //! Loads a subtitle file as a programme.
 
 ghost use Rattle.std.specs.Prelude.{◌≡◌, ◌≢◌, Err, IfErr, IfOk, Ok, true};
-ghost use Rattle.sub_io.specs.Device.{CanFail, CountsIf, failed};
+ghost use Rattle.sub_io.specs.Device.{CanFail, CountsFailureIf, failed};
 ghost use Rattle.sub_io.specs.Reading.{IfKnown};
 ghost use Rattle.stl_file.specs.declared.fault.StlFault.TheVariants.{Ended};
-ghost use Rattle.stl_rows.specs.Fault.{is_load_read};
+ghost use Rattle.stl_rows.specs.Fault.{is_load_read_failure};
 ghost use Rattle.stl_rows.specs.Layout.{drawing_within};
 ghost use Rattle.stl_rows.specs.declared.fault.LoadFaultKind.TheVariants.{File};
 ghost use Rattle.stl_rows.specs.Loading.{FailsLoading, LawOfLoading, LawOfParts};
-ghost use Rattle.stl_rows.specs.Loading.{ReportsFault, loaded};
-ghost use Rattle.stl_rows.specs.Judged.{LawOfDecided, LawOfJudged};
+ghost use Rattle.stl_rows.specs.Loading.{ReportsFault, loaded_programme};
+ghost use Rattle.stl_rows.specs.Judged.{LawOfFaultlessFiles, LawOfJudged};
 ghost use Rattle.stl_rows.specs.Programme.{IsProgramme};
 
 use crate::cues::Cues;
-use crate::every_fault::load_all_in;
+use crate::every_fault::load_all_with_allocator;
 use crate::fault::LoadFault;
 use crate::layout::{Drawing, Layout};
 use crate::national::National;
@@ -47,7 +47,7 @@ pub fn load<S: Source>(
     // If the source's bytes are known, the bytes determine the programme or the fault.
     ensures exact { IfKnown (S.remaining source.old) (λ bytes.
         IfOk result (λ programme.
-        loaded (drawing_within national layout scope) bytes ≡ Ok programme)) }
+        loaded_programme (drawing_within national layout scope) bytes ≡ Ok programme)) }
     ensures fault { IfKnown (S.remaining source.old) (λ bytes.
         IfErr result (λ f.
         ReportsFault (drawing_within national layout scope) bytes f.block f.kind)) }
@@ -59,13 +59,14 @@ pub fn load<S: Source>(
         programme.drawing ≡ drawing_within national layout scope) }
     // If the source failed, the error has the block of the byte that could not be read, and no
     // fault comes before that block.
-    ensures read { IfErr result (λ f. is_load_read f ≡ true →
+    ensures read { IfErr result (λ f. is_load_read_failure f ≡ true →
         FailsLoading (drawing_within national layout scope)
         (S.remaining source.old) (S.remaining source.new) f.block) }
-    ensures count { CountsIf S.failure_count source.old (failed is_load_read result) source.new }
+    ensures count { CountsFailureIf S.failure_count source.old (failed is_load_read_failure result)
+        source.new }
 {
     let drawing = Drawing::new(national, layout, scope);
-    match load_in(alloc, source, drawing) {
+    match load_with_allocator(alloc, source, drawing) {
         Ok(subtitles) => Ok(Programme::of(drawing, subtitles)),
         Err(fault) => Err(fault),
     }
@@ -77,24 +78,25 @@ pub fn load<S: Source>(
 /// # Errors
 ///
 /// Returns the errors of `load`.
-pub fn load_in<A: Allocator + Copy, S: Source>(
+pub fn load_with_allocator<A: Allocator + Copy, S: Source>(
     alloc: A,
     source: &mut S,
     drawing: Drawing,
 ) -> Result<Cues<A>, LoadFault>
     requires { CanFail (S.failure_count source.old) }
     ensures exact { IfKnown (S.remaining source.old) (λ bytes. IfOk result (λ v.
-        loaded drawing bytes ≡ Ok (record { drawing = drawing; records = v }))) }
+        loaded_programme drawing bytes ≡ Ok (record { drawing = drawing; records = v }))) }
     ensures fault { IfKnown (S.remaining source.old) (λ bytes. IfErr result (λ f.
         ReportsFault drawing bytes f.block f.kind)) }
     ensures never { IfErr result (λ f. f.kind ≢ File Ended) }
     ensures programme { IfOk result (λ v. IsProgramme drawing v) }
-    ensures read { IfErr result (λ f. is_load_read f ≡ true → FailsLoading drawing
+    ensures read { IfErr result (λ f. is_load_read_failure f ≡ true → FailsLoading drawing
         (S.remaining source.old) (S.remaining source.new) f.block) }
-    ensures count { CountsIf S.failure_count source.old (failed is_load_read result) source.new }
+    ensures count { CountsFailureIf S.failure_count source.old (failed is_load_read_failure result)
+        source.new }
 {
     let mut first = FirstReported::new();
-    match load_all_in(alloc, source, drawing, &mut first) {
+    match load_all_with_allocator(alloc, source, drawing, &mut first) {
         Ok(Some(kept)) => Ok(kept.into_subtitles()),
         Ok(None) => match first.into_first() {
             Some(fault) => Err(fault),
@@ -124,5 +126,5 @@ pub fn law_of_parts()
 /// faults, all its subtitles are reliable, and the expected page is known at every frame.
 pub fn law_of_judged()
     ensures drawn { LawOfJudged }
-    ensures decided { LawOfDecided }
+    ensures decided { LawOfFaultlessFiles }
 {}

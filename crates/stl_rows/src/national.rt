@@ -4,7 +4,8 @@ ghost use Rattle.std.specs.Prelude.{◌≡◌, ◌↔◌, Some, option_map};
 ghost use Rattle.std.specs.List.{find};
 ghost use Rattle.std.specs.Str.{bytes_eq};
 ghost use Rattle.stl_rows.specs.declared.sub_sets.SubSet.{SubSet};
-ghost use Rattle.stl_rows.specs.SubSets.{cell_in, has_bytes, option_named, sub_set};
+ghost use Rattle.stl_rows.specs.SubSets.{cell_of_character, is_encoded_by, named_option};
+ghost use Rattle.stl_rows.specs.SubSets.{sub_set};
 
 use crate::sub_sets::{NationalCharacter, SUB_SETS, SubSet};
 
@@ -43,12 +44,12 @@ pub struct NationalBits {
 impl National {
     /// Parses the name of a national option in lower case: `english`, `german`, `swedish`,
     /// `italian`, `french`, `spanish` or `czech`. Returns `None` for any other text.
-    #[tactic(auto, unfolding(crate::specs::SubSets::option_named, crate::specs::SubSets::sub_set))]
+    #[tactic(auto, unfolding(crate::specs::SubSets::named_option, crate::specs::SubSets::sub_set))]
     pub fn parse(text: &str) -> Option<National>
-        ensures value { result ≡ option_named text.now }
+        ensures value { result ≡ named_option text.now }
         ensures words { (n : National) → (result ≡ Some n) ↔ (text.now ≡ (sub_set n).word) }
     {
-        option_in(&SUB_SETS, text)
+        find_option(&SUB_SETS, text)
     }
 
     /// Returns C12, C13 and C14 for the page headers of this national option.
@@ -70,16 +71,16 @@ impl National {
 
 impl NationalCharacter {
     // Returns whether the character has this byte, and this diacritical mark or none.
-    #[tactic(auto, unfolding(crate::specs::SubSets::has_bytes))]
-    fn has_bytes(&self, mark: Option<u8>, byte: u8) -> bool
-        ensures { result ≡ has_bytes mark byte self.now }
+    #[tactic(auto, unfolding(crate::specs::SubSets::is_encoded_by))]
+    fn is_encoded_by(&self, mark: Option<u8>, byte: u8) -> bool
+        ensures { result ≡ is_encoded_by mark byte self.now }
     {
         self.byte == byte && self.mark == mark
     }
 }
 
 // Returns the national option of the first row of the table whose name is `text`.
-fn option_in(rows: &[SubSet], text: &str) -> Option<National>
+fn find_option(rows: &[SubSet], text: &str) -> Option<National>
     ensures { result ≡ option_map (λ (r : SubSet). r.national)
         (find (λ (r : SubSet). bytes_eq r.word.now text.now) rows.now) }
 {
@@ -93,11 +94,15 @@ fn option_in(rows: &[SubSet], text: &str) -> Option<National>
 
 /// Returns the cell of the character with this byte and this diacritical mark, or none. Returns
 /// `None` if no character matches.
-pub(crate) fn cell_in(characters: &[NationalCharacter], mark: Option<u8>, byte: u8) -> Option<u8>
-    ensures { result ≡ cell_in characters.now mark byte }
+pub(crate) fn cell_of_character(
+    characters: &[NationalCharacter],
+    mark: Option<u8>,
+    byte: u8,
+) -> Option<u8>
+    ensures { result ≡ cell_of_character characters.now mark byte }
 {
     for character in characters {
-        if character.has_bytes(mark, byte) {
+        if character.is_encoded_by(mark, byte) {
             return Some(character.cell);
         }
     }

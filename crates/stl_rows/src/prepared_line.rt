@@ -4,10 +4,12 @@ ghost use Rattle.std.specs.Prelude.{◌≡◌, ◌+◌, ◌-◌, ◌<◌, ◌≤
 ghost use Rattle.std.specs.Prelude.{◌==◌};
 ghost use Rattle.std.specs.List.{list_any};
 ghost use Rattle.stl_rows.specs.Layout.{codes_of_places};
-ghost use Rattle.stl_rows.specs.Line.{is_double};
-ghost use Rattle.stl_rows.specs.PreparedLine.{framed, headed, leading, prepared_by, start_by};
-ghost use Rattle.stl_rows.specs.PreparedLine.{trailing, trimmed, uncounted, start_column_for};
-ghost use Rattle.stl_rows.specs.PreparedLine.{jc_read};
+ghost use Rattle.stl_rows.specs.Line.{has_double_height};
+ghost use Rattle.stl_rows.specs.PreparedLine.{line_with_layout_codes, line_with_before_codes};
+ghost use Rattle.stl_rows.specs.PreparedLine.{leading_count, prepared_by_layout};
+ghost use Rattle.stl_rows.specs.PreparedLine.{start_column_by_layout};
+ghost use Rattle.stl_rows.specs.PreparedLine.{trailing, trimmed, uncounted_cells, start_column_for};
+ghost use Rattle.stl_rows.specs.PreparedLine.{effective_jc};
 ghost use Rattle.stl_rows.specs.TextCode.{is_within};
 
 use crate::layout::{Attribute, LayoutItems};
@@ -23,8 +25,8 @@ fn is_within(first: u8, last: u8, code: u8) -> bool
 }
 
 // Returns the number of cells at the start of a line that are in a range of codes.
-fn leading(first: u8, last: u8, cells: &[u8]) -> usize
-    ensures value { result ≡ leading first last cells.now }
+fn leading_count(first: u8, last: u8, cells: &[u8]) -> usize
+    ensures value { result ≡ leading_count first last cells.now }
     ensures within { result ≤ length cells.now }
 {
     let mut count = 0;
@@ -57,7 +59,7 @@ fn trimmed(cells: &[u8]) -> &[u8]
     ensures value { result.now ≡ trimmed cells.now }
     ensures few { length result.now ≤ length cells.now }
 {
-    let (_, rest) = cells.split_at(leading(0x20, 0x20, cells));
+    let (_, rest) = cells.split_at(leading_count(0x20, 0x20, cells));
     let (kept, _) = rest.split_at(rest.len() - trailing(0x20, 0x20, rest));
     kept
 }
@@ -99,14 +101,14 @@ fn push_codes(line: &mut LineCells, codes: &[Option<Attribute>])
 }
 
 // Builds a line from its own cells and the codes that a layout adds at the front.
-#[tactic(auto, unfolding(crate::specs::PreparedLine::headed))]
+#[tactic(auto, unfolding(crate::specs::PreparedLine::line_with_before_codes))]
 fn push_headed(line: &mut LineCells, items: &LayoutItems, cells: &[u8])
     requires none { line.old.items ≡ [] }
-    requires short { length cells.now ≤ 1008 }
-    ensures value { line.new.items ≡ headed items.now cells.now }
+    requires at_most_1008 { length cells.now ≤ 1008 }
+    ensures value { line.new.items ≡ line_with_before_codes items.now cells.now }
     ensures few { length line.new.items ≤ 1021 }
 {
-    let (codes, rest) = cells.split_at(leading(0, 0x1F, cells));
+    let (codes, rest) = cells.split_at(leading_count(0, 0x1F, cells));
     push_codes(line, &items.ahead);
     push_cells(line, codes);
     if items.white && !has_colour(codes) {
@@ -117,11 +119,11 @@ fn push_headed(line: &mut LineCells, items: &LayoutItems, cells: &[u8])
 }
 
 // Builds a line from cells and all codes that a layout adds. An empty line gets no codes.
-#[tactic(auto, unfolding(crate::specs::PreparedLine::framed))]
+#[tactic(auto, unfolding(crate::specs::PreparedLine::line_with_layout_codes))]
 fn push_framed(line: &mut LineCells, items: &LayoutItems, cells: &[u8])
     requires none { line.old.items ≡ [] }
-    requires short { length cells.now ≤ 1008 }
-    ensures { line.new.items ≡ framed items.now cells.now }
+    requires at_most_1008 { length cells.now ≤ 1008 }
+    ensures { line.new.items ≡ line_with_layout_codes items.now cells.now }
 {
     if cells.is_empty() {
         return;
@@ -135,10 +137,14 @@ fn push_framed(line: &mut LineCells, items: &LayoutItems, cells: &[u8])
 }
 
 /// Prepares a line of cells by a layout.
-#[tactic(auto, unfolding(crate::specs::PreparedLine::prepared_by, crate::specs::Line::is_boxed))]
+#[rattlefmt::skip]
+#[tactic(auto, unfolding(
+    crate::specs::PreparedLine::prepared_by_layout,
+    crate::specs::Line::has_start_box_code
+))]
 pub(crate) fn prepare_by(line: &mut LineCells, items: &LayoutItems, cells: &[u8])
     requires { length cells.now ≤ 1008 }
-    ensures { line.new.items ≡ prepared_by items.now cells.now }
+    ensures { line.new.items ≡ prepared_by_layout items.now cells.now }
 {
     line.clear();
     if has(cells, 0x0B) {
@@ -150,36 +156,36 @@ pub(crate) fn prepare_by(line: &mut LineCells, items: &LayoutItems, cells: &[u8]
 }
 
 /// Returns whether a prepared line contains double height.
-#[tactic(auto, unfolding(crate::specs::Line::is_double))]
-pub(crate) fn is_double(line: &[u8]) -> bool
-    ensures { result ≡ is_double line.now }
+#[tactic(auto, unfolding(crate::specs::Line::has_double_height))]
+pub(crate) fn has_double_height(line: &[u8]) -> bool
+    ensures { result ≡ has_double_height line.now }
 {
     has(line, 0x0D)
 }
 
 // Returns the numbers of cells at the start and at the end of a line that do not count for the
 // line's column.
-fn uncounted(items: &LayoutItems, line: &[u8]) -> (usize, usize)
-    ensures value { result ≡ uncounted items.now line.now }
+fn uncounted_cells(items: &LayoutItems, line: &[u8]) -> (usize, usize)
+    ensures value { result ≡ uncounted_cells items.now line.now }
     ensures ahead { result.0 ≤ length line.now }
     ensures following { result.1 ≤ length line.now }
 {
     if !items.text {
         return (0, 0);
     }
-    let ahead = leading(0, 0x1F, line);
+    let ahead = leading_count(0, 0x1F, line);
     if ahead == line.len() {
         return (ahead, 0);
     }
     (ahead, trailing(0, 0x1F, line))
 }
 
-// Returns the JC to use: the value of the layout item `free` for JC 0, otherwise the subtitle's own
-// JC.
-fn jc_read(items: &LayoutItems, jc: u8) -> u8
-    ensures { result ≡ jc_read items.now jc }
+// Returns the JC to use: the value of the layout item `free_jc` for JC 0, otherwise the subtitle's
+// own JC.
+fn effective_jc(items: &LayoutItems, jc: u8) -> u8
+    ensures { result ≡ effective_jc items.now jc }
 {
-    if jc == 0 { items.free } else { jc }
+    if jc == 0 { items.free_jc } else { jc }
 }
 
 // Returns the column at which a line should start, if `width` cells of the line count, after
@@ -199,14 +205,14 @@ fn start_column_for(items: &LayoutItems, jc: u8, ahead: usize, width: usize) -> 
 
 /// Returns the column at which a prepared line starts. A line that would not fit in its row is
 /// moved left.
-#[tactic(auto, unfolding(crate::specs::PreparedLine::start_by))]
-pub(crate) fn start_by(items: &LayoutItems, jc: u8, line: &[u8]) -> usize
+#[tactic(auto, unfolding(crate::specs::PreparedLine::start_column_by_layout))]
+pub(crate) fn start_column_by_layout(items: &LayoutItems, jc: u8, line: &[u8]) -> usize
     requires { length line.now ≤ 40 }
-    ensures value { result ≡ start_by items.now jc line.now }
+    ensures value { result ≡ start_column_by_layout items.now jc line.now }
     ensures within { result + length line.now ≤ 40 }
 {
-    let (ahead, following) = uncounted(items, line);
+    let (ahead, following) = uncounted_cells(items, line);
     let width = line.len().saturating_sub(ahead + following);
-    let expected = start_column_for(items, jc_read(items, jc), ahead, width);
+    let expected = start_column_for(items, effective_jc(items, jc), ahead, width);
     expected.min(40 - line.len())
 }

@@ -8,12 +8,13 @@ ghost use Rattle.stl_file.specs.Subtitle.{SubtitleValue};
 ghost use Rattle.stl_rows.specs.DuePage.{due, LawOfBlankPages, LawOfDuePages, LawOfDueSubtitles};
 ghost use Rattle.stl_rows.specs.DuePage.{LawOfLastRow};
 ghost use Rattle.stl_rows.specs.DuePage.{LawOfEdges, ReportsLastEdge, ReportsNextEdge};
-ghost use Rattle.stl_rows.specs.DuePage.{tci_of_ending};
-ghost use Rattle.stl_rows.specs.Judged.{is_undecided_from, is_undecided_in, with_bits};
+ghost use Rattle.stl_rows.specs.DuePage.{tci_of_subtitle_ending_at};
+ghost use Rattle.stl_rows.specs.Judged.{is_undecided_from, is_undecided_in};
+ghost use Rattle.stl_rows.specs.Judged.{judged_subtitles_with_bits};
 ghost use Rattle.stl_rows.specs.Programme.{IsProgramme, first_tci, last_tco};
 
 use crate::cues::Cues;
-use crate::drawing::draw_on;
+use crate::drawing::draw_subtitle_on;
 use crate::layout::{Drawing, Layout};
 use crate::national::National;
 use std::alloc::Global;
@@ -41,7 +42,7 @@ impl Model for Programme {
 }
 
 // Returns the index of the first subtitle whose TCO is after a frame, by binary search.
-fn first_after(drawing: &Drawing, subtitles: &Cues<Global>, frame: u32) -> usize
+fn first_ending_after(drawing: &Drawing, subtitles: &Cues<Global>, frame: u32) -> usize
     requires { IsProgramme drawing.now subtitles.now }
     ensures bound { result ≤ length subtitles.now }
     ensures before { (k : ℕ) (d : SubtitleValue)
@@ -49,11 +50,11 @@ fn first_after(drawing: &Drawing, subtitles: &Cues<Global>, frame: u32) -> usize
     ensures after { (k : ℕ) (d : SubtitleValue)
         → result ≤ k → k < length subtitles.now → frame < (slice_index_or subtitles.now k d).tco }
 {
-    subtitles.ended_by(frame)
+    subtitles.count_ended_by(frame)
 }
 
 // Returns whether the subtitle with the index `at` is the first whose TCO is after a frame.
-fn is_first_after(drawing: &Drawing, subtitles: &Cues<Global>, frame: u32, at: usize) -> bool
+fn is_first_ending_after(drawing: &Drawing, subtitles: &Cues<Global>, frame: u32, at: usize) -> bool
     requires { IsProgramme drawing.now subtitles.now }
     ensures bound { IsTrue result → at < length subtitles.now }
     ensures before { IsTrue result → (k : ℕ) (d : SubtitleValue)
@@ -77,7 +78,12 @@ fn is_first_after(drawing: &Drawing, subtitles: &Cues<Global>, frame: u32, at: u
 
 // Returns the index of the first subtitle whose TCO is after a frame. Tries `guess` and the next
 // index before a binary search.
-fn find_first_after(drawing: &Drawing, subtitles: &Cues<Global>, frame: u32, guess: usize) -> usize
+fn find_first_ending_after(
+    drawing: &Drawing,
+    subtitles: &Cues<Global>,
+    frame: u32,
+    guess: usize,
+) -> usize
     requires { IsProgramme drawing.now subtitles.now }
     ensures bound { result ≤ length subtitles.now }
     ensures before { (k : ℕ) (d : SubtitleValue)
@@ -86,15 +92,15 @@ fn find_first_after(drawing: &Drawing, subtitles: &Cues<Global>, frame: u32, gue
         → result ≤ k → k < length subtitles.now → frame < (slice_index_or subtitles.now k d).tco }
 {
     if guess < subtitles.len() {
-        if is_first_after(drawing, subtitles, frame, guess) {
+        if is_first_ending_after(drawing, subtitles, frame, guess) {
             return guess;
         }
         let next = guess + 1;
-        if is_first_after(drawing, subtitles, frame, next) {
+        if is_first_ending_after(drawing, subtitles, frame, next) {
             return next;
         }
     }
-    first_after(drawing, subtitles, frame)
+    first_ending_after(drawing, subtitles, frame)
 }
 
 // Draws the expected page at a frame. Returns the next cue after the frame, and the index of the
@@ -110,7 +116,7 @@ fn draw_expected(
     ensures page { page.new ≡ due drawing.now subtitles.now frame }
     ensures edge { ReportsNextEdge subtitles.now frame result.0 }
 {
-    let at = find_first_after(drawing, subtitles, frame, guess);
+    let at = find_first_ending_after(drawing, subtitles, frame, guess);
     if at == subtitles.len() {
         *page = Page::blank();
         return (None, at);
@@ -121,17 +127,17 @@ fn draw_expected(
         *page = Page::blank();
         return (Some(tci), at);
     }
-    draw_on(&subtitle, drawing, page);
+    draw_subtitle_on(&subtitle, drawing, page);
     let tco = subtitle.tco().frame();
     (Some(tco), at)
 }
 
 // Returns the next cue (TCI or TCO) after a frame.
-fn cue_after(drawing: &Drawing, subtitles: &Cues<Global>, frame: u32) -> Option<u32>
+fn next_cue_after(drawing: &Drawing, subtitles: &Cues<Global>, frame: u32) -> Option<u32>
     requires { IsProgramme drawing.now subtitles.now }
     ensures { ReportsNextEdge subtitles.now frame result }
 {
-    let at = first_after(drawing, subtitles, frame);
+    let at = first_ending_after(drawing, subtitles, frame);
     if at == subtitles.len() {
         return None;
     }
@@ -159,11 +165,11 @@ fn tco_before(subtitles: &Cues<Global>, at: usize) -> Option<u32>
 }
 
 // Returns the last cue (TCI or TCO) at or before a frame.
-fn cue_until(drawing: &Drawing, subtitles: &Cues<Global>, frame: u32) -> Option<u32>
+fn last_cue_until(drawing: &Drawing, subtitles: &Cues<Global>, frame: u32) -> Option<u32>
     requires { IsProgramme drawing.now subtitles.now }
     ensures { ReportsLastEdge subtitles.now frame result }
 {
-    let at = first_after(drawing, subtitles, frame);
+    let at = first_ending_after(drawing, subtitles, frame);
     if at == subtitles.len() {
         return tco_before(subtitles, at);
     }
@@ -178,12 +184,12 @@ fn cue_until(drawing: &Drawing, subtitles: &Cues<Global>, frame: u32) -> Option<
 // Returns the TCI of the subtitle whose TCO is the frame.
 fn tci_ending_at(drawing: &Drawing, subtitles: &Cues<Global>, frame: u32) -> Option<u32>
     requires { IsProgramme drawing.now subtitles.now }
-    ensures { result ≡ tci_of_ending subtitles.now frame }
+    ensures { result ≡ tci_of_subtitle_ending_at subtitles.now frame }
 {
     if frame == 0 {
         return None;
     }
-    let at = first_after(drawing, subtitles, frame - 1);
+    let at = first_ending_after(drawing, subtitles, frame - 1);
     if at == subtitles.len() {
         return None;
     }
@@ -209,27 +215,28 @@ fn bit_at(bits: &[bool], at: usize) -> bool
 fn is_undecided_at(
     drawing: &Drawing,
     subtitles: &Cues<Global>,
-    after_other: &[bool],
-    is_before_other: bool,
+    after_unreliable_bits: &[bool],
+    is_before_unreliable: bool,
     frame: u32,
 ) -> bool
     requires { IsProgramme drawing.now subtitles.now }
     ensures { result
-        ≡ is_undecided_from 0 (with_bits subtitles.now after_other.now) is_before_other frame }
+        ≡ is_undecided_from 0 (judged_subtitles_with_bits subtitles.now after_unreliable_bits.now)
+        is_before_unreliable frame }
 {
-    if after_other.is_empty() && !is_before_other {
+    if after_unreliable_bits.is_empty() && !is_before_unreliable {
         return false;
     }
-    let at = first_after(drawing, subtitles, frame);
+    let at = first_ending_after(drawing, subtitles, frame);
     if at == subtitles.len() {
-        return is_before_other;
+        return is_before_unreliable;
     }
     let subtitle = subtitles.at(at);
     let tci = subtitle.tci().frame();
     if tci <= frame {
         return false;
     }
-    bit_at(after_other, at)
+    bit_at(after_unreliable_bits, at)
 }
 
 impl Programme {
@@ -332,7 +339,7 @@ impl Programme {
         ensures value { ReportsNextEdge self.now.records frame result }
         ensures programme { IsProgramme self.now.drawing self.now.records }
     {
-        cue_after(&self.drawing, &self.subtitles, frame)
+        next_cue_after(&self.drawing, &self.subtitles, frame)
     }
 
     /// Returns the last TCI or TCO at or before a frame, by binary search. The expected page does
@@ -343,14 +350,14 @@ impl Programme {
         ensures value { ReportsLastEdge self.now.records frame result }
         ensures programme { IsProgramme self.now.drawing self.now.records }
     {
-        cue_until(&self.drawing, &self.subtitles, frame)
+        last_cue_until(&self.drawing, &self.subtitles, frame)
     }
 
     /// Finds the subtitle whose TCO is the frame, by binary search, and returns its TCI.
     ///
     /// Returns `None` if no subtitle ends at the frame. At most one subtitle does.
-    pub fn tci_of_ending(&self, frame: u32) -> Option<u32>
-        ensures value { result ≡ tci_of_ending self.now.records frame }
+    pub fn tci_of_subtitle_ending_at(&self, frame: u32) -> Option<u32>
+        ensures value { result ≡ tci_of_subtitle_ending_at self.now.records frame }
         ensures programme { IsProgramme self.now.drawing self.now.records }
     {
         tci_ending_at(&self.drawing, &self.subtitles, frame)
@@ -361,22 +368,22 @@ impl Programme {
     #[tactic(auto, unfolding(crate::specs::Judged::is_undecided_in))]
     pub(crate) fn is_undecided(
         &self,
-        after_other: &[bool],
-        is_before_other: bool,
+        after_unreliable_bits: &[bool],
+        is_before_unreliable: bool,
         frame: u32,
     ) -> bool
         ensures { result ≡ is_undecided_in (record {
           programme = self.now;
-          after_other = after_other.now;
-          is_before_other = is_before_other;
+          after_unreliable_bits = after_unreliable_bits.now;
+          is_before_unreliable = is_before_unreliable;
         }) frame }
     {
         let subtitles = &self.subtitles;
         is_undecided_at(
             &self.drawing,
             subtitles,
-            after_other,
-            is_before_other,
+            after_unreliable_bits,
+            is_before_unreliable,
             frame,
         )
     }
@@ -384,25 +391,25 @@ impl Programme {
 
 /// The expected page at a frame is the page of the subtitle whose TCI is at or before the frame and
 /// whose TCO is after it.
-#[tactic(auto, using(crate::proofs::DuePageLemmas::due_is_shown))]
+#[tactic(auto, using(crate::proofs::DuePageLemmas::due_subtitle_is_drawn))]
 pub fn law_of_due_subtitles()
     ensures { LawOfDueSubtitles }
 {}
 
 /// If each subtitle starts after the frame or ends at or before it, the expected page is blank.
-#[tactic(auto, using(crate::proofs::DuePageLemmas::none_is_blank))]
+#[tactic(auto, using(crate::proofs::DuePageLemmas::page_without_subtitle_is_blank))]
 pub fn law_of_blank_pages()
     ensures { LawOfBlankPages }
 {}
 
 /// The expected page changes only at a TCI or a TCO.
-#[tactic(auto, using(crate::proofs::DuePageLemmas::edges_alone))]
+#[tactic(auto, using(crate::proofs::DuePageLemmas::page_changes_only_at_edges))]
 pub fn law_of_edges()
     ensures { LawOfEdges }
 {}
 
 /// Row 24 of each expected page is blank.
-#[tactic(auto, using(crate::proofs::LastRowLemmas::last_row_blank))]
+#[tactic(auto, using(crate::proofs::LastRowLemmas::due_row_24_is_blank))]
 pub fn law_of_last_row()
     ensures { LawOfLastRow }
 {}

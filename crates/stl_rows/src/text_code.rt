@@ -2,11 +2,11 @@
 
 ghost use Rattle.std.specs.Prelude.{◌≡◌, ◌+◌, ◌<◌, ◌≤◌, ◌∷◌, length, drop, slice_index};
 ghost use Rattle.std.specs.Prelude.{IsSome};
-ghost use Rattle.stl_rows.specs.TextCode.{cell_of, cell_of_pair, code_of_other, first_of};
+ghost use Rattle.stl_rows.specs.TextCode.{cell_of, cell_of_pair, code_without_cell, first_of};
 ghost use Rattle.stl_rows.specs.TextCode.{HasSevenBits, is_common, text_codes};
 
 use crate::fault::RowFaultKind;
-use crate::national::{National, cell_in};
+use crate::national::{National, cell_of_character};
 
 /// The meaning of a byte of a subtitle's text, or of a pair of bytes.
 #[derive(Clone, Copy, Debug, PartialEq, Eq)]
@@ -24,7 +24,7 @@ pub(crate) enum TextCode {
 // For each byte, 1 if its cell has the byte's own number in every national option. The prover
 // computes the definition for all 256 bytes and compares the results with the table.
 #[rattlefmt::skip]
-const COMMON: [u8; 256] = [
+const COMMON_BYTES: [u8; 256] = [
     0, 1, 1, 1, 1, 1, 1, 1, 1, 1, 1, 1, 1, 1, 0, 0,
     0, 0, 0, 0, 0, 0, 0, 0, 0, 0, 0, 0, 1, 1, 0, 0,
     1, 1, 1, 0, 0, 1, 1, 1, 1, 1, 1, 1, 1, 1, 1, 1,
@@ -45,11 +45,11 @@ const COMMON: [u8; 256] = [
 
 // Returns whether the cell of a byte has the byte's own number in every national option.
 #[inline(always)]
-#[tactic(auto, using(crate::proofs::TextCodeLemmas::common_by_table))]
+#[tactic(auto, using(crate::proofs::TextCodeLemmas::common_table_matches_definition))]
 fn is_common(byte: u8) -> bool
     ensures { result ≡ is_common byte }
 {
-    COMMON[byte as usize] == 1
+    COMMON_BYTES[byte as usize] == 1
 }
 
 // Returns the cell of a single byte, or `None` if the byte has no cell.
@@ -61,13 +61,13 @@ fn cell_of(national: National, byte: u8) -> Option<u8>
     if is_common(byte) {
         return Some(byte);
     }
-    cell_in(national.characters(), None, byte)
+    cell_of_character(national.characters(), None, byte)
 }
 
 // Returns the text code of a byte without a cell: no cell, a new line, or a rejected byte.
-#[tactic(auto, unfolding(crate::specs::TextCode::code_of_other))]
-fn code_of_other(byte: u8) -> TextCode
-    ensures { result ≡ code_of_other byte }
+#[tactic(auto, unfolding(crate::specs::TextCode::code_without_cell))]
+fn code_without_cell(byte: u8) -> TextCode
+    ensures { result ≡ code_without_cell byte }
 {
     match byte {
         0x80..=0x85 => TextCode::NoCell,
@@ -91,7 +91,7 @@ fn cell_of_pair_at(national: National, text: &[u8], at: usize) -> Option<u8>
     if !matches!(mark, 0xC0..=0xCF) || at + 1 >= text.len() {
         return None;
     }
-    cell_in(national.characters(), Some(mark), text[at + 1])
+    cell_of_character(national.characters(), Some(mark), text[at + 1])
 }
 
 /// Returns the text code at position `at` of a text, and the position after it.
@@ -116,7 +116,7 @@ pub(crate) fn text_code_at(national: National, text: &[u8], at: usize) -> (TextC
         Some(code) => (TextCode::Cell(code), at + 2),
         None => match cell_of(national, byte) {
             Some(code) => (TextCode::Cell(code), at + 1),
-            None => (code_of_other(byte), at + 1),
+            None => (code_without_cell(byte), at + 1),
         },
     }
 }

@@ -6,13 +6,14 @@
 
 ghost use Rattle.std.specs.Prelude.{◌≡◌, ◌<◌, ◌≤◌, length, IsOk, MatchOption, Err, None, false};
 ghost use Rattle.stl_rows.specs.DrawnPage.{drawn};
-ghost use Rattle.stl_rows.specs.LineByLine.{empty_line, line_under, shape_fault_kinds, reported};
-ghost use Rattle.stl_rows.specs.LineByLine.{reported_first, with_cell};
+ghost use Rattle.stl_rows.specs.LineByLine.{empty_line, next_empty_line, shape_fault_kinds};
+ghost use Rattle.stl_rows.specs.LineByLine.{reported};
+ghost use Rattle.stl_rows.specs.LineByLine.{first_fault_up_to_line, with_cell};
 ghost use Rattle.stl_rows.specs.TextCode.{first_of, text_codes};
 
 use crate::fault::{RowFault, RowFaultKind};
-use crate::laid_out::draw_by;
 use crate::layout::Drawing;
+use crate::layout_drawing::draw_with_layout;
 use crate::national::National;
 use crate::record::Record;
 use crate::text_code::{TextCode, text_code_at};
@@ -24,10 +25,10 @@ struct OpenLine {
     number: u16,
     row: u16,
     // Whether the line directly above has double height.
-    is_under_double: bool,
+    is_below_double_height: bool,
     len: u16,
-    is_boxed: bool,
-    is_double: bool,
+    has_start_box_code: bool,
+    has_double_height: bool,
 }
 
 impl OpenLine {
@@ -38,10 +39,10 @@ impl OpenLine {
         OpenLine {
             number: 0,
             row: u16::from(vp),
-            is_under_double: false,
+            is_below_double_height: false,
             len: 0,
-            is_boxed: false,
-            is_double: false,
+            has_start_box_code: false,
+            has_double_height: false,
         }
     }
 
@@ -50,23 +51,23 @@ impl OpenLine {
         ensures { self.new ≡ with_cell self.old cell }
     {
         self.len += 1;
-        self.is_boxed = self.is_boxed || cell == 0x0B;
-        self.is_double = self.is_double || cell == 0x0D;
+        self.has_start_box_code = self.has_start_box_code || cell == 0x0B;
+        self.has_double_height = self.has_double_height || cell == 0x0D;
     }
 
     // Moves to the next line of the text, which has no cells yet.
     fn end(&mut self)
         requires number { self.old.number ≤ 1008 }
         requires row { self.old.row ≤ 1031 }
-        ensures { self.new ≡ line_under self.old }
+        ensures { self.new ≡ next_empty_line self.old }
     {
         *self = OpenLine {
             number: self.number + 1,
             row: self.row + 1,
-            is_under_double: self.is_double,
+            is_below_double_height: self.has_double_height,
             len: 0,
-            is_boxed: false,
-            is_double: false,
+            has_start_box_code: false,
+            has_double_height: false,
         };
     }
 
@@ -76,17 +77,17 @@ impl OpenLine {
         requires { self.now.len ≤ 1008 }
         ensures { result ≡ first_of (shape_fault_kinds self.now) }
     {
-        let room = if self.is_boxed { 40 } else { 36 };
+        let room = if self.has_start_box_code { 40 } else { 36 };
         if self.len > room {
             return Some(RowFaultKind::RowTooLong);
         }
         if self.len > 0 && self.row > 23 {
             return Some(RowFaultKind::PastBottom);
         }
-        if self.is_double && self.row == 23 {
+        if self.has_double_height && self.row == 23 {
             return Some(RowFaultKind::DoubleRow);
         }
-        if self.len > 0 && self.is_under_double {
+        if self.len > 0 && self.is_below_double_height {
             return Some(RowFaultKind::Hidden);
         }
         None
@@ -95,7 +96,7 @@ impl OpenLine {
     // Returns the fault found before the current line, or else the first fault of this line.
     fn first_fault(&self, before: Option<RowFault>) -> Option<RowFault>
         requires { self.now.len ≤ 1008 }
-        ensures { result ≡ reported_first before self.now }
+        ensures { result ≡ first_fault_up_to_line before self.now }
     {
         if before.is_some() {
             return before;
@@ -114,7 +115,7 @@ impl OpenLine {
 // before the faults of lines.
 fn fault_of_text(national: National, vp: u8, text: &[u8]) -> Option<RowFault>
     requires last { vp ≤ 23 }
-    requires short { length text.now ≤ 1008 }
+    requires at_most_1008 { length text.now ≤ 1008 }
     ensures { result ≡ reported None (empty_line 0 vp false) (text_codes national 0 text.now) }
 {
     let mut fault = None;
@@ -150,7 +151,7 @@ pub(crate) fn first_fault(subtitle: &Record<'_>, drawing: &Drawing) -> Option<Ro
     match &drawing.layout.items {
         // The default layout needs one pass over the text, without storing cells.
         None => fault_of_text(drawing.national, subtitle.vp(), subtitle.text()),
-        Some(items) => match draw_by(drawing.national, items, subtitle) {
+        Some(items) => match draw_with_layout(drawing.national, items, subtitle) {
             Ok(_) => None,
             Err(fault) => Some(fault),
         },

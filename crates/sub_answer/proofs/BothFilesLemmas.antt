@@ -9,9 +9,9 @@ use Rattle.sub_io.specs.Device.{failed}
 use Rattle.sub_io.specs.Reading.{IfKnown}
 use Rattle.ttx_pes.specs.declared.fault.PesFault.TheVariants as pes_fault
 use Rattle.stl_file.specs.declared.fault.StlFault.TheVariants as stl
-use Rattle.stl_rows.specs.Fault.{is_read_kind}
+use Rattle.stl_rows.specs.Fault.{is_read_failure_kind}
 use Rattle.stl_rows.specs.EveryFault.{load_fault}
-use Rattle.stl_rows.specs.Loading.{LawOfLoading, loaded}
+use Rattle.stl_rows.specs.Loading.{LawOfLoading, loaded_programme}
 use Rattle.stl_rows.specs.Programme.{ProgrammeValue}
 use Rattle.stl_rows.specs.declared.fault.LoadFaultKind.{LoadFaultKind}
 use Rattle.stl_rows.specs.declared.fault.LoadFaultKind.TheVariants as load
@@ -23,26 +23,29 @@ use Rattle.sub_rules.specs.declared.fault.CheckFault.{CheckFault}
 use Rattle.sub_rules.specs.declared.fault.CheckFault.TheVariants as fault
 use Rattle.sub_checker.specs.declared.accepted.Accepted.{Accepted}
 use Rattle.sub_check.specs.CheckedFiles.{IsAccepted, IsAcceptedBy, IsChecked, IsCheckedBy}
-use Rattle.sub_check.proofs.FilesLemmas.{accepted-loads, accepted-loads_by, as_accepted}
-use Rattle.sub_check.proofs.FilesLemmas.{as_accepted_by, of_accepted, of_accepted_by}
+use Rattle.sub_check.proofs.FilesLemmas.{accepted-described_files_load, accepted-loads_by}
+use Rattle.sub_check.proofs.FilesLemmas.{good_transmission_is_accepted}
+use Rattle.sub_check.proofs.FilesLemmas.{good_transmission_accepted_within}
+use Rattle.sub_check.proofs.FilesLemmas.{accepted_transmission_is_good, accepted_within_is_good}
 use Rattle.sub_listing.specs.DeviceCall.{SinkCall, SourceCall}
-use Rattle.sub_listing.specs.Faults.{kind_by}
+use Rattle.sub_listing.specs.Faults.{kind_of_failure}
 use Rattle.sub_listing.specs.Listing.{Listing, PrintsOrFails}
 use Rattle.sub_listing.specs.FaultLine.{status_of}
 use Rattle.sub_listing.specs.declared.status.Status.{Status}
 use Rattle.sub_listing.specs.declared.status.Status.TheVariants.{Done, Fault}
-use Rattle.sub_listing.proofs.PrintingLemmas.{did_not_rise, printed-status, printed-whole}
+use Rattle.sub_listing.proofs.PrintingLemmas.{unchanged_count_means_success, printed-status}
+use Rattle.sub_listing.proofs.PrintingLemmas.{printed-whole}
 use Rattle.sub_answer.specs.BothFiles.{ReportsSources, IsStatusOfFiles}
 
-pub reported-not_done : (b : Bool) → status_of (kind_by b) ≢ Done
-reported-not_done true e = cc
-reported-not_done false e = cc
+pub reported-is_not_done : (b : Bool) → status_of (kind_of_failure b) ≢ Done
+reported-is_not_done true e = cc
+reported-is_not_done false e = cc
 
-pub reported-fails : (b : Bool) → status_of (kind_by b) ≡ Fault → b ≡ true
+pub reported-fails : (b : Bool) → status_of (kind_of_failure b) ≡ Fault → b ≡ true
 reported-fails true e = refl
 reported-fails false e = cc
 
-pub reported-runs : (b : Bool) → status_of (kind_by b) ≢ Fault → b ≡ false
+pub reported-runs : (b : Bool) → status_of (kind_of_failure b) ≢ Fault → b ≡ false
 reported-runs true other = absurd (other refl)
 reported-runs false other = refl
 
@@ -54,7 +57,7 @@ pes-fails f is = grind (arith, nat_tests)
 
 memory-kind : (kind : LoadFaultKind)
     → is_failure_kind kind ≡ true
-    → is_read_kind kind ≡ false
+    → is_read_failure_kind kind ≡ false
     → kind ≡ load.Memory
 memory-kind load.Memory fails read = refl
 memory-kind (load.File stl.Read) fails read = cc
@@ -79,53 +82,59 @@ pub record AcceptsExactly
     : Type 0 where
   pub exactly :
       (programme : ProgrammeValue)
-      → loaded drawing file ≡ Ok programme
+      → loaded_programme drawing file ≡ Ok programme
       → failed is_subtitle_fault answer ≡ false
       → failed is_pes_read answer ≡ false
       → IsOk answer ↔ Means
-  pub loads : Means → (programme : ProgrammeValue) × (loaded drawing file ≡ Ok programme)
+  pub described_files_load : Means → (programme : ProgrammeValue) × (loaded_programme drawing file ≡
+      Ok programme)
 
 pub exactly-accepted :
     (drawing : Drawing) (options : OptionsValue) (file bytes : List ℕ)
     (answer : Result Accepted CheckFault)
     → LawOfLoading
     → ((programme : ProgrammeValue)
-    → loaded drawing file ≡ Ok programme
+    → loaded_programme drawing file ≡ Ok programme
     → IsChecked programme options bytes answer)
     → AcceptsExactly drawing file answer (IsAccepted drawing options file bytes)
 exactly-accepted drawing options file bytes answer loading checked = record {
-  exactly = λ p loads looked fine.
-      let exact = (checked p loads).accepted looked fine in (
-        λ ok. as_accepted drawing options file bytes loading p loads (exact.0 ok),
-        λ is. exact.1 (of_accepted drawing options file bytes loading p loads is),
+  exactly = λ p described_files_load looked fine.
+      let exact = (checked p described_files_load).accepted looked fine in (
+        λ ok. good_transmission_is_accepted drawing options file bytes loading p
+            described_files_load (exact.0 ok),
+        λ is. exact.1 (accepted_transmission_is_good drawing options file bytes loading p
+            described_files_load is),
       );
-  loads = accepted-loads drawing options file bytes loading;
+  described_files_load = accepted-described_files_load drawing options file bytes loading;
 }
 
-pub exactly-accepted_by :
+pub exactly-is_accepted_within :
     (drawing : Drawing) (options : OptionsValue) (file bytes : List ℕ)
     (answer : Result Accepted CheckFault)
     → LawOfLoading
     → ((programme : ProgrammeValue)
-    → loaded drawing file ≡ Ok programme
+    → loaded_programme drawing file ≡ Ok programme
     → IsCheckedBy programme options bytes answer)
     → AcceptsExactly drawing file answer (IsAcceptedBy drawing options file bytes)
-exactly-accepted_by drawing options file bytes answer loading checked = record {
-  exactly = λ p loads looked fine.
-      let exact = (checked p loads).accepted looked fine in (
-        λ ok. as_accepted_by drawing options file bytes loading p loads (exact.0 ok),
-        λ is. exact.1 (of_accepted_by drawing options file bytes loading p loads is),
+exactly-is_accepted_within drawing options file bytes answer loading checked = record {
+  exactly = λ p described_files_load looked fine.
+      let exact = (checked p described_files_load).accepted looked fine in (
+        λ ok. good_transmission_accepted_within drawing options file bytes loading p
+            described_files_load (exact.0 ok),
+        λ is. exact.1 (accepted_within_is_good drawing options file bytes loading p
+            described_files_load is),
       );
-  loads = accepted-loads_by drawing options file bytes loading;
+  described_files_load = accepted-loads_by drawing options file bytes loading;
 }
 
 pub status-reported :
-    {Counts : Type 0} {AtBlock AtPes : ℕ → Type 0} {Untouched : Type 0} {is_of_subtitles : Bool}
+    {Counts : Type 0} {AtBlock AtPes : ℕ → Type 0} {Untouched : Type 0} {concerns_subtitle_file :
+    Bool}
     (drawing : Drawing) (options : OptionsValue) (stl pes : SourceCall) (out : SinkCall)
     (listing : Listing) (status : Status) (answer : Result Counts CheckFault)
     (PrintsMemory : Type 0)
     → PrintsOrFails out listing status
-    → ReportsSources AtBlock AtPes Untouched is_of_subtitles stl pes answer
+    → ReportsSources AtBlock AtPes Untouched concerns_subtitle_file stl pes answer
     → (IsFalse options.keeps
     → options.within ≡ 0
     → listing.status ≢ Fault
@@ -155,8 +164,10 @@ status-reported drawing options stl pes out listing status answer PrintsMemory p
           let whole = printed-whole out listing status printed out_same in
           let expected =
           memory-fault answer (fails (sym whole.1 ∙ is))
-          (did_not_rise (failed is_stl_read answer) _ _ sources.stl_count stl_same)
-          (did_not_rise (failed is_pes_read answer) _ _ sources.pes_count pes_same) in
+          (unchanged_count_means_success (failed is_stl_read answer) _ _ sources.stl_failure_count
+          stl_same)
+          (unchanged_count_means_success (failed is_pes_read answer) _ _ sources.pes_failure_count
+          pes_same) in
           memory expected.0 expected.1 whole.0;
     }
 

@@ -6,7 +6,8 @@ use Rattle.std.proofs.Common.{◌≡◌, ◌∙◌, ap, refl, subst, ℕ, List, 
 use Rattle.std.proofs.Common.{Bool, Option, Some, false, true, if◌then◌else◌, length, sym}
 use Rattle.std.specs.Prelude.{⊤}
 use Rattle.std.proofs.lemmas.Bool.{true≢false}
-use Rattle.sub_answer.specs.Answering.{Answers, FlushesBefore, InputCall, WritesBefore, fails}
+use Rattle.sub_answer.specs.Answering.{Answers, FlushesBeforeRead, InputCall, WritesBeforeRead}
+use Rattle.sub_answer.specs.Answering.{fails}
 use Rattle.sub_answer.specs.Answering.{first_input, input_call, reads_pes_packets}
 use Rattle.sub_answer.specs.Part.{IsPartOf, entire_file}
 use Rattle.sub_answer.proofs.BothFilesLemmas.{sources-untouched}
@@ -16,8 +17,9 @@ use Rattle.sub_listing.specs.LastLine.{BuffersLastLineOnly}
 use Rattle.sub_listing.specs.declared.status.Status.{Status}
 use Rattle.sub_request.specs.declared.request.Request.{Request}
 use Rattle.sub_request.specs.declared.request.Request.TheVariants as ask
-use Rattle.ttx_pes.specs.Advancing.{buffered_then}
-use Rattle.sub_answer.specs.Ending.{EndsWith, BuffersOneLineOnly, IsEmptySource, Lines, lines_in}
+use Rattle.ttx_pes.specs.Advancing.{buffered_before_known}
+use Rattle.sub_answer.specs.Ending.{EndsWith, BuffersOneLineOnly, IsEmptySource, Lines}
+use Rattle.sub_answer.specs.Ending.{lines_of_sink}
 
 untouched :
     (request : Request) (first second : InputCall) (Untouched Other : Type 0) (file out : SinkCall)
@@ -44,10 +46,11 @@ answers_second request first second pes_packets Untouched Other file out status 
     file out
     status) source is))
 
-pub first_source : (request : Request) (source pes_packets : InputCall) → reads_pes_packets request
+pub first_input_is_source : (request : Request) (source pes_packets : InputCall) → reads_pes_packets
+    request
     ≡ false
     → first_input request source pes_packets ≡ source
-first_source request source pes_packets is =
+first_input_is_source request source pes_packets is =
     subst (λ (b : Bool). (if b then pes_packets else source) ≡ source) (sym is) refl
 
 pub first_pes_packets : (request : Request) (source pes_packets : InputCall) → reads_pes_packets
@@ -56,25 +59,25 @@ pub first_pes_packets : (request : Request) (source pes_packets : InputCall) →
 first_pes_packets request source pes_packets is =
     subst (λ (b : Bool). (if b then pes_packets else source) ≡ pes_packets) (sym is) refl
 
-either_empty : (b : Bool) (source pes_packets : InputCall)
+both_inputs_are_empty : (b : Bool) (source pes_packets : InputCall)
     → source.call.known ≡ Some []
     → pes_packets.call.known ≡ Some []
     → (if b then pes_packets else source).call.known ≡ Some []
-either_empty true source pes_packets h1 h2 = h2
-either_empty false source pes_packets h1 h2 = h1
+both_inputs_are_empty true source pes_packets h1 h2 = h2
+both_inputs_are_empty false source pes_packets h1 h2 = h1
 
-pub first_empty : (request : Request) (source pes_packets input : InputCall)
+pub first_input_is_empty : (request : Request) (source pes_packets input : InputCall)
     → input ≡ first_input request source pes_packets
     → source.call.known ≡ Some []
     → pes_packets.call.known ≡ Some []
     → input.call.known ≡ Some []
-first_empty request source pes_packets input is h1 h2 =
+first_input_is_empty request source pes_packets input is h1 h2 =
     subst (λ (i : InputCall). i.call.known ≡ Some []) (sym is)
-    (either_empty (reads_pes_packets request) source pes_packets h1 h2)
+    (both_inputs_are_empty (reads_pes_packets request) source pes_packets h1 h2)
 
-pub reported_nothing : (buffered bytes : List ℕ) → buffered ≡ [] → bytes ≡ []
-    → buffered_then buffered (Some bytes) ≡ Some []
-reported_nothing buffered bytes none empty = rw (none, empty) refl
+pub empty_buffer_leaves_no_bytes : (buffered bytes : List ℕ) → buffered ≡ [] → bytes ≡ []
+    → buffered_before_known buffered (Some bytes) ≡ Some []
+empty_buffer_leaves_no_bytes buffered bytes none empty = rw (none, empty) refl
 
 abbrev nothing : InputCall
 nothing = record {
@@ -118,8 +121,8 @@ answer_ignores_second (ask.Survey recording options) first second other U V file
 flush_ignores_second :
     (request : Request) (First Second Other IsAlone : Type 0)
     → reads_pes_packets request ≡ true
-    → FlushesBefore request First Second IsAlone
-    → FlushesBefore request First Other IsAlone
+    → FlushesBeforeRead request First Second IsAlone
+    → FlushesBeforeRead request First Other IsAlone
 flush_ignores_second (ask.Packets pes) First Second Other IsAlone reads is = is
 flush_ignores_second (ask.Listen pes listening) First Second Other IsAlone reads is = tt
 flush_ignores_second (ask.Extract recording pes stream) First Second Other IsAlone reads is = tt
@@ -195,17 +198,17 @@ ends_weaker
       flushed = is.flushed;
     }
 
-empty_of_length : (buffered : List ℕ) → length buffered ≡ 0 → buffered ≡ []
-empty_of_length [] is = refl
-empty_of_length (byte ∷ more) is = grind (arith, nat_tests)
+zero_length_means_empty : (buffered : List ℕ) → length buffered ≡ 0 → buffered ≡ []
+zero_length_means_empty [] is = refl
+zero_length_means_empty (byte ∷ more) is = grind (arith, nat_tests)
 
 flushes_before_implies :
     (request : Request) (First First' Second Second' IsAlone IsAlone' : Type 0)
     → (First' → First)
     → (Second' → Second)
     → (IsAlone → IsAlone')
-    → FlushesBefore request First Second IsAlone
-    → FlushesBefore request First' Second' IsAlone'
+    → FlushesBeforeRead request First Second IsAlone
+    → FlushesBeforeRead request First' Second' IsAlone'
 flushes_before_implies (ask.Packets pes) F F' S S' A A' first second alone is =
     λ fails. alone (is (first fails))
 flushes_before_implies (ask.Survey recording options) F F' S S' A A' first second alone is =
@@ -232,8 +235,8 @@ writes_before_implies :
     (request : Request) (First First' None None' : Type 0)
     → (First' → First)
     → (None → None')
-    → WritesBefore request First None
-    → WritesBefore request First' None'
+    → WritesBeforeRead request First None
+    → WritesBeforeRead request First' None'
 writes_before_implies (ask.Extract recording pes stream) F F' N N' first none is =
     λ fails. none (is (first fails))
 writes_before_implies ask.Help F F' N N' first none is = tt
@@ -252,45 +255,46 @@ writes_before_implies (ask.Survey recording options) F F' N N' first none is = t
 pub written_before :
     (request : Request) (Fails : Type 0) (old new : List ℕ)
     → old ≡ []
-    → WritesBefore request Fails (length old ≡ 0 → length new ≡ 0)
-    → WritesBefore request Fails (new ≡ [])
+    → WritesBeforeRead request Fails (length old ≡ 0 → length new ≡ 0)
+    → WritesBeforeRead request Fails (new ≡ [])
 written_before request Fails old new none is =
-    writes_before_implies request Fails Fails _ _ (λ f. f) (λ so. empty_of_length new
+    writes_before_implies request Fails Fails _ _ (λ f. f) (λ so. zero_length_means_empty new
     (so (ap length none))) is
 
-fails_same_input : (input other : InputCall) → input ≡ other → fails other → fails input
-fails_same_input input other same is = subst (λ (i : InputCall). fails i) (sym same) is
+equal_inputs_fail_equally : (input other : InputCall) → input ≡ other → fails other → fails input
+equal_inputs_fail_equally input other same is = subst (λ (i : InputCall). fails i) (sym same) is
 
 pub followed_with_file :
     (request : Request) (first pes_packets : InputCall) (SecondFails None IsAlone : Type 0)
     → reads_pes_packets request ≡ false
     → (SecondFails → fails pes_packets)
-    → FlushesBefore request (fails (first_input request first pes_packets)) (fails pes_packets)
+    → FlushesBeforeRead request (fails (first_input request first pes_packets)) (fails pes_packets)
     (None → IsAlone)
     → None
-    → FlushesBefore request (fails first) SecondFails IsAlone
+    → FlushesBeforeRead request (fails first) SecondFails IsAlone
 followed_with_file request first pes_packets SecondFails None IsAlone source second is none =
     flushes_before_implies request
-    _ _ _ _ _ _ (fails_same_input _ _ (first_source request first pes_packets source))
+    _ _ _ _ _ _ (equal_inputs_fail_equally _ _ (first_input_is_source request first pes_packets
+    source))
     second (λ so. so none) is
 
 pub written_with_file :
     (request : Request) (first pes_packets : InputCall) (Before None : Type 0)
     → reads_pes_packets request ≡ false
-    → WritesBefore request (fails (first_input request first pes_packets)) (Before → None)
+    → WritesBeforeRead request (fails (first_input request first pes_packets)) (Before → None)
     → Before
-    → WritesBefore request (fails first) None
+    → WritesBeforeRead request (fails first) None
 written_with_file request first pes_packets Before None source is none =
     writes_before_implies request
-    _ _ _ _ (fails_same_input _ _ (first_source request first pes_packets source))
+    _ _ _ _ (equal_inputs_fail_equally _ _ (first_input_is_source request first pes_packets source))
     (λ so. so none) is
 
 followed_pes_packets :
     (request : Request) (Second Other None IsAlone First : Type 0)
     → reads_pes_packets request ≡ true
-    → FlushesBefore request First Second (None → IsAlone)
+    → FlushesBeforeRead request First Second (None → IsAlone)
     → None
-    → FlushesBefore request First Other IsAlone
+    → FlushesBeforeRead request First Other IsAlone
 followed_pes_packets request Second Other None IsAlone First reads is none =
     flushes_before_implies request First First Other Other (None → IsAlone) IsAlone (λ f. f)
     (λ f. f)
@@ -300,15 +304,16 @@ pub followed_of_pes_packets :
     (request : Request) (source pes_packets : InputCall) (FirstFails Second None IsAlone : Type 0)
     → reads_pes_packets request ≡ true
     → (FirstFails → fails pes_packets)
-    → FlushesBefore request (fails (first_input request source pes_packets)) (fails pes_packets)
+    → FlushesBeforeRead request (fails (first_input request source pes_packets)) (fails pes_packets)
     (None → IsAlone)
     → None
-    → FlushesBefore request FirstFails Second IsAlone
+    → FlushesBeforeRead request FirstFails Second IsAlone
 followed_of_pes_packets request source pes_packets FirstFails Second None IsAlone reads first is
     none =
     followed_pes_packets request (fails pes_packets) Second None IsAlone FirstFails reads
     (flushes_before_implies request _ _ _ _ _ _
-    (λ f. fails_same_input _ _ (first_pes_packets request source pes_packets reads) (first f))
+    (λ f. equal_inputs_fail_equally _ _ (first_pes_packets request source pes_packets reads)
+    (first f))
     (λ f. f)
     (λ so. so) is)
     none
@@ -317,12 +322,13 @@ pub written_of_pes_packets :
     (request : Request) (source pes_packets : InputCall) (FirstFails Before None : Type 0)
     → reads_pes_packets request ≡ true
     → (FirstFails → fails pes_packets)
-    → WritesBefore request (fails (first_input request source pes_packets)) (Before → None)
+    → WritesBeforeRead request (fails (first_input request source pes_packets)) (Before → None)
     → Before
-    → WritesBefore request FirstFails None
+    → WritesBeforeRead request FirstFails None
 written_of_pes_packets request source pes_packets FirstFails Before None reads first is none =
     writes_before_implies request _ _ _ _
-    (λ f. fails_same_input _ _ (first_pes_packets request source pes_packets reads) (first f))
+    (λ f. equal_inputs_fail_equally _ _ (first_pes_packets request source pes_packets reads)
+    (first f))
     (λ so. so none) is
 
 pub followed_before :
@@ -331,12 +337,12 @@ pub followed_before :
     (IsPush : O → List ℕ → Option ℕ → O → Type 0) (old new : O)
     → ((o : O) → buffered o ≡ length (buffer_state o))
     → (request : Request) (First Second : Type 0)
-    → FlushesBefore request First Second
+    → FlushesBeforeRead request First Second
     (buffered old ≡ 0 → BuffersLastLineOnly contents buffered IsPush new)
     → buffer_state old ≡ []
-    → FlushesBefore request First Second
+    → FlushesBeforeRead request First Second
     (BuffersOneLineOnly contents buffer_state failure_count IsPush
-    (lines_in contents buffer_state failure_count new))
+    (lines_of_sink contents buffer_state failure_count new))
 followed_before
     contents buffer_state buffered failure_count IsPush old new law request First Second is none =
     flushes_before_implies request First First Second Second _ _ (λ f. f) (λ f. f)
@@ -354,18 +360,20 @@ followed_before
     })
     is
 
-pub entire_source : {D : Type 0} (remaining : D → Option (List ℕ)) (failure_count : D → ℕ)
+pub entire_source_is_entire_part : {D : Type 0} (remaining : D → Option (List ℕ))
+    (failure_count : D → ℕ)
     (old new : D) (input : InputCall)
     → input ≡ input_call remaining failure_count (λ s. Some 0) (λ s. 0) old new
     → IsPartOf entire_file remaining failure_count old new input
-entire_source remaining failure_count old new input is = grind (arith, nat_tests)
+entire_source_is_entire_part remaining failure_count old new input is = grind (arith, nat_tests)
 
-pub calls_go_on : {I O D : Type 0} (IsCall : D → FileCall I O → D → Type 0) (old mid new : D)
+pub call_sequences_join : {I O D : Type 0} (IsCall : D → FileCall I O → D → Type 0)
+    (old mid new : D)
     (calls more : List (FileCall I O))
     → CallsInOrder IsCall old mid calls
     → CallsInOrder IsCall mid new more
     → CallsInOrder IsCall old new (calls ++ more)
-calls_go_on IsCall old mid new [] more made after =
+call_sequences_join IsCall old mid new [] more made after =
     subst (λ d. CallsInOrder IsCall d new more) made after
-calls_go_on IsCall old mid new (call ∷ calls) more (next, is, made) after =
-    (next, is, calls_go_on IsCall next mid new calls more made after)
+call_sequences_join IsCall old mid new (call ∷ calls) more (next, is, made) after =
+    (next, is, call_sequences_join IsCall next mid new calls more made after)

@@ -4,7 +4,7 @@ pub mod BothFilesLemmas
 pub mod EndingLemmas
 pub mod EveryFaultLemmas
 pub mod FailedReadLemmas
-pub mod FittingLemmas
+pub mod OpenedKindLemmas
 pub mod ListenListingLemmas
 pub mod MemoryLemmas
 pub mod PartLemmas

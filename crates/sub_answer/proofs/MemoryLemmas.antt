@@ -1,11 +1,11 @@
--- If a check was answered with files in memory, its status is `Done` exactly if their bytes are
+-- If a check was answered with files in memory, its status is 0 exactly if their bytes are
 -- accepted.
 use Rattle.std.proofs.lemmas.Bool.Decides.{nat_tests}
 use Rattle.std.proofs.Common.{arith}
 use Rattle.std.proofs.Common.{◌≡◌, ◌≢◌, ◌↔◌, ◌∙◌, ap, sym, subst, ℕ, true, false, List}
 use Rattle.std.proofs.Common.{◌++◌, Option, Some, None}
 use Rattle.std.specs.Prelude.{⊤}
-use Rattle.sub_io.specs.Memory.{Written}
+use Rattle.sub_io.specs.Memory.{MemSinkValue}
 use Rattle.stl_rows.specs.Layout.{drawing_within}
 use Rattle.sub_request.specs.declared.files.FileNames.TheVariants as names
 use Rattle.sub_request.specs.declared.request.Request.{Request}
@@ -13,22 +13,23 @@ use Rattle.sub_request.specs.declared.request.Request.TheVariants as ask
 use Rattle.sub_files.specs.FileCalls.{CallsInOrder, FileCall}
 use Rattle.sub_files.specs.MemoryFiles.{IsMemoryCall, MemFilesValue, bytes_at}
 use Rattle.sub_files.specs.Opening.{Opens}
-use Rattle.sub_files.specs.declared.opening.Opened.{Opened}
-use Rattle.sub_files.specs.declared.opening.Opened.TheVariants.{ReadBoth}
+use Rattle.sub_files.specs.declared.opening.OpenedFiles.{OpenedFiles}
+use Rattle.sub_files.specs.declared.opening.OpenedFiles.TheVariants.{ReadBoth}
 use Rattle.sub_check.specs.CheckedFiles.{IsAcceptedBy}
 use Rattle.sub_listing.specs.DeviceCall.{SinkCall}
 use Rattle.sub_listing.specs.declared.status.Status.{Status}
 use Rattle.sub_listing.specs.declared.status.Status.TheVariants.{Done, Fault}
 use Rattle.sub_answer.specs.Answering.{InputCall}
-use Rattle.sub_answer.specs.Ending.{EndsOverFiles, EndsWith, FilesLeft, FlushesBufferedLines}
+use Rattle.sub_answer.specs.Ending.{EndsOverFiles, EndsWith, FilesAfterAnswer, FlushesBufferedLines}
 use Rattle.sub_answer.specs.Ending.{IsSourceOf}
 use Rattle.sub_answer.specs.Ending.{Lines, devices_of, release}
 use Rattle.sub_answer.specs.FilesInMemory.{LawOfFilesInMemory, memory_observations}
-use Rattle.sub_answer.specs.Part.{part_requested, through_range, through_stream, entire_file}
+use Rattle.sub_answer.specs.Part.{part_requested, bytes_in_range, carried_bytes_if_stream}
+use Rattle.sub_answer.specs.Part.{entire_file}
 use Rattle.sub_answer.specs.declared.part.Part.{Part}
 
-record BothOpened
-    (stl pes : List ℕ) (files : MemFilesValue) (opened : Opened (List ℕ) Written)
+record AreBothOpened
+    (stl pes : List ℕ) (files : MemFilesValue) (opened : OpenedFiles (List ℕ) MemSinkValue)
     : Type 0 where
   pub first : List ℕ
   pub second : List ℕ
@@ -38,19 +39,20 @@ record BothOpened
 
 both_opened :
     (stl pes : List ℕ) (before after : MemFilesValue)
-    (calls more : List (FileCall (List ℕ) Written))
-    (opened : Opened (List ℕ) Written)
+    (calls more : List (FileCall (List ℕ) MemSinkValue))
+    (opened : OpenedFiles (List ℕ) MemSinkValue)
     → CallsInOrder IsMemoryCall before after (calls ++ more)
     → Opens (names.ReadBoth stl pes) calls (Some opened)
-    → BothOpened stl pes before opened
+    → AreBothOpened stl pes before opened
 both_opened stl pes before after calls more opened made opens = grind (arith, nat_tests)
 
 -- An input that reads a part of a file in memory has the bytes of that part.
-read_reported : (part : Part) (file : List ℕ) (left : Option (List ℕ)) (input : InputCall)
+part_of_memory_file_is_read : (part : Part) (file : List ℕ) (left : Option (List ℕ))
+    (input : InputCall)
     → IsSourceOf memory_observations part (Some file) left input
-    → input.call.known ≡ through_range part.range (through_stream part.stream (Some file))
-read_reported part file None input is = absurd is
-read_reported part file (Some left) input is = is.is_part.reported
+    → input.call.known ≡ bytes_in_range part.range (carried_bytes_if_stream part.stream (Some file))
+part_of_memory_file_is_read part file None input is = absurd is
+part_of_memory_file_is_read part file (Some left) input is = is.is_part.reported
 
 same_status :
     (printed new : Lines) (status result : Status)
@@ -62,7 +64,7 @@ same_status printed new status result h runs = grind (arith, nat_tests)
 abbrev Reports : Request → List ℕ → List ℕ → Status → Type 0
 Reports (ask.Check stl pes options national layout scope all) file bytes status =
     (read : List ℕ)
-    → through_range pes.range (through_stream pes.stream (Some bytes)) ≡ Some read
+    → bytes_in_range pes.range (carried_bytes_if_stream pes.stream (Some bytes)) ≡ Some read
     → (status ≡ Done) ↔ IsAcceptedBy (drawing_within national layout scope) options file read
 Reports _ file bytes status = ⊤
 
@@ -84,8 +86,10 @@ reports
     subst
     (λ s. (s ≡ Done) ↔ IsAcceptedBy (drawing_within national layout scope) options file read)
     (sym same)
-    (e.answers.ends.done_by file (read_reported entire_file file stl_left e.first e.first_is) read
-    (read_reported _ bytes pes_left e.second e.second_is ∙ read_is) (λ fails. runs (same ∙ fails)))
+    (e.answers.ends.done_by file (part_of_memory_file_is_read entire_file file stl_left e.first
+    e.first_is) read
+    (part_of_memory_file_is_read _ bytes pes_left e.second e.second_is ∙ read_is)
+    (λ fails. runs (same ∙ fails)))
 reports
     (ask.Check stl pes options national layout scope false) file bytes stl_left pes_left Untouched
     IsFile IsAlone old new result e runs =
@@ -94,8 +98,10 @@ reports
     subst
     (λ s. (s ≡ Done) ↔ IsAcceptedBy (drawing_within national layout scope) options file read)
     (sym same)
-    (e.answers.ends.done_by file (read_reported entire_file file stl_left e.first e.first_is) read
-    (read_reported _ bytes pes_left e.second e.second_is ∙ read_is) (λ fails. runs (same ∙ fails)))
+    (e.answers.ends.done_by file (part_of_memory_file_is_read entire_file file stl_left e.first
+    e.first_is) read
+    (part_of_memory_file_is_read _ bytes pes_left e.second e.second_is ∙ read_is)
+    (λ fails. runs (same ∙ fails)))
 reports ask.Help _ _ _ _ _ _ _ _ _ _ _ _ = tt
 reports ask.Version _ _ _ _ _ _ _ _ _ _ _ _ = tt
 reports (ask.Packet packet) _ _ _ _ _ _ _ _ _ _ _ _ = tt
@@ -108,8 +114,8 @@ reports (ask.Extract recording pes stream) _ _ _ _ _ _ _ _ _ _ _ _ = tt
 reports (ask.Survey recording options) _ _ _ _ _ _ _ _ _ _ _ _ = tt
 
 over_both :
-    (request : Request) (opened : Opened (List ℕ) Written) (first second : List ℕ)
-    (left : FilesLeft (List ℕ) Written) (IsAlone : Lines → Type 0) (old new : Lines)
+    (request : Request) (opened : OpenedFiles (List ℕ) MemSinkValue) (first second : List ℕ)
+    (left : FilesAfterAnswer (List ℕ) MemSinkValue) (IsAlone : Lines → Type 0) (old new : Lines)
     (result : Status)
     → opened ≡ ReadBoth first second
     → EndsOverFiles memory_observations (λ was is. is ≡ was) request
@@ -130,7 +136,7 @@ law_of_files_in_memory IsAlone
     (ask.Check stl pes options national layout scope all) before after old new status h runs =
     λ file bytes read file_is bytes_is read_is.
     let o = both_opened stl.now pes.name.now before after h.opened.calls (release h.left) h.files
-    h.opened.are_made h.opened.opens in
+    h.opened.calls_were_made h.opened.opens in
     subst
     (λ f. (status ≡ Done) ↔ IsAcceptedBy (drawing_within national layout scope) options f read)
     (same_bytes _ o.first file o.first_is file_is)
@@ -139,7 +145,7 @@ law_of_files_in_memory IsAlone
     (over_both (ask.Check stl pes options national layout scope all) h.files o.first o.second h.left
     IsAlone old new status o.opened_eq h.ends)
     runs read
-    (ap (λ b. through_range pes.range (through_stream pes.stream (Some b)))
+    (ap (λ b. bytes_in_range pes.range (carried_bytes_if_stream pes.stream (Some b)))
     (same_bytes _ o.second bytes o.second_is bytes_is)
     ∙ read_is))
 law_of_files_in_memory IsAlone ask.Help before after old new status h runs = tt

@@ -2,27 +2,28 @@
 use Rattle.std.proofs.lemmas.Bool.Decides.{nat_tests}
 use Rattle.std.proofs.Common.{◌≡◌, ◌∙◌, ap, arith, ℕ, List, Option, Some, None, true, false}
 use Rattle.std.specs.Prelude.{◌⊎◌, option_map}
-use Rattle.mpeg_ts.specs.Carried.{carried}
+use Rattle.mpeg_ts.specs.CarriedPackets.{carried_bytes}
 use Rattle.mpeg_ts.specs.PacketSize.{bytes_of}
 use Rattle.ttx_pes.specs.PesPacketRange.{PesPacketRangeValue, first_index, in_range}
 use Rattle.sub_request.specs.declared.pes_selection.TransportStream.{TransportStream}
 use Rattle.sub_request.specs.declared.request.Request.{Request}
 use Rattle.sub_answer.specs.Answering.{InputCall, pes_packets_call, reads_pes_packets, entire_call}
-use Rattle.sub_answer.specs.Part.{IsPartOf, IsRangeOf, number_in, through_range}
+use Rattle.sub_answer.specs.Part.{IsPartOf, IsRangeOf, first_number_in_range, bytes_in_range}
 use Rattle.sub_answer.specs.Part.{entire_file}
 use Rattle.sub_answer.specs.declared.part.Part.{Part}
-use Rattle.sub_answer.proofs.EndingLemmas.{entire_source}
+use Rattle.sub_answer.proofs.EndingLemmas.{entire_source_is_entire_part}
 
 module _ {D : Type 0} (remaining : D → Option (List ℕ)) (failure_count : D → ℕ)
     (old left : D) (input : InputCall) where
-  pub all_of_source : (request : Request) (p : Part)
+  pub entire_source_is_part : (request : Request) (p : Part)
       → (p ≡ entire_file) ⊎ (reads_pes_packets request ≡ true)
       → reads_pes_packets request ≡ false
       → input ≡ entire_call remaining failure_count old left
       → IsPartOf p remaining failure_count old left input
-  all_of_source request p fits none is = grind (arith, nat_tests, entire_source)
+  entire_source_is_part request p fits none is = grind
+      (arith, nat_tests, entire_source_is_entire_part)
 
-  pub file_of_source : {P : Type 0} (given following : P → Option (List ℕ)) (count : P → ℕ)
+  pub range_of_file_is_part : {P : Type 0} (given following : P → Option (List ℕ)) (count : P → ℕ)
       (before after : P) (p : Part)
       → IsRangeOf p.range given following count before after input
       → p.stream ≡ None
@@ -31,37 +32,39 @@ module _ {D : Type 0} (remaining : D → Option (List ℕ)) (failure_count : D �
       → count before ≡ failure_count old
       → count after ≡ failure_count left
       → IsPartOf p remaining failure_count old left input
-  file_of_source given following count before after p is stream gives leaves first last = record {
-    reported = rw stream (is.reported ∙ ap (through_range p.range) gives);
-    number = rw stream (is.number ∙ ap (number_in p.range) gives);
-    old_count = is.old_count ∙ first;
-    new_count = is.new_count ∙ last;
-    left_eq = λ whole. is.left_eq (ap (λ (q : Part). q.range) whole) ∙ leaves;
-  }
+  range_of_file_is_part given following count before after p is stream gives leaves first
+      last = record {
+        reported = rw stream (is.reported ∙ ap (bytes_in_range p.range) gives);
+        number = rw stream (is.number ∙ ap (first_number_in_range p.range) gives);
+        old_count = is.old_count ∙ first;
+        new_count = is.new_count ∙ last;
+        left_eq = λ whole. is.left_eq (ap (λ (q : Part). q.range) whole) ∙ leaves;
+      }
 
-  pub stream_of_source : {P : Type 0} (given following : P → Option (List ℕ)) (count : P → ℕ)
+  pub range_of_stream_is_part : {P : Type 0} (given following : P → Option (List ℕ)) (count : P → ℕ)
       (before after : P) (p : Part) (s : TransportStream)
       → IsRangeOf p.range given following count before after input
       → p.stream ≡ Some s
-      → given before ≡ option_map (carried s.pid (bytes_of s.packet_size)) (remaining old)
+      → given before ≡ option_map (carried_bytes s.pid (bytes_of s.packet_size)) (remaining old)
       → count before ≡ failure_count old
       → count after ≡ failure_count left
       → IsPartOf p remaining failure_count old left input
-  stream_of_source given following count before after p s is stream carries first last = record {
-    reported = rw stream (is.reported ∙ ap (through_range p.range) carries);
-    number = rw stream (is.number ∙ ap (number_in p.range) carries);
-    old_count = is.old_count ∙ first;
-    new_count = is.new_count ∙ last;
-    left_eq = λ whole. let none = ap (λ (q : Part). q.stream) whole in absurd cc;
-  }
+  range_of_stream_is_part given following count before after p s is stream carries first
+      last = record {
+        reported = rw stream (is.reported ∙ ap (bytes_in_range p.range) carries);
+        number = rw stream (is.number ∙ ap (first_number_in_range p.range) carries);
+        old_count = is.old_count ∙ first;
+        new_count = is.new_count ∙ last;
+        left_eq = λ whole. let none = ap (λ (q : Part). q.stream) whole in absurd cc;
+      }
 
 module _ {P : Type 0} (given following : P → Option (List ℕ)) (count : P → ℕ) (before after : P)
     (input : InputCall) where
-  pub all_of_pes_packets : (first : P → Option ℕ) (skipped : P → ℕ)
+  pub all_pes_packets_are_range : (first : P → Option ℕ) (skipped : P → ℕ)
       → first before ≡ Some 0
       → input ≡ pes_packets_call given following count first skipped before after
       → IsRangeOf None given following count before after input
-  all_of_pes_packets first skipped start is = record {
+  all_pes_packets_are_range first skipped start is = record {
     reported = ap (λ (i : InputCall). i.call.known) is;
     number = ap (λ (i : InputCall). i.number.known) is ∙ start;
     old_count = ap (λ (i : InputCall). i.call.old_count) is;
@@ -69,14 +72,14 @@ module _ {P : Type 0} (given following : P → Option (List ℕ)) (count : P →
     left_eq = λ none. ap (λ (i : InputCall). i.call.left) is;
   }
 
-  pub range_of_pes_packets : (part : InputCall) (r : PesPacketRangeValue)
+  pub selected_pes_packets_are_range : (part : InputCall) (r : PesPacketRangeValue)
       → input ≡ part
       → part.call.known ≡ option_map (in_range r) (given before)
       → part.number.known ≡ option_map (first_index r) (given before)
       → part.call.old_count ≡ count before
       → part.call.new_count ≡ count after
       → IsRangeOf (Some r) given following count before after input
-  range_of_pes_packets part r is reported number old_count new_count = record {
+  selected_pes_packets_are_range part r is reported number old_count new_count = record {
     reported = ap (λ (i : InputCall). i.call.known) is ∙ reported;
     number = ap (λ (i : InputCall). i.number.known) is ∙ number;
     old_count = ap (λ (i : InputCall). i.call.old_count) is ∙ old_count;

@@ -16,11 +16,11 @@ use Rattle.stl_rows.specs.Programme.{ProgrammeValue}
 use Rattle.sub_plan.specs.FrameTime.{clock_of}
 use Rattle.sub_plan.specs.Options.{OptionsValue}
 use Rattle.sub_check.specs.CheckedFiles.{IsChecked, IsCheckedBy, ReportsEvents}
-use Rattle.sub_check.specs.CheckedFiles.{all_events_by}
-use Rattle.sub_check.specs.CheckedFiles.{all_events_of, events_of_first_by, first_answer}
+use Rattle.sub_check.specs.CheckedFiles.{all_judged_events}
+use Rattle.sub_check.specs.CheckedFiles.{all_events_of, first_judged_events, first_answer}
 use Rattle.sub_check.specs.CheckedFiles.{frames_read}
-use Rattle.sub_checker.specs.ReadCounts.{CountsRead}
-use Rattle.sub_rules.specs.Events.{latest}
+use Rattle.sub_checker.specs.ReadCounts.{AreCountsOfFrames}
+use Rattle.sub_rules.specs.Events.{latest_frame}
 use Rattle.sub_rules.specs.Fault.{is_pes_read}
 use Rattle.sub_rules.specs.FrameRules.{frame_at, packets_before}
 use Rattle.sub_rules.specs.PacketRules.{header_count}
@@ -32,12 +32,12 @@ use Rattle.sub_rules.specs.declared.fault.CheckFault.{CheckFault}
 use Rattle.sub_rules.specs.declared.fault.CheckFault.TheVariants as fault
 use Rattle.sub_listing.specs.DeviceCall.{SourceCall}
 use Rattle.sub_listing.specs.FirstPacket.{FirstNumber, StartsAt}
-use Rattle.sub_answer.specs.EveryFault.{IsAnswer}
+use Rattle.sub_answer.specs.EveryFault.{IsCheckAnswer}
 use Rattle.sub_answer.specs.EveryFault.{ReportsPes}
-use Rattle.sub_listing.specs.EventLines.{max_count}
+use Rattle.sub_listing.specs.EventLines.{max_fault_count}
 use Rattle.sub_listing.specs.Printer.{PrinterValue, PrintsEvent, PrintsEvents}
-use Rattle.sub_listing.proofs.PrinterLemmas.{as_reported, prints-taken}
-use Rattle.sub_listing.proofs.PrinterLemmas.{prints_all}
+use Rattle.sub_listing.proofs.PrinterLemmas.{mapped_events_are_printed, prints-taken}
+use Rattle.sub_listing.proofs.PrinterLemmas.{reported_items_are_printed}
 
 pub decided : {A : Type 0} (Q : A → Type 0) (reported : Option (List ℕ)) (given : List ℕ → A)
     (some : A)
@@ -52,16 +52,16 @@ decided Q (Some bytes) given some holds reported = (
       same,
 )
 
-latest-first : (frames : Transmission) (n : ℕ)
-    → frame_at frames 0 ≤ latest frames (suc n)
-unfolding latest
-latest-first frames zero = grind (arith, nat_tests)
-latest-first frames (suc n) =
-    let before = latest-first frames n in grind (arith, nat_tests)
+latest_frame-first : (frames : Transmission) (n : ℕ)
+    → frame_at frames 0 ≤ latest_frame frames (suc n)
+unfolding latest_frame
+latest_frame-first frames zero = grind (arith, nat_tests)
+latest_frame-first frames (suc n) =
+    let before = latest_frame-first frames n in grind (arith, nat_tests)
 
-some_counts : (page : PageIdValue) (frames : Transmission) (n : ℕ) → length frames ≡ n
-    → (a : Accepted) × CountsRead page frames a
-some_counts page frames zero is = (
+every_length_has_counts : (page : PageIdValue) (frames : Transmission) (n : ℕ) → length frames ≡ n
+    → (a : Accepted) × AreCountsOfFrames page frames a
+every_length_has_counts page frames zero is = (
   record {
     frames = 0;
     transmissions = header_count page (packets_before frames (length frames));
@@ -72,10 +72,10 @@ some_counts page frames zero is = (
     transmissions_eq = refl;
   },
 )
-some_counts page frames (suc n) is =
-    let first = latest-first frames n in (
+every_length_has_counts page frames (suc n) is =
+    let first = latest_frame-first frames n in (
       record {
-        frames = (latest frames (suc n) + 1) - frame_at frames 0;
+        frames = (latest_frame frames (suc n) + 1) - frame_at frames 0;
         transmissions = header_count page (packets_before frames (length frames));
       },
       record {
@@ -87,13 +87,14 @@ some_counts page frames (suc n) is =
 
 -- If the source of the PES file failed, the fault names the PES packet at which it failed. This is
 -- a separate lemma because the tactic `cc` is slow when more facts are known.
-read_at : (f : CheckFault)
+failed_read_has_number : (f : CheckFault)
     → is_pes_read f ≡ true
     → (n : ℕ) × (f ≡ fault.Pes n pes_fault.Read)
-read_at (fault.Pes n pes_fault.Read) is = (n, refl)
-read_at f is = cc
+failed_read_has_number (fault.Pes n pes_fault.Read) is = (n, refl)
+failed_read_has_number f is = cc
 
-pub all_answers : (judged : JudgedValue) (options : OptionsValue) (pes : Option (List ℕ))
+pub first_event_decides_answer : (judged : JudgedValue) (options : OptionsValue)
+    (pes : Option (List ℕ))
     (r : Result (Option Accepted) CheckFault)
     → ((programme : ProgrammeValue)
     → judged ≡ known programme
@@ -108,35 +109,37 @@ pub all_answers : (judged : JudgedValue) (options : OptionsValue) (pes : Option 
     → IfKnown pes (λ bytes.
     (programme : ProgrammeValue)
     → judged ≡ known programme
-    → IfOk r (λ counts. IfSome counts (λ a. IsAnswer programme options
+    → IfOk r (λ counts. IfSome counts (λ a. IsCheckAnswer programme options
     bytes (first_answer (all_events_of programme options bytes) a))))
-all_answers judged options pes (Ok (Some a)) by at_once bytes heard programme is = (
+first_event_decides_answer judged options pes (Ok (Some a)) by at_once bytes heard programme is = (
   by programme is bytes heard,
   λ none whole. at_once programme is none whole bytes heard,
 )
-all_answers judged options pes (Ok None) by at_once bytes heard programme is = tt
-all_answers judged options pes (Err f) by at_once bytes heard programme is = tt
+first_event_decides_answer judged options pes (Ok None) by at_once bytes heard programme is = tt
+first_event_decides_answer judged options pes (Err f) by at_once bytes heard programme is = tt
 
-events_known : (judged : JudgedValue) (programme : ProgrammeValue) (options : OptionsValue)
+known_programme_gives_events : (judged : JudgedValue) (programme : ProgrammeValue)
+    (options : OptionsValue)
     (bytes : List ℕ)
     → judged ≡ known programme
-    → all_events_by judged options bytes ≡ all_events_of programme options bytes
-events_known judged programme options bytes is =
-    ap (λ (j : JudgedValue). all_events_by j options bytes) is
+    → all_judged_events judged options bytes ≡ all_events_of programme options bytes
+known_programme_gives_events judged programme options bytes is =
+    ap (λ (j : JudgedValue). all_judged_events j options bytes) is
 
 module _ {D : Type 0} (IsReported : D → Event → D → Type 0) (value : D → PrinterValue)
     (one : (s t : D) (x : Event) → IsReported s x t → PrintsEvent (value s) x (value t))
     (judged : JudgedValue) (options : OptionsValue) (pes : SourceCall) (first : FirstNumber)
     (old new : D)
-    (goes : (value old).failed ≡ false) (few : (value old).refused ≤ max_count)
+    (goes : (value old).failed ≡ false) (few : (value old).refused ≤ max_fault_count)
     (starts : StartsAt first pes (value old).first) where
   put : (items : List Event) → Reports IsReported old new items
       → PrintsEvents (value old) items (value new)
   put items reported =
-      as_reported (value old) (value new) items
-      (prints_all IsReported value (λ (e : Event). e) one old new items goes few reported)
+      mapped_events_are_printed (value old) (value new) items
+      (reported_items_are_printed IsReported value (λ (e : Event). e) one old new items goes few
+      reported)
 
-  after_pes_error : (f : CheckFault)
+  failed_pes_read_is_reported : (f : CheckFault)
       → is_pes_read f ≡ true
       → (value new).failed ≡ false
       → ReportsSome IsReported old new
@@ -147,22 +150,23 @@ module _ {D : Type 0} (IsReported : D → Event → D → Type 0) (value : D →
       ≡ Err (fault.Pes index pes_fault.Read)
       → FailsAtPesPacket index pes.known pes.left)
       → ReportsPes judged options pes first (value old) (value new) (Err f)
-  after_pes_error f is fault_free some reported count fails = go (read_at f is).0 (read_at f is).1
+  failed_pes_read_is_reported f is fault_free some reported count fails = go
+      (failed_read_has_number f is).0 (failed_read_has_number f is).1
     where
       go : (n : ℕ) → f ≡ fault.Pes n pes_fault.Read
           → ReportsPes judged options pes first (value old) (value new) (Err f)
       go n same =
           let events =
           decided (λ (es : List Event). Reports IsReported old new es) pes.known
-          (λ bytes. events_of_first_by judged options bytes n) some.items some.reported
+          (λ bytes. first_judged_events judged options bytes n) some.items some.reported
           (λ bytes heard.
           let here = reported bytes heard in
           let at : here.0 ≡ n = let e = here.2 in cc in
           subst (λ (m : ℕ). Reports IsReported old new
-          (events_of_first_by judged options bytes m)) at here.3) in
+          (first_judged_events judged options bytes m)) at here.3) in
           let are : IfKnown pes.known (λ bytes.
           (n ≤ length (pes_packet_file_of (clock_of options) bytes).pes_packets)
-          × (events.0 ≡ events_of_first_by judged options bytes n)) =
+          × (events.0 ≡ first_judged_events judged options bytes n)) =
           λ bytes heard.
           let here = reported bytes heard in
           let at : here.0 ≡ n = let e = here.2 in cc in (
@@ -191,19 +195,20 @@ module _ {D : Type 0} (IsReported : D → Event → D → Type 0) (value : D →
             listed = are;
           }
 
-  read_pes : (items : List Event) (a : Accepted) (given : Result (Option Accepted) CheckFault)
+  complete_pes_file_is_reported : (items : List Event) (a : Accepted)
+      (given : Result (Option Accepted) CheckFault)
       → PrintsEvents (value old) items (value new)
       → ((value new).failed ≡ false → Ok (Some a) ≡ given)
       → CountRisesIf pes.old_count false pes.new_count
-      → IfKnown pes.known (λ bytes. (items ≡ all_events_by judged options bytes)
-      × CountsRead options.page (frames_read options bytes) a)
+      → IfKnown pes.known (λ bytes. (items ≡ all_judged_events judged options bytes)
+      × AreCountsOfFrames options.page (frames_read options bytes) a)
       → ((value new).failed ≡ false
       → IfKnown pes.known (λ bytes.
       (programme : ProgrammeValue)
       → judged ≡ known programme
-      → IsAnswer programme options bytes (first_answer items a)))
+      → IsCheckAnswer programme options bytes (first_answer items a)))
       → ReportsPes judged options pes first (value old) (value new) given
-  read_pes items a given prints same count are verdict = record {
+  complete_pes_file_is_reported items a given prints same count are verdict = record {
     events = items;
     answer = Ok a;
     same = same;
@@ -215,62 +220,65 @@ module _ {D : Type 0} (IsReported : D → Event → D → Type 0) (value : D →
     cut = λ failing. refl;
     checked = λ holds bytes heard programme b is e.
         let one : a ≡ b = cc in
-        subst (λ (c : Accepted). IsAnswer programme options bytes (first_answer items c)) one
+        subst (λ (c : Accepted). IsCheckAnswer programme options bytes (first_answer items c)) one
         (verdict holds bytes heard programme is);
     listed = are;
   }
 
-  after_all : (given : Accepted)
+  all_events_are_reported : (given : Accepted)
       → ReportsSome IsReported old new
       → IfKnown pes.known (λ bytes. ReportsEvents judged options bytes IsReported old new
       (Ok (Some given)))
       → IfKnown pes.known (λ bytes.
       (programme : ProgrammeValue)
       → judged ≡ known programme
-      → IsAnswer programme options bytes
+      → IsCheckAnswer programme options bytes
       (first_answer (all_events_of programme options bytes) given))
       → CountRisesIf pes.old_count false pes.new_count
       → ReportsPes judged options pes first (value old) (value new) (Ok (Some given))
-  after_all given some reported first_is count =
+  all_events_are_reported given some reported first_is count =
       let events =
       decided (λ (es : List Event). Reports IsReported old new es) pes.known
-      (all_events_by judged options) some.items some.reported
+      (all_judged_events judged options) some.items some.reported
       (λ bytes heard. (reported bytes heard).0)
       in
-      read_pes events.0 given (Ok (Some given)) (put events.0 events.1) (λ holds. refl) count
+      complete_pes_file_is_reported events.0 given (Ok (Some given)) (put events.0 events.1)
+      (λ holds. refl) count
       (λ bytes heard. (events.2 bytes heard, (reported bytes heard).1))
       (λ fault_free bytes heard programme is.
-      subst (λ (es : List Event). IsAnswer programme options bytes (first_answer es given))
-      (sym (events.2 bytes heard ∙ events_known judged programme options bytes is))
+      subst (λ (es : List Event). IsCheckAnswer programme options bytes (first_answer es given))
+      (sym (events.2 bytes heard ∙ known_programme_gives_events judged programme options bytes is))
       (first_is bytes heard programme is))
 
-  after_stop : (value new).failed ≡ true
+  stopped_printer_is_reported : (value new).failed ≡ true
       → ReportsSome IsReported old new
       → IfKnown pes.known (λ bytes. ReportsEvents judged options bytes IsReported old new (Ok None))
       → CountRisesIf pes.old_count false pes.new_count
       → ReportsPes judged options pes first (value old) (value new) (Ok None)
-  after_stop failing some reported count =
+  stopped_printer_is_reported failing some reported count =
       let counts = λ (bytes : List ℕ).
-      some_counts options.page (frames_read options bytes) (length (frames_read options bytes)) refl
+      every_length_has_counts options.page (frames_read options bytes)
+      (length (frames_read options bytes)) refl
       in
       let events =
       decided (λ (x : List Event × Accepted). PrintsEvents (value old) x.0 (value new)) pes.known
-      (λ bytes. (all_events_by judged options bytes, (counts bytes).0))
+      (λ bytes. (all_judged_events judged options bytes, (counts bytes).0))
       (some.items, record { frames = 0; transmissions = 0 }) (put some.items some.reported)
       (λ bytes heard.
       let p = reported bytes heard in
-      let whole = all_events_by judged options bytes in
-      as_reported (value old) (value new) whole
+      let whole = all_judged_events judged options bytes in
+      mapped_events_are_printed (value old) (value new) whole
       (prints-taken (λ (e : Event). e) (value old) (value new) p.0 whole failing
-      (prints_all IsReported value (λ (e : Event). e) one old new (take p.0 whole) goes few p.2)))
+      (reported_items_are_printed IsReported value (λ (e : Event). e) one old new (take p.0 whole)
+      goes few p.2)))
       in
-      read_pes events.0.0 events.0.1 (Ok None) events.1
+      complete_pes_file_is_reported events.0.0 events.0.1 (Ok None) events.1
       (λ holds. absurd (true≢false (sym failing ∙ holds))) count
       (λ bytes heard.
       rw (events.2 bytes heard) (refl, (counts bytes).1))
       (λ fault_free. absurd (true≢false (sym failing ∙ fault_free)))
 
-  pub after_pes : (r : Result (Option Accepted) CheckFault) (stopped : Bool)
+  pub pes_events_are_reported : (r : Result (Option Accepted) CheckFault) (stopped : Bool)
       → ((value new).failed ≡ true → stopped ≡ true)
       → ((value new).failed ≡ false → (value new).count ≡ (value old).count → stopped ≡ false)
       → ReportsSome IsReported old new
@@ -278,7 +286,7 @@ module _ {D : Type 0} (IsReported : D → Event → D → Type 0) (value : D →
       → IfKnown pes.known (λ bytes.
       (programme : ProgrammeValue)
       → judged ≡ known programme
-      → IfOk r (λ counts. IfSome counts (λ a. IsAnswer programme options
+      → IfOk r (λ counts. IfSome counts (λ a. IsCheckAnswer programme options
       bytes (first_answer (all_events_of programme options bytes) a))))
       → IfOk r (λ counts. stopped ≡ is_none counts)
       → IfErr r (λ f. stopped ≡ false)
@@ -288,27 +296,34 @@ module _ {D : Type 0} (IsReported : D → Event → D → Type 0) (value : D →
       → r ≡ Err (fault.Pes index pes_fault.Read)
       → FailsAtPesPacket index pes.known pes.left)
       → ReportsPes judged options pes first (value old) (value new) r
-  after_pes (Ok (Some a)) stopped stops fault_free some reported first_is is continues only count
+  pes_events_are_reported (Ok (Some a)) stopped stops fault_free some reported first_is is continues
+      only count
       fails =
-      after_all a some reported first_is count
-  after_pes (Ok None) stopped stops fault_free some reported first_is is continues only count
+      all_events_are_reported a some reported first_is count
+  pes_events_are_reported (Ok None) stopped stops fault_free some reported first_is is continues
+      only count
       fails =
-      after_stop (failing (value new).failed refl) some reported count
+      stopped_printer_is_reported (failing (value new).failed refl) some reported count
     where
       failing : (b : Bool) → (value new).failed ≡ b → (value new).failed ≡ true
       failing true e = e
       failing false e =
-          absurd (true≢false (sym is ∙ fault_free e ((put some.items some.reported).put_count e)))
-  after_pes (Err f) stopped stops fault_free some reported first_is is continues only count fails =
-      after_pes_error f only (has_not_failed (value new).failed refl) some reported count fails
+          absurd (true≢false (sym is ∙ fault_free e
+          ((put some.items some.reported).keeps_failure_count e)))
+  pes_events_are_reported (Err f) stopped stops fault_free some reported first_is is continues only
+      count fails =
+      failed_pes_read_is_reported f only (printer_has_not_failed (value new).failed refl) some
+      reported count fails
     where
-      has_not_failed : (b : Bool) → (value new).failed ≡ b → (value new).failed ≡ false
-      has_not_failed true e = absurd (true≢false (sym (stops e) ∙ continues))
-      has_not_failed false e = e
+      printer_has_not_failed : (b : Bool) → (value new).failed ≡ b → (value new).failed ≡ false
+      printer_has_not_failed true e = absurd (true≢false (sym (stops e) ∙ continues))
+      printer_has_not_failed false e = e
 
-pub with_first : (judged : JudgedValue) (options : OptionsValue) (pes : SourceCall)
+pub printer_start_number_is_free : (judged : JudgedValue) (options : OptionsValue)
+    (pes : SourceCall)
     (first : FirstNumber) (old new : PrinterValue) (number : ℕ)
     (given : Result (Option Accepted) CheckFault)
     → ReportsPes judged options pes first (record old { first = number }) new given
     → ReportsPes judged options pes first old new given
-with_first judged options pes first old new number given t = grind (arith, nat_tests)
+printer_start_number_is_free judged options pes first old new number given t = grind
+    (arith, nat_tests)

@@ -5,14 +5,14 @@ use Rattle.std.proofs.KnownBytes.{Appends-trans}
 use Rattle.mpeg_ts.specs.declared.survey_options.SurveyOptions.{SurveyOptions}
 use Rattle.sub_io.proofs.DeviceLemmas.{AppendsPrefix-second, AppendsPrefix-whole}
 use Rattle.sub_listing.specs.DeviceCall.{SinkCall}
-use Rattle.sub_listing.specs.FaultLine.{line_of, status_of}
+use Rattle.sub_listing.specs.FaultLine.{text_of_fault_line, status_of}
 use Rattle.sub_listing.specs.Listing.{PrintsOrFails, fault_listing}
 use Rattle.sub_answer.specs.SurveyListing.{PrintsSurvey}
 use Rattle.sub_listing.specs.declared.fault_line.FaultLine.{FaultLine}
 use Rattle.sub_listing.specs.declared.status.Status.{Status}
 use Rattle.sub_listing.specs.declared.status.Status.TheVariants.{Done, Fault}
 use Rattle.ts_survey.specs.Listed as listed
-use Rattle.ts_survey.specs.Survey.{Grows}
+use Rattle.ts_survey.specs.Survey.{AppendsSomeText}
 
 pub printed-done : (options : SurveyOptions) (recording : Option (List ℕ)) (out : SinkCall)
     → listed.ReportsSurvey options recording out.old out.new
@@ -28,7 +28,7 @@ printed-done options recording out surveys same = record {
 }
 
 pub printed-cut : (options : SurveyOptions) (recording : Option (List ℕ)) (out : SinkCall)
-    → Grows out.old out.new
+    → AppendsSomeText out.old out.new
     → out.new_count ≡ out.old_count + 1
     → PrintsSurvey options recording out Fault
 unfolding PrintsOrFails
@@ -43,7 +43,7 @@ printed-cut options recording out grows risen = record {
 pub printed-reported :
     (options : SurveyOptions) (recording : Option (List ℕ)) (out : SinkCall)
     (mid : Option (List ℕ)) (count : ℕ) (reported : FaultLine) (status : Status)
-    → Grows out.old mid
+    → AppendsSomeText out.old mid
     → count ≡ out.old_count
     → PrintsOrFails (record out { old = mid; old_count = count }) (fault_listing reported) status
     → status_of reported.kind ≡ Fault
@@ -52,10 +52,14 @@ pub printed-reported :
     → PrintsSurvey options recording out status
 unfolding PrintsOrFails
 printed-reported _ _ out mid _ reported status grows same (inl p) is_fault other fault = record {
-  listing = record { text = grows.0 ++ line_of reported; status = status_of reported.kind };
+  listing = record {
+    text = grows.0 ++ text_of_fault_line reported;
+    status = status_of
+        reported.kind;
+  };
   printed = inl (
     p.0 ∙ same,
-    Appends-trans out.old mid out.new grows.0 (line_of reported) grows.1 p.1,
+    Appends-trans out.old mid out.new grows.0 (text_of_fault_line reported) grows.1 p.1,
     p.2,
   );
   done = λ is. absurd (other is);
@@ -68,10 +72,14 @@ printed-reported _ _ out mid _ reported status grows same (inl p) is_fault other
   };
 }
 printed-reported _ _ out mid _ reported status grows same (inr p) is_fault other fault = record {
-  listing = record { text = grows.0 ++ line_of reported; status = status_of reported.kind };
+  listing = record {
+    text = grows.0 ++ text_of_fault_line reported;
+    status = status_of
+        reported.kind;
+  };
   printed = inr (
     p.0 ∙ ap (λ n. n + 1) same,
-    AppendsPrefix-second out.old mid out.new grows.0 (line_of reported) grows.1 p.1,
+    AppendsPrefix-second out.old mid out.new grows.0 (text_of_fault_line reported) grows.1 p.1,
     p.2,
   );
   done = λ is. absurd (other is);

@@ -12,10 +12,10 @@ use Rattle.sub_plan.specs.FrameTime.{clock_of}
 use Rattle.sub_plan.specs.Options.{OptionsValue}
 use Rattle.sub_check.specs.CheckedFiles.{AreChecked}
 use Rattle.sub_rules.specs.Fault.{is_subtitle_fault}
-use Rattle.sub_rules.specs.FrameRules.{Unread}
+use Rattle.sub_rules.specs.FrameRules.{UnreadReason}
 use Rattle.sub_listen.specs.Run.{FailsListening}
 use Rattle.sub_rules.specs.PesReading.{ReadsAs}
-use Rattle.sub_listen.specs.Reception.{left_by}
+use Rattle.sub_listen.specs.Reception.{code_left_by_receiver}
 use Rattle.sub_rules.specs.Transmission.{Transmission}
 use Rattle.sub_checker.specs.declared.accepted.Accepted.{Accepted}
 use Rattle.sub_rules.specs.declared.fault.CheckFault.{CheckFault}
@@ -23,9 +23,9 @@ use Rattle.sub_request.specs.declared.listening.Listening.{Listening}
 use Rattle.sub_listen.specs.declared.listening.ListenFault.{ListenFault}
 use Rattle.sub_listing.specs.DeviceCall.{Counts, SinkCall, SourceCall, read_call, source_call}
 use Rattle.sub_listing.specs.Extracting.{EndsExtract}
-use Rattle.sub_listing.specs.FirstPacket.{FirstNumber, PrintsFrom, StartsAt, first_number}
+use Rattle.sub_listing.specs.FirstPacket.{FirstNumber, PrintsCountedFrom, StartsAt, first_number}
 use Rattle.sub_answer.specs.BothFiles.{ReportsSources, IsStatusOfFiles}
-use Rattle.sub_answer.specs.EveryFault.{AnswersAll}
+use Rattle.sub_answer.specs.EveryFault.{AnswersCheckAll}
 use Rattle.sub_answer.specs.FaultListing.{accepted_line}
 use Rattle.sub_listing.specs.Faults.{check_line}
 use Rattle.sub_listing.specs.Help.{help_text}
@@ -34,11 +34,11 @@ use Rattle.sub_answer.specs.ListenListing.{listen_line, Listens}
 use Rattle.sub_listing.specs.Listing.{Listing, PrintsListing, PrintsOrFails, done, packet_listing}
 use Rattle.sub_listing.specs.Listing.{fault_listing}
 use Rattle.sub_listing.specs.PacketsListing.{ListsPackets}
-use Rattle.sub_answer.specs.SurveyListing.{Surveys}
+use Rattle.sub_answer.specs.SurveyListing.{AnswersSurvey}
 use Rattle.sub_listing.specs.FaultLine.{counted_from}
 use Rattle.sub_listing.specs.ShowListing.{ListsSubtitles}
-use Rattle.sub_listing.specs.Writing.{EndsWork, Normalizes, PrintsMemory, Schedules}
-use Rattle.sub_request.specs.Files.{files_of, reads_input, reads_two, writes_file}
+use Rattle.sub_listing.specs.Writing.{EndsWithFileResult, Normalizes, PrintsMemory, Schedules}
+use Rattle.sub_request.specs.Files.{files_of_request, reads_input, reads_two_files, writes_file}
 use Rattle.sub_request.specs.declared.request.Request.{Request}
 use Rattle.sub_request.specs.declared.request.Request.TheVariants as ask
 use Rattle.sub_listing.specs.declared.status.Status.{Status}
@@ -46,12 +46,12 @@ use Rattle.sub_listing.specs.declared.status.Status.TheVariants.{Done, Fault}
 
 -- The answer to the request needs memory, for a programme, a complete file, or the state of a
 -- survey.
-abbrev pub takes_memory : Request → Bool
-takes_memory (ask.Normal input output) = true
-takes_memory (ask.Schedule stl pes options serial national layout scope) = true
-takes_memory (ask.Check stl pes options national layout scope all) = true
-takes_memory (ask.Survey recording options) = true
-takes_memory _ = false
+abbrev pub needs_memory : Request → Bool
+needs_memory (ask.Normal input output) = true
+needs_memory (ask.Schedule stl pes options serial national layout scope) = true
+needs_memory (ask.Check stl pes options national layout scope all) = true
+needs_memory (ask.Survey recording options) = true
+needs_memory _ = false
 
 -- The national option, layout and scope for the texts of a subtitle file, from the request or by
 -- default.
@@ -103,12 +103,12 @@ pub record AnswersCheck
 -- The output shows the state of a receiver after the frames of the PES file, or the fault. The
 -- receiver stores the code `leaves` in a cell whose byte has even parity. The argument `first` is
 -- the number of the first PES packet in its file.
-pub record PrintsHeard
+pub record PrintsReceived
     (leaves : ℕ → ℕ) (listening : Listening) (first : ℕ) (pes : SourceCall) (out : SinkCall)
     (status : Status)
     : Type 0 where
   pub exact :
-      (frames : Transmission) (unread : Option Unread)
+      (frames : Transmission) (unread : Option UnreadReason)
       → IfKnown pes.known (λ bytes.
       ReadsAs (clock_of listening.options) 0 bytes frames unread
       → pes.new_count ≡ pes.old_count
@@ -132,7 +132,7 @@ pub record AnswersListen
   -- Faults name PES packets by their numbers in the file.
   pub number : ℕ
   pub starts : StartsAt first pes number
-  pub heard : PrintsHeard leaves listening number pes out status
+  pub heard : PrintsReceived leaves listening number pes out status
 
 -- The bytes of an input before and after a call, and the number of its first PES packet in the
 -- file.
@@ -180,12 +180,14 @@ reads_pes_packets (ask.Extract recording pes stream) = true
 reads_pes_packets _ = false
 
 -- The first input of the request is a source, but not of PES packets.
-abbrev pub reads_source : Request → Bool
-reads_source request = reads_input (files_of request) && not (reads_pes_packets request)
+abbrev pub reads_plain_source : Request → Bool
+reads_plain_source request = reads_input (files_of_request request) && not
+    (reads_pes_packets request)
 
 -- The first input of the request, or the second input of a check, contains PES packets.
-abbrev pub reads_some_pes_packets : Request → Bool
-reads_some_pes_packets request = reads_pes_packets request || reads_two (files_of request)
+abbrev pub reads_any_pes_packets : Request → Bool
+reads_any_pes_packets request = reads_pes_packets request || reads_two_files
+    (files_of_request request)
 
 -- The first input of the request: a source of bytes, or an input of PES packets.
 abbrev pub first_input : Request → InputCall → InputCall → InputCall
@@ -201,30 +203,31 @@ Answers ask.Version first second Untouched file out status =
 Answers (ask.Packet bytes) first second Untouched file out status =
     PrintsOrFails out (packet_listing bytes) status
 Answers (ask.Packets pes) first second Untouched file out status =
-    PrintsFrom ListsPackets first.number first.call out status
+    PrintsCountedFrom ListsPackets first.number first.call out status
 Answers (ask.Show stl) first second Untouched file out status =
     PrintsListing ListsSubtitles first.call out status
 Answers (ask.Normal input output) first second Untouched file out status =
-    EndsWork first.call file out status (codes " subtitles\n") Normalizes
+    EndsWithFileResult first.call file out status (codes " subtitles\n") Normalizes
 Answers
     (ask.Schedule stl pes options serial national layout scope) first second Untouched file out
     status =
-    EndsWork first.call file out status (codes " transmissions\n")
+    EndsWithFileResult first.call file out status (codes " transmissions\n")
     (Schedules (drawing_within national layout scope) options serial)
 Answers
     (ask.Check stl pes options national layout scope true) first second Untouched file out status =
-    AnswersAll (drawing_within national layout scope) options first.call second.call
+    AnswersCheckAll (drawing_within national layout scope) options first.call second.call
     second.number Untouched out status
 Answers
     (ask.Check stl pes options national layout scope false) first second Untouched file out status =
     AnswersCheck (drawing_within national layout scope) options first.call second.call
     second.number Untouched out status
 Answers (ask.Listen pes listening) first second Untouched file out status =
-    AnswersListen (left_by listening.receiver) listening first.call first.number out status
+    AnswersListen (code_left_by_receiver listening.receiver) listening first.call first.number out
+    status
 Answers (ask.Extract recording pes stream) first second Untouched file out status =
     EndsExtract first.call file out status
 Answers (ask.Survey recording options) first second Untouched file out status =
-    Surveys options first.call out status
+    AnswersSurvey options first.call out status
 
 -- Each device fails at most once, and only if the status is `Fault`. A command that needs no memory
 -- has the status `Fault` only if a device failed.
@@ -236,43 +239,44 @@ pub record CountsFaults
   pub file_count : Counts file.old_count status file.new_count
   pub out_count : Counts out.old_count status out.new_count
   pub fault :
-      takes_memory request ≡ false
+      needs_memory request ≡ false
       → status ≡ Fault
       → first.old_count + second.old_count + file.old_count + out.old_count
       < first.new_count + second.new_count + file.new_count + out.new_count
 
 -- If the status is `Done`, no bytes are left in the buffer of the output file.
-abbrev pub FlushesWritten : Request → Status → ℕ → Type 0
-FlushesWritten request status buffered =
-    writes_file (files_of request) ≡ true → status ≡ Done → buffered ≡ 0
+abbrev pub FlushesOutputFile : Request → Status → ℕ → Type 0
+FlushesOutputFile request status buffered =
+    writes_file (files_of_request request) ≡ true → status ≡ Done → buffered ≡ 0
 
 -- If the status is `Done`, the system has stored the output file.
-abbrev pub StoresWritten : Request → Status → Bool → Type 0
-StoresWritten request status is_stored =
-    writes_file (files_of request) ≡ true → status ≡ Done → is_stored ≡ true
+abbrev pub StoresOutputFile : Request → Status → Bool → Type 0
+StoresOutputFile request status is_stored =
+    writes_file (files_of_request request) ≡ true → status ≡ Done → is_stored ≡ true
 
 -- `IsAlone` is true if the source of PES packets or of a recording failed, for the commands whose
 -- output can be followed: the source is the first input of `packets` and `survey`, and the second
 -- input of `check --all`.
-abbrev pub FlushesBefore : Request → Type 0 → Type 0 → Type 0 → Type 0
-FlushesBefore (ask.Packets pes) FirstFails SecondFails IsAlone = FirstFails → IsAlone
-FlushesBefore (ask.Survey recording options) FirstFails SecondFails IsAlone = FirstFails → IsAlone
-FlushesBefore
+abbrev pub FlushesBeforeRead : Request → Type 0 → Type 0 → Type 0 → Type 0
+FlushesBeforeRead (ask.Packets pes) FirstFails SecondFails IsAlone = FirstFails → IsAlone
+FlushesBeforeRead (ask.Survey recording options) FirstFails SecondFails IsAlone = FirstFails →
+    IsAlone
+FlushesBeforeRead
     (ask.Check stl pes options national layout scope true) FirstFails SecondFails IsAlone =
     SecondFails → IsAlone
-FlushesBefore _ FirstFails SecondFails IsAlone = ⊤
+FlushesBeforeRead _ FirstFails SecondFails IsAlone = ⊤
 
 -- `BuffersNothing` is true if the source failed, for `extract`, which writes each PES packet as
 -- soon as it has arrived.
-abbrev pub WritesBefore : Request → Type 0 → Type 0 → Type 0
-WritesBefore (ask.Extract recording pes stream) FirstFails BuffersNothing = FirstFails →
+abbrev pub WritesBeforeRead : Request → Type 0 → Type 0 → Type 0
+WritesBeforeRead (ask.Extract recording pes stream) FirstFails BuffersNothing = FirstFails →
     BuffersNothing
-WritesBefore _ FirstFails BuffersNothing = ⊤
+WritesBeforeRead _ FirstFails BuffersNothing = ⊤
 
 -- A request was answered from a source and an input of PES packets. `Untouched` means that no byte
 -- of the PES packets was read, `BuffersNothing` that the buffer of the output file is empty, and
 -- `IsAlone` that everything except the line of a fault was flushed.
-pub record AnswersOver
+pub record AnswersFromInputs
     (request : Request) (source pes_packets : InputCall) (Untouched : Type 0) (file out : SinkCall)
     (BuffersNothing IsAlone : Type 0) (status : Status)
     : Type 0 where
@@ -281,9 +285,9 @@ pub record AnswersOver
       Answers request (first_input request source pes_packets) pes_packets Untouched file out status
   -- All bytes are written to the device of the output file before the recording's device is read.
   pub written :
-      WritesBefore request (fails (first_input request source pes_packets)) BuffersNothing
+      WritesBeforeRead request (fails (first_input request source pes_packets)) BuffersNothing
   -- All output is flushed before the device of a PES file or recording is read. So if this read
   -- fails, at most the line about the failure is still in the buffer.
   pub followed :
-      FlushesBefore request (fails (first_input request source pes_packets)) (fails pes_packets)
+      FlushesBeforeRead request (fails (first_input request source pes_packets)) (fails pes_packets)
       IsAlone

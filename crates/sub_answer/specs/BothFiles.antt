@@ -3,7 +3,7 @@ use Rattle.std.specs.Prelude.{◌≡◌, ◌≢◌, ◌↔◌, ℕ, Bool, true, 
 use Rattle.sub_io.specs.Device.{CountRisesIf, failed}
 use Rattle.sub_io.specs.Reading.{IfKnown}
 use Rattle.ttx_pes.specs.declared.fault.PesFault.TheVariants.{Read}
-use Rattle.stl_rows.specs.Fault.{is_load_read}
+use Rattle.stl_rows.specs.Fault.{is_load_read_failure}
 use Rattle.stl_rows.specs.declared.fault.LoadFault.{LoadFault}
 use Rattle.stl_rows.specs.declared.layout.Drawing.{Drawing}
 use Rattle.sub_plan.specs.Options.{OptionsValue}
@@ -19,17 +19,18 @@ use Rattle.sub_listing.specs.declared.status.Status.TheVariants.{Done, Fault}
 -- and `FailsAtPes` specify at which block or PES packet a source failed.
 pub record ReportsSources
     {Counts : Type 0} (FailsAtBlock FailsAtPes : ℕ → Type 0) (Untouched : Type 0)
-    (is_of_subtitles : Bool) (stl pes : SourceCall) (answer : Result Counts CheckFault)
+    (concerns_subtitle_file : Bool) (stl pes : SourceCall) (answer : Result Counts CheckFault)
     : Type 0 where
   -- A source failed exactly if the answer reports it.
-  pub stl_count : CountRisesIf stl.old_count (failed is_stl_read answer) stl.new_count
-  pub pes_count : CountRisesIf pes.old_count (failed is_pes_read answer) pes.new_count
+  pub stl_failure_count : CountRisesIf stl.old_count (failed is_stl_read answer) stl.new_count
+  pub pes_failure_count : CountRisesIf pes.old_count (failed is_pes_read answer) pes.new_count
   -- The answer names the block or PES packet at which a source failed.
-  pub stl_read :
-      (f : LoadFault) → answer ≡ Err (Subtitles f) → is_load_read f ≡ true → FailsAtBlock f.block
-  pub pes_read : (index : ℕ) → answer ≡ Err (Pes index Read) → FailsAtPes index
+  pub stl_failure_is_at_block :
+      (f : LoadFault) → answer ≡ Err (Subtitles f) → is_load_read_failure f ≡ true → FailsAtBlock
+      f.block
+  pub pes_failure_is_at_packet : (index : ℕ) → answer ≡ Err (Pes index Read) → FailsAtPes index
   -- If the subtitle file is rejected or could not be read, no byte of the PES file is read.
-  pub before : is_of_subtitles ≡ true → Untouched
+  pub before : concerns_subtitle_file ≡ true → Untouched
 
 -- The meaning of the exit status for both files. `PrintsMemory` specifies the output if memory ran
 -- out.

@@ -3,27 +3,27 @@
 use Rattle.std.specs.Prelude.{◌≡◌, ◌⊎◌, ℕ, ◌+◌, ◌<◌, List, [], ◌∷◌, ◌++◌, length, Option, Some}
 use Rattle.std.specs.Prelude.{Bool, None, false}
 use Rattle.std.specs.Io.KnownBytes.{Keeps, append_known, prepend_known}
-use Rattle.sub_io.specs.Buffered.{Flushes, BufferState, ReadAhead, failures_and_refused}
+use Rattle.sub_io.specs.Buffered.{Flushes, BufferState, ReadAhead, failures_with_refused_writes}
 use Rattle.sub_io.specs.Calls.{PushesBuffered}
-use Rattle.sub_request.specs.Files.{files_of}
+use Rattle.sub_request.specs.Files.{files_of_request}
 use Rattle.sub_request.specs.declared.files.FileNames.{FileNames}
 use Rattle.sub_request.specs.declared.files.FileNames.TheVariants as names
 use Rattle.sub_request.specs.declared.request.Request.{Request}
 use Rattle.sub_request.specs.declared.request.UsageFault.{UsageFault}
 use Rattle.sub_files.specs.FileCalls.{FileCall}
 use Rattle.sub_files.specs.FileCalls.FileCall.{ReleaseInput, ReleaseOutput}
-use Rattle.sub_files.specs.Opening.{OpensBy}
-use Rattle.sub_files.specs.declared.opening.Opened.{Opened}
-use Rattle.sub_files.specs.declared.opening.Opened.TheVariants.{Extract, Nothing, ReadBoth}
-use Rattle.sub_files.specs.declared.opening.Opened.TheVariants.{ReadPes, ReadStl, Write}
+use Rattle.sub_files.specs.Opening.{OpensWithCalls}
+use Rattle.sub_files.specs.declared.opening.OpenedFiles.{OpenedFiles}
+use Rattle.sub_files.specs.declared.opening.OpenedFiles.TheVariants.{Extract, Nothing, ReadBoth}
+use Rattle.sub_files.specs.declared.opening.OpenedFiles.TheVariants.{ReadPes, ReadStl, Write}
 use Rattle.sub_listing.specs.DeviceCall.{SinkCall, sink_call}
 use Rattle.sub_listing.specs.Faults.{usage_line}
 use Rattle.sub_listing.specs.LastLine.{BuffersLastLineOnly}
 use Rattle.sub_listing.specs.Listing.{PrintsOrFails, fault_listing}
 use Rattle.sub_listing.specs.declared.status.Status.{Status}
 use Rattle.sub_listing.specs.declared.status.Status.TheVariants.{Done, Fault}
-use Rattle.sub_answer.specs.Answering.{Answers, FlushesBefore, InputCall, StoresWritten}
-use Rattle.sub_answer.specs.Answering.{WritesBefore, fails}
+use Rattle.sub_answer.specs.Answering.{Answers, FlushesBeforeRead, InputCall, StoresOutputFile}
+use Rattle.sub_answer.specs.Answering.{WritesBeforeRead, fails}
 use Rattle.sub_answer.specs.Part.{IsPartOf, part_requested, entire_file}
 use Rattle.sub_answer.specs.declared.part.Part.{Part}
 
@@ -36,9 +36,9 @@ pub record Lines : Type 0 where
 
 -- The state of a buffered sink, given the functions for the bytes written to it, the bytes in its
 -- buffer, and its number of failed calls.
-abbrev pub lines_in : {O : Type 0}
+abbrev pub lines_of_sink : {O : Type 0}
     → (O → Option (List ℕ)) → (O → List ℕ) → (O → ℕ) → O → Lines
-lines_in contents buffer_state failure_count o =
+lines_of_sink contents buffer_state failure_count o =
     record { taken = contents o; buffered = buffer_state o; count = failure_count o }
 
 -- The function `buffered` returns the number of bytes in the buffer.
@@ -47,11 +47,11 @@ CountsBuffered {O} buffered buffer_state = (o : O) → buffered o ≡ length (bu
 
 -- The state of a buffered sink, given the functions for the contents of the sink behind the buffer
 -- and for its number of failed calls.
-abbrev pub lines_of : {D : Type 0} → (D → Option (List ℕ)) → (D → ℕ) → BufferState D → Lines
-lines_of contents failure_count k = record {
+abbrev pub lines_of_buffer : {D : Type 0} → (D → Option (List ℕ)) → (D → ℕ) → BufferState D → Lines
+lines_of_buffer contents failure_count k = record {
   taken = append_known (contents k.device) k.buffered;
   buffered = k.buffered;
-  count = failures_and_refused (failure_count k.device) k.refused;
+  count = failures_with_refused_writes (failure_count k.device) k.refused;
 }
 
 -- A buffered sink before and after a call, given the functions for the contents of the sink behind
@@ -59,8 +59,8 @@ lines_of contents failure_count k = record {
 abbrev pub buffered_call : {D : Type 0}
     → (D → Option (List ℕ)) → (D → ℕ) → BufferState D → BufferState D → SinkCall
 buffered_call contents failure_count old new =
-    sink_call (λ k. (lines_of contents failure_count k).taken)
-    (λ k. (lines_of contents failure_count k).count) old new
+    sink_call (λ k. (lines_of_buffer contents failure_count k).taken)
+    (λ k. (lines_of_buffer contents failure_count k).count) old new
 
 -- The buffer is flushed at the end of a run with the exit status `status`. Either the sink has all
 -- bytes, and the status remains; or one more call has failed, and the status is `Fault`.
@@ -80,7 +80,7 @@ pub record BuffersOneLineOnly
     (IsPush : O → List ℕ → Option ℕ → O → Type 0) (lines : Lines)
     : Type 0 where
   pub sink : O
-  pub lines_are : lines ≡ lines_in contents buffer_state failure_count sink
+  pub lines_are : lines ≡ lines_of_sink contents buffer_state failure_count sink
   pub last : BuffersLastLineOnly contents (λ o. length (buffer_state o)) IsPush sink
 
 -- Everything before the line of a fault was flushed, and then only this line was written to the
@@ -91,7 +91,7 @@ abbrev pub BufferHoldsOneLineOnly :
     → (D → Option (List ℕ)) → (D → ℕ) → (D → List ℕ → Option ℕ → D → Type 0) → Lines → Type 0
 BufferHoldsOneLineOnly contents failure_count IsPush =
     BuffersOneLineOnly (λ k. append_known (contents k.device) k.buffered) (λ k. k.buffered)
-    (λ k. failures_and_refused (failure_count k.device) k.refused) (PushesBuffered IsPush)
+    (λ k. failures_with_refused_writes (failure_count k.device) k.refused) (PushesBuffered IsPush)
 
 -- The buffer is empty, and no call has failed since the state `old`.
 pub record BuffersNothing
@@ -136,7 +136,7 @@ pub record EndsWith
   -- All output is flushed before the device of a PES file or recording is read. So if this read
   -- fails, at most the line about the failure is still in the buffer.
   pub followed :
-      old.buffered ≡ [] → FlushesBefore request (fails first) (fails second) (IsAlone printed)
+      old.buffered ≡ [] → FlushesBeforeRead request (fails first) (fails second) (IsAlone printed)
   pub flushed : FlushesBufferedLines printed status new result
 
 -- The source of the input has no bytes.
@@ -161,12 +161,12 @@ pub record IsClosedAfter
   pub buffered_eq : new.buffered ≡ left.buffered
   -- All bytes are written to the device of the output file before the recording's device is read.
   -- So if this read fails, the buffer of the file is empty.
-  pub written : WritesBefore request (first.call.old_count < first.call.new_count)
+  pub written : WritesBeforeRead request (first.call.old_count < first.call.new_count)
       (left.buffered ≡ [])
 
 -- The input is the part `part` of a file, which was read through an initially empty buffer. The
 -- answer leaves the file in the state `left`.
-pub record IsReadFrom
+pub record ReadsPartOfFile
     {I : Type 0} (part : Part) (remaining : I → Option (List ℕ)) (failure_count : I → ℕ)
     (file left : I) (input : InputCall)
     : Type 0 where
@@ -183,7 +183,7 @@ pub record IsReadFrom
 -- An output file that was written through an initially empty buffer, and then closed in its state
 -- after the answer. If the run ends with `Done`, the buffer is empty, no call has failed, and the
 -- file is stored.
-pub record IsWrittenTo
+pub record WritesFile
     {O : Type 0} (contents : O → Option (List ℕ)) (failure_count : O → ℕ) (is_stored : O → Bool)
     (IsClose : O → O → Type 0) (request : Request) (result : Status) (file left : O)
     (first : InputCall) (call : SinkCall)
@@ -199,16 +199,16 @@ pub record IsWrittenTo
       result ≡ Done
       → Flushes failure_count
       (record { device = file; buffered = []; room = room; failed = false; refused = 0 }) new
-  pub stored : StoresWritten request result (is_stored new.device)
+  pub stored : StoresOutputFile request result (is_stored new.device)
 
 -- The functions that describe input files and output files: the remaining bytes of an input file,
 -- the bytes written to an output file, the numbers of failed calls, and whether an output file is
 -- stored.
 pub record FileObservations (I O : Type 0) : Type 0 where
   pub remaining : I → Option (List ℕ)
-  pub reads_failed : I → ℕ
+  pub read_failure_count : I → ℕ
   pub contents : O → Option (List ℕ)
-  pub writes_failed : O → ℕ
+  pub write_failure_count : O → ℕ
   pub stored : O → Bool
 
 -- The functions that describe input files and output files, from its five arguments.
@@ -216,11 +216,11 @@ abbrev pub file_observations :
     {I O : Type 0}
     → (I → Option (List ℕ)) → (I → ℕ) → (O → Option (List ℕ)) → (O → ℕ) → (O → Bool)
     → FileObservations I O
-file_observations remaining reads_failed contents writes_failed stored = record {
+file_observations remaining read_failure_count contents write_failure_count stored = record {
   remaining = remaining;
-  reads_failed = reads_failed;
+  read_failure_count = read_failure_count;
   contents = contents;
-  writes_failed = writes_failed;
+  write_failure_count = write_failure_count;
   stored = stored;
 }
 
@@ -229,7 +229,7 @@ file_observations remaining reads_failed contents writes_failed stored = record 
 abbrev pub IsSourceOf :
     {I O : Type 0} → FileObservations I O → Part → (opened left : Option I) → InputCall → Type 0
 IsSourceOf known part (Some file) (Some left) =
-    IsReadFrom part known.remaining known.reads_failed file left
+    ReadsPartOfFile part known.remaining known.read_failure_count file left
 IsSourceOf known part None None = IsEmptySource
 IsSourceOf known part opened left = λ input. ⊥
 
@@ -241,7 +241,8 @@ abbrev pub IsSinkOf :
     InputCall
     → SinkCall → Type 0
 IsSinkOf known IsClose request result (Some file) (Some left) =
-    IsWrittenTo known.contents known.writes_failed known.stored IsClose request result file left
+    WritesFile known.contents known.write_failure_count known.stored IsClose request result file
+    left
 IsSinkOf known IsClose request result None None = IsEmptyFile
 IsSinkOf known IsClose request result created left = λ first call. ⊥
 
@@ -259,22 +260,22 @@ sources part first second =
     record { first = first; part = part; second = second; file = None }
 
 -- The files of a request with one input file and an output file.
-abbrev pub source_and_file : {I O : Type 0} → Part → I → O → Devices I O
-source_and_file part source file =
+abbrev pub write_devices : {I O : Type 0} → Part → I → O → Devices I O
+write_devices part source file =
     record { first = Some source; part = part; second = None; file = Some file }
 
 -- The opened files of a request. The argument `part` is for a first input file of PES packets or a
 -- recording; other files are read completely.
-abbrev pub devices_of : {I O : Type 0} → Part → Opened I O → Devices I O
+abbrev pub devices_of : {I O : Type 0} → Part → OpenedFiles I O → Devices I O
 devices_of part Nothing = sources entire_file None None
 devices_of part (ReadStl stl) = sources entire_file (Some stl) None
 devices_of part (ReadPes pes) = sources part (Some pes) None
 devices_of part (ReadBoth stl pes) = sources entire_file (Some stl) (Some pes)
-devices_of part (Write stl output) = source_and_file entire_file stl output
-devices_of part (Extract recording output) = source_and_file part recording output
+devices_of part (Write stl output) = write_devices entire_file stl output
+devices_of part (Extract recording output) = write_devices part recording output
 
 -- The opened files are of the kinds that the request names.
-abbrev pub Fits : {I O : Type 0} → FileNames → Opened I O → Type 0
+abbrev pub Fits : {I O : Type 0} → FileNames → OpenedFiles I O → Type 0
 Fits names.None Nothing = Unit {0}
 Fits (names.ReadStl name) (ReadStl stl) = Unit {0}
 Fits (names.ReadPes name) (ReadPes pes) = Unit {0}
@@ -284,31 +285,32 @@ Fits (names.Extract name other) (Extract recording output) = Unit {0}
 Fits names opened = ⊥
 
 -- The files of a request, in their states after the answer.
-pub record FilesLeft (I O : Type 0) : Type 0 where
+pub record FilesAfterAnswer (I O : Type 0) : Type 0 where
   pub first : Option I
   pub second : Option I
   pub file : Option O
 
 -- The release of an input file, if there is one, followed by other calls.
-abbrev pub input_before :
+abbrev pub release_input_before :
     {I O : Type 0} → Option I → List (FileCall I O) → List (FileCall I O)
-input_before (Some file) calls = ReleaseInput file ∷ calls
-input_before None calls = calls
+release_input_before (Some file) calls = ReleaseInput file ∷ calls
+release_input_before None calls = calls
 
 -- The release of an output file, if there is one.
-abbrev pub output_alone : {I O : Type 0} → Option O → List (FileCall I O)
-output_alone (Some file) = ReleaseOutput file ∷ []
-output_alone None = []
+abbrev pub release_output_only : {I O : Type 0} → Option O → List (FileCall I O)
+release_output_only (Some file) = ReleaseOutput file ∷ []
+release_output_only None = []
 
 -- The calls that release each file of a request once, in its state after the answer.
-abbrev pub release : {I O : Type 0} → FilesLeft I O → List (FileCall I O)
-release left = input_before left.first (input_before left.second (output_alone left.file))
+abbrev pub release : {I O : Type 0} → FilesAfterAnswer I O → List (FileCall I O)
+release left = release_input_before left.first
+    (release_input_before left.second (release_output_only left.file))
 
 -- A request was answered with its files, which are left in the state `left`; and then the output
 -- was flushed. If no byte of the second file was read, this file is left as it was opened.
 abbrev pub EndsOverFiles :
     {I O : Type 0}
-    → FileObservations I O → (O → O → Type 0) → Request → Devices I O → FilesLeft I O
+    → FileObservations I O → (O → O → Type 0) → Request → Devices I O → FilesAfterAnswer I O
     → (Lines → Type 0) → Lines → Lines → Status → Type 0
 EndsOverFiles known IsClose request devices left IsAlone old new result =
     EndsWith request (IsSourceOf known devices.part devices.first left.first)
@@ -318,12 +320,12 @@ EndsOverFiles known IsClose request devices left IsAlone old new result =
 
 -- A request was answered with its files, and then the files were released, in their states after
 -- the answer.
-pub record EndsAndReleases
+pub record EndsWithRelease
     {I O : Type 0} (AreMade : List (FileCall I O) → Type 0) (known : FileObservations I O)
     (IsClose : O → O → Type 0) (request : Request) (devices : Devices I O)
     (IsAlone : Lines → Type 0) (old new : Lines) (result : Status)
     : Type 0 where
-  pub left : FilesLeft I O
+  pub left : FilesAfterAnswer I O
   pub are_released : AreMade (release left)
   pub ends : EndsOverFiles known IsClose request devices left IsAlone old new result
 
@@ -334,10 +336,11 @@ pub record Ends
     (IsClose : O → O → Type 0) (request : Request) (IsAlone : Lines → Type 0) (old new : Lines)
     (result : Status)
     : Type 0 where
-  pub files : Opened I O
-  pub left : FilesLeft I O
+  pub files : OpenedFiles I O
+  pub left : FilesAfterAnswer I O
   pub opened :
-      OpensBy (λ calls. AreMade (calls ++ release left)) (files_of request) (Some files)
+      OpensWithCalls (λ calls. AreMade (calls ++ release left)) (files_of_request request)
+      (Some files)
   pub ends :
       EndsOverFiles known IsClose request (devices_of (part_requested request) files) left IsAlone
       old

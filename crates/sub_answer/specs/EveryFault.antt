@@ -6,10 +6,10 @@ use Rattle.std.specs.Io.KnownBytes.{Appends, Consumes}
 use Rattle.sub_io.specs.Device.{CountRisesIf}
 use Rattle.sub_io.specs.Reading.{IfKnown}
 use Rattle.ttx_pes.specs.declared.fault.PesFault.TheVariants.{Read}
-use Rattle.stl_file.specs.Reader.{block_of_byte, findings_for}
+use Rattle.stl_file.specs.Reader.{block_of_byte, findings_within_scope}
 use Rattle.stl_rows.specs.EveryFault.{EndsSubtitleAfter, faults, is_reported_before}
-use Rattle.stl_rows.specs.Judged.{JudgedValue, JudgesBy, can_judge, known}
-use Rattle.stl_rows.specs.Loading.{loaded}
+use Rattle.stl_rows.specs.Judged.{JudgedValue, JudgesFile, can_judge, known}
+use Rattle.stl_rows.specs.Loading.{loaded_programme}
 use Rattle.stl_rows.specs.Programme.{ProgrammeValue}
 use Rattle.stl_rows.specs.declared.fault.LoadFaultKind.{LoadFaultKind}
 use Rattle.stl_rows.specs.declared.fault.LoadFaultKind.TheVariants.{File, Memory}
@@ -17,9 +17,9 @@ use Rattle.stl_rows.specs.declared.layout.Drawing.{Drawing}
 use Rattle.stl_file.specs.declared.fault.StlFault.TheVariants as stl_fault
 use Rattle.sub_plan.specs.FrameTime.{clock_of}
 use Rattle.sub_plan.specs.Options.{OptionsValue}
-use Rattle.sub_check.specs.CheckedFiles.{IsChecked, IsCheckedBy, all_events_by}
-use Rattle.sub_check.specs.CheckedFiles.{events_of_first_by, first_answer, frames_read}
-use Rattle.sub_checker.specs.ReadCounts.{CountsRead}
+use Rattle.sub_check.specs.CheckedFiles.{IsChecked, IsCheckedBy, all_judged_events}
+use Rattle.sub_check.specs.CheckedFiles.{first_judged_events, first_answer, frames_read}
+use Rattle.sub_checker.specs.ReadCounts.{AreCountsOfFrames}
 use Rattle.sub_rules.specs.Fault.{is_failure, is_subtitle_fault}
 use Rattle.sub_rules.specs.PesPackets.{FailsAtPesPacket, pes_packet_file_of}
 use Rattle.sub_checker.specs.declared.accepted.Accepted.{Accepted}
@@ -28,70 +28,70 @@ use Rattle.sub_rules.specs.declared.fault.CheckFault.{CheckFault}
 use Rattle.sub_rules.specs.declared.fault.CheckFault.TheVariants.{Pes, Subtitles}
 use Rattle.sub_listing.specs.DeviceCall.{SinkCall, SourceCall}
 use Rattle.sub_answer.specs.BothFiles.{ReportsSources, IsStatusOfFiles}
-use Rattle.sub_answer.specs.FaultListing.{all_listing}
-use Rattle.sub_listing.specs.EventLines.{event_lines, refusals, subtitle_events}
+use Rattle.sub_answer.specs.FaultListing.{check_all_listing}
+use Rattle.sub_listing.specs.EventLines.{event_lines, fault_count_of_events, subtitle_events}
 use Rattle.sub_listing.specs.Faults.{load_line}
 use Rattle.sub_listing.specs.FirstPacket.{FirstNumber, StartsAt}
 use Rattle.sub_listing.specs.Listing.{PrintsOrFails}
 use Rattle.sub_listing.specs.Printer.{PrinterValue, PrintsEvents}
-use Rattle.sub_listing.specs.FaultLine.{line_of}
+use Rattle.sub_listing.specs.FaultLine.{text_of_fault_line}
 use Rattle.sub_listing.specs.declared.status.Status.{Status}
 use Rattle.sub_listing.specs.declared.status.Status.TheVariants.{Fault}
 
 -- The subtitle file was rejected or could not be read. The answer `Ok None` means that too many
 -- subtitles were rejected for a check of the PES file.
-abbrev pub is_of_subtitles : Result (Option Accepted) CheckFault → Bool
-is_of_subtitles (Ok None) = true
-is_of_subtitles (Ok (Some a)) = false
-is_of_subtitles (Err f) = is_subtitle_fault f
+abbrev pub concerns_subtitle_file : Result (Option Accepted) CheckFault → Bool
+concerns_subtitle_file (Ok None) = true
+concerns_subtitle_file (Ok (Some a)) = false
+concerns_subtitle_file (Err f) = is_subtitle_fault f
 
 -- The events if reading the subtitle file stopped at this block: the faults found before the block.
 -- If memory ran out, it ran out at the end of a subtitle, for which there is no event.
-abbrev pub AreListedBefore : Drawing → List ℕ → List Event → ℕ → LoadFaultKind → Type 0
-AreListedBefore drawing file events block (File stl_fault.Read) =
+abbrev pub ListsFaultsBefore : Drawing → List ℕ → List Event → ℕ → LoadFaultKind → Type 0
+ListsFaultsBefore drawing file events block (File stl_fault.Read) =
     events ≡ subtitle_events (filter (is_reported_before block) (faults drawing file))
-AreListedBefore drawing file events block Memory =
+ListsFaultsBefore drawing file events block Memory =
     (events ≡ subtitle_events (filter (is_reported_before block) (faults drawing file)))
     × EndsSubtitleAfter drawing None (filter (is_reported_before block) (faults drawing file)) block
-    (findings_for drawing.scope file)
-AreListedBefore drawing file events block kind = ⊥
+    (findings_within_scope drawing.scope file)
+ListsFaultsBefore drawing file events block kind = ⊥
 
 -- The events of the PES file: the events of all its PES packets, whose frames are counted; or, if
 -- its source failed, the events of the PES packets before the failure.
-abbrev pub AreListedOfPes :
+abbrev pub ListsPesEvents :
     JudgedValue → OptionsValue → List ℕ → List Event → Result Accepted ℕ → Type 0
-AreListedOfPes judged options bytes events (Ok a) =
-    (events ≡ all_events_by judged options bytes)
-    × CountsRead options.page (frames_read options bytes) a
-AreListedOfPes judged options bytes events (Err n) =
+ListsPesEvents judged options bytes events (Ok a) =
+    (events ≡ all_judged_events judged options bytes)
+    × AreCountsOfFrames options.page (frames_read options bytes) a
+ListsPesEvents judged options bytes events (Err n) =
     (n ≤ length (pes_packet_file_of (clock_of options) bytes).pes_packets)
-    × (events ≡ events_of_first_by judged options bytes n)
+    × (events ≡ first_judged_events judged options bytes n)
 
 -- The events if the PES file can be checked against the subtitle file: all faults of the subtitle
 -- file, and then the events of the PES file, compared with the reliable subtitles.
-pub record IsListedOf
+pub record ListsBothFiles
     (drawing : Drawing) (options : OptionsValue) (file : List ℕ) (pes : Option (List ℕ))
     (events : List Event) (answer : Result Accepted ℕ) : Type 0 where
   pub judged : JudgedValue
-  pub by : JudgesBy drawing file judged
+  pub by : JudgesFile drawing file judged
   pub more : List Event
   pub both : events ≡ subtitle_events (faults drawing file) ++ more
-  pub listed : IfKnown pes (λ bytes. AreListedOfPes judged options bytes more answer)
+  pub listed : IfKnown pes (λ bytes. ListsPesEvents judged options bytes more answer)
 
 -- The events of both files: all faults of the subtitle file, and then, if the PES file can be
 -- checked against it, all events of the PES file.
-abbrev pub AreListed :
+abbrev pub ListsAllEvents :
     Drawing → OptionsValue → List ℕ → Option (List ℕ) → List Event
     → Result (Option Accepted) CheckFault → Type 0
-AreListed drawing options file pes events (Ok None) =
-    (events ≡ subtitle_events (faults drawing file)) × (0 < refusals events)
-AreListed drawing options file pes events (Ok (Some a)) =
-    IsListedOf drawing options file pes events (Ok a)
-AreListed drawing options file pes events (Err (Subtitles f)) =
-    AreListedBefore drawing file events f.block f.kind
-AreListed drawing options file pes events (Err (Pes n Read)) =
-    IsListedOf drawing options file pes events (Err n)
-AreListed drawing options file pes events (Err f) = ⊥
+ListsAllEvents drawing options file pes events (Ok None) =
+    (events ≡ subtitle_events (faults drawing file)) × (0 < fault_count_of_events events)
+ListsAllEvents drawing options file pes events (Ok (Some a)) =
+    ListsBothFiles drawing options file pes events (Ok a)
+ListsAllEvents drawing options file pes events (Err (Subtitles f)) =
+    ListsFaultsBefore drawing file events f.block f.kind
+ListsAllEvents drawing options file pes events (Err (Pes n Read)) =
+    ListsBothFiles drawing options file pes events (Err n)
+ListsAllEvents drawing options file pes events (Err f) = ⊥
 
 -- The source of the subtitle file failed while this block was read, directly after the consumed
 -- bytes.
@@ -103,22 +103,22 @@ pub record FailsAtBlock (known left : Option (List ℕ)) (block : ℕ) : Type 0 
 -- The answer of `check` is correct for the bytes of a PES file, with any options. With options that
 -- require each header of the page to erase the page, and the expected page at the end of each
 -- frame, it is also correct by the seven rules.
-abbrev pub IsAnswer :
+abbrev pub IsCheckAnswer :
     ProgrammeValue → OptionsValue → List ℕ → Result Accepted CheckFault → Type 0
-IsAnswer programme options bytes answer =
+IsCheckAnswer programme options bytes answer =
     IsCheckedBy programme options bytes answer
     × (IsFalse options.keeps → options.within ≡ 0 → IsChecked programme options bytes answer)
 
 -- The first event determines the answer of `check`, which is correct for the bytes of both files:
 -- an accepted transmission is good and robust.
-abbrev pub IsVerdict :
+abbrev pub FitsCheckAnswer :
     Drawing → OptionsValue → List ℕ → List ℕ → List Event → Result (Option Accepted) CheckFault
     → Type 0
-IsVerdict drawing options file bytes events (Ok (Some a)) =
+FitsCheckAnswer drawing options file bytes events (Ok (Some a)) =
     (programme : ProgrammeValue)
-    → loaded drawing file ≡ Ok programme
-    → IsAnswer programme options bytes (first_answer events a)
-IsVerdict drawing options file bytes events answer = ⊤
+    → loaded_programme drawing file ≡ Ok programme
+    → IsCheckAnswer programme options bytes (first_answer events a)
+FitsCheckAnswer drawing options file bytes events answer = ⊤
 
 -- The line about a lack of memory is printed after the lines of the faults found so far in the
 -- subtitle file.
@@ -128,8 +128,8 @@ PrintsMemoryLast drawing known old new =
     (first : ℕ)
     × (events : List Event)
     × (block : ℕ)
-    × Appends old new (event_lines first events ++ line_of (load_line Memory block))
-    × IfKnown known (λ file. AreListedBefore drawing file events block Memory)
+    × Appends old new (event_lines first events ++ text_of_fault_line (load_line Memory block))
+    × IfKnown known (λ file. ListsFaultsBefore drawing file events block Memory)
 
 -- The answer after the PES file was read completely, or after its source failed at PES packet `n`.
 abbrev pub read_answer : Result Accepted ℕ → Result (Option Accepted) CheckFault
@@ -158,8 +158,8 @@ pub record ReportsPes
       (programme : ProgrammeValue) (a : Accepted)
       → judged ≡ known programme
       → answer ≡ Ok a
-      → IsAnswer programme options bytes (first_answer events a))
-  pub listed : IfKnown pes.known (λ bytes. AreListedOfPes judged options bytes events answer)
+      → IsCheckAnswer programme options bytes (first_answer events a))
+  pub listed : IfKnown pes.known (λ bytes. ListsPesEvents judged options bytes events answer)
 
 -- The answer reports the failures of the two sources: it names the block or the PES packet at which
 -- a source failed. If the subtitle file is rejected or can't be read, no byte of the PES file is
@@ -169,7 +169,7 @@ abbrev pub ReportsBothSources :
 ReportsBothSources stl pes Untouched answer =
     ReportsSources (FailsAtBlock stl.known stl.left) (λ index. FailsAtPesPacket index pes.known
     pes.left)
-    Untouched (is_of_subtitles answer) stl pes answer
+    Untouched (concerns_subtitle_file answer) stl pes answer
 
 -- The events of both files were reported to a printer. The answer is `given`, unless the printer's
 -- sink failed.
@@ -181,26 +181,26 @@ pub record ReportsBoth
   pub answer : Result (Option Accepted) CheckFault
   pub same : new.failed ≡ false → answer ≡ given
   pub number : ℕ
-  pub starts : is_of_subtitles answer ≡ false → StartsAt first pes number
+  pub starts : concerns_subtitle_file answer ≡ false → StartsAt first pes number
   pub prints : PrintsEvents (record old { first = number }) events new
   pub sources : ReportsBothSources stl pes Untouched answer
   pub ended : IfErr answer (λ f. is_failure f ≡ true)
   pub cut : new.failed ≡ true → IsOk answer
-  pub unjudged :
+  pub no_transmission_is_judged :
       new.failed ≡ false
       → answer ≡ Ok None
       → IfKnown stl.known (λ file. can_judge drawing file ≡ false)
   pub checked :
       new.failed ≡ false
       → IfKnown stl.known (λ file.
-      IfKnown pes.known (λ bytes. IsVerdict drawing options file bytes events answer))
+      IfKnown pes.known (λ bytes. FitsCheckAnswer drawing options file bytes events answer))
   pub listed :
-      IfKnown stl.known (λ file. AreListed drawing options file pes.known events answer)
+      IfKnown stl.known (λ file. ListsAllEvents drawing options file pes.known events answer)
 
 -- The command `check --all` prints events and has one answer; both depend only on the bytes of the
 -- two files. The argument `first` is the number of the first PES packet in its file. `Untouched`
 -- means that no byte of the PES file was read.
-pub record AnswersAll
+pub record AnswersCheckAll
     (drawing : Drawing) (options : OptionsValue) (stl pes : SourceCall) (first : FirstNumber)
     (Untouched : Type 0) (out : SinkCall) (status : Status)
     : Type 0 where
@@ -208,16 +208,16 @@ pub record AnswersAll
   pub answer : Result (Option Accepted) CheckFault
   -- Faults name PES packets by their numbers in the file.
   pub number : ℕ
-  pub starts : is_of_subtitles answer ≡ false → StartsAt first pes number
+  pub starts : concerns_subtitle_file answer ≡ false → StartsAt first pes number
   -- The lines of the events and the last line were printed, or `out` failed and received a prefix
   -- of them.
-  pub printed : PrintsOrFails out (all_listing number events answer) status
+  pub printed : PrintsOrFails out (check_all_listing number events answer) status
   pub sources : ReportsBothSources stl pes Untouched answer
   -- If the bytes of the files are known, they determine the events.
   pub listed :
-      IfKnown stl.known (λ file. AreListed drawing options file pes.known events answer)
+      IfKnown stl.known (λ file. ListsAllEvents drawing options file pes.known events answer)
   -- The PES file is left unread only if it can't be checked against the subtitle file.
-  pub unjudged :
+  pub no_transmission_is_judged :
       status ≢ Fault
       → answer ≡ Ok None
       → IfKnown stl.known (λ file. can_judge drawing file ≡ false)
@@ -226,7 +226,7 @@ pub record AnswersAll
   pub checked :
       status ≢ Fault
       → IfKnown stl.known (λ file.
-      IfKnown pes.known (λ bytes. IsVerdict drawing options file bytes events answer))
+      IfKnown pes.known (λ bytes. FitsCheckAnswer drawing options file bytes events answer))
   pub ends :
       IsStatusOfFiles drawing options stl pes out (PrintsMemoryLast drawing stl.known out.old
       out.new)

@@ -1,6 +1,6 @@
 -- The meaning of the exit status of `check` for files in memory.
 use Rattle.std.specs.Prelude.{◌≡◌, ◌≢◌, ◌↔◌, ⊤, ℕ, List, Some, true}
-use Rattle.sub_io.specs.Memory.{Written}
+use Rattle.sub_io.specs.Memory.{MemSinkValue}
 use Rattle.stl_rows.specs.Layout.{drawing_within}
 use Rattle.sub_request.specs.declared.request.Request.{Request}
 use Rattle.sub_request.specs.declared.request.Request.TheVariants as ask
@@ -10,11 +10,11 @@ use Rattle.sub_check.specs.CheckedFiles.{IsAcceptedBy}
 use Rattle.sub_listing.specs.declared.status.Status.{Status}
 use Rattle.sub_listing.specs.declared.status.Status.TheVariants.{Done, Fault}
 use Rattle.sub_answer.specs.Ending.{Ends, FileObservations, Lines, file_observations}
-use Rattle.sub_answer.specs.Part.{through_range, through_stream}
+use Rattle.sub_answer.specs.Part.{bytes_in_range, carried_bytes_if_stream}
 
 -- The functions that describe files in memory: all their bytes are known, and reading them never
 -- fails.
-abbrev pub memory_observations : FileObservations (List ℕ) Written
+abbrev pub memory_observations : FileObservations (List ℕ) MemSinkValue
 memory_observations =
     file_observations (λ left. Some left) (λ left. 0) (λ file. Some file.bytes)
     (λ file. file.failure_count) (λ file. true)
@@ -26,7 +26,7 @@ DecidesAccepted (ask.Check stl pes options national layout scope all) files stat
     (subtitles bytes read : List ℕ)
     → bytes_at stl.now files ≡ Some subtitles
     → bytes_at pes.name.now files ≡ Some bytes
-    → through_range pes.range (through_stream pes.stream (Some bytes)) ≡ Some read
+    → bytes_in_range pes.range (carried_bytes_if_stream pes.stream (Some bytes)) ≡ Some read
     → (status ≡ Done)
     ↔ IsAcceptedBy (drawing_within national layout scope) options subtitles read
 DecidesAccepted _ files status = ⊤

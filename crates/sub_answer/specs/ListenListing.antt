@@ -2,29 +2,30 @@
 use Rattle.std.specs.Prelude.{◌≡◌, ℕ, Bool, false, List, Option, None, Result, Ok, Err, IfOk}
 use Rattle.ttx_page.specs.Page.{IsCell, Rows, cell}
 use Rattle.ttx_page.specs.Screen.{Display}
-use Rattle.sub_rules.specs.FrameRules.{Unread}
-use Rattle.sub_listen.specs.Run.{HearsFile}
+use Rattle.sub_rules.specs.FrameRules.{UnreadReason}
+use Rattle.sub_listen.specs.Run.{ReceivesFile}
 use Rattle.sub_rules.specs.Transmission.{Transmission}
 use Rattle.sub_request.specs.declared.listening.Listening.{Listening}
 use Rattle.sub_listen.specs.declared.listening.ListenFault.{ListenFault}
 use Rattle.sub_listing.specs.DisplayLines.{PrintsCompletePage, display_text}
 use Rattle.sub_listing.specs.Faults.{check_line}
 use Rattle.sub_listing.specs.Listing.{Listing, done, fault_listing}
-use Rattle.sub_listing.specs.FaultLine.{line_as, counted_from}
+use Rattle.sub_listing.specs.FaultLine.{line_with, counted_from}
 use Rattle.sub_listing.specs.declared.fault_line.Kind.TheVariants as kind
 use Rattle.sub_listing.specs.declared.fault_line.FaultLine.{FaultLine}
 use Rattle.sub_listen.specs.Fault.{listen_code}
 use Rattle.sub_rules.specs.declared.fault_place.FaultPlace.TheVariants as place
 use Rattle.sub_listen.specs.declared.listening.ListenFault.TheVariants as listen
 
--- The page has code 3F in every cell (own). A receiver of `listen` starts with this page.
+-- The page has code 3F in every cell (not defined by a standard). A receiver of `listen` starts
+-- with this page.
 abbrev pub IsOldPage : Rows → Type 0
 IsOldPage page = (row column : ℕ) → IsCell row column → cell page row column ≡ 0x3F
 
 -- The state of a receiver that was tuned while it had this page, and shows no page on its screen.
-abbrev pub tuned_with : Rows → Display
-tuned_with page = record {
-  held = record { heard = false; is_open = false; page = page };
+abbrev pub tuned_to_old_page : Rows → Display
+tuned_to_old_page page = record {
+  receiver_state = record { heard = false; is_open = false; page = page };
   screen = None;
 }
 
@@ -33,7 +34,8 @@ tuned_with page = record {
 abbrev pub listen_line : ListenFault → FaultLine
 listen_line (listen.File f) = check_line f
 listen_line (listen.LostHeader frame packet) =
-    line_as kind.Refused (listen_code (listen.LostHeader frame packet)) (place.Packet frame packet)
+    line_with kind.Refused (listen_code (listen.LostHeader frame packet))
+    (place.Packet frame packet)
 
 -- The output at the end of a run of `listen`. The argument `first` is the number of the first PES
 -- packet in its file.
@@ -45,14 +47,16 @@ listing_of first asks_complete end (Err f) = fault_listing (counted_from first (
 -- started with an old page, or a fault. The receiver stores the code `leaves` in a cell whose byte
 -- has even parity. The remaining bytes of the file are `known` before and `left` after the run.
 pub record Listens
-    (leaves : ℕ → ℕ) (l : Listening) (first : ℕ) (frames : Transmission) (unread : Option Unread)
+    (leaves : ℕ → ℕ) (l : Listening) (first : ℕ) (frames : Transmission)
+    (unread : Option UnreadReason)
     (known left : Option (List ℕ)) (listing : Listing)
     : Type 0 where
   pub old_page : Rows
-  pub is_old : IsOldPage old_page
+  pub is_old_page : IsOldPage old_page
   pub end : Display
   pub result : Result (Unit {0}) ListenFault
   pub hears :
-      HearsFile leaves l frames unread known left l.options.page (tuned_with old_page) end result
+      ReceivesFile leaves l frames unread known left l.options.page (tuned_to_old_page old_page) end
+      result
   pub listing_eq : listing ≡ listing_of first l.options.asks_complete end result
   pub page_is : IfOk result (λ _. PrintsCompletePage l.options.asks_complete end)

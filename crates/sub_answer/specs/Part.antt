@@ -1,7 +1,7 @@
 -- The PES packets that a request reads of a file: all PES packets or a range of them, in a PES file
 -- or in the transport packets of a PID (ISO/IEC 13818-1).
 use Rattle.std.specs.Prelude.{◌≡◌, ℕ, List, Option, Some, None, option_map}
-use Rattle.mpeg_ts.specs.Carried.{carried}
+use Rattle.mpeg_ts.specs.CarriedPackets.{carried_bytes}
 use Rattle.mpeg_ts.specs.PacketSize.{bytes_of}
 use Rattle.ttx_pes.specs.PesPacketRange.{PesPacketRangeValue, first_index, in_range}
 use Rattle.sub_request.specs.declared.pes_selection.TransportStream.{TransportStream}
@@ -25,19 +25,20 @@ part_requested _ = entire_file
 
 -- The bytes of PES packets that the selected transport packets carry, if the file is a transport
 -- stream; otherwise the bytes of the file.
-abbrev pub through_stream : Option TransportStream → Option (List ℕ) → Option (List ℕ)
-through_stream None reported = reported
-through_stream (Some s) reported = option_map (carried s.pid (bytes_of s.packet_size)) reported
+abbrev pub carried_bytes_if_stream : Option TransportStream → Option (List ℕ) → Option (List ℕ)
+carried_bytes_if_stream None reported = reported
+carried_bytes_if_stream (Some s) reported = option_map
+    (carried_bytes s.pid (bytes_of s.packet_size)) reported
 
 -- The bytes of the PES packets in a range, or all bytes if no range is selected.
-abbrev pub through_range : Option PesPacketRangeValue → Option (List ℕ) → Option (List ℕ)
-through_range None reported = reported
-through_range (Some r) reported = option_map (in_range r) reported
+abbrev pub bytes_in_range : Option PesPacketRangeValue → Option (List ℕ) → Option (List ℕ)
+bytes_in_range None reported = reported
+bytes_in_range (Some r) reported = option_map (in_range r) reported
 
 -- The number of the first selected PES packet in the file or the stream.
-abbrev pub number_in : Option PesPacketRangeValue → Option (List ℕ) → Option ℕ
-number_in None reported = Some 0
-number_in (Some r) reported = option_map (first_index r) reported
+abbrev pub first_number_in_range : Option PesPacketRangeValue → Option (List ℕ) → Option ℕ
+first_number_in_range None reported = Some 0
+first_number_in_range (Some r) reported = option_map (first_index r) reported
 
 -- The input is the part `part` of the source `whole`, and the call leaves this source in the state
 -- `left`. The source is given by the functions for its remaining bytes and its number of failed
@@ -48,10 +49,10 @@ pub record IsPartOf
     : Type 0 where
   pub reported :
       input.call.known
-      ≡ through_range part.range (through_stream part.stream (remaining whole))
+      ≡ bytes_in_range part.range (carried_bytes_if_stream part.stream (remaining whole))
   pub number :
       input.number.known
-      ≡ number_in part.range (through_stream part.stream (remaining whole))
+      ≡ first_number_in_range part.range (carried_bytes_if_stream part.stream (remaining whole))
   pub old_count : input.call.old_count ≡ failure_count whole
   pub new_count : input.call.new_count ≡ failure_count left
   -- If the part is the complete file, the input and the source have the same remaining bytes.
@@ -65,8 +66,8 @@ pub record IsRangeOf
     {D : Type 0} (range : Option PesPacketRangeValue) (remaining left : D → Option (List ℕ))
     (failure_count : D → ℕ) (old new : D) (input : InputCall)
     : Type 0 where
-  pub reported : input.call.known ≡ through_range range (remaining old)
-  pub number : input.number.known ≡ number_in range (remaining old)
+  pub reported : input.call.known ≡ bytes_in_range range (remaining old)
+  pub number : input.number.known ≡ first_number_in_range range (remaining old)
   pub old_count : input.call.old_count ≡ failure_count old
   pub new_count : input.call.new_count ≡ failure_count new
   pub left_eq : range ≡ None → input.call.left ≡ left new

@@ -3,19 +3,19 @@ use Rattle.std.specs.Prelude.{◌≡◌, ◌≢◌, List, ◌++◌, ℕ, Option}
 use Rattle.std.specs.Io.KnownBytes.{IsAtEnd}
 use Rattle.mpeg_ts.specs.declared.survey_options.SurveyOptions.{SurveyOptions}
 use Rattle.sub_listing.specs.DeviceCall.{SinkCall, SourceCall}
-use Rattle.sub_listing.specs.FaultLine.{line_of, status_of}
+use Rattle.sub_listing.specs.FaultLine.{text_of_fault_line, status_of}
 use Rattle.sub_listing.specs.Listing.{Listing, PrintsOrFails}
 use Rattle.sub_listing.specs.declared.fault_line.FaultLine.{FaultLine}
 use Rattle.sub_listing.specs.declared.status.Status.{Status}
 use Rattle.sub_listing.specs.declared.status.Status.TheVariants.{Done, Fault}
-use Rattle.ts_survey.specs.Listed.{IsSurveyed}
+use Rattle.ts_survey.specs.Listed.{IsSurveyOutput}
 
 -- The text ends with the line of a fault.
 pub record EndsInFault (text : List ℕ) : Type 0 where
   pub before : List ℕ
   pub fault : FaultLine
   pub is_fault : status_of fault.kind ≡ Fault
-  pub reported : text ≡ before ++ line_of fault
+  pub reported : text ≡ before ++ text_of_fault_line fault
 
 -- All lines were printed, or a prefix of them if the sink failed. If the status is `Done`, the
 -- lines are the requested survey of the recording. Otherwise the status is `Fault`, and unless the
@@ -26,13 +26,14 @@ pub record PrintsSurvey
   pub listing : Listing
   pub printed : PrintsOrFails out listing status
   pub done :
-      status ≡ Done → (out.new_count ≡ out.old_count) × IsSurveyed options recording listing.text
+      status ≡ Done → (out.new_count ≡ out.old_count) × IsSurveyOutput options recording
+      listing.text
   pub fault : status ≢ Done → status ≡ Fault
   pub line : status ≢ Done → out.new_count ≡ out.old_count → EndsInFault listing.text
 
 -- The lines of a survey were printed, and the recording was read to its end if the status is
 -- `Done`.
-pub record Surveys
+pub record AnswersSurvey
     (options : SurveyOptions) (recording : SourceCall) (out : SinkCall) (status : Status)
     : Type 0 where
   pub printed : PrintsSurvey options recording.known out status

@@ -9,16 +9,18 @@ mod listen;
 mod survey;
 
 ghost use Rattle.std.specs.Prelude.{◌≡◌, ◌<◌, false};
-ghost use Rattle.sub_answer.specs.Answering.{Answers, AnswersOver, CountsFaults, FlushesBefore};
-ghost use Rattle.sub_answer.specs.Answering.{FlushesWritten, WritesBefore, drawing_of};
+ghost use Rattle.sub_answer.specs.Answering.{Answers, AnswersFromInputs, CountsFaults};
+ghost use Rattle.sub_answer.specs.Answering.{FlushesBeforeRead};
+ghost use Rattle.sub_answer.specs.Answering.{FlushesOutputFile, WritesBeforeRead, drawing_of};
 ghost use Rattle.sub_answer.specs.Answering.{pes_packets_call};
-ghost use Rattle.sub_answer.specs.Answering.{StoresWritten, reads_pes_packets};
-ghost use Rattle.sub_answer.specs.Answering.{reads_some_pes_packets};
-ghost use Rattle.sub_answer.specs.Answering.{reads_source, entire_call};
+ghost use Rattle.sub_answer.specs.Answering.{StoresOutputFile, reads_pes_packets};
+ghost use Rattle.sub_answer.specs.Answering.{reads_any_pes_packets};
+ghost use Rattle.sub_answer.specs.Answering.{reads_plain_source, entire_call};
 ghost use Rattle.sub_listing.specs.DeviceCall.{CanFail, CountsFault, read_call, sink_call};
 ghost use Rattle.sub_listing.specs.DeviceCall.{source_call};
 ghost use Rattle.sub_listing.specs.Faults.{usage_line};
-ghost use Rattle.sub_request.specs.Files.{files_of, reads_input, reads_two, writes_file};
+ghost use Rattle.sub_request.specs.Files.{files_of_request, reads_input, reads_two_files};
+ghost use Rattle.sub_request.specs.Files.{writes_file};
 ghost use Rattle.sub_listing.specs.LastLine.{BuffersLastLineOnly};
 ghost use Rattle.sub_listing.specs.Listing.{PrintsOrFails, fault_listing};
 
@@ -30,8 +32,8 @@ use stl_file::Scope;
 use stl_rows::{Drawing, Layout, National};
 use sub_io::{Close, Flush, MemSource, Sink, Source};
 use sub_listing::{
-    Status, extract_packets, line_of_usage, list_packets, list_subtitles, print_fault_line,
-    print_help, print_version, show_packet, write_normal, write_schedule,
+    Status, extract_packets, list_packets, list_subtitles, print_fault_line, print_help,
+    print_version, show_packet, usage_fault_line, write_normal, write_schedule,
 };
 use sub_request::{Request, UsageFault};
 use survey::print_survey;
@@ -65,9 +67,10 @@ pub fn answer<S: Source, T: Source, F: Close, K: Flush>(
         (sink_call K.contents K.failure_count out.old out.new) result }
 
     // Devices that the request does not name are unchanged.
-    ensures first { reads_input (files_of request.now) ≡ false → first.new ≡ first.old }
-    ensures second { reads_two (files_of request.now) ≡ false → second.new ≡ second.old }
-    ensures file { writes_file (files_of request.now) ≡ false → file.new ≡ file.old }
+    ensures first { reads_input (files_of_request request.now) ≡ false → first.new ≡ first.old }
+    ensures second { reads_two_files (files_of_request request.now) ≡ false → second.new ≡
+        second.old }
+    ensures file { writes_file (files_of_request request.now) ≡ false → file.new ≡ file.old }
 
     // Each device fails at most once, and only if the status is `Fault`. A command that needs no
     // memory has the status `Fault` only if a device failed.
@@ -78,27 +81,27 @@ pub fn answer<S: Source, T: Source, F: Close, K: Flush>(
         (sink_call K.contents K.failure_count out.old out.new) result }
 
     // If the status is `Done`, an output file is stored, and its buffer is empty.
-    ensures buffered { FlushesWritten request.now result (F.buffered file.new) }
-    ensures stored { StoresWritten request.now result (F.is_stored file.new) }
+    ensures buffered { FlushesOutputFile request.now result (F.buffered file.new) }
+    ensures stored { StoresOutputFile request.now result (F.is_stored file.new) }
 
     // All output is flushed before the device of a PES file or recording is read. So if this read
     // fails, at most the line about the failure is still in the buffer.
-    ensures followed { K.buffered out.old ≡ 0 → FlushesBefore request.now
+    ensures followed { K.buffered out.old ≡ 0 → FlushesBeforeRead request.now
         (S.failure_count first.old < S.failure_count first.new)
         (T.failure_count second.old < T.failure_count second.new)
         (BuffersLastLineOnly K.contents K.buffered K.is_push out.new) }
 
     // All bytes are written to the device of `file` before the recording's device is read.
-    ensures written { F.buffered file.old ≡ 0 → WritesBefore request.now
+    ensures written { F.buffered file.old ≡ 0 → WritesBeforeRead request.now
         (S.failure_count first.old < S.failure_count first.new) (F.buffered file.new ≡ 0) }
 {
     if reads_pes_packets(request) {
         let mut nothing = MemSource::new(&[]);
         let mut pes_packets = FilePesPackets::new(first);
-        return answer_over(alloc, request, &mut nothing, &mut pes_packets, file, out);
+        return answer_from_inputs(alloc, request, &mut nothing, &mut pes_packets, file, out);
     }
     let mut pes_packets = FilePesPackets::new(second);
-    answer_over(alloc, request, first, &mut pes_packets, file, out)
+    answer_from_inputs(alloc, request, first, &mut pes_packets, file, out)
 }
 
 /// Returns whether the first input of a request contains PES packets, which are listed, received or
@@ -117,7 +120,7 @@ pub fn reads_pes_packets(request: &Request<'_>) -> bool
 /// `first` is the subtitle file or the surveyed recording, and `pes` reads the PES packets that are
 /// listed, received, checked or written. Devices that the request does not name are not used.
 /// Returns `Fault` if a device failed or memory ran out; everything printed before remains.
-pub fn answer_over<S: Source, P: NumberedPesPackets, F: Close, K: Flush>(
+pub fn answer_from_inputs<S: Source, P: NumberedPesPackets, F: Close, K: Flush>(
     alloc: Global,
     request: &Request<'_>,
     first: &mut S,
@@ -132,7 +135,7 @@ pub fn answer_over<S: Source, P: NumberedPesPackets, F: Close, K: Flush>(
 
     // The output and the output file, for each command, and the output that is flushed before a
     // read that may block.
-    ensures answers { AnswersOver request.now
+    ensures answers { AnswersFromInputs request.now
         (entire_call S.remaining S.failure_count first.old first.new)
         (pes_packets_call P.remaining P.left P.failure_count P.first P.skipped pes.old pes.new)
         (pes.new ≡ pes.old)
@@ -143,10 +146,10 @@ pub fn answer_over<S: Source, P: NumberedPesPackets, F: Close, K: Flush>(
         result }
 
     // Devices that the request does not name are unchanged.
-    ensures first { reads_source request.now ≡ false → first.new ≡ first.old }
-    ensures pes { reads_some_pes_packets request.now ≡ false → pes.new ≡ pes.old }
+    ensures first { reads_plain_source request.now ≡ false → first.new ≡ first.old }
+    ensures pes { reads_any_pes_packets request.now ≡ false → pes.new ≡ pes.old }
     ensures device { P.device pes.new ≡ P.device pes.old }
-    ensures file { writes_file (files_of request.now) ≡ false → file.new ≡ file.old }
+    ensures file { writes_file (files_of_request request.now) ≡ false → file.new ≡ file.old }
 
     // Each device fails at most once, and only if the status is `Fault`.
     ensures fault { CountsFaults request.now
@@ -156,8 +159,8 @@ pub fn answer_over<S: Source, P: NumberedPesPackets, F: Close, K: Flush>(
         (sink_call K.contents K.failure_count out.old out.new) result }
 
     // If the status is `Done`, an output file is stored, and its buffer is empty.
-    ensures buffered { FlushesWritten request.now result (F.buffered file.new) }
-    ensures stored { StoresWritten request.now result (F.is_stored file.new) }
+    ensures buffered { FlushesOutputFile request.now result (F.buffered file.new) }
+    ensures stored { StoresOutputFile request.now result (F.is_stored file.new) }
 {
     let drawing = drawing_of(request);
     match request {
@@ -214,5 +217,5 @@ pub fn print_usage_fault<K: Sink>(fault: &UsageFault, out: &mut K) -> Status
     ensures status { result ≡ Status.Fault }
     ensures count { CountsFault K.failure_count out.old result out.new }
 {
-    print_fault_line(&line_of_usage(fault), out)
+    print_fault_line(&usage_fault_line(fault), out)
 }

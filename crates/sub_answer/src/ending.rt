@@ -4,16 +4,16 @@
 //! Each kind of request has a function, which passes empty devices for the files that the request
 //! does not name.
 ghost use Rattle.std.specs.Prelude.{◌≡◌, ⊤, false, true, []};
-ghost use Rattle.sub_io.specs.Buffered.{Flushes, failures_and_refused};
+ghost use Rattle.sub_io.specs.Buffered.{Flushes, failures_with_refused_writes};
 ghost use Rattle.sub_io.specs.Device.{CanFail};
-ghost use Rattle.sub_answer.specs.Answering.{StoresWritten, first_input, pes_packets_call};
+ghost use Rattle.sub_answer.specs.Answering.{StoresOutputFile, first_input, pes_packets_call};
 ghost use Rattle.sub_answer.specs.Answering.{reads_pes_packets, entire_call};
 ghost use Rattle.sub_answer.specs.Ending.{BufferHoldsOneLineOnly, EndsWith, FlushesWithFile};
 ghost use Rattle.sub_answer.specs.Ending.{BuffersOneLineOnly, BuffersNothing, IsClosedAfter};
-ghost use Rattle.sub_answer.specs.Ending.{IsEmptyFile, IsEmptySource, PrintsFault, lines_in};
-ghost use Rattle.sub_answer.specs.Ending.{lines_of};
+ghost use Rattle.sub_answer.specs.Ending.{IsEmptyFile, IsEmptySource, PrintsFault, lines_of_sink};
+ghost use Rattle.sub_answer.specs.Ending.{lines_of_buffer};
 
-use crate::answering::{answer_over, print_usage_fault};
+use crate::answering::{answer_from_inputs, print_usage_fault};
 use crate::flushing::{FlushPending, flush_all};
 use std::alloc::Global;
 use sub_io::{BufferedSink, Close, MemSink, MemSource, Sink, Source};
@@ -22,24 +22,24 @@ use sub_request::{Request, UsageFault};
 use ttx_pes::{FilePesPackets, NumberedPesPackets};
 
 /// Answers a request that reads no file.
-pub fn answer_alone<K: Sink>(
+pub fn answer_without_input<K: Sink>(
     alloc: Global,
     request: &Request<'_>,
     out: &mut BufferedSink<'_, K>,
 ) -> Status
-    requires { failures_and_refused (K.failure_count out.old.device) out.old.refused ≡ 0 }
+    requires { failures_with_refused_writes (K.failure_count out.old.device) out.old.refused ≡ 0 }
     ensures { EndsWith request.now IsEmptySource IsEmptySource ⊤ IsEmptyFile
         (BufferHoldsOneLineOnly K.contents K.failure_count K.is_push)
-        (lines_of K.contents K.failure_count out.old)
-        (lines_of K.contents K.failure_count out.new) result }
+        (lines_of_buffer K.contents K.failure_count out.old)
+        (lines_of_buffer K.contents K.failure_count out.new) result }
 {
     let (mut first, mut nothing) = (MemSource::new(&[]), MemSource::new(&[]));
     let mut pes = FilePesPackets::new(&mut nothing);
-    answer_pair(alloc, request, &mut first, &mut pes, out)
+    answer_both_inputs(alloc, request, &mut first, &mut pes, out)
 }
 
 /// Answers a request that reads a source, and the PES packets of another source.
-pub fn answer_pair<S: Source, P: NumberedPesPackets, K: Sink>(
+pub fn answer_both_inputs<S: Source, P: NumberedPesPackets, K: Sink>(
     alloc: Global,
     request: &Request<'_>,
     first: &mut S,
@@ -48,7 +48,8 @@ pub fn answer_pair<S: Source, P: NumberedPesPackets, K: Sink>(
 ) -> Status
     requires first { CanFail (S.failure_count first.old) }
     requires pes { CanFail (P.failure_count pes.old) }
-    requires out { failures_and_refused (K.failure_count out.old.device) out.old.refused ≡ 0 }
+    requires out { failures_with_refused_writes (K.failure_count out.old.device) out.old.refused ≡
+        0 }
     ensures ends { EndsWith request.now
         (λ input. input ≡ first_input request.now
         (entire_call S.remaining S.failure_count first.old first.new)
@@ -57,12 +58,12 @@ pub fn answer_pair<S: Source, P: NumberedPesPackets, K: Sink>(
         ≡ pes_packets_call P.remaining P.left P.failure_count P.first P.skipped pes.old pes.new)
         (pes.new ≡ pes.old) IsEmptyFile
         (BufferHoldsOneLineOnly K.contents K.failure_count K.is_push)
-        (lines_of K.contents K.failure_count out.old)
-        (lines_of K.contents K.failure_count out.new) result }
+        (lines_of_buffer K.contents K.failure_count out.old)
+        (lines_of_buffer K.contents K.failure_count out.new) result }
     ensures device { P.device pes.new ≡ P.device pes.old }
 {
-    let (mut nowhere, mut room) = ([0; 0], [0; 1]);
-    let mut file = BufferedSink::new(MemSink::new(&mut nowhere), &mut room);
+    let (mut fault_line_without_place, mut room) = ([0; 0], [0; 1]);
+    let mut file = BufferedSink::new(MemSink::new(&mut fault_line_without_place), &mut room);
     answer_and_flush(alloc, request, first, pes, &mut file, out)
 }
 
@@ -76,7 +77,8 @@ pub fn answer_source<S: Source, F: Close, O: FlushPending<F>>(
 ) -> Status
     requires reads { reads_pes_packets request.now ≡ false }
     requires first { CanFail (S.failure_count first.old) }
-    requires file { (failures_and_refused (F.failure_count file.old.device) file.old.refused ≡ 0)
+    requires file { (failures_with_refused_writes (F.failure_count file.old.device) file.old.refused
+        ≡ 0)
         × (file.old.buffered ≡ []) }
     requires out { O.failure_count out.old ≡ 0 }
     ensures closed { F.is_closed file.new.device ≡ true }
@@ -86,11 +88,11 @@ pub fn answer_source<S: Source, F: Close, O: FlushPending<F>>(
         IsEmptySource ⊤
         (IsClosedAfter F.contents F.failure_count F.is_close request.now file.old file.new)
         (BuffersOneLineOnly O.contents O.buffer_state O.failure_count O.is_push)
-        (lines_in O.contents O.buffer_state O.failure_count out.old)
-        (lines_in O.contents O.buffer_state O.failure_count out.new) result }
+        (lines_of_sink O.contents O.buffer_state O.failure_count out.old)
+        (lines_of_sink O.contents O.buffer_state O.failure_count out.new) result }
     ensures done { result ≡ Status.Done → Flushes F.failure_count file.old file.new
         × BuffersNothing O.buffer_state O.failure_count out.old out.new }
-    ensures stored { StoresWritten request.now result (F.is_stored file.new.device) }
+    ensures stored { StoresOutputFile request.now result (F.is_stored file.new.device) }
 {
     let mut nothing = MemSource::new(&[]);
     let mut pes = FilePesPackets::new(&mut nothing);
@@ -107,7 +109,8 @@ pub fn answer_pes_packets<P: NumberedPesPackets, F: Close, O: FlushPending<F>>(
 ) -> Status
     requires reads { reads_pes_packets request.now ≡ true }
     requires pes { CanFail (P.failure_count pes.old) }
-    requires file { (failures_and_refused (F.failure_count file.old.device) file.old.refused ≡ 0)
+    requires file { (failures_with_refused_writes (F.failure_count file.old.device) file.old.refused
+        ≡ 0)
         × (file.old.buffered ≡ []) }
     requires out { O.failure_count out.old ≡ 0 }
     ensures closed { F.is_closed file.new.device ≡ true }
@@ -118,12 +121,12 @@ pub fn answer_pes_packets<P: NumberedPesPackets, F: Close, O: FlushPending<F>>(
         IsEmptySource ⊤
         (IsClosedAfter F.contents F.failure_count F.is_close request.now file.old file.new)
         (BuffersOneLineOnly O.contents O.buffer_state O.failure_count O.is_push)
-        (lines_in O.contents O.buffer_state O.failure_count out.old)
-        (lines_in O.contents O.buffer_state O.failure_count out.new) result }
+        (lines_of_sink O.contents O.buffer_state O.failure_count out.old)
+        (lines_of_sink O.contents O.buffer_state O.failure_count out.new) result }
     ensures device { P.device pes.new ≡ P.device pes.old }
     ensures done { result ≡ Status.Done → Flushes F.failure_count file.old file.new
         × BuffersNothing O.buffer_state O.failure_count out.old out.new }
-    ensures stored { StoresWritten request.now result (F.is_stored file.new.device) }
+    ensures stored { StoresOutputFile request.now result (F.is_stored file.new.device) }
 {
     let mut nothing = MemSource::new(&[]);
     answer_and_flush(alloc, request, &mut nothing, pes, file, out)
@@ -143,7 +146,8 @@ fn answer_and_flush<S: Source, P: NumberedPesPackets, F: Close, O: FlushPending<
 ) -> Status
     requires first { CanFail (S.failure_count first.old) }
     requires pes { CanFail (P.failure_count pes.old) }
-    requires file { (failures_and_refused (F.failure_count file.old.device) file.old.refused ≡ 0)
+    requires file { (failures_with_refused_writes (F.failure_count file.old.device) file.old.refused
+        ≡ 0)
         × (file.old.buffered ≡ []) }
     requires out { O.failure_count out.old ≡ 0 }
     ensures ends { EndsWith request.now
@@ -155,17 +159,17 @@ fn answer_and_flush<S: Source, P: NumberedPesPackets, F: Close, O: FlushPending<
         (pes.new ≡ pes.old)
         (IsClosedAfter F.contents F.failure_count F.is_close request.now file.old file.new)
         (BuffersOneLineOnly O.contents O.buffer_state O.failure_count O.is_push)
-        (lines_in O.contents O.buffer_state O.failure_count out.old)
-        (lines_in O.contents O.buffer_state O.failure_count out.new) result }
+        (lines_of_sink O.contents O.buffer_state O.failure_count out.old)
+        (lines_of_sink O.contents O.buffer_state O.failure_count out.new) result }
     ensures device { P.device pes.new ≡ P.device pes.old }
     ensures done { result ≡ Status.Done → Flushes F.failure_count file.old file.new
         × BuffersNothing O.buffer_state O.failure_count out.old out.new }
-    ensures stored { StoresWritten request.now result (F.is_stored file.new.device) }
+    ensures stored { StoresOutputFile request.now result (F.is_stored file.new.device) }
     ensures closed { F.is_closed file.new.device ≡ true }
     // The output was flushed after the file was closed.
     ensures after { FlushesWithFile O.is_flushed file.new out.new result }
 {
-    let status = answer_over(alloc, request, first, pes, file, out);
+    let status = answer_from_inputs(alloc, request, first, pes, file, out);
     file.close();
     out.flush_pending(status, file)
 }
@@ -175,9 +179,9 @@ pub fn print_and_flush_usage_fault<K: Sink>(
     fault: &UsageFault,
     out: &mut BufferedSink<'_, K>,
 ) -> Status
-    requires { failures_and_refused (K.failure_count out.old.device) out.old.refused ≡ 0 }
-    ensures says { PrintsFault fault.now (lines_of K.contents K.failure_count out.old)
-        (lines_of K.contents K.failure_count out.new) result }
+    requires { failures_with_refused_writes (K.failure_count out.old.device) out.old.refused ≡ 0 }
+    ensures says { PrintsFault fault.now (lines_of_buffer K.contents K.failure_count out.old)
+        (lines_of_buffer K.contents K.failure_count out.new) result }
     ensures status { result ≡ Status.Fault }
 {
     flush_all(print_usage_fault(fault, out), out)

@@ -14,14 +14,14 @@
 
 mod answering;
 mod ending;
+mod file_answers;
 mod flushing;
 mod laws;
-mod over_files;
 mod part;
 mod parts;
 
-pub use answering::{answer, answer_over, print_usage_fault};
+pub use answering::{answer, answer_from_inputs, print_usage_fault};
 pub use ending::print_and_flush_usage_fault;
+pub use file_answers::open_and_answer;
 pub use laws::law_of_files_in_memory;
-pub use over_files::open_and_answer;
 pub use sub_listing::{InputFault, Status, read_input};

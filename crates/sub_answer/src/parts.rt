@@ -1,16 +1,16 @@
 //! Answers a request with a part of a source. This module creates the readers of PES packets, for a
 //! file or a recording.
 ghost use Rattle.std.specs.Prelude.{◌≡◌, ◌⊎◌, ⊤, None, Some, [], false, true};
-ghost use Rattle.sub_io.specs.Buffered.{Flushes, failures_and_refused};
+ghost use Rattle.sub_io.specs.Buffered.{Flushes, failures_with_refused_writes};
 ghost use Rattle.sub_io.specs.Device.{CanFail};
-ghost use Rattle.sub_answer.specs.Answering.{StoresWritten, reads_pes_packets, entire_call};
+ghost use Rattle.sub_answer.specs.Answering.{StoresOutputFile, reads_pes_packets, entire_call};
 ghost use Rattle.sub_answer.specs.Ending.{BufferHoldsOneLineOnly, EndsWith, BuffersOneLineOnly};
-ghost use Rattle.sub_answer.specs.Ending.{IsClosedAfter, IsEmptyFile, IsEmptySource, lines_in};
-ghost use Rattle.sub_answer.specs.Ending.{lines_of};
+ghost use Rattle.sub_answer.specs.Ending.{IsClosedAfter, IsEmptyFile, IsEmptySource, lines_of_sink};
+ghost use Rattle.sub_answer.specs.Ending.{lines_of_buffer};
 ghost use Rattle.sub_answer.specs.Part.{IsPartOf, IsRangeOf, entire_file};
 
 use crate::answering::reads_pes_packets;
-use crate::ending::{answer_pair, answer_pes_packets, answer_source};
+use crate::ending::{answer_both_inputs, answer_pes_packets, answer_source};
 use crate::flushing::FlushPending;
 use crate::part::Part;
 use mpeg_ts::RecordingPesPackets;
@@ -35,17 +35,18 @@ pub fn answer_part<S: Source + Drop, F: Close, O: FlushPending<F>>(
 ) -> (Status, S)
     requires fits { (part ≡ entire_file) ⊎ (reads_pes_packets request.now ≡ true) }
     requires first { CanFail (S.failure_count whole) }
-    requires file { (failures_and_refused (F.failure_count file.old.device) file.old.refused ≡ 0)
+    requires file { (failures_with_refused_writes (F.failure_count file.old.device) file.old.refused
+        ≡ 0)
         × (file.old.buffered ≡ []) }
     requires out { O.failure_count out.old ≡ 0 }
     ensures ends { EndsWith request.now (IsPartOf part S.remaining S.failure_count whole result.1)
         IsEmptySource ⊤
         (IsClosedAfter F.contents F.failure_count F.is_close request.now file.old file.new)
         (BuffersOneLineOnly O.contents O.buffer_state O.failure_count O.is_push)
-        (lines_in O.contents O.buffer_state O.failure_count out.old)
-        (lines_in O.contents O.buffer_state O.failure_count out.new) result.0 }
+        (lines_of_sink O.contents O.buffer_state O.failure_count out.old)
+        (lines_of_sink O.contents O.buffer_state O.failure_count out.new) result.0 }
     ensures done { result.0 ≡ Status.Done → Flushes F.failure_count file.old file.new }
-    ensures stored { StoresWritten request.now result.0 (F.is_stored file.new.device) }
+    ensures stored { StoresOutputFile request.now result.0 (F.is_stored file.new.device) }
 {
     let Part { stream, range } = part;
     let mut whole = whole;
@@ -79,7 +80,8 @@ fn answer_range<P: NumberedPesPackets, F: Close, O: FlushPending<F>>(
     requires reads { reads_pes_packets request.now ≡ true }
     requires start { P.first pes_packets.old ≡ Some 0 }
     requires pes_packets { CanFail (P.failure_count pes_packets.old) }
-    requires file { (failures_and_refused (F.failure_count file.old.device) file.old.refused ≡ 0)
+    requires file { (failures_with_refused_writes (F.failure_count file.old.device) file.old.refused
+        ≡ 0)
         × (file.old.buffered ≡ []) }
     requires out { O.failure_count out.old ≡ 0 }
     ensures ends { EndsWith request.now
@@ -87,11 +89,11 @@ fn answer_range<P: NumberedPesPackets, F: Close, O: FlushPending<F>>(
         IsEmptySource ⊤
         (IsClosedAfter F.contents F.failure_count F.is_close request.now file.old file.new)
         (BuffersOneLineOnly O.contents O.buffer_state O.failure_count O.is_push)
-        (lines_in O.contents O.buffer_state O.failure_count out.old)
-        (lines_in O.contents O.buffer_state O.failure_count out.new) result }
+        (lines_of_sink O.contents O.buffer_state O.failure_count out.old)
+        (lines_of_sink O.contents O.buffer_state O.failure_count out.new) result }
     ensures device { P.device pes_packets.new ≡ P.device pes_packets.old }
     ensures done { result ≡ Status.Done → Flushes F.failure_count file.old file.new }
-    ensures stored { StoresWritten request.now result (F.is_stored file.new.device) }
+    ensures stored { StoresOutputFile request.now result (F.is_stored file.new.device) }
 {
     match range {
         None => answer_pes_packets(alloc, request, pes_packets, file, out),
@@ -118,13 +120,14 @@ pub fn answer_second_part<S: Source, T: Source + Drop, K: Sink>(
     requires reads { reads_pes_packets request.now ≡ false }
     requires first { CanFail (S.failure_count first.old) }
     requires second { CanFail (T.failure_count whole) }
-    requires out { failures_and_refused (K.failure_count out.old.device) out.old.refused ≡ 0 }
+    requires out { failures_with_refused_writes (K.failure_count out.old.device) out.old.refused ≡
+        0 }
     ensures { EndsWith request.now
         (λ input. input ≡ entire_call S.remaining S.failure_count first.old first.new)
         (IsPartOf part T.remaining T.failure_count whole result.1) (result.1 ≡ whole) IsEmptyFile
         (BufferHoldsOneLineOnly K.contents K.failure_count K.is_push)
-        (lines_of K.contents K.failure_count out.old)
-        (lines_of K.contents K.failure_count out.new) result.0 }
+        (lines_of_buffer K.contents K.failure_count out.old)
+        (lines_of_buffer K.contents K.failure_count out.new) result.0 }
 {
     let Part { stream, range } = part;
     let mut whole = whole;
@@ -155,24 +158,25 @@ fn answer_second_range<S: Source, P: NumberedPesPackets, K: Sink>(
     requires start { P.first pes_packets.old ≡ Some 0 }
     requires first { CanFail (S.failure_count first.old) }
     requires pes_packets { CanFail (P.failure_count pes_packets.old) }
-    requires out { failures_and_refused (K.failure_count out.old.device) out.old.refused ≡ 0 }
+    requires out { failures_with_refused_writes (K.failure_count out.old.device) out.old.refused ≡
+        0 }
     ensures ends { EndsWith request.now
         (λ input. input ≡ entire_call S.remaining S.failure_count first.old first.new)
         (IsRangeOf range P.remaining P.left P.failure_count pes_packets.old pes_packets.new)
         (pes_packets.new ≡ pes_packets.old) IsEmptyFile
         (BufferHoldsOneLineOnly K.contents K.failure_count K.is_push)
-        (lines_of K.contents K.failure_count out.old)
-        (lines_of K.contents K.failure_count out.new) result }
+        (lines_of_buffer K.contents K.failure_count out.old)
+        (lines_of_buffer K.contents K.failure_count out.new) result }
     ensures device { P.device pes_packets.new ≡ P.device pes_packets.old }
 {
     match range {
-        None => answer_pair(alloc, request, first, pes_packets, out),
+        None => answer_both_inputs(alloc, request, first, pes_packets, out),
         Some(range) => {
             let mut some = PartOfPesPackets {
                 inner: LimitedPesPackets::new(pes_packets, range.most()),
                 ahead: PesPacketsAhead::new(range.first()),
             };
-            answer_pair(alloc, request, first, &mut some, out)
+            answer_both_inputs(alloc, request, first, &mut some, out)
         }
     }
 }

@@ -5,44 +5,46 @@ use Rattle.stl_file.specs.Subtitle.{SubtitleValue}
 use Rattle.stl_rows.specs.Programme.{ProgrammeValue}
 use Rattle.stl_rows.specs.declared.layout.Drawing.{Drawing}
 use Rattle.sub_plan.specs.Options.{OptionsValue}
-use Rattle.sub_rules.specs.Repeats.{GoodBy, IsFinishedBy, SomeFinishedBy}
+use Rattle.sub_rules.specs.Repeats.{GoodWithRepeats, IsFinishedFrame, HasFinishedFrame}
 use Rattle.sub_rules.specs.Transmission.{Transmission, last_frame}
-use Rattle.sub_laws.proofs.RepeatLemmas.{law_of_may_keep, law_of_none_keeps}
-use Rattle.sub_check.specs.AcceptedKeeping.{LawOfAcceptedKeeping, LawOfAcceptedNoneKeeps, keeping}
-use Rattle.sub_check.specs.CheckedFiles.{MeanWithin}
-use Rattle.sub_check.proofs.AcceptedWithinLemmas.{none_failed}
+use Rattle.sub_laws.proofs.RepeatLemmas.{law_of_may_keep, law_of_erasing_headers}
+use Rattle.sub_check.specs.AcceptedKeeping.{LawOfAcceptedKeeping, LawOfAcceptedWithoutKeeping}
+use Rattle.sub_check.specs.AcceptedKeeping.{with_keeping}
+use Rattle.sub_check.specs.CheckedFiles.{FilesMeanWithin}
+use Rattle.sub_check.proofs.AcceptedWithinLemmas.{accepted_answer_has_no_failure}
 
-abbrev options_with_keeps : Bool → OptionsValue → OptionsValue
-options_with_keeps may options = record options { keeps = may }
+abbrev options_with_keeping : Bool → OptionsValue → OptionsValue
+options_with_keeping may options = record options { keeps = may }
 
 -- Of the options, only those of the clock affect the contents of the files.
-mean-keeps :
+files_mean-keeps :
     (may : Bool) (drawing : Drawing) (options : OptionsValue) (stl pes : List ℕ)
     (subtitles : List SubtitleValue) (t : Transmission)
-    → MeanWithin drawing options stl pes subtitles t
-    → MeanWithin drawing (options_with_keeps may options) stl pes subtitles t
-mean-keeps may drawing options stl pes subtitles t mean = record {
-  gsi = mean.gsi;
-  subtitle_file = mean.subtitle_file;
-  in_order = mean.in_order;
-  drawable = mean.drawable;
-  carries = mean.carries;
+    → FilesMeanWithin drawing options stl pes subtitles t
+    → FilesMeanWithin drawing (options_with_keeping may options) stl pes subtitles t
+files_mean-keeps may drawing options stl pes subtitles t files_mean = record {
+  gsi = files_mean.gsi;
+  subtitle_file = files_mean.subtitle_file;
+  in_order = files_mean.in_order;
+  drawable = files_mean.drawable;
+  carries = files_mean.carries;
 }
 
 module _ (keeps may : Bool) (programme : ProgrammeValue) (t : Transmission)
     (options : OptionsValue) where
   finished-keeps : (f : ℕ)
-      → IsFinishedBy keeps programme t options f
-      → IsFinishedBy keeps programme t (options_with_keeps may options) f
+      → IsFinishedFrame keeps programme t options f
+      → IsFinishedFrame keeps programme t (options_with_keeping may options) f
   finished-keeps f is = record { whole = is.whole; ended = is.ended }
 
   some_finished-keeps : (a b : ℕ)
-      → SomeFinishedBy keeps programme t options a b
-      → SomeFinishedBy keeps programme t (options_with_keeps may options) a b
+      → HasFinishedFrame keeps programme t options a b
+      → HasFinishedFrame keeps programme t (options_with_keeping may options) a b
   some_finished-keeps a b (f, from, to, is) = (f, from, to, finished-keeps f is)
 
   good-keeps :
-      GoodBy keeps programme t options → GoodBy keeps programme t (options_with_keeps may options)
+      GoodWithRepeats keeps programme t options → GoodWithRepeats keeps programme t
+      (options_with_keeping may options)
   good-keeps good = record {
     rules = assumption good.rules;
     codes = good.codes;
@@ -53,32 +55,36 @@ module _ (keeps may : Bool) (programme : ProgrammeValue) (t : Transmission)
 
 pub law_of_accepted_keeping : LawOfAcceptedKeeping
 law_of_accepted_keeping drawing options stl pes answer later off is is_later fine ok =
-    let of = (is.accepted (none_failed answer ok)).0 ok in
+    let of = (is.accepted (accepted_answer_has_no_failure answer ok)).0 ok in
     let programme : ProgrammeValue = record { drawing = drawing; records = of.subtitles } in
     (is_later.accepted fine).1 (record {
       subtitles = of.subtitles;
       transmission = of.transmission;
-      mean = mean-keeps true drawing options stl pes of.subtitles of.transmission of.mean;
+      files_mean = files_mean-keeps true drawing options stl pes of.subtitles of.transmission
+          of.files_mean;
       good =
           good-keeps true true programme of.transmission options
           (law_of_may_keep programme of.transmission options
-          (subst (λ (k : Bool). GoodBy k programme of.transmission options) off of.good));
+          (subst (λ (k : Bool). GoodWithRepeats k programme of.transmission options) off of.good));
     })
 
-pub law_of_accepted_none_keeps : LawOfAcceptedNoneKeeps
-law_of_accepted_none_keeps drawing options stl pes answer later off is erases is_later fine ok =
-    let of = (is.accepted (none_failed answer ok)).0 ok in
+pub law_of_accepted_without_keeping : LawOfAcceptedWithoutKeeping
+law_of_accepted_without_keeping drawing options stl pes answer later off is erases is_later fine
+    ok =
+    let of = (is.accepted (accepted_answer_has_no_failure answer ok)).0 ok in
     let programme : ProgrammeValue = record { drawing = drawing; records = of.subtitles } in
-    let mean =
-    mean-keeps options.keeps drawing (keeping options) stl pes of.subtitles of.transmission
-    of.mean in
+    let files_mean =
+    files_mean-keeps options.keeps drawing (with_keeping options) stl pes of.subtitles
+    of.transmission
+    of.files_mean in
     (is_later.accepted fine).1 (record {
       subtitles = of.subtitles;
       transmission = of.transmission;
-      mean = mean;
+      files_mean = files_mean;
       good =
-          good-keeps options.keeps options.keeps programme of.transmission (keeping options)
-          (subst (λ (k : Bool). GoodBy k programme of.transmission (keeping options)) (sym off)
-          (law_of_none_keeps programme of.transmission (keeping options)
-          (erases of.subtitles of.transmission mean) of.good));
+          good-keeps options.keeps options.keeps programme of.transmission (with_keeping options)
+          (subst (λ (k : Bool). GoodWithRepeats k programme of.transmission (with_keeping options))
+          (sym off)
+          (law_of_erasing_headers programme of.transmission (with_keeping options)
+          (erases of.subtitles of.transmission files_mean) of.good));
     })

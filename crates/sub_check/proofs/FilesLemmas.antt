@@ -6,7 +6,8 @@ use Rattle.std.specs.Prelude.{IsTrue}
 use Rattle.sub_io.specs.Device.{failed}
 use Rattle.stl_file.specs.Subtitle.{SubtitleValue}
 use Rattle.stl_rows.specs.EveryFault.{faults}
-use Rattle.stl_rows.specs.Loading.{LawOfLoading, ReportsFault, loaded, unless_reported}
+use Rattle.stl_rows.specs.Loading.{LawOfLoading, ReportsFault, loaded_programme}
+use Rattle.stl_rows.specs.Loading.{programme_unless_faulty}
 use Rattle.stl_rows.specs.Programme.{ProgrammeValue}
 use Rattle.stl_rows.specs.declared.fault.LoadFault.{LoadFault}
 use Rattle.stl_rows.specs.declared.fault.LoadFaultKind.{LoadFaultKind}
@@ -15,17 +16,17 @@ use Rattle.sub_plan.specs.FrameTime.{clock_of}
 use Rattle.sub_plan.specs.Options.{OptionsValue}
 use Rattle.sub_rules.specs.Fault.{is_failure, is_failure_kind, is_pes_read, is_subtitle_fault}
 use Rattle.sub_rules.specs.Good.{Good}
-use Rattle.sub_rules.specs.PesFrames.{Carries, CarriesBy}
-use Rattle.sub_rules.specs.Repeats.{GoodBy}
+use Rattle.sub_rules.specs.PesFrames.{Carries, CarriesOnClock}
+use Rattle.sub_rules.specs.Repeats.{GoodWithRepeats}
 use Rattle.sub_rules.specs.Transmission.{Transmission}
 use Rattle.sub_rules.specs.declared.fault.CheckFault.{CheckFault}
 use Rattle.sub_rules.specs.declared.fault.CheckFault.TheVariants as fault
 use Rattle.sub_checker.specs.declared.accepted.Accepted.{Accepted}
 use Rattle.sub_laws.specs.OnScreen.{Complete}
-use Rattle.sub_laws.specs.Repeats.{HasPromisesBy}
+use Rattle.sub_laws.specs.Repeats.{HasPromisesWithRepeats}
 use Rattle.sub_laws.specs.Stretch.{HasPromises}
 use Rattle.sub_check.specs.CheckedFiles.{AreAccepted, AreAcceptedBy, IsAccepted, IsAcceptedBy}
-use Rattle.sub_check.specs.CheckedFiles.{IsChecked, IsCheckedBy, Mean, MeanWithin}
+use Rattle.sub_check.specs.CheckedFiles.{IsChecked, IsCheckedBy, FilesMean, FilesMeanWithin}
 
 pub same_programme :
     (a b : ProgrammeValue) (r : Result ProgrammeValue LoadFault) → r ≡ Ok a → r ≡ Ok b → a ≡ b
@@ -40,69 +41,72 @@ answer_after_loading :
     → failed is_pes_read answer ≡ false
 answer_after_loading answer looked fine = grind (arith, nat_tests)
 
-one_given : (faults : List LoadFault) (p q : ProgrammeValue) → unless_reported faults p ≡ Ok q → p ≡
+no_fault_keeps_programme : (faults : List LoadFault) (p q : ProgrammeValue) →
+    programme_unless_faulty faults p ≡ Ok q → p ≡
     q
-one_given faults p q h = grind (arith, nat_tests)
+no_fault_keeps_programme faults p q h = grind (arith, nat_tests)
 
-own_drawing : (drawing : Drawing) (stl : List ℕ) (programme : ProgrammeValue)
-    → loaded drawing stl ≡ Ok programme
+loading_keeps_drawing : (drawing : Drawing) (stl : List ℕ) (programme : ProgrammeValue)
+    → loaded_programme drawing stl ≡ Ok programme
     → programme.drawing ≡ drawing
-unfolding loaded
-own_drawing drawing stl programme given =
-    sym (ap (λ (p : ProgrammeValue). p.drawing) (one_given (faults drawing stl) _ programme given))
+unfolding loaded_programme
+loading_keeps_drawing drawing stl programme given =
+    sym (ap (λ (p : ProgrammeValue). p.drawing) (no_fault_keeps_programme (faults drawing stl)
+    _ programme given))
 
 module _ (drawing : Drawing) (options : OptionsValue) (stl pes : List ℕ)
     (loading : LawOfLoading) where
-  loads : (subtitles : List SubtitleValue) (transmission : Transmission)
-      → Mean drawing options.origin stl pes subtitles transmission
-      → loaded drawing stl ≡ Ok (record { drawing = drawing; records = subtitles })
-  loads subtitles transmission mean =
+  described_files_load : (subtitles : List SubtitleValue) (transmission : Transmission)
+      → FilesMean drawing options.origin stl pes subtitles transmission
+      → loaded_programme drawing stl ≡ Ok (record { drawing = drawing; records = subtitles })
+  described_files_load subtitles transmission files_mean =
       (loading drawing stl subtitles).1
-      (mean.gsi, mean.subtitle_file, mean.in_order, mean.drawable)
+      (files_mean.gsi, files_mean.subtitle_file, files_mean.in_order, files_mean.drawable)
 
-  loads_within : (subtitles : List SubtitleValue) (transmission : Transmission)
-      → MeanWithin drawing options stl pes subtitles transmission
-      → loaded drawing stl ≡ Ok (record { drawing = drawing; records = subtitles })
-  loads_within subtitles transmission mean =
+  described_files_load_within : (subtitles : List SubtitleValue) (transmission : Transmission)
+      → FilesMeanWithin drawing options stl pes subtitles transmission
+      → loaded_programme drawing stl ≡ Ok (record { drawing = drawing; records = subtitles })
+  described_files_load_within subtitles transmission files_mean =
       (loading drawing stl subtitles).1
-      (mean.gsi, mean.subtitle_file, mean.in_order, mean.drawable)
+      (files_mean.gsi, files_mean.subtitle_file, files_mean.in_order, files_mean.drawable)
 
-  pub accepted-loads : IsAccepted drawing options stl pes
-      → (programme : ProgrammeValue) × (loaded drawing stl ≡ Ok programme)
-  accepted-loads is = (
+  pub accepted-described_files_load : IsAccepted drawing options stl pes
+      → (programme : ProgrammeValue) × (loaded_programme drawing stl ≡ Ok programme)
+  accepted-described_files_load is = (
     record { drawing = drawing; records = is.subtitles },
-    loads is.subtitles is.transmission is.mean,
+    described_files_load is.subtitles is.transmission is.files_mean,
   )
 
   pub accepted-loads_by : IsAcceptedBy drawing options stl pes
-      → (programme : ProgrammeValue) × (loaded drawing stl ≡ Ok programme)
+      → (programme : ProgrammeValue) × (loaded_programme drawing stl ≡ Ok programme)
   accepted-loads_by is = (
     record { drawing = drawing; records = is.subtitles },
-    loads_within is.subtitles is.transmission is.mean,
+    described_files_load_within is.subtitles is.transmission is.files_mean,
   )
 
-  module _ (programme : ProgrammeValue) (given : loaded drawing stl ≡ Ok programme) where
-    programme_eq : (subtitles : List SubtitleValue)
-        → loaded drawing stl ≡ Ok (record { drawing = drawing; records = subtitles })
+  module _ (programme : ProgrammeValue) (given : loaded_programme drawing stl ≡ Ok programme) where
+    loaded_programme_is_unique : (subtitles : List SubtitleValue)
+        → loaded_programme drawing stl ≡ Ok (record { drawing = drawing; records = subtitles })
         → programme ≡ record { drawing = drawing; records = subtitles }
-    programme_eq subtitles read = same_programme programme _ (loaded drawing stl) given read
+    loaded_programme_is_unique subtitles read = same_programme programme _ (loaded_programme drawing
+        stl) given read
 
     of : programme ≡ record { drawing = drawing; records = programme.records }
     of =
         ap (λ n. let p : ProgrammeValue = record { drawing = n; records = programme.records } in p)
-        (own_drawing drawing stl programme given)
+        (loading_keeps_drawing drawing stl programme given)
 
-    pub as_accepted : (t : Transmission)
+    pub good_transmission_is_accepted : (t : Transmission)
         × Carries options.origin pes t
         × Good programme t options
         × (IsTrue options.asks_complete → Complete t options)
         → IsAccepted drawing options stl pes
-    as_accepted (t, carries, good, complete) =
+    good_transmission_is_accepted (t, carries, good, complete) =
         let file = (loading drawing stl programme.records).0 (given ∙ ap (λ p. Ok p) of) in
         record {
           subtitles = programme.records;
           transmission = t;
-          mean = record {
+          files_mean = record {
             gsi = file.0;
             subtitle_file = file.1;
             in_order = file.2;
@@ -113,77 +117,88 @@ module _ (drawing : Drawing) (options : OptionsValue) (stl pes : List ℕ)
           complete = complete;
         }
 
-    pub of_accepted : IsAccepted drawing options stl pes
+    pub accepted_transmission_is_good : IsAccepted drawing options stl pes
         → (t : Transmission)
         × Carries options.origin pes t
         × Good programme t options
         × (IsTrue options.asks_complete → Complete t options)
-    of_accepted is =
-        let same = programme_eq is.subtitles (loads is.subtitles is.transmission is.mean) in (
+    accepted_transmission_is_good is =
+        let same = loaded_programme_is_unique is.subtitles (described_files_load is.subtitles
+        is.transmission is.files_mean) in (
           is.transmission,
-          is.mean.carries,
+          is.files_mean.carries,
           subst (λ (p : ProgrammeValue). Good p is.transmission options) (sym same) is.good,
           is.complete,
         )
 
-    pub as_accepted_by : (t : Transmission)
-        × CarriesBy (clock_of options) options.within pes t
-        × GoodBy options.keeps programme t options
+    pub good_transmission_accepted_within : (t : Transmission)
+        × CarriesOnClock (clock_of options) options.within pes t
+        × GoodWithRepeats options.keeps programme t options
         → IsAcceptedBy drawing options stl pes
-    as_accepted_by (t, carries, good) =
+    good_transmission_accepted_within (t, carries, good) =
         let file = (loading drawing stl programme.records).0 (given ∙ ap (λ p. Ok p) of) in
         record {
           subtitles = programme.records;
           transmission = t;
-          mean = record {
+          files_mean = record {
             gsi = file.0;
             subtitle_file = file.1;
             in_order = file.2;
             drawable = file.3;
             carries = carries;
           };
-          good = subst (λ (p : ProgrammeValue). GoodBy options.keeps p t options) of good;
+          good = subst (λ (p : ProgrammeValue). GoodWithRepeats options.keeps p t options) of good;
         }
 
-    pub of_accepted_by : IsAcceptedBy drawing options stl pes
+    pub accepted_within_is_good : IsAcceptedBy drawing options stl pes
         → (t : Transmission)
-        × CarriesBy (clock_of options) options.within pes t
-        × GoodBy options.keeps programme t options
-    of_accepted_by is =
+        × CarriesOnClock (clock_of options) options.within pes t
+        × GoodWithRepeats options.keeps programme t options
+    accepted_within_is_good is =
         let same =
-        programme_eq is.subtitles (loads_within is.subtitles is.transmission is.mean) in (
+        loaded_programme_is_unique is.subtitles (described_files_load_within is.subtitles
+        is.transmission is.files_mean) in (
           is.transmission,
-          is.mean.carries,
-          subst (λ (p : ProgrammeValue). GoodBy options.keeps p is.transmission options) (sym same)
+          is.files_mean.carries,
+          subst (λ (p : ProgrammeValue). GoodWithRepeats options.keeps p is.transmission options)
+              (sym same)
               is.good,
         )
 
     module _ (answer : Result Accepted CheckFault)
         (looked : failed is_subtitle_fault answer ≡ false) where
-      pub files_accepted : IsChecked programme options pes answer
+      pub checked_files_are_accepted : IsChecked programme options pes answer
           → AreAccepted drawing options stl pes answer
-      files_accepted checked = record {
+      checked_files_are_accepted checked = record {
         accepted = λ fine.
-            let exactly = checked.accepted looked (answer_after_loading answer looked fine) in
-            (λ ok. as_accepted (exactly.0 ok), λ is. exactly.1 (of_accepted is));
-        serves = λ subtitles t mean ok.
-            let (promises, complete) = checked.serves t mean.carries ok in (
+            let exactly = checked.accepted looked (answer_after_loading answer looked fine) in (
+              λ ok. good_transmission_is_accepted (exactly.0 ok),
+              λ is. exactly.1
+                  (accepted_transmission_is_good is),
+            );
+        serves = λ subtitles t files_mean ok.
+            let (promises, complete) = checked.serves t files_mean.carries ok in (
               subst (λ (p : ProgrammeValue). HasPromises p t options)
-                  (programme_eq subtitles (loads subtitles t mean)) promises,
+                  (loaded_programme_is_unique subtitles (described_files_load subtitles t
+                  files_mean)) promises,
               complete,
             );
       }
 
-      pub files_accepted_by : IsCheckedBy programme options pes answer
+      pub checked_files_accepted_within : IsCheckedBy programme options pes answer
           → AreAcceptedBy drawing options stl pes answer
-      files_accepted_by checked = record {
+      checked_files_accepted_within checked = record {
         accepted = λ fine.
-            let exactly = checked.accepted looked (answer_after_loading answer looked fine) in
-            (λ ok. as_accepted_by (exactly.0 ok), λ is. exactly.1 (of_accepted_by is));
-        serves = λ subtitles t mean ok.
-            subst (λ (p : ProgrammeValue). HasPromisesBy options.keeps p t options)
-            (programme_eq subtitles (loads_within subtitles t mean))
-            (checked.serves t mean.carries ok).1;
+            let exactly = checked.accepted looked (answer_after_loading answer looked fine) in (
+              λ ok. good_transmission_accepted_within (exactly.0 ok),
+              λ is. exactly.1
+                  (accepted_within_is_good is),
+            );
+        serves = λ subtitles t files_mean ok.
+            subst (λ (p : ProgrammeValue). HasPromisesWithRepeats options.keeps p t options)
+            (loaded_programme_is_unique subtitles (described_files_load_within subtitles t
+            files_mean))
+            (checked.serves t files_mean.carries ok).1;
       }
 
 own_fault :
@@ -191,30 +206,31 @@ own_fault :
     (kind : LoadFaultKind)
     → ReportsFault drawing stl block kind
     → is_failure_kind kind ≡ false
-    → loaded drawing stl ≡ Ok programme
+    → loaded_programme drawing stl ≡ Ok programme
     → ⊥
 own_fault drawing stl programme block kind reported fine is = grind (arith, nat_tests)
 
 module _ (drawing : Drawing) (options : OptionsValue) (stl pes : List ℕ) (f : LoadFault)
     (loading : LawOfLoading) (reported : ReportsFault drawing stl f.block f.kind) where
-  pub files_refused : AreAccepted drawing options stl pes (Err (fault.Subtitles f))
-  files_refused = record {
+  pub faulty_subtitles_are_refused : AreAccepted drawing options stl pes (Err (fault.Subtitles f))
+  faulty_subtitles_are_refused = record {
     accepted = λ fine. (
       λ ok. cc,
       λ g.
           absurd (own_fault drawing stl _ f.block f.kind reported fine
-          (accepted-loads drawing options stl pes loading g).1),
+          (accepted-described_files_load drawing options stl pes loading g).1),
     );
-    serves = λ subtitles transmission mean ok. cc;
+    serves = λ subtitles transmission files_mean ok. cc;
   }
 
-  pub files_refused_by : AreAcceptedBy drawing options stl pes (Err (fault.Subtitles f))
-  files_refused_by = record {
+  pub faulty_subtitles_refused_within : AreAcceptedBy drawing options stl pes
+      (Err (fault.Subtitles f))
+  faulty_subtitles_refused_within = record {
     accepted = λ fine. (
       λ ok. cc,
       λ g.
           absurd (own_fault drawing stl _ f.block f.kind reported fine
           (accepted-loads_by drawing options stl pes loading g).1),
     );
-    serves = λ subtitles transmission mean ok. cc;
+    serves = λ subtitles transmission files_mean ok. cc;
   }

@@ -12,11 +12,11 @@ use Rattle.ttx_pes.specs.declared.fault.PesFault.TheVariants.{Read}
 use Rattle.stl_rows.specs.Programme.{ProgrammeValue}
 use Rattle.sub_plan.specs.FrameTime.{clock_of}
 use Rattle.sub_plan.specs.Options.{OptionsValue}
-use Rattle.sub_check.specs.FirstReported.{IsRuleFault, KeepsFirstFault, is_of_rule}
+use Rattle.sub_check.specs.FirstReported.{IsRuleFault, KeepsFirstFault, is_rule_fault}
 use Rattle.sub_checker.specs.declared.accepted.Accepted.{Accepted}
-use Rattle.sub_rules.specs.Events.{broken_cell, first_reported, unread_fault}
-use Rattle.sub_rules.specs.FrameRules.{Criteria, Unread, criteria_of}
-use Rattle.sub_rules.specs.FrameRules.Unread.{BadPacket, NoFrame}
+use Rattle.sub_rules.specs.Events.{broken_cell, first_reported_fault, unread_fault}
+use Rattle.sub_rules.specs.FrameRules.{Criteria, UnreadReason, criteria_of}
+use Rattle.sub_rules.specs.FrameRules.UnreadReason.{BadPacket, NoFrame}
 use Rattle.sub_rules.specs.PesReading.{file_at, pes_file_of}
 use Rattle.sub_rules.specs.PesPackets.{PesFileValue, joined, pes_packet_file_of}
 use Rattle.sub_rules.specs.Transmission.{EachPacket, SentFrame, Transmission}
@@ -26,11 +26,11 @@ use Rattle.sub_rules.specs.declared.fault.CheckFault.{CheckFault}
 use Rattle.sub_rules.specs.declared.fault.CheckFault.TheVariants as fault
 use Rattle.sub_rules.proofs.JoinedLemmas.{joined_after-read}
 use Rattle.sub_laws.specs.UnexpectedContent.{IsDifferentEverywhere}
-use Rattle.sub_laws.proofs.ContentLemmas.{different_everywhere}
-use Rattle.sub_laws.proofs.EventLemmas.{FirstOf, all_reported, is_plain}
-use Rattle.sub_laws.proofs.FirstContentLemmas.{content_first}
+use Rattle.sub_laws.proofs.ContentLemmas.{content_fault_differs_everywhere}
+use Rattle.sub_laws.proofs.EventLemmas.{HasFirstFault, all_faults_are_reported, is_plain}
+use Rattle.sub_laws.proofs.FirstContentLemmas.{first_content_fault_is_in_prefix}
 use Rattle.sub_laws.proofs.FrameByFrame.{MeetsRequirements, IsReadTo}
-use Rattle.sub_laws.proofs.ReadFileLemmas.{file_sound}
+use Rattle.sub_laws.proofs.ReadFileLemmas.{file_frames_are_complete}
 use Rattle.sub_check.specs.CheckedFiles.{all_events_of}
 use Rattle.sub_rules.proofs.FrameEvents.{events}
 
@@ -42,8 +42,8 @@ each_complete [] h = tt
 each_complete (s ∷ frames) h =
     (All-from_recursion IsPacket s.packets h.0, each_complete frames h.1)
 
-pub of_rule : (f : CheckFault) → is_of_rule f ≡ true → IsRuleFault f
-of_rule f e = grind (arith, nat_tests)
+pub rule_fault_is_proved : (f : CheckFault) → is_rule_fault f ≡ true → IsRuleFault f
+rule_fault_is_proved f e = grind (arith, nat_tests)
 
 pub failed_read_breaks_no_rule : (f : CheckFault) (pes : ℕ)
     → IsRuleFault f
@@ -59,37 +59,44 @@ nothing_after_first_fault f new (x ∷ xs) (mid, keeps, rest) = let none = keeps
 
 -- A report sink that stores the first broken rule stores the first fault among the events, if that
 -- fault is a broken rule.
-pub kept_eq : (new : Option CheckFault) (xs : List Event)
-    → ((f : CheckFault) → first_reported xs ≡ Some f → is_of_rule f ≡ true)
+pub kept_fault_is_first_reported : (new : Option CheckFault) (xs : List Event)
+    → ((f : CheckFault) → first_reported_fault xs ≡ Some f → is_rule_fault f ≡ true)
     → ReportsInOrder KeepsFirstFault None new xs
-    → first_reported xs ≡ new
-kept_eq new [] named reported = sym reported
-kept_eq new (Reported f ∷ xs) named (mid, keeps, rest) =
+    → first_reported_fault xs ≡ new
+kept_fault_is_first_reported new [] named reported = sym reported
+kept_fault_is_first_reported new (Reported f ∷ xs) named (mid, keeps, rest) =
     grind (arith, nat_tests, nothing_after_first_fault)
-kept_eq new (Trusted from to ∷ xs) named (mid, keeps, rest) =
-    kept_eq new xs named (subst (λ m. ReportsInOrder KeepsFirstFault m new xs) keeps.1 rest)
-kept_eq new (Ended rule f ∷ xs) named (mid, keeps, rest) =
-    kept_eq new xs named (subst (λ m. ReportsInOrder KeepsFirstFault m new xs) keeps.1 rest)
-kept_eq new (SkippedUntil f ∷ xs) named (mid, keeps, rest) =
-    kept_eq new xs named (subst (λ m. ReportsInOrder KeepsFirstFault m new xs) keeps.1 rest)
+kept_fault_is_first_reported new (Trusted from to ∷ xs) named (mid, keeps, rest) =
+    kept_fault_is_first_reported new xs named (subst (λ m. ReportsInOrder KeepsFirstFault m new xs)
+    keeps.1 rest)
+kept_fault_is_first_reported new (Ended rule f ∷ xs) named (mid, keeps, rest) =
+    kept_fault_is_first_reported new xs named (subst (λ m. ReportsInOrder KeepsFirstFault m new xs)
+    keeps.1 rest)
+kept_fault_is_first_reported new (SkippedUntil f ∷ xs) named (mid, keeps, rest) =
+    kept_fault_is_first_reported new xs named (subst (λ m. ReportsInOrder KeepsFirstFault m new xs)
+    keeps.1 rest)
 
-module _ (g : Criteria) (frames : Transmission) (packets_complete : EachPacket IsPacket frames)
+module _ (g : Criteria) (frames : Transmission) (complete_units_have_complete_packets : EachPacket
+    IsPacket frames)
     (IsSo : ℕ → ℕ → ℕ → Type 0)
     (so : (n f : ℕ) (x : ℕ × ℕ) → IsReadTo g frames n f → broken_cell g frames n f ≡ Some x
     → IsSo f x.0 x.1) where
-  abbrev Named : CheckFault → Type 0
-  Named f = (frame row column : ℕ) → f ≡ fault.Content frame row column → IsSo frame row column
+  abbrev NamesRuleBroken : CheckFault → Type 0
+  NamesRuleBroken f = (frame row column : ℕ) → f ≡ fault.Content frame row column → IsSo frame row
+      column
 
-  plain : (f : CheckFault) → is_plain f ≡ true → Named f
+  plain : (f : CheckFault) → is_plain f ≡ true → NamesRuleBroken f
   plain f e frame row column is = absurd (grind (arith, nat_tests))
 
-  of_unread : (u : Unread) → g.unread ≡ Some u → Named (unread_fault (length frames) (Some u))
-  of_unread (BadPacket f) e frame row column is = cc
-  of_unread NoFrame e frame row column is = cc
+  unread_fault_names_rule : (u : UnreadReason) → g.unread ≡ Some u → NamesRuleBroken
+      (unread_fault (length frames) (Some u))
+  unread_fault_names_rule (BadPacket f) e frame row column is = cc
+  unread_fault_names_rule NoFrame e frame row column is = cc
 
-  of_wrong : (n f : ℕ) (x : ℕ × ℕ) → IsReadTo g frames n f → broken_cell g frames n f ≡ Some x
-      → Named (fault.Content f x.0 x.1)
-  of_wrong n f x read broken frame row column is =
+  wrong_cell_names_rule : (n f : ℕ) (x : ℕ × ℕ) → IsReadTo g frames n f → broken_cell g frames n f ≡
+      Some x
+      → NamesRuleBroken (fault.Content f x.0 x.1)
+  wrong_cell_names_rule n f x read broken frame row column is =
       let at : f ≡ frame = cc in
       let on_row : x.0 ≡ row = cc in
       let in_column : x.1 ≡ column = cc in
@@ -97,25 +104,26 @@ module _ (g : Criteria) (frames : Transmission) (packets_complete : EachPacket I
       (subst (λ (k : ℕ). IsSo f k column) on_row
       (subst (λ (k : ℕ). IsSo f x.0 k) in_column (so n f x read broken)))
 
-  so_of_events : (frame row column : ℕ)
-      → first_reported (events g frames) ≡ Some (fault.Content frame row column)
+  reported_cell_differs : (frame row column : ℕ)
+      → first_reported_fault (events g frames) ≡ Some (fault.Content frame row column)
       → IsSo frame row column
-  so_of_events frame row column e =
-      go (events g frames) (all_reported g frames Named plain of_unread of_wrong packets_complete) e
+  reported_cell_differs frame row column e =
+      go (events g frames) (all_faults_are_reported g frames NamesRuleBroken plain
+      unread_fault_names_rule wrong_cell_names_rule complete_units_have_complete_packets) e
       frame
       row column refl
     where
-      go : (xs : List Event) → FirstOf Named (MeetsRequirements g frames) xs
-          → first_reported xs ≡ Some (fault.Content frame row column)
-          → Named (fault.Content frame row column)
+      go : (xs : List Event) → HasFirstFault NamesRuleBroken (MeetsRequirements g frames) xs
+          → first_reported_fault xs ≡ Some (fault.Content frame row column)
+          → NamesRuleBroken (fault.Content frame row column)
       go [] reported e = cc
       go (x ∷ xs) reported e =
           let (first, is, named) = reported.at x refl in
           let same : first ≡ fault.Content frame row column = first_is x first xs is e in
-          subst Named same named
+          subst NamesRuleBroken same named
         where
           first_is : (x : Event) (f : CheckFault) (xs : List Event) → x ≡ Reported f
-              → first_reported (x ∷ xs) ≡ Some (fault.Content frame row column)
+              → first_reported_fault (x ∷ xs) ≡ Some (fault.Content frame row column)
               → f ≡ fault.Content frame row column
           first_is x f xs is e = let reported = rw is at e in same_Some _ _ reported
 
@@ -123,26 +131,29 @@ module _ (programme : ProgrammeValue) (options : OptionsValue) (bytes : List ℕ
   abbrev file : PesFileValue
   file = pes_file_of (clock_of options) bytes
 
-  file_complete : EachPacket IsPacket (joined options.within file.frames)
-  file_complete =
+  joined_frames_have_packets : EachPacket IsPacket (joined options.within file.frames)
+  joined_frames_have_packets =
       All-from_recursion (λ (s : SentFrame). All IsPacket s.packets)
       (joined options.within file.frames)
       (each_complete (joined options.within file.frames)
       (joined_after-read IsPacket options.within [] file.frames tt
-      (file_sound (clock_of options) 0 bytes)))
+      (file_frames_are_complete (clock_of options) 0 bytes)))
 
-  pub different_of_first : (frame row column : ℕ)
-      → first_reported (all_events_of programme options bytes)
+  pub first_reported_cell_differs : (frame row column : ℕ)
+      → first_reported_fault (all_events_of programme options bytes)
       ≡ Some (fault.Content frame row column)
       → IsDifferentEverywhere programme options (joined options.within file.frames) frame row column
   unfolding file_at
-  different_of_first frame row column e =
+  first_reported_cell_differs frame row column e =
       let pes_packets = pes_packet_file_of (clock_of options) bytes in
       let frames = joined options.within file.frames in
-      so_of_events (criteria_of programme options pes_packets.unread) frames file_complete
+      reported_cell_differs (criteria_of programme options pes_packets.unread) frames
+      joined_frames_have_packets
       (λ f row column. IsDifferentEverywhere programme options frames f row column)
       (λ n f x read broken.
-      different_everywhere programme options pes_packets.unread frames n f read x broken)
+      content_fault_differs_everywhere programme options pes_packets.unread frames n f read x
+      broken)
       frame row column
-      (content_first frame row column (criteria_of programme options pes_packets.unread)
+      (first_content_fault_is_in_prefix frame row column (criteria_of programme options
+      pes_packets.unread)
       pes_packets.pes_packets e)

@@ -1,9 +1,9 @@
 pub mod AcceptedKeepingLemmas
 pub mod AcceptedWithinLemmas
-pub mod AnsweredLemmas
+pub mod FirstAnswerLemmas
 pub mod FilesLemmas
 pub mod FirstFaultLemmas
 pub mod FirstReportedLemmas
-pub mod ReadOnLemmas
+pub mod CompleteReadLemmas
 pub mod RuleReportedLemmas
 pub mod VerdictLemmas

@@ -17,65 +17,67 @@ use Rattle.stl_rows.specs.Programme.{IsProgramme, ProgrammeValue}
 use Rattle.sub_plan.specs.FrameTime.{clock_of}
 use Rattle.sub_plan.specs.Options.{OptionsValue, IsOptions}
 use Rattle.sub_plan.specs.Schedule.{plan}
-use Rattle.sub_rules.specs.Events.{first_reported}
+use Rattle.sub_rules.specs.Events.{first_reported_fault}
 use Rattle.sub_rules.specs.Fault.{is_pes_read}
 use Rattle.sub_rules.specs.FrameRules.{Criteria, criteria_of}
 use Rattle.sub_rules.specs.Good.{Good}
-use Rattle.sub_rules.specs.PesFrames.{Carries, CarriesBy, IsReadAs}
+use Rattle.sub_rules.specs.PesFrames.{Carries, CarriesOnClock, IsReadAs}
 use Rattle.sub_rules.specs.PesReading.{pes_file_of}
 use Rattle.sub_rules.specs.PesPackets.{PesPacketFileValue, frames_of, joined}
 use Rattle.sub_rules.specs.PesPackets.{pes_packet_file_of}
-use Rattle.sub_rules.specs.Repeats.{GoodBy}
+use Rattle.sub_rules.specs.Repeats.{GoodWithRepeats}
 use Rattle.sub_rules.specs.Transmission.{EachPacket, SentFrame, Transmission}
 use Rattle.sub_rules.specs.WrongContent.{IsWrongEverywhere}
 use Rattle.sub_rules.specs.declared.fault.CheckFault.{CheckFault}
 use Rattle.sub_rules.specs.declared.fault.CheckFault.TheVariants as fault
 use Rattle.sub_rules.proofs.JoinedLemmas.{joined-within, joined_after-read}
-use Rattle.sub_checker.specs.PesFileEvents.{IsReadOn}
-use Rattle.sub_checker.specs.ReadCounts.{CountsRead}
+use Rattle.sub_checker.specs.PesFileEvents.{MatchesReadFile}
+use Rattle.sub_checker.specs.ReadCounts.{AreCountsOfFrames}
 use Rattle.sub_checker.specs.declared.accepted.Accepted.{Accepted}
 use Rattle.sub_laws.specs.OnScreen.{Complete}
 use Rattle.sub_laws.specs.Planned.{planned}
-use Rattle.sub_laws.proofs.ContentLemmas.{wrong_everywhere}
-use Rattle.sub_laws.proofs.GoodByLemmas.{law_of_good_repeats, law_of_no_delay}
-use Rattle.sub_laws.proofs.GoodByLemmas.{law_of_plan_repeats}
-use Rattle.sub_laws.proofs.GoodLemmas.{rises_each, whole-is}
+use Rattle.sub_laws.proofs.ContentLemmas.{wrong_cell_is_wrong_everywhere}
+use Rattle.sub_laws.proofs.GoodWithRepeatsLemmas.{law_of_good_with_repeats, law_of_no_delay}
+use Rattle.sub_laws.proofs.GoodWithRepeatsLemmas.{law_of_plan_repeats}
+use Rattle.sub_laws.proofs.GoodLemmas.{rising_frames_rise_at_each_index, whole-is}
 use Rattle.sub_laws.proofs.JoinedRisingLemmas.{joined-rising}
 use Rattle.sub_laws.proofs.PesFileLemmas.{carried_is_read, law_of_exact_frames}
 use Rattle.sub_laws.proofs.PlanLemmas.{law_of_plan_read}
 use Rattle.sub_laws.proofs.PrefixLemmas.{first-same, last-same}
-use Rattle.sub_laws.proofs.ReadFileLemmas.{file_pes_packets_sound, sent_complete}
+use Rattle.sub_laws.proofs.ReadFileLemmas.{file_pes_packets_sound, sent_frames_are_complete}
 use Rattle.sub_laws.proofs.RisingEndLemmas.{latest_at}
 use Rattle.sub_laws.proofs.RobustLemmas.{law_of_good}
-use Rattle.sub_laws.proofs.UnreportedLemmas.{pes_packets_unrefused}
-use Rattle.sub_laws.proofs.ReportedLemmas.{none_refused}
-use Rattle.sub_laws.proofs.ReportedWithinLemmas.{none_reported_repeats}
+use Rattle.sub_laws.proofs.UnreportedLemmas.{no_fault_means_all_sent}
+use Rattle.sub_laws.proofs.ReportedLemmas.{no_fault_leaves_no_event}
+use Rattle.sub_laws.proofs.ReportedWithinLemmas.{met_requirements_report_nothing}
 use Rattle.sub_check.specs.CheckedFiles.{HasCounts, IsChecked, IsCheckedBy, all_events_of}
 use Rattle.sub_check.specs.CheckedFiles.{events_of_first_pes_packets, frames_read}
-use Rattle.sub_check.proofs.FirstReportedLemmas.{different_of_first, each_complete}
-use Rattle.sub_check.proofs.ReadOnLemmas.{read_to_the_end}
+use Rattle.sub_check.proofs.FirstReportedLemmas.{first_reported_cell_differs, each_complete}
+use Rattle.sub_check.proofs.CompleteReadLemmas.{complete_file_gives_frames}
 
 -- The whole PES file was read, up to a rest that contains no PES packet.
-abbrev pub IsAllRead : ProgrammeValue → OptionsValue → List ℕ → Accepted → Type 0
-IsAllRead programme options bytes a =
+abbrev pub IsReadCompletely : ProgrammeValue → OptionsValue → List ℕ → Accepted → Type 0
+IsReadCompletely programme options bytes a =
     let file = pes_packet_file_of (clock_of options) bytes in
-    IsReadOn (criteria_of programme options file.unread) (clock_of options) bytes file.pes_packets a
+    MatchesReadFile (criteria_of programme options file.unread) (clock_of options) bytes
+    file.pes_packets a
 
 -- A file is accepted if no event is a fault; otherwise the first fault is returned.
 abbrev pub Decides : ProgrammeValue → OptionsValue → List ℕ → Result Accepted CheckFault → Type 0
 Decides programme options bytes result =
     MatchResult result
-    (λ a. IsAllRead programme options bytes a
-    × (first_reported (all_events_of programme options bytes) ≡ None))
-    (λ f. first_reported (all_events_of programme options bytes) ≡ Some f)
+    (λ a. IsReadCompletely programme options bytes a
+    × (first_reported_fault (all_events_of programme options bytes) ≡ None))
+    (λ f. first_reported_fault (all_events_of programme options bytes) ≡ Some f)
 
 -- If the source failed within a PES packet, no event of the packets before it is a fault.
-abbrev pub ReadsSoFar : ProgrammeValue → OptionsValue → List ℕ → Result Accepted CheckFault → Type 0
-ReadsSoFar programme options bytes result =
+abbrev pub ReadsUntilAnswer : ProgrammeValue → OptionsValue → List ℕ → Result Accepted CheckFault →
+    Type 0
+ReadsUntilAnswer programme options bytes result =
     (pes : ℕ)
     → result ≡ Err (fault.Pes pes Pes.Read)
     → (pes ≤ length (pes_packet_file_of (clock_of options) bytes).pes_packets)
-    × (first_reported (events_of_first_pes_packets programme options bytes pes) ≡ None)
+    × (first_reported_fault (events_of_first_pes_packets programme options bytes pes) ≡ None)
 
 module _ (programme : ProgrammeValue) (options : OptionsValue) (is : IsOptions options)
     (p : IsProgramme programme.drawing programme.records) (bytes : List ℕ) where
@@ -93,33 +95,34 @@ module _ (programme : ProgrammeValue) (options : OptionsValue) (is : IsOptions o
       All-from_recursion (λ (s : SentFrame). All IsPacket s.packets) sent
       (each_complete sent
       (joined_after-read IsPacket options.within [] (frames_of file.pes_packets) tt
-      (sent_complete file.pes_packets (file_pes_packets_sound (clock_of options) 0 bytes).each)))
+      (sent_frames_are_complete file.pes_packets (file_pes_packets_sound (clock_of options) 0
+      bytes).each)))
 
   -- No fault is reported exactly if all PES packets are readable, the transmission is good, and no
   -- bytes remain.
   reported_none :
-      (first_reported (all_events_of programme options bytes) ≡ None)
+      (first_reported_fault (all_events_of programme options bytes) ≡ None)
       ↔ ((length (frames_of file.pes_packets) ≡ length file.pes_packets)
-      × GoodBy options.keeps programme sent options
+      × GoodWithRepeats options.keeps programme sent options
       × (file.unread ≡ None))
   reported_none =
-      let none = pes_packets_unrefused g file.pes_packets in
+      let none = no_fault_means_all_sent g file.pes_packets in
       let law =
-      none_reported_repeats programme options file.unread sent p is.least whole in (
+      met_requirements_report_nothing programme options file.unread sent p is.least whole in (
         λ e.
             let parts = none.0 e in
-            let good = law.0 (none_refused g sent whole parts.1) in
+            let good = law.0 (no_fault_leaves_no_event g sent whole parts.1) in
             (parts.0, good.0, good.1),
-        λ all. none.1 (all.0, ap first_reported (law.1 (all.1, all.2))),
+        λ all. none.1 (all.0, ap first_reported_fault (law.1 (all.1, all.2))),
       )
 
   carried :
       (a : Accepted)
-      → IsAllRead programme options bytes a
+      → IsReadCompletely programme options bytes a
       → length (frames_of file.pes_packets) ≡ length file.pes_packets
-      → GoodBy options.keeps programme sent options
+      → GoodWithRepeats options.keeps programme sent options
       → file.unread ≡ None
-      → CarriesBy (clock_of options) options.within bytes sent
+      → CarriesOnClock (clock_of options) options.within bytes sent
   carried a read all good none =
       let taken = read.taken all none in
       let few = read.few in
@@ -144,20 +147,20 @@ module _ (programme : ProgrammeValue) (options : OptionsValue) (is : IsOptions o
 
   carried_sent :
       (frames : Transmission)
-      → CarriesBy (clock_of options) options.within bytes frames
+      → CarriesOnClock (clock_of options) options.within bytes frames
       → (frames ≡ sent)
       × (length (frames_of file.pes_packets) ≡ length file.pes_packets)
       × (file.unread ≡ None)
   carried_sent frames carries =
       let reads = carried_is_read (clock_of options) options.within bytes frames carries in
-      let all = read_to_the_end (clock_of options) bytes carries.sendings reads in
+      let all = complete_file_gives_frames (clock_of options) bytes carries.sendings reads in
       (carries.are ∙ ap (joined options.within) (sym all.0), all.1, all.2)
 
   not_refused :
       (f : CheckFault)
-      → first_reported (all_events_of programme options bytes) ≡ Some f
+      → first_reported_fault (all_events_of programme options bytes) ≡ Some f
       → length (frames_of file.pes_packets) ≡ length file.pes_packets
-      → GoodBy options.keeps programme sent options
+      → GoodWithRepeats options.keeps programme sent options
       → file.unread ≡ None
       → ⊥
   not_refused f first all good none = none-some f (sym (reported_none.1 (all, good, none)) ∙ first)
@@ -168,8 +171,8 @@ module _ (programme : ProgrammeValue) (options : OptionsValue) (is : IsOptions o
       → Decides programme options bytes result
       → IsOk result
       ↔ ((transmission : Transmission)
-      × CarriesBy (clock_of options) options.within bytes transmission
-      × GoodBy options.keeps programme transmission options)
+      × CarriesOnClock (clock_of options) options.within bytes transmission
+      × GoodWithRepeats options.keeps programme transmission options)
   accepted_from (Ok a) decides =
       let (all, good, none) = reported_none.0 decides.1 in
       (λ ok. (sent, carried a decides.0 all good none, good), λ any. refl)
@@ -179,26 +182,27 @@ module _ (programme : ProgrammeValue) (options : OptionsValue) (is : IsOptions o
         let (same, all, none) = carried_sent any.0 any.1 in
         absurd
         (not_refused f decides all
-        (subst (λ (t : Transmission). GoodBy options.keeps programme t options) same any.2) none),
+        (subst (λ (t : Transmission). GoodWithRepeats options.keeps programme t options) same any.2)
+        none),
   )
 
   accepted_is :
       (frames : Transmission) (result : Result Accepted CheckFault)
       → (failed is_pes_read result ≡ false → Decides programme options bytes result)
-      → CarriesBy (clock_of options) options.within bytes frames
+      → CarriesOnClock (clock_of options) options.within bytes frames
       → IsOk result
-      → GoodBy options.keeps programme frames options
+      → GoodWithRepeats options.keeps programme frames options
   accepted_is frames (Ok a) decides carries ok =
       let (same, all, none) = carried_sent frames carries in
       let reported = decides refl in
-      subst (λ (t : Transmission). GoodBy options.keeps programme t options) (sym same)
+      subst (λ (t : Transmission). GoodWithRepeats options.keeps programme t options) (sym same)
       (reported_none.0 reported.1).1
   accepted_is frames (Err f) decides carries ok = cc
 
   sent_counts :
       (frames : Transmission) (a : Accepted)
-      → GoodBy options.keeps programme frames options
-      → CountsRead options.page frames a
+      → GoodWithRepeats options.keeps programme frames options
+      → AreCountsOfFrames options.page frames a
       → HasCounts options.page frames a
   sent_counts frames a good counts =
       let some = good.rules.not_empty in
@@ -207,14 +211,15 @@ module _ (programme : ProgrammeValue) (options : OptionsValue) (is : IsOptions o
         nat_tests,
         first-same frames,
         last-same frames,
-        latest_at frames (length frames) (rises_each frames good.rules.rising),
+        latest_at frames (length frames)
+            (rising_frames_rise_at_each_index frames good.rules.rising),
         whole-is frames,
       )
 
   counts_from :
       (frames : Transmission) (result : Result Accepted CheckFault)
       → (failed is_pes_read result ≡ false → Decides programme options bytes result)
-      → CarriesBy (clock_of options) options.within bytes frames
+      → CarriesOnClock (clock_of options) options.within bytes frames
       → IfOk result (HasCounts options.page frames)
   counts_from frames (Ok a) decides carries =
       let (same, all, none) = carried_sent frames carries in
@@ -226,7 +231,7 @@ module _ (programme : ProgrammeValue) (options : OptionsValue) (is : IsOptions o
   first_from :
       (result : Result Accepted CheckFault)
       → Decides programme options bytes result
-      → IfErr result (λ f. first_reported (all_events_of programme options bytes) ≡ Some f)
+      → IfErr result (λ f. first_reported_fault (all_events_of programme options bytes) ≡ Some f)
   first_from (Ok a) decides = tt
   first_from (Err f) decides = decides
 
@@ -244,85 +249,87 @@ module _ (programme : ProgrammeValue) (options : OptionsValue) (is : IsOptions o
       let reads =
       ap (pes_file_of (clock_of options)) written
       ∙ law_of_plan_read programme options serial p is in
-      let all = read_to_the_end (clock_of options) bytes frames reads in
+      let all = complete_file_gives_frames (clock_of options) bytes frames reads in
       let same : sent ≡ frames =
       ap (joined options.within) all.0 ∙ joined-rising options.within frames good.rules.rising in
       absurd
       (not_refused f decides all.1
-      (subst (λ (t : Transmission). GoodBy options.keeps programme t options) (sym same) good)
+      (subst (λ (t : Transmission). GoodWithRepeats options.keeps programme t options) (sym same)
+      good)
       all.2)
 
   module _ (result : Result Accepted CheckFault)
       (decides : failed is_pes_read result ≡ false → Decides programme options bytes result)
-      (so_far : ReadsSoFar programme options bytes result) where
-    cell_reported : (frame row column : ℕ)
+      (so_far : ReadsUntilAnswer programme options bytes result) where
+    answered_cell_was_reported : (frame row column : ℕ)
         → result ≡ Err (fault.Content frame row column)
-        → first_reported (all_events_of programme options bytes)
+        → first_reported_fault (all_events_of programme options bytes)
         ≡ Some (fault.Content frame row column)
-    cell_reported frame row column e =
+    answered_cell_was_reported frame row column e =
         subst
-        (λ r. IfErr r (λ f. first_reported (all_events_of programme options bytes) ≡ Some f)) e
+        (λ r. IfErr r (λ f. first_reported_fault (all_events_of programme options bytes) ≡ Some f))
+        e
         (first_from result (decides (ap (failed is_pes_read) e)))
 
-    pub checked_by : IsCheckedBy programme options bytes result
-    checked_by = record {
+    pub answer_is_checked_within : IsCheckedBy programme options bytes result
+    answer_is_checked_within = record {
       accepted = λ looked fine. accepted_from result (decides fine);
       serves = λ t carries ok.
           let good = accepted_is t result decides carries ok in
-          (good, (law_of_good_repeats options.keeps programme t options good).1 p);
+          (good, (law_of_good_with_repeats options.keeps programme t options good).1 p);
       counts = λ t carries. counts_from t result decides carries;
       first = λ looked fine. first_from result (decides fine);
       read = so_far;
       content = λ frame row column e.
-          different_of_first programme options bytes frame row column
-          (cell_reported frame row column e);
+          first_reported_cell_differs programme options bytes frame row column
+          (answered_cell_was_reported frame row column e);
       schedule = λ serial written some slow looked fine.
           plan_accepted serial result written some slow (decides fine);
     }
 
-    pub checked_at_once : options.keeps ≡ false
+    pub answer_is_checked : options.keeps ≡ false
         → options.within ≡ 0
         → IsChecked programme options bytes result
-    checked_at_once none at_once =
-        let by = checked_by in
+    answer_is_checked none at_once =
+        let by = answer_is_checked_within in
         record {
           accepted = λ looked fine.
               let exactly = by.accepted looked fine in (
                 λ ok.
                     let (t, carries, good) = exactly.0 ok in
-                    let both = (good_is t).0 good in
+                    let both = (good_by_splits_into_rules t).0 good in
                     (t, (exact t).0 carries, both.0, both.1),
                 λ any.
                     exactly.1 (
                       any.0,
                       (exact any.0).1 any.1,
-                      (good_is any.0).1 (any.2, any.3),
+                      (good_by_splits_into_rules any.0).1 (any.2, any.3),
                     ),
               );
           serves = λ t carries ok.
-              let both = (good_is t).0 (by.serves t ((exact t).1 carries) ok).0 in
+              let both = (good_by_splits_into_rules t).0 (by.serves t ((exact t).1 carries) ok).0 in
               (law_of_good programme t options both.0, both.1);
           content = λ frame row column e.
               subst
               (λ (t : Transmission). IsWrongEverywhere programme options t frame row column)
               (joined-within options.within (pes_file_of (clock_of options) bytes).frames at_once)
-              (wrong_everywhere programme options _ frame row column none
+              (wrong_cell_is_wrong_everywhere programme options _ frame row column none
               (by.content frame row column e));
         }
       where
         exact : (t : Transmission)
-            → CarriesBy (clock_of options) options.within bytes t
+            → CarriesOnClock (clock_of options) options.within bytes t
             ↔ Carries options.origin bytes t
         exact t = law_of_exact_frames options bytes t at_once
 
-        good_is : (t : Transmission)
-            → GoodBy options.keeps programme t options
+        good_by_splits_into_rules : (t : Transmission)
+            → GoodWithRepeats options.keeps programme t options
             ↔ (Good programme t options
             × (IsTrue options.asks_complete → Complete t options))
-        good_is t =
+        good_by_splits_into_rules t =
             subst
             (λ (k : Bool).
-            GoodBy k programme t options
+            GoodWithRepeats k programme t options
             ↔ (Good programme t options
             × (IsTrue options.asks_complete → Complete t options)))
             (sym none) (law_of_no_delay programme t options p at_once)

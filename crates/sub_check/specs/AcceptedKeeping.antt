@@ -10,12 +10,12 @@ use Rattle.sub_rules.specs.Fault.{is_failure}
 use Rattle.sub_rules.specs.Transmission.{EachPacket, Transmission}
 use Rattle.sub_rules.specs.declared.fault.CheckFault.{CheckFault}
 use Rattle.sub_checker.specs.declared.accepted.Accepted.{Accepted}
-use Rattle.sub_check.specs.CheckedFiles.{AreAcceptedBy, MeanWithin}
+use Rattle.sub_check.specs.CheckedFiles.{AreAcceptedBy, FilesMeanWithin}
 
 -- The options with the setting that repeats may keep the page: a header without C4, erase page, is
 -- allowed.
-abbrev pub keeping : OptionsValue → OptionsValue
-keeping options = record options { keeps = true }
+abbrev pub with_keeping : OptionsValue → OptionsValue
+with_keeping options = record options { keeps = true }
 
 -- A subtitle file and a PES file that are accepted if each header must erase the page (C4) are also
 -- accepted if repeats may keep the page, unless a source fails or an allocation is refused.
@@ -25,7 +25,7 @@ LawOfAcceptedKeeping =
     (answer later : Result Accepted CheckFault)
     → IsFalse options.keeps
     → AreAcceptedBy drawing options stl pes answer
-    → AreAcceptedBy drawing (keeping options) stl pes later
+    → AreAcceptedBy drawing (with_keeping options) stl pes later
     → failed is_failure later ≡ false
     → IsOk answer
     → IsOk later
@@ -33,14 +33,14 @@ LawOfAcceptedKeeping =
 -- A subtitle file and a PES file that are accepted if repeats may keep the page are also accepted
 -- if each header must erase the page (C4), provided that each header of the page in the
 -- transmission does.
-abbrev pub LawOfAcceptedNoneKeeps : Type 0
-LawOfAcceptedNoneKeeps =
+abbrev pub LawOfAcceptedWithoutKeeping : Type 0
+LawOfAcceptedWithoutKeeping =
     (drawing : Drawing) (options : OptionsValue) (stl pes : List ℕ)
     (answer later : Result Accepted CheckFault)
     → IsFalse options.keeps
-    → AreAcceptedBy drawing (keeping options) stl pes answer
+    → AreAcceptedBy drawing (with_keeping options) stl pes answer
     → ((subtitles : List SubtitleValue) (transmission : Transmission)
-    → MeanWithin drawing options stl pes subtitles transmission
+    → FilesMeanWithin drawing options stl pes subtitles transmission
     → EachPacket (ErasesPage options.page) transmission)
     → AreAcceptedBy drawing options stl pes later
     → failed is_failure later ≡ false

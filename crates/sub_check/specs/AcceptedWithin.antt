@@ -5,7 +5,7 @@ use Rattle.stl_rows.specs.declared.layout.Drawing.{Drawing}
 use Rattle.sub_plan.specs.Options.{OptionsValue}
 use Rattle.sub_rules.specs.Fault.{is_failure}
 use Rattle.sub_rules.specs.declared.fault.CheckFault.{CheckFault}
-use Rattle.sub_laws.specs.DelayOfFiles.{within_frames}
+use Rattle.sub_laws.specs.DelayOfFiles.{options_with_delay}
 use Rattle.sub_checker.specs.declared.accepted.Accepted.{Accepted}
 use Rattle.sub_check.specs.CheckedFiles.{AreAcceptedBy}
 
@@ -18,7 +18,7 @@ LawOfAcceptedWithinMore =
     → options.origin < 2 ^ 33
     → options.within ≤ more
     → AreAcceptedBy drawing options stl pes answer
-    → AreAcceptedBy drawing (within_frames more options) stl pes later
+    → AreAcceptedBy drawing (options_with_delay more options) stl pes later
     → failed is_failure later ≡ false
     → IsOk answer
     → IsOk later

@@ -9,7 +9,7 @@ use Rattle.stl_file.specs.File.{IsFileFor}
 use Rattle.stl_file.specs.Subtitle.{SubtitleValue}
 use Rattle.stl_rows.specs.DrawnPage.{drawn}
 use Rattle.stl_rows.specs.Judged.{JudgedValue}
-use Rattle.stl_rows.specs.Loading.{loaded, ReportsFault}
+use Rattle.stl_rows.specs.Loading.{loaded_programme, ReportsFault}
 use Rattle.stl_rows.specs.Programme.{AreInOrder, ProgrammeValue}
 use Rattle.stl_rows.specs.declared.layout.Drawing.{Drawing}
 use Rattle.sub_plan.specs.FrameTime.{clock_of}
@@ -17,27 +17,27 @@ use Rattle.sub_plan.specs.Options.{OptionsValue}
 use Rattle.sub_plan.specs.Schedule.{plan}
 use Rattle.sub_io.specs.Reporting.{Reports, ReportsPrefix}
 use Rattle.ttx_packet.specs.PageId.{PageIdValue}
-use Rattle.sub_rules.specs.Events.{first_reported}
+use Rattle.sub_rules.specs.Events.{first_reported_fault}
 use Rattle.sub_rules.specs.FrameRules.{criteria_of, criteria_of_judged, is_due_undecided}
 use Rattle.sub_rules.specs.PacketRules.{header_count}
 use Rattle.sub_rules.specs.Transmission.{SentFrame, first_frame, last_frame, Transmission}
 use Rattle.sub_rules.specs.declared.event.Event.{Event}
 use Rattle.sub_rules.specs.declared.event.Event.TheVariants.{Trusted}
-use Rattle.sub_trusted.specs.TrustedFrames.{MayStay, StaysAsRead, rising_of}
-use Rattle.sub_trusted.specs.TrustedRepeats.{MayStayBy}
+use Rattle.sub_trusted.specs.TrustedFrames.{MayStay, StaysAsReadFromFile, rising_frames_of}
+use Rattle.sub_trusted.specs.TrustedRepeats.{MayStayWithRepeats}
 use Rattle.sub_rules.specs.Fault.{is_failure, is_pes_read, is_subtitle_fault}
 use Rattle.sub_rules.specs.Good.{Good}
-use Rattle.sub_rules.specs.Repeats.{GoodBy}
+use Rattle.sub_rules.specs.Repeats.{GoodWithRepeats}
 use Rattle.sub_laws.specs.OnScreen.{Complete}
-use Rattle.sub_laws.specs.Repeats.{HasPromisesBy}
-use Rattle.sub_rules.specs.PesFrames.{Carries, CarriesBy}
+use Rattle.sub_laws.specs.Repeats.{HasPromisesWithRepeats}
+use Rattle.sub_rules.specs.PesFrames.{Carries, CarriesOnClock}
 use Rattle.sub_rules.specs.PesReading.{pes_file_of}
 use Rattle.sub_laws.specs.Stretch.{HasPromises}
 use Rattle.sub_laws.specs.UnexpectedContent.{IsDifferentEverywhere}
-use Rattle.sub_rules.specs.PesPacketEvents.{all_of_pes_packets, events_of_pes_packets}
+use Rattle.sub_rules.specs.PesPacketEvents.{all_events_of_pes_packets, events_of_pes_packets}
 use Rattle.sub_rules.specs.PesPackets.{frames_of, joined, pes_packet_file_of}
 use Rattle.sub_rules.specs.WrongContent.{IsWrongEverywhere}
-use Rattle.sub_checker.specs.ReadCounts.{CountsRead}
+use Rattle.sub_checker.specs.ReadCounts.{AreCountsOfFrames}
 use Rattle.sub_checker.specs.declared.accepted.Accepted.{Accepted}
 use Rattle.sub_rules.specs.declared.fault.CheckFault.{CheckFault}
 use Rattle.sub_rules.specs.declared.fault.CheckFault.TheVariants as fault
@@ -60,7 +60,7 @@ pub record HasCounts (page : PageIdValue) (frames : Transmission) (a : Accepted)
 
 -- The bytes of the subtitle file contain these subtitles, and the bytes of the PES file carry this
 -- transmission.
-pub record Mean
+pub record FilesMean
     (drawing : Drawing) (origin : ℕ) (stl pes : List ℕ)
     (subtitles : List SubtitleValue) (transmission : Transmission)
     : Type 0 where
@@ -81,7 +81,7 @@ pub record IsAccepted
     (drawing : Drawing) (options : OptionsValue) (stl pes : List ℕ) : Type 0 where
   pub subtitles : List SubtitleValue
   pub transmission : Transmission
-  pub mean : Mean drawing options.origin stl pes subtitles transmission
+  pub files_mean : FilesMean drawing options.origin stl pes subtitles transmission
   pub good : Good (record { drawing = drawing; records = subtitles }) transmission options
   pub complete : IsTrue options.asks_complete → Complete transmission options
 
@@ -99,7 +99,7 @@ pub record AreAccepted
   -- require them.
   pub serves :
       (subtitles : List SubtitleValue) (transmission : Transmission)
-      → Mean drawing options.origin stl pes subtitles transmission
+      → FilesMean drawing options.origin stl pes subtitles transmission
       → IsOk answer
       → HasPromises (record { drawing = drawing; records = subtitles }) transmission options
       × (IsTrue options.asks_complete → Complete transmission options)
@@ -108,7 +108,7 @@ pub record AreAccepted
 
 -- The contents of both files with any options: a PTS may be slightly early or late, and PES packets
 -- of the same frame are merged.
-pub record MeanWithin
+pub record FilesMeanWithin
     (drawing : Drawing) (options : OptionsValue) (stl pes : List ℕ)
     (subtitles : List SubtitleValue) (transmission : Transmission)
     : Type 0 where
@@ -116,7 +116,7 @@ pub record MeanWithin
   pub subtitle_file : IsFileFor drawing.scope stl gsi subtitles
   pub in_order : AreInOrder subtitles
   pub drawable : All (λ t. IsOk (drawn drawing t)) subtitles
-  pub carries : CarriesBy (clock_of options) options.within pes transmission
+  pub carries : CarriesOnClock (clock_of options) options.within pes transmission
 
 -- Both files are accepted with these options: they contain some subtitles and a transmission of
 -- these that is good by the options.
@@ -124,9 +124,10 @@ pub record IsAcceptedBy
     (drawing : Drawing) (options : OptionsValue) (stl pes : List ℕ) : Type 0 where
   pub subtitles : List SubtitleValue
   pub transmission : Transmission
-  pub mean : MeanWithin drawing options stl pes subtitles transmission
+  pub files_mean : FilesMeanWithin drawing options stl pes subtitles transmission
   pub good :
-      GoodBy options.keeps (record { drawing = drawing; records = subtitles }) transmission options
+      GoodWithRepeats options.keeps (record { drawing = drawing; records = subtitles }) transmission
+      options
 
 -- The result of `check_files` for the bytes of both files, with any options.
 pub record AreAcceptedBy
@@ -137,12 +138,12 @@ pub record AreAcceptedBy
   -- refused.
   pub accepted :
       failed is_failure answer ≡ false → IsOk answer ↔ IsAcceptedBy drawing options stl pes
-  -- An accepted transmission has the properties of `HasPromisesBy`.
+  -- An accepted transmission has the properties of `HasPromisesWithRepeats`.
   pub serves :
       (subtitles : List SubtitleValue) (transmission : Transmission)
-      → MeanWithin drawing options stl pes subtitles transmission
+      → FilesMeanWithin drawing options stl pes subtitles transmission
       → IsOk answer
-      → HasPromisesBy options.keeps (record { drawing = drawing; records = subtitles })
+      → HasPromisesWithRepeats options.keeps (record { drawing = drawing; records = subtitles })
       transmission options
 
 -- ---- a PES file, checked against a programme
@@ -152,7 +153,7 @@ pub record AreAcceptedBy
 abbrev pub all_events_of : ProgrammeValue → OptionsValue → List ℕ → List Event
 all_events_of programme options bytes =
     let file = pes_packet_file_of (clock_of options) bytes in
-    all_of_pes_packets (criteria_of programme options file.unread) file.pes_packets
+    all_events_of_pes_packets (criteria_of programme options file.unread) file.pes_packets
 
 -- The frames that the PES packets of a file carry. If `within` is not 0, consecutive PES packets of
 -- the same frame are merged.
@@ -179,32 +180,33 @@ pub record IsCheckedBy
       → failed is_pes_read answer ≡ false
       → IsOk answer
       ↔ ((transmission : Transmission)
-      × CarriesBy (clock_of options) options.within bytes transmission
-      × GoodBy options.keeps programme transmission options)
-  -- An accepted transmission is good by the options, and has the properties of `HasPromisesBy`.
+      × CarriesOnClock (clock_of options) options.within bytes transmission
+      × GoodWithRepeats options.keeps programme transmission options)
+  -- An accepted transmission is good by the options, and has the properties of
+  -- `HasPromisesWithRepeats`.
   pub serves :
       (transmission : Transmission)
-      → CarriesBy (clock_of options) options.within bytes transmission
+      → CarriesOnClock (clock_of options) options.within bytes transmission
       → IsOk answer
-      → GoodBy options.keeps programme transmission options
-      × HasPromisesBy options.keeps programme transmission options
+      → GoodWithRepeats options.keeps programme transmission options
+      × HasPromisesWithRepeats options.keeps programme transmission options
   -- The counts of an accepted file are the counts of its transmission.
   pub counts :
       (transmission : Transmission)
-      → CarriesBy (clock_of options) options.within bytes transmission
+      → CarriesOnClock (clock_of options) options.within bytes transmission
       → IfOk answer (HasCounts options.page transmission)
   -- The returned fault is the first fault among all events.
   pub first :
       failed is_subtitle_fault answer ≡ false
       → failed is_pes_read answer ≡ false
-      → IfErr answer (λ f. first_reported (all_events_of programme options bytes) ≡ Some f)
+      → IfErr answer (λ f. first_reported_fault (all_events_of programme options bytes) ≡ Some f)
   -- A failure of the source is reported at the PES packet that could not be read; no event of the
   -- packets before it is a fault.
   pub read :
       (pes : ℕ)
       → answer ≡ Err (fault.Pes pes Read)
       → (pes ≤ length (pes_packet_file_of (clock_of options) bytes).pes_packets)
-      × (first_reported (events_of_first_pes_packets programme options bytes pes) ≡ None)
+      × (first_reported_fault (events_of_first_pes_packets programme options bytes pes) ≡ None)
   -- If the fault is `Content`, receivers that start at the first packet and receive each bit
   -- correctly show a wrong code in the cell that the fault names. If the page may still become
   -- right later, that code was expected at none of the last `within` frames.
@@ -266,74 +268,74 @@ pub record AreChecked
   pub subtitles : ReportsSubtitles drawing file answer
   -- A subtitle file from which no programme can be loaded is refused.
   pub refused :
-      ((programme : ProgrammeValue) → loaded drawing file ≢ Ok programme)
+      ((programme : ProgrammeValue) → loaded_programme drawing file ≢ Ok programme)
       → failed is_subtitle_fault answer ≡ true
   -- The PES file is checked against the programme of the subtitle file.
   pub checked :
       (programme : ProgrammeValue)
-      → loaded drawing file ≡ Ok programme
+      → loaded_programme drawing file ≡ Ok programme
       → IsFalse options.keeps
       → options.within ≡ 0
       → IfKnown pes (λ bytes. IsChecked programme options bytes answer)
-  pub checked_by :
+  pub answer_is_checked_within :
       (programme : ProgrammeValue)
-      → loaded drawing file ≡ Ok programme
+      → loaded_programme drawing file ≡ Ok programme
       → IfKnown pes (λ bytes. IsCheckedBy programme options bytes answer)
 
 -- The result of `check` for this first fault; the counts if there is no fault.
-abbrev pub answer_by : Option CheckFault → Accepted → Result Accepted CheckFault
-answer_by None a = Ok a
-answer_by (Some f) a = Err f
+abbrev pub answer_unless_fault : Option CheckFault → Accepted → Result Accepted CheckFault
+answer_unless_fault None a = Ok a
+answer_unless_fault (Some f) a = Err f
 
 -- The result of `check` for these events: the first fault, or the counts.
 abbrev pub first_answer : List Event → Accepted → Result Accepted CheckFault
-first_answer events a = answer_by (first_reported events) a
+first_answer events a = answer_unless_fault (first_reported_fault events) a
 
 -- ---- a PES file, checked against the reliable subtitles of a file
 
 -- All events of a check of a PES file against the reliable subtitles of a subtitle file. If no
 -- subtitle was refused, they are the events for its programme.
-abbrev pub all_events_by : JudgedValue → OptionsValue → List ℕ → List Event
-all_events_by judged options bytes =
+abbrev pub all_judged_events : JudgedValue → OptionsValue → List ℕ → List Event
+all_judged_events judged options bytes =
     let file = pes_packet_file_of (clock_of options) bytes in
-    all_of_pes_packets (criteria_of_judged judged options file.unread) file.pes_packets
+    all_events_of_pes_packets (criteria_of_judged judged options file.unread) file.pes_packets
 
 -- The events of a check of the first n PES packets of a file against the reliable subtitles of a
 -- subtitle file.
-abbrev pub events_of_first_by : JudgedValue → OptionsValue → List ℕ → ℕ → List Event
-events_of_first_by judged options bytes n =
+abbrev pub first_judged_events : JudgedValue → OptionsValue → List ℕ → ℕ → List Event
+first_judged_events judged options bytes n =
     let file = pes_packet_file_of (clock_of options) bytes in
     events_of_pes_packets (criteria_of_judged judged options file.unread) (take n file.pes_packets)
 
 -- Frames that the checker reports as trusted need no correction on air: receivers recover in them,
 -- whatever is transmitted in other frames. This applies to the part of the transmission with rising
 -- frames.
-abbrev pub ReportsWhatMayStay : JudgedValue → OptionsValue → List ℕ → Type 0
-ReportsWhatMayStay judged options bytes =
+abbrev pub ReportsAllowedEvents : JudgedValue → OptionsValue → List ℕ → Type 0
+ReportsAllowedEvents judged options bytes =
     let file = pes_packet_file_of (clock_of options) bytes in
     (from to : ℕ)
-    → Contains (all_events_by judged options bytes) (Trusted from to)
-    → StaysAsRead (criteria_of_judged judged options file.unread) file.pes_packets from to
+    → Contains (all_judged_events judged options bytes) (Trusted from to)
+    → StaysAsReadFromFile (criteria_of_judged judged options file.unread) file.pes_packets from to
     (λ on_air. MayStay judged.programme on_air options from to)
 
 -- Frames that are reported as trusted need no correction on air with any options: with any delay
 -- `within`, and for receivers that keep or blank the page at a repeat without C4, erase page.
-abbrev pub ReportsWhatMayStayBy : JudgedValue → OptionsValue → List ℕ → Type 0
-ReportsWhatMayStayBy judged options bytes =
+abbrev pub ReportsAllowedEventsWithin : JudgedValue → OptionsValue → List ℕ → Type 0
+ReportsAllowedEventsWithin judged options bytes =
     let file = pes_packet_file_of (clock_of options) bytes in
     (from to : ℕ)
-    → Contains (all_events_by judged options bytes) (Trusted from to)
-    → StaysAsRead (criteria_of_judged judged options file.unread) file.pes_packets from to
-    (λ on_air. MayStayBy judged.programme on_air options from to)
+    → Contains (all_judged_events judged options bytes) (Trusted from to)
+    → StaysAsReadFromFile (criteria_of_judged judged options file.unread) file.pes_packets from to
+    (λ on_air. MayStayWithRepeats judged.programme on_air options from to)
 
 -- At each frame that is reported as trusted, and at each of the `within` frames before it that were
 -- read, the expected page is known.
-abbrev pub ReportsWhatIsKnown : JudgedValue → OptionsValue → List ℕ → Type 0
-ReportsWhatIsKnown judged options bytes =
+abbrev pub ReportsKnownEvents : JudgedValue → OptionsValue → List ℕ → Type 0
+ReportsKnownEvents judged options bytes =
     let file = pes_packet_file_of (clock_of options) bytes in
-    let read = rising_of (criteria_of_judged judged options file.unread) file.pes_packets in
+    let read = rising_frames_of (criteria_of_judged judged options file.unread) file.pes_packets in
     (from to : ℕ)
-    → Contains (all_events_by judged options bytes) (Trusted from to)
+    → Contains (all_judged_events judged options bytes) (Trusted from to)
     → (frame : ℕ)
     → first_frame read ≤ frame
     → frame ≤ to
@@ -342,12 +344,12 @@ ReportsWhatIsKnown judged options bytes =
 
 -- If the source fails after n PES packets, their events are a prefix of all events. So the
 -- properties of trusted frames apply to the frames reported before the failure.
-abbrev pub BeginsWhatIsReported : JudgedValue → OptionsValue → List ℕ → Type 0
-BeginsWhatIsReported judged options bytes =
+abbrev pub ReportsPrefixOfEvents : JudgedValue → OptionsValue → List ℕ → Type 0
+ReportsPrefixOfEvents judged options bytes =
     (n : ℕ)
     → (rest : List Event)
-    × (all_events_by judged options bytes
-    ≡ events_of_first_by judged options bytes n ++ rest)
+    × (all_judged_events judged options bytes
+    ≡ first_judged_events judged options bytes n ++ rest)
 
 -- The events that a check of a PES file reports. If the report sink did not stop the check, all
 -- events are reported, and the result has the counts. If it did, a prefix of the events is
@@ -355,12 +357,12 @@ BeginsWhatIsReported judged options bytes =
 abbrev pub ReportsEvents : {D : Type 0} → JudgedValue → OptionsValue → List ℕ
     → (D → Event → D → Type 0) → D → D → Result (Option Accepted) CheckFault → Type 0
 ReportsEvents judged options bytes IsReported old new (Ok (Some a)) =
-    Reports IsReported old new (all_events_by judged options bytes)
-    × CountsRead options.page (frames_read options bytes) a
+    Reports IsReported old new (all_judged_events judged options bytes)
+    × AreCountsOfFrames options.page (frames_read options bytes) a
 ReportsEvents judged options bytes IsReported old new (Ok None) =
-    ReportsPrefix IsReported old new (all_events_by judged options bytes)
+    ReportsPrefix IsReported old new (all_judged_events judged options bytes)
 ReportsEvents judged options bytes IsReported old new (Err f) =
     (n : ℕ)
     × (n ≤ length (pes_packet_file_of (clock_of options) bytes).pes_packets)
     × (f ≡ fault.Pes n Read)
-    × Reports IsReported old new (events_of_first_by judged options bytes n)
+    × Reports IsReported old new (first_judged_events judged options bytes n)

@@ -9,22 +9,22 @@ use Rattle.sub_rules.specs.declared.fault.CheckFault.{CheckFault}
 
 -- The fault is a broken rule: it is neither a fault of the subtitle file nor a device failure.
 pub record IsRuleFault (f : CheckFault) : Type 0 where
-  pub no_source : is_pes_read f ≡ false
-  pub no_write : is_pes_write f ≡ false
-  pub no_subtitle : is_subtitle_fault f ≡ false
+  pub is_no_read_failure : is_pes_read f ≡ false
+  pub is_no_write_fault : is_pes_write f ≡ false
+  pub is_no_subtitle_fault : is_subtitle_fault f ≡ false
 
 -- The fault is a broken rule: it is neither a fault of the subtitle file nor a device failure.
-abbrev pub is_of_rule : CheckFault → Bool
-is_of_rule f = not (is_pes_read f || is_pes_write f || is_subtitle_fault f)
+abbrev pub is_rule_fault : CheckFault → Bool
+is_rule_fault f = not (is_pes_read f || is_pes_write f || is_subtitle_fault f)
 
 -- The fault of an event that reports a broken rule; `None` for all other events.
-abbrev pub rule_fault_of : Event → Option CheckFault
-rule_fault_of (Reported f) = if is_of_rule f then Some f else None
-rule_fault_of (Ended rule frame) = None
-rule_fault_of (SkippedUntil f) = None
-rule_fault_of (Trusted from to) = None
+abbrev pub rule_fault_in_event : Event → Option CheckFault
+rule_fault_in_event (Reported f) = if is_rule_fault f then Some f else None
+rule_fault_in_event (Ended rule frame) = None
+rule_fault_in_event (SkippedUntil f) = None
+rule_fault_in_event (Trusted from to) = None
 
 -- How an event changes a `FirstFault`: it stores the first fault, after which no event is reported
 -- to it.
 abbrev pub KeepsFirstFault : Option CheckFault → Event → Option CheckFault → Type 0
-KeepsFirstFault old event new = (old ≡ None) × (new ≡ rule_fault_of event)
+KeepsFirstFault old event new = (old ≡ None) × (new ≡ rule_fault_in_event event)

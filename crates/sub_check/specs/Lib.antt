@@ -20,7 +20,7 @@ pub use Rattle.sub_laws.specs.Recovery
 pub use Rattle.sub_laws.specs.OnScreen
 pub use Rattle.sub_laws.specs.Stretch
 pub use Rattle.sub_laws.specs.Sufficient
-pub use Rattle.sub_laws.specs.AtOnce
+pub use Rattle.sub_laws.specs.WithoutDelay
 pub use Rattle.sub_laws.specs.CleanStretch
 pub use Rattle.sub_trusted.specs.TrustedFrames
 pub use Rattle.sub_laws.specs.Laws
@@ -28,4 +28,4 @@ pub use Rattle.sub_laws.specs.Planned
 pub use Rattle.sub_laws.specs.BrokenPlaces
 pub use Rattle.sub_laws.specs.UnexpectedContent
 pub use Rattle.sub_checker.specs.ReadCounts
-pub use Rattle.sub_packets.specs.SentAgain
+pub use Rattle.sub_packets.specs.RepeatedPackets

@@ -1,7 +1,7 @@
 //! Checks the PES packets of a file against a programme.
 ghost use Rattle.std.specs.Prelude.{◌≡◌, ℕ, Err, IfErr, IfOk, IfSome, IsFalse, false, is_none};
 ghost use Rattle.std.specs.Prelude.{true};
-ghost use Rattle.sub_io.specs.Device.{CanFail, CountsIf, failed};
+ghost use Rattle.sub_io.specs.Device.{CanFail, CountsFailureIf, failed};
 ghost use Rattle.sub_io.specs.Reading.{IfKnown};
 ghost use Rattle.sub_io.specs.Reporting.{ReportsSome};
 ghost use Rattle.ttx_pes.specs.Reader.{FailsAtPacket};
@@ -12,18 +12,18 @@ ghost use Rattle.sub_plan.specs.Options.{IsOptions};
 ghost use Rattle.sub_rules.specs.Fault.{is_pes_read, is_pes_write, is_subtitle_fault};
 ghost use Rattle.sub_rules.specs.FrameRules.{criteria_of};
 ghost use Rattle.sub_rules.specs.PesPackets.{FailsAtPesPacket};
-ghost use Rattle.sub_checker.specs.PesFileEvents.{FailsReadingOn, ReportsFile};
-ghost use Rattle.sub_check.specs.CheckedFiles.{BeginsWhatIsReported, IsChecked, IsCheckedBy};
-ghost use Rattle.sub_check.specs.CheckedFiles.{ReportsEvents, ReportsWhatIsKnown};
-ghost use Rattle.sub_check.specs.CheckedFiles.{ReportsWhatMayStay};
-ghost use Rattle.sub_check.specs.CheckedFiles.{ReportsWhatMayStayBy};
+ghost use Rattle.sub_checker.specs.PesFileEvents.{FailsWhileReadingOn, ReportsFile};
+ghost use Rattle.sub_check.specs.CheckedFiles.{ReportsPrefixOfEvents, IsChecked, IsCheckedBy};
+ghost use Rattle.sub_check.specs.CheckedFiles.{ReportsEvents, ReportsKnownEvents};
+ghost use Rattle.sub_check.specs.CheckedFiles.{ReportsAllowedEvents};
+ghost use Rattle.sub_check.specs.CheckedFiles.{ReportsAllowedEventsWithin};
 ghost use Rattle.sub_check.specs.CheckedFiles.{all_events_of};
 ghost use Rattle.sub_check.specs.CheckedFiles.{first_answer};
 
 use crate::first_fault::FirstFault;
 use stl_rows::{Judging, Programme};
 use sub_checker::{Accepted, report_pes_packets};
-use sub_io::LiveAudience;
+use sub_io::LiveReportSink;
 use sub_plan::Options;
 use sub_rules::{CheckFault, Event};
 use ttx_pes::{PesFault, PesPackets};
@@ -46,7 +46,7 @@ pub fn check_pes_packets<P: PesPackets>(
         IsChecked programme.now options.now bytes result) }
     // With any options, the PES file is accepted exactly if its transmission is good by these
     // options. Options may allow late pages, or repeats that keep the page.
-    ensures checked_by { IfKnown (P.remaining source.old) (λ bytes.
+    ensures answer_is_checked_within { IfKnown (P.remaining source.old) (λ bytes.
         IsCheckedBy programme.now options.now bytes result) }
     // A failure of the source is reported at the PES packet that could not be read; the packets
     // before it were consumed.
@@ -55,12 +55,13 @@ pub fn check_pes_packets<P: PesPackets>(
     // No fault of a subtitle file and no `Write` is returned. `Read` is returned exactly if the
     // source failed in this call.
     ensures own { failed is_subtitle_fault result ≡ false }
-    ensures no_write { failed is_pes_write result ≡ false }
+    ensures is_no_write_fault { failed is_pes_write result ≡ false }
     ensures device { P.device source.new ≡ P.device source.old }
-    ensures count { CountsIf P.failure_count source.old (failed is_pes_read result) source.new }
+    ensures count { CountsFailureIf P.failure_count source.old (failed is_pes_read result)
+        source.new }
 {
     let mut first = FirstFault::new();
-    match report_known(programme, source, options, &mut first) {
+    match report_all_faults(programme, source, options, &mut first) {
         Err(fault) => Err(fault),
         Ok(Some(counts)) => Ok(counts),
         Ok(None) => Err(first.into_fault()),
@@ -69,29 +70,31 @@ pub fn check_pes_packets<P: PesPackets>(
 
 // Checks PES packets against a programme, and reports all faults. For a subtitle file without
 // refused subtitles.
-fn report_known<P: PesPackets, A: LiveAudience<Event>>(
+fn report_all_faults<P: PesPackets, A: LiveReportSink<Event>>(
     programme: &Programme,
     source: &mut P,
     options: &Options,
-    audience: &mut A,
+    report_sink: &mut A,
 ) -> Result<Option<Accepted>, CheckFault>
     requires failures { CanFail (P.failure_count source.old) }
-    requires continues { A.has_stopped audience.old ≡ false }
-    requires still { A.has_pending_reports audience.old ≡ false }
+    requires continues { A.has_stopped report_sink.old ≡ false }
+    requires still { A.has_pending_reports report_sink.old ≡ false }
     ensures exact { IfKnown (P.remaining source.old) (λ bytes.
         ReportsFile (criteria_of programme.now options.now) (clock_of options.now) bytes
-        A.is_reported audience.old audience.new result) }
-    ensures stopped { IfOk result (λ counts. A.has_stopped audience.new ≡ is_none counts) }
-    ensures continues { IfErr result (λ _. A.has_stopped audience.new ≡ false) }
+        A.is_reported report_sink.old report_sink.new result) }
+    ensures stopped { IfOk result (λ counts. A.has_stopped report_sink.new ≡ is_none counts) }
+    ensures continues { IfErr result (λ _. A.has_stopped report_sink.new ≡ false) }
     ensures read { (pes : ℕ) → result ≡ Err (CheckFault.Pes pes PesFault.Read)
-        → FailsReadingOn (clock_of options.now) pes (P.remaining source.old) (P.left source.new) }
+        → FailsWhileReadingOn (clock_of options.now) pes (P.remaining source.old)
+        (P.left source.new) }
     ensures only { IfErr result (λ f. is_pes_read f ≡ true) }
     ensures options { IsOptions options.now }
     ensures programme { IsProgramme programme.now.drawing programme.now.records }
     ensures device { P.device source.new ≡ P.device source.old }
-    ensures count { CountsIf P.failure_count source.old (failed is_pes_read result) source.new }
+    ensures count { CountsFailureIf P.failure_count source.old (failed is_pes_read result)
+        source.new }
 {
-    report_pes_packets(&Judging::known(programme), source, options, audience)
+    report_pes_packets(&Judging::known(programme), source, options, report_sink)
 }
 
 /// Checks PES packets against the reliable subtitles of a subtitle file, and reports all faults, as
@@ -101,18 +104,18 @@ fn report_known<P: PesPackets, A: LiveAudience<Event>>(
 ///
 /// Returns `Pes` with `Read` if a device failed. The events of all PES packets before the failure
 /// have been reported.
-pub fn check_all_pes_packets<P: PesPackets, A: LiveAudience<Event>>(
+pub fn check_all_pes_packets<P: PesPackets, A: LiveReportSink<Event>>(
     judging: &Judging<'_>,
     source: &mut P,
     options: &Options,
-    audience: &mut A,
+    report_sink: &mut A,
 ) -> Result<Option<Accepted>, CheckFault>
     requires failures { CanFail (P.failure_count source.old) }
-    requires continues { A.has_stopped audience.old ≡ false }
-    requires still { A.has_pending_reports audience.old ≡ false }
+    requires continues { A.has_stopped report_sink.old ≡ false }
+    requires still { A.has_pending_reports report_sink.old ≡ false }
     // If the bytes of the source are known, they determine the reported events.
     ensures reported { IfKnown (P.remaining source.old) (λ bytes.
-        ReportsEvents judging.now options.now bytes A.is_reported audience.old audience.new
+        ReportsEvents judging.now options.now bytes A.is_reported report_sink.old report_sink.new
         result) }
     // If all events were reported and no subtitle was refused, `check` would return the first fault
     // among them, or the same counts if there is no fault.
@@ -132,23 +135,23 @@ pub fn check_all_pes_packets<P: PesPackets, A: LiveAudience<Event>>(
     // as trusted need no correction on air, whatever is transmitted in other frames.
     ensures trusted { IsFalse options.now.keeps → options.now.within ≡ 0
         → IfKnown (P.remaining source.old) (λ bytes.
-        ReportsWhatMayStay judging.now options.now bytes) }
+        ReportsAllowedEvents judging.now options.now bytes) }
     // Frames reported as trusted need no correction on air with any options: with any delay, and
     // for receivers that keep or blank the page at a repeat.
-    ensures trusted_by { IfKnown (P.remaining source.old) (λ bytes.
-        ReportsWhatMayStayBy judging.now options.now bytes) }
+    ensures reports_allowed_within { IfKnown (P.remaining source.old) (λ bytes.
+        ReportsAllowedEventsWithin judging.now options.now bytes) }
     // At frames reported as trusted, the expected page is known.
     ensures known { IfKnown (P.remaining source.old) (λ bytes.
-        ReportsWhatIsKnown judging.now options.now bytes) }
+        ReportsKnownEvents judging.now options.now bytes) }
     // The events reported before a failure of the source are a prefix of all events.
     ensures begins { IfKnown (P.remaining source.old) (λ bytes.
-        BeginsWhatIsReported judging.now options.now bytes) }
+        ReportsPrefixOfEvents judging.now options.now bytes) }
     // The result has no counts exactly if the report sink stopped the check.
-    ensures stopped { IfOk result (λ counts. A.has_stopped audience.new ≡ is_none counts) }
+    ensures stopped { IfOk result (λ counts. A.has_stopped report_sink.new ≡ is_none counts) }
     // For any source, some list of events was reported; if the source failed, the report sink had
     // not stopped the check.
-    ensures some { ReportsSome A.is_reported audience.old audience.new }
-    ensures continues { IfErr result (λ _. A.has_stopped audience.new ≡ false) }
+    ensures some { ReportsSome A.is_reported report_sink.old report_sink.new }
+    ensures continues { IfErr result (λ _. A.has_stopped report_sink.new ≡ false) }
     // A failure of the source is reported at the PES packet that could not be read; the packets
     // before it were consumed. No other `Err` is returned.
     ensures read { (pes : ℕ) → result ≡ Err (CheckFault.Pes pes PesFault.Read)
@@ -156,10 +159,12 @@ pub fn check_all_pes_packets<P: PesPackets, A: LiveAudience<Event>>(
     ensures only { IfErr result (λ f. is_pes_read f ≡ true) }
     // All reports are flushed before the source may read from its device, which may fail. So after
     // a failure no report is still buffered.
-    ensures requested { A.buffered audience.old ≡ 0 → IfErr result (λ _. A.buffered audience.new ≡
+    ensures requested { A.buffered report_sink.old ≡ 0 → IfErr result
+        (λ _. A.buffered report_sink.new ≡
         0) }
     ensures device { P.device source.new ≡ P.device source.old }
-    ensures count { CountsIf P.failure_count source.old (failed is_pes_read result) source.new }
+    ensures count { CountsFailureIf P.failure_count source.old (failed is_pes_read result)
+        source.new }
 {
-    report_pes_packets(judging, source, options, audience)
+    report_pes_packets(judging, source, options, report_sink)
 }

@@ -1,7 +1,7 @@
 //! Checks a PES file against a programme.
 ghost use Rattle.std.specs.Prelude.{◌≡◌, ℕ, Err, IfErr, IfOk, IfSome, IsFalse, Option};
 ghost use Rattle.std.specs.Prelude.{false, is_none, true};
-ghost use Rattle.sub_io.specs.Device.{CanFail, CountsIf, failed};
+ghost use Rattle.sub_io.specs.Device.{CanFail, CountsFailureIf, failed};
 ghost use Rattle.sub_io.specs.Reading.{IfKnown};
 ghost use Rattle.sub_io.specs.Reporting.{ReportsSome};
 ghost use Rattle.ttx_pes.specs.Reader.{FailsAtPacket};
@@ -9,17 +9,17 @@ ghost use Rattle.stl_rows.specs.Judged.{known};
 ghost use Rattle.stl_rows.specs.Programme.{ProgrammeValue};
 ghost use Rattle.sub_rules.specs.Fault.{is_pes_read, is_pes_write, is_subtitle_fault};
 ghost use Rattle.sub_rules.specs.PesPackets.{FailsAtPesPacket};
-ghost use Rattle.sub_check.specs.CheckedFiles.{BeginsWhatIsReported, IsChecked, IsCheckedBy};
-ghost use Rattle.sub_check.specs.CheckedFiles.{ReportsEvents, ReportsWhatIsKnown};
-ghost use Rattle.sub_check.specs.CheckedFiles.{ReportsWhatMayStay};
-ghost use Rattle.sub_check.specs.CheckedFiles.{ReportsWhatMayStayBy};
+ghost use Rattle.sub_check.specs.CheckedFiles.{ReportsPrefixOfEvents, IsChecked, IsCheckedBy};
+ghost use Rattle.sub_check.specs.CheckedFiles.{ReportsEvents, ReportsKnownEvents};
+ghost use Rattle.sub_check.specs.CheckedFiles.{ReportsAllowedEvents};
+ghost use Rattle.sub_check.specs.CheckedFiles.{ReportsAllowedEventsWithin};
 ghost use Rattle.sub_check.specs.CheckedFiles.{all_events_of};
 ghost use Rattle.sub_check.specs.CheckedFiles.{first_answer};
 
 use crate::checking::{check_all_pes_packets, check_pes_packets};
 use stl_rows::{Judging, Programme};
 use sub_checker::Accepted;
-use sub_io::{LiveAudience, Source};
+use sub_io::{LiveReportSink, Source};
 use sub_plan::Options;
 use sub_rules::{CheckFault, Event};
 use ttx_pes::{FilePesPackets, PesFault};
@@ -62,7 +62,7 @@ pub fn check<S: Source>(
         IsChecked programme.now options.now bytes result) }
     // With any options, the PES file is accepted exactly if its transmission is good by these
     // options. Options may allow late pages, or repeats that keep the page.
-    ensures checked_by { IfKnown (S.remaining source.old) (λ bytes.
+    ensures answer_is_checked_within { IfKnown (S.remaining source.old) (λ bytes.
         IsCheckedBy programme.now options.now bytes result) }
     // A failure of the source is reported at the PES packet that could not be read; the packets
     // before it were consumed.
@@ -71,15 +71,16 @@ pub fn check<S: Source>(
     // No fault of a subtitle file and no `Write` is returned. `Read` is returned exactly if the
     // source failed in this call.
     ensures own { failed is_subtitle_fault result ≡ false }
-    ensures no_write { failed is_pes_write result ≡ false }
-    ensures count { CountsIf S.failure_count source.old (failed is_pes_read result) source.new }
+    ensures is_no_write_fault { failed is_pes_write result ≡ false }
+    ensures count { CountsFailureIf S.failure_count source.old (failed is_pes_read result)
+        source.new }
 {
     let mut pes_packets = FilePesPackets::new(source);
     check_pes_packets(programme, &mut pes_packets, options)
 }
 
 /// Checks a PES file like `check`, but against the reliable subtitles of a subtitle file, and
-/// reports all faults as events to `audience`, until it stops the check.
+/// reports all faults as events to `report_sink`, until it stops the check.
 ///
 /// The events are the faults of `check`, each where it occurs. Every rule that a packet breaks is
 /// reported. A rule that applies to the end of each frame is reported for the first and the last
@@ -104,18 +105,18 @@ pub fn check<S: Source>(
 ///
 /// Returns `Pes` with `Read` if the source failed. The events of all packets before the failure
 /// have been reported.
-pub fn check_all<S: Source, A: LiveAudience<Event>>(
+pub fn check_all<S: Source, A: LiveReportSink<Event>>(
     judging: &Judging<'_>,
     source: &mut S,
     options: &Options,
-    audience: &mut A,
+    report_sink: &mut A,
 ) -> Result<Option<Accepted>, CheckFault>
     requires failures { CanFail (S.failure_count source.old) }
-    requires continues { A.has_stopped audience.old ≡ false }
-    requires still { A.has_pending_reports audience.old ≡ false }
+    requires continues { A.has_stopped report_sink.old ≡ false }
+    requires still { A.has_pending_reports report_sink.old ≡ false }
     // If the bytes of the source are known, they determine the reported events.
     ensures reported { IfKnown (S.remaining source.old) (λ bytes.
-        ReportsEvents judging.now options.now bytes A.is_reported audience.old audience.new
+        ReportsEvents judging.now options.now bytes A.is_reported report_sink.old report_sink.new
         result) }
     // If all events were reported and no subtitle was refused, `check` would return the first fault
     // among them, or the same counts if there is no fault.
@@ -135,23 +136,23 @@ pub fn check_all<S: Source, A: LiveAudience<Event>>(
     // as trusted need no correction on air, whatever is transmitted in other frames.
     ensures trusted { IsFalse options.now.keeps → options.now.within ≡ 0
         → IfKnown (S.remaining source.old) (λ bytes.
-        ReportsWhatMayStay judging.now options.now bytes) }
+        ReportsAllowedEvents judging.now options.now bytes) }
     // Frames reported as trusted need no correction on air with any options: with any delay, and
     // for receivers that keep or blank the page at a repeat.
-    ensures trusted_by { IfKnown (S.remaining source.old) (λ bytes.
-        ReportsWhatMayStayBy judging.now options.now bytes) }
+    ensures reports_allowed_within { IfKnown (S.remaining source.old) (λ bytes.
+        ReportsAllowedEventsWithin judging.now options.now bytes) }
     // At frames reported as trusted, the expected page is known.
     ensures known { IfKnown (S.remaining source.old) (λ bytes.
-        ReportsWhatIsKnown judging.now options.now bytes) }
+        ReportsKnownEvents judging.now options.now bytes) }
     // The events reported before a failure of the source are a prefix of all events.
     ensures begins { IfKnown (S.remaining source.old) (λ bytes.
-        BeginsWhatIsReported judging.now options.now bytes) }
+        ReportsPrefixOfEvents judging.now options.now bytes) }
     // The result has no counts exactly if the report sink stopped the check.
-    ensures stopped { IfOk result (λ counts. A.has_stopped audience.new ≡ is_none counts) }
+    ensures stopped { IfOk result (λ counts. A.has_stopped report_sink.new ≡ is_none counts) }
     // For any source, some list of events was reported; if the source failed, the report sink had
     // not stopped the check.
-    ensures some { ReportsSome A.is_reported audience.old audience.new }
-    ensures continues { IfErr result (λ _. A.has_stopped audience.new ≡ false) }
+    ensures some { ReportsSome A.is_reported report_sink.old report_sink.new }
+    ensures continues { IfErr result (λ _. A.has_stopped report_sink.new ≡ false) }
     // A failure of the source is reported at the PES packet that could not be read; the packets
     // before it were consumed. No other `Err` is returned.
     ensures read { (pes : ℕ) → result ≡ Err (CheckFault.Pes pes PesFault.Read)
@@ -159,10 +160,12 @@ pub fn check_all<S: Source, A: LiveAudience<Event>>(
     ensures only { IfErr result (λ f. is_pes_read f ≡ true) }
     // All reports are flushed before the source may read from its device, which may fail. So after
     // a failure no report is still buffered.
-    ensures requested { A.buffered audience.old ≡ 0 → IfErr result (λ _. A.buffered audience.new ≡
+    ensures requested { A.buffered report_sink.old ≡ 0 → IfErr result
+        (λ _. A.buffered report_sink.new ≡
         0) }
-    ensures count { CountsIf S.failure_count source.old (failed is_pes_read result) source.new }
+    ensures count { CountsFailureIf S.failure_count source.old (failed is_pes_read result)
+        source.new }
 {
     let mut pes_packets = FilePesPackets::new(source);
-    check_all_pes_packets(judging, &mut pes_packets, options, audience)
+    check_all_pes_packets(judging, &mut pes_packets, options, report_sink)
 }

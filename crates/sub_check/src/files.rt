@@ -1,10 +1,10 @@
 //! Checks a subtitle file and the PES file that carries its subtitles.
 ghost use Rattle.std.specs.Prelude.{◌≡◌, ℕ, ◌<◌, Err, IsFalse, false, true};
-ghost use Rattle.sub_io.specs.Device.{CanFail, CountsIf, failed};
+ghost use Rattle.sub_io.specs.Device.{CanFail, CountsFailureIf, failed};
 ghost use Rattle.sub_io.specs.Reading.{IfKnown};
 ghost use Rattle.ttx_pes.specs.Reader.{FailsAtPacket};
 ghost use Rattle.stl_rows.specs.Layout.{drawing_within};
-ghost use Rattle.stl_rows.specs.Fault.{is_load_read};
+ghost use Rattle.stl_rows.specs.Fault.{is_load_read_failure};
 ghost use Rattle.stl_rows.specs.Loading.{FailsLoading};
 ghost use Rattle.stl_rows.specs.declared.fault.LoadFault.{LoadFault};
 ghost use Rattle.sub_check.specs.CheckedFiles.{AreAccepted, AreAcceptedBy, AreChecked};
@@ -47,9 +47,9 @@ pub fn check_files<S: Source, P: Source>(
         IfKnown (P.remaining pes.old) (λ bytes.
         AreAccepted (drawing_within national layout scope) options.now file bytes result)) }
     // With any options, the files are accepted exactly if the transmission is good by these
-    // options, and an accepted transmission has the properties of `HasPromisesBy`. Options may
-    // allow late pages, or repeats that keep the page.
-    ensures accepted_by { IfKnown (S.remaining stl.old) (λ file.
+    // options, and an accepted transmission has the properties of `HasPromisesWithRepeats`. Options
+    // may allow late pages, or repeats that keep the page.
+    ensures is_accepted_within { IfKnown (S.remaining stl.old) (λ file.
         IfKnown (P.remaining pes.old) (λ bytes.
         AreAcceptedBy (drawing_within national layout scope) options.now file bytes result)) }
     // If the bytes are known, they determine the returned fault and its place.
@@ -60,7 +60,7 @@ pub fn check_files<S: Source, P: Source>(
     // before it has a fault.
     ensures stl_read { (fault : LoadFault)
         → result ≡ Err (CheckFault.Subtitles fault)
-        → is_load_read fault ≡ true
+        → is_load_read_failure fault ≡ true
         → FailsLoading (drawing_within national layout scope) (S.remaining stl.old)
         (S.remaining stl.new) fault.block }
     // A failed read of the PES file is reported at the PES packet that could not be read.
@@ -69,10 +69,12 @@ pub fn check_files<S: Source, P: Source>(
         → FailsAtPacket index (P.remaining pes.old) (P.remaining pes.new) }
     // If the subtitle file is refused, no byte of the PES file is read. No `Write` is returned.
     ensures before { failed is_subtitle_fault result ≡ true → pes.new ≡ pes.old }
-    ensures no_write { failed is_pes_write result ≡ false }
+    ensures is_no_write_fault { failed is_pes_write result ≡ false }
     // For each source, its `Read` is returned exactly if it failed in this call.
-    ensures stl_count { CountsIf S.failure_count stl.old (failed is_stl_read result) stl.new }
-    ensures pes_count { CountsIf P.failure_count pes.old (failed is_pes_read result) pes.new }
+    ensures stl_count { CountsFailureIf S.failure_count stl.old (failed is_stl_read result)
+        stl.new }
+    ensures pes_count { CountsFailureIf P.failure_count pes.old (failed is_pes_read result)
+        pes.new }
 {
     law_of_loading();
     match load(alloc, stl, national, layout, scope) {

@@ -1,11 +1,11 @@
 //! The report sink of `check`, which stores the first fault.
 ghost use Rattle.std.specs.Prelude.{◌≡◌, Option, None, Some, IfSome, is_some, false, not, true};
 ghost use Rattle.std.proofs.Common.{refl, subst, sym};
-ghost use Rattle.sub_check.specs.FirstReported.{IsRuleFault, KeepsFirstFault, is_of_rule};
+ghost use Rattle.sub_check.specs.FirstReported.{IsRuleFault, KeepsFirstFault, is_rule_fault};
 ghost use Rattle.sub_rules.specs.declared.fault.CheckFault.{CheckFault};
 
 use std::marker::Model;
-use sub_io::{Audience, Live, LiveAudience, Stopped};
+use sub_io::{Live, LiveReportSink, ReportSink, Stopped};
 use sub_rules::{CheckFault, Event};
 use ttx_pes::PesFault;
 
@@ -47,7 +47,7 @@ impl FirstFault {
     }
 }
 
-impl Audience<Event> for FirstFault {
+impl ReportSink<Event> for FirstFault {
     ghost is_reported = { KeepsFirstFault };
 
     ghost has_stopped = { λ f. is_some f };
@@ -56,7 +56,7 @@ impl Audience<Event> for FirstFault {
     #[tactic(auto, using(sub_io::proofs::ReportingLemmas::tellings))]
     fn report(&mut self, item: Event) -> Result<(), Stopped> {
         match item {
-            Event::Reported(fault) if is_of_rule(&fault) => {
+            Event::Reported(fault) if is_rule_fault(&fault) => {
                 self.fault = Some(fault);
                 Err(Stopped)
             }
@@ -86,8 +86,8 @@ impl Live for FirstFault {
     }
 }
 
-impl LiveAudience<Event> for FirstFault {
-    ghost stays_reported = { record {
+impl LiveReportSink<Event> for FirstFault {
+    ghost flush_keeps_reports = { record {
       reported = λ before old new item ok reported has_pending on.
           subst (λ d. KeepsFirstFault before item d) (sym on.0) reported;
       stopped = λ old new ok on. on.1;
@@ -97,8 +97,8 @@ impl LiveAudience<Event> for FirstFault {
 
 // Returns whether a fault is a broken rule: it is neither a fault of the subtitle file nor a device
 // failure.
-fn is_of_rule(fault: &CheckFault) -> bool
-    ensures is { result ≡ is_of_rule fault.now }
+fn is_rule_fault(fault: &CheckFault) -> bool
+    ensures is { result ≡ is_rule_fault fault.now }
     ensures own { result ≡ true → IsRuleFault fault.now }
 {
     match fault {

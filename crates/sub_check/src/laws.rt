@@ -1,7 +1,8 @@
 //! Laws: files that are accepted with some options are also accepted with others.
 //!
 //! The functions have no body; each contract states a law about the definitions in `specs/`.
-ghost use Rattle.sub_check.specs.AcceptedKeeping.{LawOfAcceptedKeeping, LawOfAcceptedNoneKeeps};
+ghost use Rattle.sub_check.specs.AcceptedKeeping.{LawOfAcceptedKeeping};
+ghost use Rattle.sub_check.specs.AcceptedKeeping.{LawOfAcceptedWithoutKeeping};
 ghost use Rattle.sub_check.specs.AcceptedWithin.{LawOfAcceptedWithinMore};
 
 /// Files that are accepted with some delay `within` are also accepted with any greater delay.
@@ -17,6 +18,6 @@ pub fn law_of_accepted_keeping()
 
 /// Files that are accepted if repeats may keep the page are also accepted if each header must erase
 /// it, provided that no header keeps the page.
-pub fn law_of_accepted_none_keeps()
-    ensures { LawOfAcceptedNoneKeeps }
+pub fn law_of_accepted_without_keeping()
+    ensures { LawOfAcceptedWithoutKeeping }
 {}

@@ -16,17 +16,19 @@ use Rattle.sub_rules.specs.Transmission.{SentFrame, Transmission}
 use Rattle.sub_rules.specs.Trusted.{CheckStep}
 use Rattle.sub_rules.specs.Trusted.CheckStep.{AtPes, Begins}
 use Rattle.sub_rules.specs.declared.event.Event.{Event}
-use Rattle.sub_checker.specs.Checker.{CheckerValue, HasHeard, after_headers}
+use Rattle.sub_checker.specs.Checker.{CheckerValue, HasHeard, checker_after_headers}
 use Rattle.sub_checker.specs.CheckedFrames.{AfterEnd, AfterPackets, BeforePackets}
 use Rattle.sub_checker.specs.CheckedFrames.{BetweenPesPackets}
-use Rattle.sub_checker.specs.CheckedFrames.{StaysOpen, back_reporter, next_steps, reaching_steps}
+use Rattle.sub_checker.specs.CheckedFrames.{StaysOpen, reporter_after_back_step}
+use Rattle.sub_checker.specs.CheckedFrames.{steps_of_next_frame, steps_to_next_frame}
 use Rattle.sub_checker.proofs.FrameEndLemmas.{back_steps_agree}
 use Rattle.sub_checker.specs.Relay.{ReporterRelays, at_step}
 use Rattle.sub_checker.specs.declared.counts.Counts.{Counts}
 use Rattle.sub_checker.specs.declared.reporter.Reporter.{Reporter}
 use Rattle.sub_checker.proofs.AfterPacketsLemmas.{state_after_packets}
-use Rattle.sub_checker.proofs.MorePacketsLemmas.{opens_more}
-use Rattle.sub_checker.proofs.ReporterLemmas.{relays_started, relays_two}
+use Rattle.sub_checker.proofs.MorePacketsLemmas.{added_packets_leave_frame_open}
+use Rattle.sub_checker.proofs.ReporterLemmas.{beginning_frame_is_relayed}
+use Rattle.sub_checker.proofs.ReporterLemmas.{appended_steps_are_relayed}
 
 pub BetweenPesPackets-closed : (g : Criteria) (sent : Transmission) (last : List (List ℕ))
     (c : CheckerValue)
@@ -45,38 +47,42 @@ pub BetweenPesPackets-open : (g : Criteria) (sent : Transmission) (n : ℕ) (las
     → BetweenPesPackets g sent last c
 BetweenPesPackets-open g sent n last c opened within all opens = grind (arith, nat_tests)
 
-pub pending_none : (g : Criteria) (sent : Transmission) (last : List (List ℕ)) (c : CheckerValue)
+pub closed_frame_has_no_pending_end : (g : Criteria) (sent : Transmission) (last : List (List ℕ))
+    (c : CheckerValue)
     → BetweenPesPackets g sent last c
     → c.counts.is_open ≡ false
     → steps_of_pending_end g sent ≡ []
 unfolding steps_of_pending_end
-pending_none g sent last c keeps shut = grind (arith, nat_tests)
+closed_frame_has_no_pending_end g sent last c keeps shut = grind (arith, nat_tests)
 
-pub pending_some : (g : Criteria) (sent : Transmission) (last : List (List ℕ)) (c : CheckerValue)
+pub open_frame_has_pending_end : (g : Criteria) (sent : Transmission) (last : List (List ℕ))
+    (c : CheckerValue)
     → BetweenPesPackets g sent last c
     → c.counts.is_open ≡ true
     → steps_of_pending_end g sent ≡ steps_of_ending g sent (length sent - 1)
 unfolding steps_of_pending_end
-pending_some g sent last c keeps opened = grind (arith, nat_tests)
+open_frame_has_pending_end g sent last c keeps opened = grind (arith, nat_tests)
 
-heard_counts : (g : Criteria) (sent : Transmission) (n : ℕ) (last : List (List ℕ))
+counts_keep_heard_packets : (g : Criteria) (sent : Transmission) (n : ℕ) (last : List (List ℕ))
     (c d : CheckerValue) (m : Counts)
     → d ≡ record c { counts = m }
     → m.frames ≡ c.counts.frames
     → m.headers ≡ c.counts.headers
     → AfterPackets g sent n last c
     → AfterPackets g sent n last d
-heard_counts g sent n last c d m is frames headers heard = grind (arith, nat_tests)
+counts_keep_heard_packets g sent n last c d m is frames headers heard = grind (arith, nat_tests)
 
-pub closed_frame_state : (g : Criteria) (sent : Transmission) (n : ℕ) (last : List (List ℕ))
+pub closing_frame_keeps_heard_packets : (g : Criteria) (sent : Transmission) (n : ℕ)
+    (last : List (List ℕ))
     (c d : CheckerValue)
     → d ≡ record c { counts = record c.counts { is_open = false } }
     → AfterPackets g sent n last c
     → AfterPackets g sent n last d
-closed_frame_state g sent n last c d is heard =
-    heard_counts g sent n last c d (record c.counts { is_open = false }) is refl refl heard
+closing_frame_keeps_heard_packets g sent n last c d is heard =
+    counts_keep_heard_packets g sent n last c d (record c.counts { is_open = false }) is refl refl
+    heard
 
-pub more_keeps : (g : Criteria) (sent : Transmission) (last ps : List (List ℕ))
+pub added_packets_keep_open_frame : (g : Criteria) (sent : Transmission) (last ps : List (List ℕ))
     (c v e : CheckerValue) (k : ℕ)
     → BetweenPesPackets g sent last c
     → c.counts.is_open ≡ true
@@ -84,7 +90,7 @@ pub more_keeps : (g : Criteria) (sent : Transmission) (last ps : List (List ℕ)
     → e ≡ record v { counts = record v.counts { packets = k } }
     → k ≡ v.counts.packets + length ps
     → BetweenPesPackets g (with_packets ps sent) ps e
-more_keeps g sent last ps c v e k keeps opened hears is sum =
+added_packets_keep_open_frame g sent last ps c v e k keeps opened hears is sum =
     let n : ℕ = length sent - 1 in
     let some = keeps.some opened in
     let all : length sent ≡ suc (length sent - 1) = omega (arith, some) in
@@ -95,32 +101,35 @@ more_keeps g sent last ps c v e k keeps opened hears is sum =
     BetweenPesPackets-open g (with_packets ps sent) (length sent - 1) ps e
     (ap (λ (w : CheckerValue). w.counts.is_open) same ∙ opened)
     (keeps.within opened) (with_packets-length ps sent ∙ all)
-    (opens_more g sent (length sent - 1) last ps c v opens.heard all hears e k same opens.before
+    (added_packets_leave_frame_open g sent (length sent - 1) last ps c v opens.heard all hears e k
+    same opens.before
     opens.packets (sum ∙ ap (λ (w : CheckerValue). w.counts.packets + length ps) new))
 
-pub continues_eq : (g : Criteria) (sent : Transmission) (last : List (List ℕ)) (c : CheckerValue)
+pub frame_continuation_test_is_exact : (g : Criteria) (sent : Transmission) (last : List (List ℕ))
+    (c : CheckerValue)
     (s : SentFrame) (same : Bool)
     → BetweenPesPackets g sent last c
     → same ≡ (c.counts.is_open && s.frame == c.frame)
     → continues_with g.within sent s ≡ same
-continues_eq g sent last c s same keeps is = grind (arith, nat_tests)
+frame_continuation_test_is_exact g sent last c s same keeps is = grind (arith, nat_tests)
 
-pub more_eq : (g : Criteria) (sent : Transmission) (pes : ℕ) (s : SentFrame)
+pub continued_frame_steps : (g : Criteria) (sent : Transmission) (pes : ℕ) (s : SentFrame)
     → continues_with g.within sent s ≡ true
     → steps_of_sent g sent pes s ≡ AtPes pes ∷ steps_of_more g sent s.packets
 unfolding steps_of_sent
-more_eq g sent pes s same = rw same refl
+continued_frame_steps g sent pes s same = rw same refl
 
-pub next_eq : (g : Criteria) (sent : Transmission) (pes : ℕ) (s : SentFrame)
+pub new_frame_steps : (g : Criteria) (sent : Transmission) (pes : ℕ) (s : SentFrame)
     → continues_with g.within sent s ≡ false
     → steps_of_sent g sent pes s
-    ≡ steps_of_pending_end g sent ++ AtPes pes ∷ next_steps g (sent ++ s ∷ []) (length sent)
+    ≡ steps_of_pending_end g sent ++ AtPes pes ∷ steps_of_next_frame g (sent ++ s ∷ [])
+    (length sent)
 unfolding steps_of_sent
-next_eq g sent pes s other = rw other refl
+new_frame_steps g sent pes s other = rw other refl
 
-pub is_sent : (sent : Transmission) (s : SentFrame)
+pub appended_frame_is_sent : (sent : Transmission) (s : SentFrame)
     → IsSentFrame (sent ++ s ∷ []) (length sent) s.frame s.packets
-is_sent sent s = record {
+appended_frame_is_sent sent s = record {
   there = omega (arith, length-append sent (s ∷ []));
   frame_eq = at sent;
   packets_are = packets sent;
@@ -134,33 +143,33 @@ is_sent sent s = record {
     packets [] = refl
     packets (x ∷ xs) = packets xs
 
-pub length_one_more : (sent : Transmission) (s : SentFrame)
+pub appending_frame_adds_one : (sent : Transmission) (s : SentFrame)
     → length (sent ++ s ∷ []) ≡ suc (length sent)
-length_one_more sent s = length-append sent (s ∷ []) ∙ omega arith
+appending_frame_adds_one sent s = length-append sent (s ∷ []) ∙ omega arith
 
 pub arrived : {D : Type 0} {d : _} {IsReported : D → Event → D → Type 0} {a s t : Reporter D d}
     (g : Criteria) (frames : Transmission) (n : ℕ) (last : List (List ℕ)) (c : CheckerValue)
     → BeforePackets g frames n last c
-    → ReporterRelays IsReported a (reaching_steps g frames n) s
-    → t ≡ back_reporter c (at_step (Begins c.frame) s)
+    → ReporterRelays IsReported a (steps_to_next_frame g frames n) s
+    → t ≡ reporter_after_back_step c (at_step (Begins c.frame) s)
     → ReporterRelays IsReported a (steps_of_arrival g frames n) t
 arrived {a = a} {s = s} {t = t} g frames n last c arrives reached begins =
     let back =
     back_steps_agree g frames n n (frame_at frames n) last c arrives.has_pending.known
     arrives.has_pending.first_unfinished_eq in
-    relays_two
-    (ap₂ (λ (f : ℕ) (ms : List CheckStep). reaching_steps g frames n ++ Begins f ∷ ms)
+    appended_steps_are_relayed
+    (ap₂ (λ (f : ℕ) (ms : List CheckStep). steps_to_next_frame g frames n ++ Begins f ∷ ms)
     (sym arrives.frame_eq) (sym back))
-    reached (relays_started s t c begins)
+    reached (beginning_frame_is_relayed s t c begins)
 
-pub next_each : (g : Criteria) (frames : Transmission) (n : ℕ) → g.within ≡ 0
-    → next_steps g frames n
+pub undelayed_frame_steps : (g : Criteria) (frames : Transmission) (n : ℕ) → g.within ≡ 0
+    → steps_of_next_frame g frames n
     ≡ steps_of_arrival g frames n ++ steps_of_packets g frames n ++ steps_of_ending g frames n
-next_each g frames n each = grind (arith, nat_tests)
+undelayed_frame_steps g frames n each = grind (arith, nat_tests)
 
-pub next_within : (g : Criteria) (frames : Transmission) (n : ℕ) → 0 < g.within
-    → next_steps g frames n ≡ steps_of_arrival g frames n ++ steps_of_packets g frames n
-next_within g frames n within = grind (arith, nat_tests, append-nil)
+pub delayed_frame_steps : (g : Criteria) (frames : Transmission) (n : ℕ) → 0 < g.within
+    → steps_of_next_frame g frames n ≡ steps_of_arrival g frames n ++ steps_of_packets g frames n
+delayed_frame_steps g frames n within = grind (arith, nat_tests, append-nil)
 
 module _ (g : Criteria) (frames : Transmission) (n : ℕ) (last ps : List (List ℕ))
     (c v : CheckerValue)
@@ -177,11 +186,11 @@ module _ (g : Criteria) (frames : Transmission) (n : ℕ) (last ps : List (List 
           counts = record w.counts { frames = w.counts.frames + 1 };
         }) hears.new_eq
         ∙ ap (λ (k : ℕ). let here : CheckerValue =
-        after_headers hears.headers (record c { listener = hears.listener }) in
+        checker_after_headers hears.headers (record c { listener = hears.listener }) in
         record here { counts = record here.counts { frames = k } })
         (omega (arith, arrives.has_pending.number)))
 
-    pub next_keeps : (e : CheckerValue) (before k : ℕ)
+    pub new_frame_stays_open : (e : CheckerValue) (before k : ℕ)
         → 0 < c.within
         → length frames ≡ suc n
         → e ≡ record v {
@@ -195,7 +204,7 @@ module _ (g : Criteria) (frames : Transmission) (n : ℕ) (last ps : List (List 
         → before ≡ c.counts.headers
         → k ≡ length ps
         → BetweenPesPackets g frames ps e
-    next_keeps e before k within long is was size =
+    new_frame_stays_open e before k within long is was size =
         let d : CheckerValue = record v {
           counts = record v.counts { frames = v.counts.frames + 1 };
         } in
@@ -203,7 +212,7 @@ module _ (g : Criteria) (frames : Transmission) (n : ℕ) (last ps : List (List 
         (rw (ap (λ (t : Criteria). t.within) arrives.has_pending.known.criteria_are) within) long
         (record {
           heard =
-              heard_counts g frames n ps d e _ is refl refl (next_heard d refl);
+              counts_keep_heard_packets g frames n ps d e _ is refl refl (next_heard d refl);
           before =
               ap (λ (w : CheckerValue). w.counts.headers_before) is
               ∙ was
@@ -219,15 +228,16 @@ module _ (g : Criteria) (frames : Transmission) (n : ℕ) (last ps : List (List 
         let same = ap (λ (w : CheckerValue). w.within) hears.new_eq in
         omega (arith, not_each, same)
 
-    pub each_eq : v.within ≡ 0 → g.within ≡ 0
-    each_eq e =
+    pub both_delays_are_zero : v.within ≡ 0 → g.within ≡ 0
+    both_delays_are_zero e =
         ap (λ (t : Criteria). t.within) arrives.has_pending.known.criteria_are
         ∙ sym (ap (λ (w : CheckerValue). w.within) hears.new_eq)
         ∙ e
 
-pub follows_all : (g : Criteria) (sent : Transmission) (last : List (List ℕ)) (c : CheckerValue)
+pub following_all_frames_is_following : (g : Criteria) (sent : Transmission) (last : List (List ℕ))
+    (c : CheckerValue)
     → 0 < length sent
     → AfterEnd g sent (suc (length sent - 1)) last c
     → AfterEnd g sent (length sent) last c
-follows_all g sent last c some follows =
+following_all_frames_is_following g sent last c some follows =
     subst (λ (k : ℕ). AfterEnd g sent k last c) (omega (arith, some)) follows

@@ -9,8 +9,8 @@ use Rattle.stl_rows.specs.declared.layout.Drawing.{Drawing}
 use Rattle.stl_rows.specs.DuePage.{due, ReportsNextEdge}
 use Rattle.stl_rows.specs.Judged.{JudgedValue}
 use Rattle.stl_rows.specs.Programme.{ProgrammeValue}
-use Rattle.stl_rows.proofs.DuePageLemmas.{edges_alone}
-use Rattle.sub_plan.specs.Schedule.{due_in}
+use Rattle.stl_rows.proofs.DuePageLemmas.{page_changes_only_at_edges}
+use Rattle.sub_plan.specs.Schedule.{due_page_in}
 use Rattle.sub_checker.specs.Checker.{CheckerValue, IsAtFrame, IsJudged, at_frame, is_before}
 use Rattle.sub_packets.specs.declared.listener.Listener.{Listener}
 
@@ -21,13 +21,13 @@ due_until :
     → due drawing records (frame + k) ≡ due drawing records frame
 due_until drawing records frame edge zero reports before = ap (due drawing records) (omega arith)
 due_until drawing records frame None (suc k) reports before =
-    edges_alone drawing records (frame + suc k) (omega arith)
+    page_changes_only_at_edges drawing records (frame + suc k) (omega arith)
     (λ is. let l = reports (frame + suc k) is in omega arith)
     ∙ ap (due drawing records) (omega arith)
     ∙ due_until drawing records frame None k reports refl
 due_until drawing records frame (Some e) (suc k) reports before =
     let l : frame + suc k < e = grind (arith, nat_tests) in
-    edges_alone drawing records (frame + suc k) (omega arith)
+    page_changes_only_at_edges drawing records (frame + suc k) (omega arith)
     (λ is. let m = reports.least (frame + suc k) is (omega arith) in omega (arith, l))
     ∙ ap (due drawing records) (omega arith)
     ∙ due_until drawing records frame (Some e) k reports (grind (arith, nat_tests))
@@ -48,14 +48,14 @@ next_cue_stays records frame f (Some edge) reports low before =
 
 -- `IsAtFrame` stays true until the next change of the expected page.
 pub IsAtFrame-later :
-    (p : ProgrammeValue) (every : ℕ) (s : Listener) (first latest last frame : ℕ)
+    (p : ProgrammeValue) (every : ℕ) (s : Listener) (first latest_frame last frame : ℕ)
     (edge : Option ℕ) (f : ℕ)
     → f < day
-    → IsAtFrame p every s first latest last frame edge
+    → IsAtFrame p every s first latest_frame last frame edge
     → frame ≤ f
     → is_before f edge ≡ true
-    → IsAtFrame p every s first latest last f edge
-IsAtFrame-later p every s first latest last frame edge f small is low before =
+    → IsAtFrame p every s first latest_frame last f edge
+IsAtFrame-later p every s first latest_frame last frame edge f small is low before =
     let k : frame + (f - frame) ≡ f = omega arith in
     grind (arith, nat_tests, due_until, next_cue_stays)
 
@@ -71,6 +71,6 @@ IsJudged-later j p any_refused first within frame edge first_known_from f is low
 
 pub at_frame-stays :
     (f : ℕ) (c : CheckerValue)
-    → c.listener.comparison.due ≡ due_in c.programme f
+    → c.listener.comparison.due ≡ due_page_in c.programme f
     → record c { frame = f } ≡ at_frame f c
 at_frame-stays f c is = grind arith

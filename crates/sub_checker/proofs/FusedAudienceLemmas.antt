@@ -4,7 +4,7 @@ use Rattle.std.proofs.lemmas.Bool.{true≢false}
 use Rattle.sub_io.proofs.ReportingLemmas.{Reports-none, Reports-trans, ReportsPrefix-first}
 use Rattle.sub_io.proofs.ReportingLemmas.{ReportsPrefix-second, ReportsPrefix-whole}
 use Rattle.std.proofs.Common.{ℕ, ap, inl, inr, not, take}
-use Rattle.sub_io.specs.Flushing.{FlushesIfPending, StaysReported}
+use Rattle.sub_io.specs.Flushing.{FlushesIfPending, FlushKeepsReports}
 use Rattle.sub_io.specs.Reporting.{Reports, ReportsInOrder, ReportsPrefix, ReportsSome}
 use Rattle.sub_checker.specs.FusedAudience.{IsFused}
 use Rattle.sub_rules.specs.declared.event.Event.{Event}
@@ -13,13 +13,13 @@ use Rattle.sub_checker.specs.declared.fused.FusedAudience.{FusedAudience}
 module _ {D : Type 0} {g : _} (IsReported : D → Event → D → Type 0) where
   -- The device received the events, or a prefix of them if it stopped the check, or none if it had
   -- stopped before.
-  pub record Receives (old new : FusedAudience D g) (es : List Event) : Type 0 where
+  pub record FusedDeviceReceives (old new : FusedAudience D g) (es : List Event) : Type 0 where
     pub same : new.device.ghost_name ≡ old.device.ghost_name
     pub stays : old.stopped ≡ true → (new.device.now ≡ old.device.now) × (new.stopped ≡ true)
     pub whole : new.stopped ≡ false → Reports IsReported old.device.now new.device.now es
     pub cut : ReportsPrefix IsReported old.device.now new.device.now es
 
-  receives-none : (old : FusedAudience D g) → Receives old old []
+  receives-none : (old : FusedAudience D g) → FusedDeviceReceives old old []
   receives-none old = record {
     same = refl;
     stays = λ e. (refl, e);
@@ -31,8 +31,8 @@ module _ {D : Type 0} {g : _} (IsReported : D → Event → D → Type 0) where
       → old.stopped ≡ s
       → mid.stopped ≡ t
       → IsFused IsReported old e mid
-      → Receives mid new es
-      → Receives old new (e ∷ es)
+      → FusedDeviceReceives mid new es
+      → FusedDeviceReceives old new (e ∷ es)
   receives-more old mid new e es true t is then first rest =
       let at = first.stays is in
       let on = rest.stays at.1 in
@@ -62,34 +62,38 @@ module _ {D : Type 0} {g : _} (IsReported : D → Event → D → Type 0) where
 
   one_by_one : (old new : FusedAudience D g) (es : List Event)
       → ReportsInOrder (IsFused IsReported) old new es
-      → Receives old new es
-  one_by_one old new [] same = subst (λ (s : FusedAudience D g). Receives old s []) (sym same)
+      → FusedDeviceReceives old new es
+  one_by_one old new [] same = subst (λ (s : FusedAudience D g). FusedDeviceReceives old s [])
+      (sym same)
       (receives-none old)
   one_by_one old new (e ∷ es) (mid, first, rest) =
       receives-more old mid new e es old.stopped mid.stopped refl refl first
       (one_by_one mid new es rest)
 
-  pub unfused : (old new : FusedAudience D g) (es : List Event)
+  pub reported_events_are_received : (old new : FusedAudience D g) (es : List Event)
       → Reports (IsFused IsReported) old new es
-      → Receives old new es
-  unfused old new es reported = one_by_one old new es reported.one_by_one
+      → FusedDeviceReceives old new es
+  reported_events_are_received old new es reported = one_by_one old new es reported.one_by_one
 
-  pub unfused_some : (old new : FusedAudience D g) → ReportsSome (IsFused IsReported) old new
+  pub some_reported_events_are_received : (old new : FusedAudience D g) → ReportsSome
+      (IsFused IsReported) old new
       → (new.device.ghost_name ≡ old.device.ghost_name)
       × ReportsSome IsReported old.device.now new.device.now
-  unfused_some old new some =
-      let p = unfused old new some.items some.reported in
+  some_reported_events_are_received old new some =
+      let p = reported_events_are_received old new some.items some.reported in
       (p.same, record { items = take p.cut.0 _; reported = p.cut.2 })
 
-pub flush_stopped : {A D : Type 0} {IsReported : D → A → D → Type 0}
+pub flushing_stopped_device_keeps_it : {A D : Type 0} {IsReported : D → A → D → Type 0}
     {has_stopped has_pending_reports : D → Bool} {buffered : D → ℕ}
     {IsFlushed : D → Bool → D → Type 0}
-    → StaysReported IsReported has_stopped has_pending_reports buffered IsFlushed
+    → FlushKeepsReports IsReported has_stopped has_pending_reports buffered IsFlushed
     → (old new : D) (ok : Bool)
     → FlushesIfPending has_pending_reports IsFlushed old ok new
     → has_stopped old ≡ false
     → has_stopped new ≡ not ok
-flush_stopped {A} {D} {IsReported} {has_stopped} stays old new ok (inl same) continues =
+flushing_stopped_device_keeps_it {A} {D} {IsReported} {has_stopped} stays old new ok (inl same)
+    continues =
     ap has_stopped same.1 ∙ continues ∙ sym (ap not same.0)
-flush_stopped {A} {D} {IsReported} {has_stopped} stays old new ok (inr on) continues =
+flushing_stopped_device_keeps_it {A} {D} {IsReported} {has_stopped} stays old new ok (inr on)
+    continues =
     stays.stopped old new ok on.1

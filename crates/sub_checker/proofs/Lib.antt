@@ -8,8 +8,8 @@ pub mod LastEventsLemmas
 pub mod FusedAudienceLemmas
 pub mod MorePacketsLemmas
 pub mod NextPesPacketLemmas
-pub mod PesPacketWaysLemmas
-pub mod ReadsOnLemmas
+pub mod PesPacketLoopLemmas
+pub mod RemainingBytesLemmas
 pub mod RelayLemmas
 pub mod ReporterLemmas
 pub mod TrustTrackerLemmas

@@ -9,7 +9,7 @@ use Rattle.sub_rules.specs.declared.pes_packet.NextPesPacket.{NextPesPacket}
 use Rattle.sub_rules.specs.declared.pes_packet.NextPesPacket.TheVariants as next
 use Rattle.sub_rules.specs.declared.fault.CheckFault.{CheckFault}
 use Rattle.sub_rules.specs.declared.sending.Sending.{Sending}
-use Rattle.sub_checker.specs.NextPesPackets.{IsRepeatSending, is_skipped, last_with}
+use Rattle.sub_checker.specs.NextPesPackets.{RepeatsLastPacket, is_skipped, last_packets_after_read}
 
 pub result_is_sending : {n : Option NextPesPacket} {r : NextPesPacket} {s : Sending}
     → n ≡ Some r
@@ -29,13 +29,13 @@ pub again_is : {old new : List UnitValue} {n : Option NextPesPacket} (r : NextPe
     → new ≡ old)
     → (skipped ≡ false → last ≡ packets_of_units old)
     → skipped ≡ false
-    → IsRepeatSending r
+    → RepeatsLastPacket r
     → last ≡ packets_of_units new
 again_is (next.Skipped f) skipped last is here was sent same = absurd same
 again_is (next.Sent s) skipped last is here was sent same =
     was sent ∙ ap packets_of_units (sym (here s (result_is_sending is refl) same))
 
 pub last_is : (r : NextPesPacket) (last packets : List (List ℕ)) → is_skipped r ≡ false
-    → last_with last r packets ≡ packets
+    → last_packets_after_read last r packets ≡ packets
 last_is (next.Skipped f) last packets sent = absurd (true≢false sent)
 last_is (next.Sent s) last packets sent = refl

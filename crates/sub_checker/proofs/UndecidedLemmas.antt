@@ -8,8 +8,9 @@ use Rattle.std.proofs.lemmas.Bool.{cases_lt}
 use Rattle.stl_file.specs.Subtitle.{SubtitleValue}
 use Rattle.stl_file.specs.TimeCode.{day}
 use Rattle.stl_rows.specs.DuePage.{IsEdge, ReportsNextEdge}
-use Rattle.stl_rows.specs.Judged.{JudgedValue, has_refused, is_undecided_from, is_undecided_in}
-use Rattle.stl_rows.specs.Judged.{with_bits}
+use Rattle.stl_rows.specs.Judged.{JudgedValue, has_unreliable_subtitle, is_undecided_from}
+use Rattle.stl_rows.specs.Judged.{is_undecided_in}
+use Rattle.stl_rows.specs.Judged.{judged_subtitles_with_bits}
 use Rattle.sub_rules.specs.Events.{was_undecided}
 use Rattle.sub_rules.specs.FrameRules.{is_due_undecided}
 use Rattle.sub_checker.specs.Checker.{IsKnownFrom, is_before}
@@ -18,52 +19,64 @@ use Rattle.sub_checker.specs.Checker.{IsKnownFrom, is_before}
 abbrev NoPageChange : List SubtitleValue → ℕ → ℕ → Type 0
 NoPageChange ts f g = (e : ℕ) → IsEdge ts e → f < e → e ≤ g → ⊥
 
-fewer : (t : SubtitleValue) (ts : List SubtitleValue) (f g : ℕ) → NoPageChange (t ∷ ts) f g
+no_change_holds_for_later_subtitles : (t : SubtitleValue) (ts : List SubtitleValue) (f g : ℕ) →
+    NoPageChange (t ∷ ts) f g
     → NoPageChange ts f g
-fewer t ts f g none e edge = none e (suc edge.0, edge.1, omega (arith, edge.2), edge.3, edge.4)
+no_change_holds_for_later_subtitles t ts f g none e edge = none e (
+  suc edge.0,
+  edge.1,
+  omega
+      (arith, edge.2),
+  edge.3,
+  edge.4,
+)
 
-from_same : (ts : List SubtitleValue) (bits : List Bool) (other : Bool) (start f g : ℕ)
+undecided_from_is_constant : (ts : List SubtitleValue) (bits : List Bool) (other : Bool)
+    (start f g : ℕ)
     → f ≤ g
     → (f < start → start ≤ g → ⊥)
     → NoPageChange ts f g
-    → is_undecided_from start (with_bits ts bits) other f
-    ≡ is_undecided_from start (with_bits ts bits) other g
-from_same [] bits other start f g le still none = grind (arith, nat_tests)
-from_same (t ∷ ts) [] other start f g le still none =
+    → is_undecided_from start (judged_subtitles_with_bits ts bits) other f
+    ≡ is_undecided_from start (judged_subtitles_with_bits ts bits) other g
+undecided_from_is_constant [] bits other start f g le still none = grind (arith, nat_tests)
+undecided_from_is_constant (t ∷ ts) [] other start f g le still none =
     let begins = none t.tci (0, t, omega arith, refl, inl refl) in
     let ends = none t.tco (0, t, omega arith, refl, inr refl) in
-    let rest = from_same ts [] other t.tco f g le ends (fewer t ts f g none) in
+    let rest = undecided_from_is_constant ts [] other t.tco f g le ends
+    (no_change_holds_for_later_subtitles t ts f g none) in
     grind (arith, nat_tests)
-from_same (t ∷ ts) (bit ∷ bits) other start f g le still none =
+undecided_from_is_constant (t ∷ ts) (bit ∷ bits) other start f g le still none =
     let begins = none t.tci (0, t, omega arith, refl, inl refl) in
     let ends = none t.tco (0, t, omega arith, refl, inr refl) in
-    let rest = from_same ts bits other t.tco f g le ends (fewer t ts f g none) in
+    let rest = undecided_from_is_constant ts bits other t.tco f g le ends
+    (no_change_holds_for_later_subtitles t ts f g none) in
     grind (arith, nat_tests)
 
-pub undecided_same : (j : JudgedValue) (f g : ℕ)
+pub undecided_is_constant_between_changes : (j : JudgedValue) (f g : ℕ)
     → f ≤ g
     → NoPageChange j.programme.records f g
     → is_undecided_in j f ≡ is_undecided_in j g
 unfolding is_undecided_in
-undecided_same j f g le none =
-    from_same j.programme.records j.after_other j.is_before_other 0 f g le
+undecided_is_constant_between_changes j f g le none =
+    undecided_from_is_constant j.programme.records j.after_unreliable_bits j.is_before_unreliable 0
+    f g le
     (λ low. absurd (omega (arith, low))) none
 
 earlier : (e f : ℕ) (edge : Option ℕ) → e ≤ f → is_before f edge ≡ true → is_before e edge ≡ true
 earlier e f None le before = refl
 earlier e f (Some next) le before = grind (arith, nat_tests)
 
-until_edge : (j : JudgedValue) (frame f : ℕ) (edge : Option ℕ)
+undecided_is_constant_until_edge : (j : JudgedValue) (frame f : ℕ) (edge : Option ℕ)
     → ReportsNextEdge j.programme.records frame edge
     → frame ≤ f
     → is_before f edge ≡ true
     → is_undecided_in j f ≡ is_undecided_in j frame
-until_edge j frame f None reports low before =
-    sym (undecided_same j frame f low
+undecided_is_constant_until_edge j frame f None reports low before =
+    sym (undecided_is_constant_between_changes j frame f low
     (λ e edge after until. let l = reports e edge in omega (arith, l, after)))
-until_edge j frame f (Some next) reports low before =
+undecided_is_constant_until_edge j frame f (Some next) reports low before =
     let l : f < next = grind (arith, nat_tests) in
-    sym (undecided_same j frame f low
+    sym (undecided_is_constant_between_changes j frame f low
     (λ e edge after until. let m = reports.least e edge after in omega (arith, l, m, until)))
 
 module _ (undecided : ℕ → Bool) (first f : ℕ) where
@@ -111,16 +124,16 @@ module _ (undecided : ℕ → Bool) (first f : ℕ) where
   was-here zero none = none
   was-here (suc n) none = let rest = was-here n in grind (arith, nat_tests)
 
-none_below : (f : ℕ) → nat_lt f 0 ≡ false
-none_below f = grind (arith, nat_tests)
+no_number_is_below_zero : (f : ℕ) → nat_lt f 0 ≡ false
+no_number_is_below_zero f = grind (arith, nat_tests)
 
 module _ (j : JudgedValue) (first within frame : ℕ) (edge : Option ℕ)
     (reports : ReportsNextEdge j.programme.records frame edge) where
-  pub due_known_without_refusals : has_refused j ≡ false
+  pub due_known_without_refusals : has_unreliable_subtitle j ≡ false
       → IsKnownFrom (is_due_undecided j) first within frame edge 0
-  due_known_without_refusals h1 = grind (arith, nat_tests, none_below, was-none)
+  due_known_without_refusals h1 = grind (arith, nat_tests, no_number_is_below_zero, was-none)
 
-  module _ (is : has_refused j ≡ true) where
+  module _ (is : has_unreliable_subtitle j ≡ true) where
     any_refused_eq : (e : ℕ) → is_due_undecided j e ≡ is_undecided_in j e
     any_refused_eq e = ap (λ b. b && is_undecided_in j e) is
 
@@ -130,7 +143,8 @@ module _ (j : JudgedValue) (first within frame : ℕ) (edge : Option ℕ)
         → IsKnownFrom (is_due_undecided j) first within frame edge k
     due_unknown_after_day k high here f low small before =
         let there = was-some (is_due_undecided j) first f within f (inr refl) (omega arith)
-        (omega arith) (any_refused_eq f ∙ until_edge j frame f edge reports low before ∙ here) in
+        (omega arith) (any_refused_eq f ∙ undecided_is_constant_until_edge j frame f edge reports
+        low before ∙ here) in
         rw there (grind (arith, nat_tests))
 
     pub due_known_up_to_last : (last : ℕ)
@@ -148,7 +162,8 @@ module _ (j : JudgedValue) (first within frame : ℕ) (edge : Option ℕ)
             go : (e < frame) ⊎ (frame ≤ e) → is_undecided_in j e ≡ false
             go (inl l) = none e after (omega arith)
             go (inr l) =
-                until_edge j frame e edge reports l (earlier e f edge until before)
+                undecided_is_constant_until_edge j frame e edge reports l
+                (earlier e f edge until before)
                 ∙ none frame less (omega arith)
 
         by : (last + within < f) ⊎ (f ≤ last + within)
@@ -163,19 +178,20 @@ module _ (j : JudgedValue) (first within frame : ℕ) (edge : Option ℕ)
             (any_refused_eq last ∙ here))
             (grind (arith, nat_tests))
 
-    pub known_never : (least : ℕ)
+    pub unknown_page_is_never_known : (least : ℕ)
         → ((f : ℕ) → first ≤ f → frame ≤ f + within → least ≤ f)
         → is_undecided_in j frame ≡ false
         → ((f : ℕ) → least ≤ f → f ≤ frame → is_undecided_in j f ≡ false)
         → IsKnownFrom (is_due_undecided j) first within frame edge 0
-    known_never least counts here none f low small before =
-        none_below f
+    unknown_page_is_never_known least counts here none f low small before =
+        no_number_is_below_zero f
         ∙ sym (was-none (is_due_undecided j) first f within (at f low (omega arith)) each)
       where
         at : (e : ℕ) → frame ≤ e → e ≤ f → is_due_undecided j e ≡ false
         at e l until =
             any_refused_eq e
-            ∙ until_edge j frame e edge reports l (earlier e f edge until before)
+            ∙ undecided_is_constant_until_edge j frame e edge reports l
+            (earlier e f edge until before)
             ∙ here
 
         each : (e : ℕ) → first ≤ e → f ≤ e + within → e ≤ f → is_due_undecided j e ≡ false

@@ -2,15 +2,17 @@
 use Rattle.std.specs.Prelude.{◌≡◌, ℕ, suc, ◌+◌, ◌-◌, ◌<◌, ◌==◌, List, [], ◌++◌, length, map}
 use Rattle.std.specs.Prelude.{nat_le, false, true, Option, if◌then◌else◌}
 use Rattle.ttx_page.specs.PacketKind.{kind}
-use Rattle.ttx_page.specs.Span.{holds_beginning}
+use Rattle.ttx_page.specs.Span.{has_text_beginning}
 use Rattle.sub_rules.specs.Transmission.{Transmission}
-use Rattle.sub_checker.specs.Checker.{CheckerValue, goes_back_now, is_undecided_by}
-use Rattle.sub_rules.specs.Events.{end_before, gap_length, is_gap, latest, no_active_faults}
+use Rattle.sub_checker.specs.Checker.{CheckerValue, needs_back_step, is_due_page_undecided}
+use Rattle.sub_rules.specs.Events.{previous_end_frame, gap_length, is_gap, latest_frame}
+use Rattle.sub_rules.specs.Events.{no_active_faults}
 use Rattle.sub_rules.specs.Events.{order_events, first_unfinished_before}
 use Rattle.sub_rules.specs.Events.{first_unfinished_in_frames, active_faults_at}
 use Rattle.sub_rules.specs.Events.{active_faults_before}
 use Rattle.sub_packets.specs.Listener.{KnowsLast}
-use Rattle.sub_rules.specs.FrameRules.{Criteria, Unread, criteria_with, frame_at, packets_before}
+use Rattle.sub_rules.specs.FrameRules.{Criteria, UnreadReason, criteria_with, frame_at}
+use Rattle.sub_rules.specs.FrameRules.{packets_before}
 use Rattle.sub_rules.specs.FrameRules.{packets_of_frame}
 use Rattle.sub_rules.specs.PacketRules.{header_count}
 use Rattle.sub_rules.specs.PesPacketEvents.{steps_of_arrival, steps_of_closing, steps_of_ending}
@@ -24,19 +26,19 @@ use Rattle.sub_checker.specs.declared.reporter.Reporter.{Reporter}
 
 -- The criteria in the state of the checker. `unread` says why the rest of the file could not be
 -- read.
-abbrev pub criteria_kept : CheckerValue → Option Unread → Criteria
-criteria_kept c unread =
+abbrev pub criteria_of_checker : CheckerValue → Option UnreadReason → Criteria
+criteria_of_checker c unread =
     record (criteria_with c.programme c.listener.watched c.every c.within c.pace unread) {
       any_refused = c.any_refused;
-      undecided = is_undecided_by c;
+      undecided = is_due_page_undecided c;
     }
 
 -- The state of the checker agrees with the packets of the first n frames. `last` are the packets of
 -- the last PES packet.
-pub record Remembers
+pub record AgreesWithPackets
     (g : Criteria) (frames : Transmission) (n : ℕ) (last : List (List ℕ)) (c : CheckerValue)
     : Type 0 where
-  pub criteria_are : g ≡ criteria_kept c g.unread
+  pub criteria_are : g ≡ criteria_of_checker c g.unread
   pub knows : KnowsLast (packets_before frames n) last c.listener
   pub count : c.counts.headers ≡ header_count g.watched.page (packets_before frames n)
 
@@ -45,16 +47,16 @@ pub record Remembers
 pub record HasStarted (g : Criteria) (frames : Transmission) (n : ℕ) (c : CheckerValue) : Type 0
   where
     pub first_is : c.first ≡ frame_at frames 0
-    pub late_eq : (f : ℕ) → is_gap g frames n f ≡ nat_le c.late_at (f + 1)
+    pub late_eq : (f : ℕ) → is_gap g frames n f ≡ nat_le c.repeat_deadline (f + 1)
 
 -- The state of the checker after the end of the first n frames of the transmission.
 pub record AfterEnd
     (g : Criteria) (frames : Transmission) (n : ℕ) (last : List (List ℕ)) (c : CheckerValue)
     : Type 0 where
-  pub known : Remembers g frames n last c
+  pub known : AgreesWithPackets g frames n last c
   pub none : n ≡ 0 → c.active_faults ≡ no_active_faults
   pub begun : 0 < n → HasStarted g frames n c
-  pub latest_is : 0 < n → c.latest ≡ latest frames n
+  pub latest_is : 0 < n → c.latest_frame ≡ latest_frame frames n
   pub active_faults_eq :
       0 < n → c.active_faults ≡ active_faults_at g frames n (frame_at frames (n - 1))
   pub last_is : 0 < n → c.last ≡ frame_at frames (n - 1)
@@ -66,10 +68,10 @@ pub record AfterEnd
 pub record BeforeEnd
     (g : Criteria) (frames : Transmission) (n f : ℕ) (last : List (List ℕ)) (c : CheckerValue)
     : Type 0 where
-  pub known : Remembers g frames n last c
+  pub known : AgreesWithPackets g frames n last c
   pub begun : HasStarted g frames n c
   pub active_faults_eq : c.active_faults ≡ active_faults_before g frames n f
-  pub last_is : 0 < n → c.last ≡ end_before frames n f
+  pub last_is : 0 < n → c.last ≡ previous_end_frame frames n f
   pub first_unfinished_eq : 0 < g.within → c.first_unfinished ≡ first_unfinished_before g frames n f
   pub number : c.counts.frames ≡ n
 
@@ -79,25 +81,25 @@ pub record BeforePackets
     : Type 0 where
   pub has_pending : BeforeEnd g frames n (frame_at frames n) last c
   pub frame_eq : c.frame ≡ frame_at frames n
-  pub latest_is : c.latest ≡ latest frames (suc n)
+  pub latest_is : c.latest_frame ≡ latest_frame frames (suc n)
 
 -- The state of the checker at frame n of the transmission, after its packets were received and
 -- before the frame ends.
 pub record AfterPackets
     (g : Criteria) (frames : Transmission) (n : ℕ) (last : List (List ℕ)) (c : CheckerValue)
     : Type 0 where
-  pub known : Remembers g frames (suc n) last c
+  pub known : AgreesWithPackets g frames (suc n) last c
   pub begun : HasStarted g frames (suc n) c
   pub active_faults_eq : c.active_faults ≡ active_faults_before g frames n (frame_at frames n)
-  pub last_is : 0 < n → c.last ≡ end_before frames n (frame_at frames n)
+  pub last_is : 0 < n → c.last ≡ previous_end_frame frames n (frame_at frames n)
   pub first_unfinished_eq : 0 < g.within → c.first_unfinished ≡ first_unfinished_before g frames n
       (frame_at frames n)
   pub number : c.counts.frames ≡ suc n
   pub frame_eq : c.frame ≡ frame_at frames n
-  pub latest_is : c.latest ≡ latest frames (suc n)
+  pub latest_is : c.latest_frame ≡ latest_frame frames (suc n)
   pub begins :
       c.listener.begun
-      ≡ holds_beginning g.watched.keeps (kind g.watched.page) (packets_of_frame frames n)
+      ≡ has_text_beginning g.watched.keeps (kind g.watched.page) (packets_of_frame frames n)
 
 -- The state of the checker at frame n of the transmission, if more packets of that frame may
 -- follow.
@@ -123,21 +125,24 @@ pub record BetweenPesPackets (g : Criteria) (sent : Transmission) (last : List (
 
 -- The steps before frame i of the transmission: its frame number is checked, and the frames without
 -- a PES packet before it end.
-abbrev pub reaching_steps : Criteria → Transmission → ℕ → List CheckStep
-reaching_steps g frames i =
+abbrev pub steps_to_next_frame : Criteria → Transmission → ℕ → List CheckStep
+steps_to_next_frame g frames i =
     map Emits (order_events g frames i) ++ steps_of_gap g frames i (gap_length frames i)
 
 -- The steps for frame i of the transmission. They include its end only if `within` is 0.
-abbrev pub next_steps : Criteria → Transmission → ℕ → List CheckStep
-next_steps g frames i =
+abbrev pub steps_of_next_frame : Criteria → Transmission → ℕ → List CheckStep
+steps_of_next_frame g frames i =
     steps_of_arrival g frames i
     ++ steps_of_packets g frames i
     ++ (if g.within == 0 then steps_of_ending g frames i else [])
 
 -- The steps at the end of the file, after `pes` PES packets.
-abbrev pub last_steps : Criteria → Transmission → ℕ → List CheckStep
-last_steps g list pes = steps_of_pending_end g list ++ steps_of_closing g list pes (length list)
+abbrev pub steps_at_end_of_file : Criteria → Transmission → ℕ → List CheckStep
+steps_at_end_of_file g list pes = steps_of_pending_end g list ++ steps_of_closing g list pes
+    (length list)
 
 -- The reporter after a `GoesBack` step, if the checker needs that step.
-unfoldable pub back_reporter : {D : Type 0} {g : _} → CheckerValue → Reporter D g → Reporter D g
-back_reporter c s = if goes_back_now c then at_step (GoesBack c.first_unfinished) s else s
+unfoldable pub reporter_after_back_step : {D : Type 0} {g : _} → CheckerValue → Reporter D g →
+    Reporter D g
+reporter_after_back_step c s = if needs_back_step c then at_step (GoesBack c.first_unfinished) s
+    else s

@@ -6,10 +6,10 @@ use Rattle.std.specs.Prelude.{Bool, false, true, if◌then◌else◌}
 use Rattle.stl_file.specs.TimeCode.{day}
 use Rattle.stl_rows.specs.Programme.{ProgrammeValue}
 use Rattle.ttx_pes.specs.DataUnit.{UnitValue}
-use Rattle.sub_rules.specs.Events.{end_events, is_missed, no_active_faults, silent_for}
-use Rattle.sub_rules.specs.Events.{unfinished_from, was_undecided}
-use Rattle.stl_rows.specs.DuePage.{ReportsNextEdge, tci_of_ending}
-use Rattle.stl_rows.specs.Judged.{JudgedValue, has_refused}
+use Rattle.sub_rules.specs.Events.{end_events, is_missed, no_active_faults, is_silent_for}
+use Rattle.sub_rules.specs.Events.{extended_unfinished_run, was_undecided}
+use Rattle.stl_rows.specs.DuePage.{ReportsNextEdge, tci_of_subtitle_ending_at}
+use Rattle.stl_rows.specs.Judged.{JudgedValue, has_unreliable_subtitle}
 use Rattle.sub_rules.specs.FrameRules.{is_due_undecided}
 use Rattle.sub_rules.specs.PacketRules.{header_count, packets_of_units}
 use Rattle.sub_rules.specs.Transmission.{SentFrame}
@@ -17,11 +17,12 @@ use Rattle.sub_rules.specs.Trusted.{CheckStep}
 use Rattle.sub_rules.specs.Trusted.CheckStep.{AtEnd, GoesBack, Emits}
 use Rattle.sub_rules.specs.declared.sending.Sending.{Sending}
 use Rattle.sub_rules.specs.declared.active_faults.ActiveFaults.{ActiveFaults}
-use Rattle.sub_packets.specs.KeptPage.{is_incomplete_kept, unexpected_kept, wrong_kept}
-use Rattle.sub_packets.specs.Listener.{KnowsLast, begins_frame}
+use Rattle.sub_packets.specs.StoredPage.{is_kept_page_open, first_unexpected_kept_cell}
+use Rattle.sub_packets.specs.StoredPage.{first_wrong_kept_cell}
+use Rattle.sub_packets.specs.Listener.{KnowsLast, begins_frame_with_header}
 use Rattle.sub_packets.specs.declared.listener.Listener.{Listener}
 use Rattle.sub_checker.specs.declared.counts.Counts.{Counts}
-use Rattle.sub_plan.specs.Schedule.{due_in}
+use Rattle.sub_plan.specs.Schedule.{due_page_in}
 
 -- ---- counts of PES packets and headers
 
@@ -36,19 +37,19 @@ with_headers headers n = record n { headers = n.headers + headers }
 
 -- The counts if the last frame has not ended yet. It has `headers` headers of the page and
 -- `packets` packets so far.
-abbrev pub left_open : ℕ → ℕ → Counts → Counts
-left_open headers packets n =
+abbrev pub with_open_frame : ℕ → ℕ → Counts → Counts
+with_open_frame headers packets n =
     record n { headers_before = n.headers - headers; packets = packets; is_open = true }
 
 -- The counts are at most those that `pes` PES packets can have, so none can overflow.
-pub record FewMissing (pes : ℕ) (n : Counts) : Type 0 where
+pub record AreCountsBounded (pes : ℕ) (n : Counts) : Type 0 where
   pub frames : n.frames ≤ pes
   pub headers : n.headers ≤ 255 * pes
   pub packets : n.packets ≤ 255 * pes
 
 -- The frame of a valid PES packet with these data units.
-abbrev pub sent_as : Sending → List UnitValue → SentFrame
-sent_as sending units = record { frame = sending.frame; packets = packets_of_units units }
+abbrev pub sent_frame_of : Sending → List UnitValue → SentFrame
+sent_frame_of sending units = record { frame = sending.frame; packets = packets_of_units units }
 
 -- ---- the state of the checker
 
@@ -65,7 +66,7 @@ sent_as sending units = record { frame = sending.frame; packets = packets_of_uni
 --   last              the frame that was ended last
 --   active_faults     the faults that were active at its end
 --   first_unfinished  the first frame of the current run of frames with an unfinished page
---   late_at           the frame after the one at whose end the repeat bound is exceeded
+--   repeat_deadline           the frame after the one at whose end the repeat bound is exceeded
 --   counts            the counts of frames, page headers and packets so far
 pub record CheckerValue : Type 0 where
   pub programme : ProgrammeValue
@@ -76,12 +77,12 @@ pub record CheckerValue : Type 0 where
   pub pace : Option ℕ
   pub listener : Listener
   pub first : ℕ
-  pub latest : ℕ
+  pub latest_frame : ℕ
   pub frame : ℕ
   pub last : ℕ
   pub active_faults : ActiveFaults
   pub first_unfinished : Option ℕ
-  pub late_at : ℕ
+  pub repeat_deadline : ℕ
   pub counts : Counts
 
 -- The state of the checker after a move to frame f, with the expected page of f.
@@ -89,17 +90,22 @@ abbrev pub at_frame : ℕ → CheckerValue → CheckerValue
 at_frame f c = record c {
   frame = f;
   listener = record c.listener {
-    comparison = record c.listener.comparison { due = due_in c.programme f };
+    comparison = record c.listener.comparison { due = due_page_in c.programme f };
   };
 }
 
 -- The state of the checker after a move to f, the frame of the first PES packet.
 abbrev pub checker_at_first : ℕ → CheckerValue → CheckerValue
-checker_at_first f c = record (at_frame f c) { first = f; latest = f; late_at = f + c.every }
+checker_at_first f c = record (at_frame f c) {
+  first = f;
+  latest_frame = f;
+  repeat_deadline = f +
+      c.every;
+}
 
 -- The state of the checker after a move to f, the frame of a later PES packet.
 abbrev pub checker_at_next : ℕ → CheckerValue → CheckerValue
-checker_at_next f c = record (at_frame f c) { latest = max c.latest f }
+checker_at_next f c = record (at_frame f c) { latest_frame = max c.latest_frame f }
 
 -- The frame comes before the next change of the expected page.
 abbrev pub is_before : ℕ → Option ℕ → Bool
@@ -113,10 +119,10 @@ next_repeat_deadline found frame every before = if found then max before (frame 
     else before
 
 -- The state of the checker after `headers` more headers of the page in the current frame.
-abbrev pub after_headers : ℕ → CheckerValue → CheckerValue
-after_headers headers c = record c {
+abbrev pub checker_after_headers : ℕ → CheckerValue → CheckerValue
+checker_after_headers headers c = record c {
   counts = with_headers headers c.counts;
-  late_at = next_repeat_deadline (nat_lt 0 headers) c.frame c.every c.late_at;
+  repeat_deadline = next_repeat_deadline (nat_lt 0 headers) c.frame c.every c.repeat_deadline;
 }
 
 -- The listener has received `packets`, which follow the packets `heard`. The first of them is
@@ -126,13 +132,13 @@ pub record HasHeard
     : Type 0 where
   pub listener : Listener
   pub headers : ℕ
-  pub new_eq : new ≡ after_headers headers (record old { listener = listener })
+  pub new_eq : new ≡ checker_after_headers headers (record old { listener = listener })
   pub watched : listener.watched ≡ old.listener.watched
   pub due : listener.comparison.due ≡ old.listener.comparison.due
   pub knows : KnowsLast (heard ++ packets) packets listener
   pub count : headers ≡ header_count old.listener.watched.page packets
   pub begins :
-      listener.begun ≡ begins_frame old.listener.watched from old.listener.begun packets
+      listener.begun ≡ begins_frame_with_header old.listener.watched from old.listener.begun packets
 
 -- ---- the end of the current frame
 
@@ -141,85 +147,89 @@ pub record HasHeard
 abbrev pub is_overdue_at : ProgrammeValue → ℕ → ℕ → Option ℕ → ℕ → Bool
 is_overdue_at programme within first None f = false
 is_overdue_at programme within first (Some first_unfinished) f =
-    nat_le (first_unfinished + within) f || is_missed (tci_of_ending programme.records (f + 1))
+    nat_le (first_unfinished + within) f || is_missed (tci_of_subtitle_ending_at programme.records
+    (f + 1))
     first first_unfinished
 
 -- The expected page of `frame` is unknown, because a subtitle was rejected.
-abbrev pub is_undecided_by : CheckerValue → ℕ → Bool
-is_undecided_by c frame = is_due_undecided c.judging frame
+abbrev pub is_due_page_undecided : CheckerValue → ℕ → Bool
+is_due_page_undecided c frame = is_due_undecided c.judging frame
 
 -- The first wrong cell; `None` if the expected page is unknown.
-abbrev pub differs_now : CheckerValue → Option (ℕ × ℕ)
-differs_now c = if is_undecided_by c c.frame then None else wrong_kept c.listener
+abbrev pub current_wrong_cell : CheckerValue → Option (ℕ × ℕ)
+current_wrong_cell c = if is_due_page_undecided c c.frame then None else first_wrong_kept_cell
+    c.listener
 
 -- The expected page is unknown at the current frame or at one of the `within` frames before it.
-abbrev pub undecided_now : CheckerValue → Bool
-undecided_now c = was_undecided (is_undecided_by c) c.first c.frame c.within
+abbrev pub is_currently_undecided : CheckerValue → Bool
+is_currently_undecided c = was_undecided (is_due_page_undecided c) c.first c.frame c.within
 
 -- The first cell with a code that was not expected within the last `within` frames. `None` if one
 -- of these expected pages is unknown.
-abbrev pub unexpected_now : CheckerValue → Option (ℕ × ℕ)
-unexpected_now c =
-    if undecided_now c
+abbrev pub current_unexpected_cell : CheckerValue → Option (ℕ × ℕ)
+current_unexpected_cell c =
+    if is_currently_undecided c
     then None
-    else unexpected_kept c.listener (due_in c.programme) c.first c.frame c.within
+    else first_unexpected_kept_cell c.listener (due_page_in c.programme) c.first c.frame c.within
 
 -- The page is unfinished at the end of the current frame: a cell is wrong, or complete pages are
 -- required and the page is open.
-abbrev pub is_unfinished_now : CheckerValue → Bool
-is_unfinished_now c = is_some (differs_now c) || is_incomplete_kept c.listener
+abbrev pub is_currently_unfinished : CheckerValue → Bool
+is_currently_unfinished c = is_some (current_wrong_cell c) || is_kept_page_open c.listener
 
 -- The first frame of the current run of frames with an unfinished page.
-abbrev pub first_unfinished_now : CheckerValue → Option ℕ
-first_unfinished_now c = unfinished_from c.first_unfinished (is_unfinished_now c) c.frame
+abbrev pub current_run_start : CheckerValue → Option ℕ
+current_run_start c = extended_unfinished_run c.first_unfinished (is_currently_unfinished c) c.frame
 
 -- The page must be correct by now: `within` is 0, or the page is overdue.
-abbrev pub late_now : CheckerValue → Bool
-late_now c = c.within == 0 || is_overdue_at c.programme c.within c.first (first_unfinished_now c)
+abbrev pub is_currently_late : CheckerValue → Bool
+is_currently_late c = c.within == 0 || is_overdue_at c.programme c.within c.first
+    (current_run_start c)
     c.frame
 
 -- The faults that are active at the end of the current frame.
 abbrev pub active_faults_of : CheckerValue → ActiveFaults
 active_faults_of c = record {
-  content = if late_now c then differs_now c else unexpected_now c;
-  gap = nat_le c.late_at (c.frame + 1);
-  incomplete = late_now c && is_incomplete_kept c.listener;
-  undecided = undecided_now c;
-  silent = silent_for c.pace c.latest c.frame;
+  content = if is_currently_late c then current_wrong_cell c else current_unexpected_cell c;
+  gap = nat_le c.repeat_deadline (c.frame + 1);
+  incomplete = is_currently_late c && is_kept_page_open c.listener;
+  undecided = is_currently_undecided c;
+  silent = is_silent_for c.pace c.latest_frame c.frame;
 }
 
 -- The checker needs a `GoesBack` step: subtitles were rejected, and `within` is not 0.
-abbrev pub goes_back_now : CheckerValue → Bool
-goes_back_now c = c.any_refused && not (c.within == 0)
+abbrev pub needs_back_step : CheckerValue → Bool
+needs_back_step c = c.any_refused && not (c.within == 0)
 
 -- The `GoesBack` step, if the checker needs one.
 abbrev pub back_steps : CheckerValue → List CheckStep
-back_steps c = if goes_back_now c then GoesBack c.first_unfinished ∷ [] else []
+back_steps c = if needs_back_step c then GoesBack c.first_unfinished ∷ [] else []
 
 -- The steps at the end of the current frame.
 abbrev pub end_steps : CheckerValue → List CheckStep
 end_steps c =
     back_steps c
-    ++ (if c.within == 0 then [] else AtEnd c.frame (first_unfinished_now c) (late_now c) ∷ [])
+    ++ (if c.within == 0 then [] else AtEnd c.frame (current_run_start c) (is_currently_late c) ∷
+    [])
     ++ map Emits (end_events c.active_faults c.last (active_faults_of c) c.frame)
 
 -- The state of the checker after the end of the current frame.
-abbrev pub after_end : CheckerValue → CheckerValue
-after_end c = record c {
+abbrev pub checker_after_end : CheckerValue → CheckerValue
+checker_after_end c = record c {
   active_faults = active_faults_of c;
   last = c.frame;
-  first_unfinished = if c.within == 0 then c.first_unfinished else first_unfinished_now c;
+  first_unfinished = if c.within == 0 then c.first_unfinished else current_run_start c;
 }
 
 -- No fault is active at the end of the current frame, and none was active at the end before.
 pub record IsFaultFreeEnd (c : CheckerValue) : Type 0 where
   pub no_faults_before : c.active_faults ≡ no_active_faults
   pub no_faults_now : active_faults_of c ≡ no_active_faults
-  pub first_unfinished : first_unfinished_now c ≡ None
+  pub first_unfinished : current_run_start c ≡ None
 
 -- The page was wrong at the last end, but is not overdue yet.
-abbrev pub is_pending_now : CheckerValue → Bool
-is_pending_now c =
+abbrev pub is_currently_pending : CheckerValue → Bool
+is_currently_pending c =
     not (c.within == 0)
     && is_some c.first_unfinished
     && not (is_overdue_at c.programme c.within c.first c.first_unfinished c.last)
@@ -243,18 +253,20 @@ pub record IsJudged
     (first within frame : ℕ) (edge : Option ℕ) (first_known_from : ℕ)
     : Type 0 where
   pub programme_eq : programme ≡ judging.programme
-  pub any_refused_eq : any_refused ≡ has_refused judging
-  pub known_is : IsKnownFrom (is_due_undecided judging) first within frame edge first_known_from
+  pub any_refused_eq : any_refused ≡ has_unreliable_subtitle judging
+  pub known_from_is_exact : IsKnownFrom (is_due_undecided judging) first within frame edge
+      first_known_from
 
 -- The expected page and its next change are those of `frame`, and no frame number can overflow.
 pub record IsAtFrame
-    (programme : ProgrammeValue) (every : ℕ) (listener : Listener) (first latest last frame : ℕ)
+    (programme : ProgrammeValue) (every : ℕ) (listener : Listener) (first latest_frame last frame :
+    ℕ)
     (edge : Option ℕ)
     : Type 0 where
-  pub due_eq : listener.comparison.due ≡ due_in programme frame
-  pub edge_is : ReportsNextEdge programme.records frame edge
-  pub first_before : first ≤ latest
-  pub in_day : latest < day
+  pub due_eq : listener.comparison.due ≡ due_page_in programme frame
+  pub next_edge_is_exact : ReportsNextEdge programme.records frame edge
+  pub first_is_before_latest : first ≤ latest_frame
+  pub in_day : latest_frame < day
   pub last_in_day : last < day
   pub frame_in_day : frame < day
   pub bound : every ≤ day

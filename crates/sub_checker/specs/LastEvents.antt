@@ -3,12 +3,12 @@ use Rattle.std.specs.Prelude.{◌≡◌, ℕ, zero, suc, ◌+◌, ◌<◌, ◌||
 use Rattle.std.specs.Prelude.{Option, Some, None, if◌then◌else◌}
 use Rattle.stl_rows.specs.Programme.{last_tco}
 use Rattle.sub_io.specs.Reporting.{Reports, ReportsPrefix}
-use Rattle.sub_checker.specs.Checker.{CheckerValue, is_pending_now}
+use Rattle.sub_checker.specs.Checker.{CheckerValue, is_currently_pending}
 use Rattle.sub_checker.specs.declared.accepted.Accepted.{Accepted}
 use Rattle.sub_rules.specs.declared.event.Event.{Event}
 use Rattle.sub_rules.specs.declared.event.Event.TheVariants.{Reported}
-use Rattle.sub_rules.specs.Events.{endings, is_short, unread_fault}
-use Rattle.sub_rules.specs.FrameRules.{Unread}
+use Rattle.sub_rules.specs.Events.{fault_ending_events, ends_too_early, unread_fault}
+use Rattle.sub_rules.specs.FrameRules.{UnreadReason}
 use Rattle.sub_rules.specs.declared.fault.CheckFault.{CheckFault}
 use Rattle.sub_rules.specs.declared.fault.CheckFault.TheVariants as fault
 
@@ -25,7 +25,7 @@ last_fault_after None (suc n) pes late frame = if late then Some (fault.Late fra
 abbrev pub last_fault : ℕ → Option CheckFault → CheckerValue → Option CheckFault
 last_fault pes given c =
     last_fault_after given c.counts.frames pes
-    (is_short (last_tco c.programme.records) c.last || is_pending_now c) c.last
+    (ends_too_early (last_tco c.programme.records) c.last || is_currently_pending c) c.last
 
 -- The event for an optional fault.
 abbrev pub fault_events : Option CheckFault → List Event
@@ -34,18 +34,19 @@ fault_events (Some f) = Reported f ∷ []
 
 -- The events at the end of the file, given the state of the checker: the active faults end, and the
 -- last fault follows.
-abbrev pub closing_now : ℕ → Option CheckFault → CheckerValue → List Event
-closing_now pes given c = endings c.active_faults c.last ++ fault_events (last_fault pes given c)
+abbrev pub closing_events_of_checker : ℕ → Option CheckFault → CheckerValue → List Event
+closing_events_of_checker pes given c = fault_ending_events c.active_faults c.last ++ fault_events
+    (last_fault pes given c)
 
 -- The fault that ended reading, given the reason.
-abbrev pub ending_fault : ℕ → Option Unread → Option CheckFault
+abbrev pub ending_fault : ℕ → Option UnreadReason → Option CheckFault
 ending_fault pes None = None
 ending_fault pes (Some u) = Some (unread_fault pes (Some u))
 
 -- The returned counts agree with the state of the checker.
-pub record AreCounted (c : CheckerValue) (a : Accepted) : Type 0 where
+pub record CountsMatchChecker (c : CheckerValue) (a : Accepted) : Type 0 where
   pub none : c.counts.frames ≡ 0 → a.frames ≡ 0
-  pub frames_are : 0 < c.counts.frames → a.frames + c.first ≡ c.latest + 1
+  pub frames_are : 0 < c.counts.frames → a.frames + c.first ≡ c.latest_frame + 1
   pub transmissions_eq : a.transmissions ≡ c.counts.headers
 
 -- The device received all events, and the counts are returned; or the device stopped the check

@@ -17,26 +17,29 @@ is_skipped (next.Skipped f) = true
 is_skipped (next.Sent s) = false
 
 -- The PES packet that was read is valid, and has the same Teletext packets as the one before.
-abbrev pub IsRepeatSending : NextPesPacket → Type 0
-IsRepeatSending (next.Skipped f) = ⊥
-IsRepeatSending (next.Sent s) = s.again ≡ true
+abbrev pub RepeatsLastPacket : NextPesPacket → Type 0
+RepeatsLastPacket (next.Skipped f) = ⊥
+RepeatsLastPacket (next.Sent s) = s.again ≡ true
 
 -- The frame of a valid PES packet with these Teletext packets.
-abbrev pub frame_with : Sending → List (List ℕ) → SentFrame
-frame_with s packets = record { frame = s.frame; packets = packets }
+abbrev pub frame_with_packets : Sending → List (List ℕ) → SentFrame
+frame_with_packets s packets = record { frame = s.frame; packets = packets }
 
 -- The steps for PES packet number `pes`, after the frames `sent`.
-abbrev pub steps_of_read : Criteria → Transmission → ℕ → NextPesPacket → List (List ℕ) → List
+abbrev pub steps_of_read_packet : Criteria → Transmission → ℕ → NextPesPacket → List (List ℕ) → List
     CheckStep
-steps_of_read g sent pes (next.Skipped f) packets = AtPes pes ∷ Emits (Reported f) ∷ []
-steps_of_read g sent pes (next.Sent s) packets = steps_of_sent g sent pes (frame_with s packets)
+steps_of_read_packet g sent pes (next.Skipped f) packets = AtPes pes ∷ Emits (Reported f) ∷ []
+steps_of_read_packet g sent pes (next.Sent s) packets = steps_of_sent g sent pes
+    (frame_with_packets s packets)
 
 -- The frames after one more PES packet was read.
-abbrev pub sent_with : Criteria → Transmission → NextPesPacket → List (List ℕ) → Transmission
-sent_with g sent (next.Skipped f) packets = sent
-sent_with g sent (next.Sent s) packets = sent_after g.within sent (frame_with s packets)
+abbrev pub frames_after_read : Criteria → Transmission → NextPesPacket → List (List ℕ) →
+    Transmission
+frames_after_read g sent (next.Skipped f) packets = sent
+frames_after_read g sent (next.Sent s) packets = sent_after g.within sent
+    (frame_with_packets s packets)
 
 -- The Teletext packets of the last valid PES packet.
-abbrev pub last_with : List (List ℕ) → NextPesPacket → List (List ℕ) → List (List ℕ)
-last_with last (next.Skipped f) packets = last
-last_with last (next.Sent s) packets = packets
+abbrev pub last_packets_after_read : List (List ℕ) → NextPesPacket → List (List ℕ) → List (List ℕ)
+last_packets_after_read last (next.Skipped f) packets = last
+last_packets_after_read last (next.Sent s) packets = packets

@@ -4,45 +4,47 @@ use Rattle.std.specs.Prelude.{Result, Ok, Err}
 use Rattle.sub_io.specs.Reading.{IfKnown}
 use Rattle.sub_io.specs.Reporting.{Reports, ReportsPrefix}
 use Rattle.ttx_pes.specs.Reader.{FailsAtPacket}
-use Rattle.ttx_pes.specs.Reading.{most_packets}
+use Rattle.ttx_pes.specs.Reading.{max_pes_packets}
 use Rattle.ttx_pes.specs.declared.fault.PesFault.TheVariants.{Read}
 use Rattle.sub_plan.specs.FrameTime.{Clock}
-use Rattle.sub_rules.specs.FrameRules.{Criteria, Unread}
-use Rattle.sub_rules.specs.PesPacketEvents.{all_of_pes_packets, ended_run, events_of_pes_packets}
+use Rattle.sub_rules.specs.FrameRules.{Criteria, UnreadReason}
+use Rattle.sub_rules.specs.PesPacketEvents.{all_events_of_pes_packets, run_ending_events}
+use Rattle.sub_rules.specs.PesPacketEvents.{events_of_pes_packets}
 use Rattle.sub_rules.specs.PesPacketEvents.{sent_by_pes_packets}
 use Rattle.sub_rules.specs.PesPackets.{FailsAtPesPacket, PesPacket, ReadsPesPackets, frames_of}
 use Rattle.sub_rules.specs.Trusted.{CheckStep}
 use Rattle.sub_rules.specs.declared.event.Event.{Event}
 use Rattle.sub_rules.specs.declared.fault.CheckFault.{CheckFault}
 use Rattle.sub_rules.specs.declared.fault.CheckFault.TheVariants as fault
-use Rattle.sub_checker.specs.SkippedPesPackets.{as_run}
-use Rattle.sub_checker.specs.Relay.{relayed, relay_after}
-use Rattle.sub_checker.specs.ReadCounts.{CarryFrames, AreComplete, CountsRead}
+use Rattle.sub_checker.specs.SkippedPesPackets.{skipped_run_of}
+use Rattle.sub_checker.specs.Relay.{relayed_events, relay_after}
+use Rattle.sub_checker.specs.ReadCounts.{CarryFrames, AreComplete, AreCountsOfFrames}
 use Rattle.sub_checker.specs.declared.reporter.Relay.{Relay}
 use Rattle.sub_checker.specs.declared.accepted.Accepted.{Accepted}
 
 -- The counts agree with the frames of the PES packets. If no packet is skipped and no bytes are
 -- left, the bytes are PES packets that carry these frames.
-pub record IsReadOn
+pub record MatchesReadFile
     (g : Criteria) (clock : Clock) (bytes : List ℕ) (pes_packets : List PesPacket) (a : Accepted)
     : Type 0 where
-  pub few : length pes_packets ≤ most_packets
+  pub few : length pes_packets ≤ max_pes_packets
   pub taken :
       length (frames_of pes_packets) ≡ length pes_packets
       → g.unread ≡ None
       → CarryFrames clock bytes (frames_of pes_packets) []
   pub whole : AreComplete (frames_of pes_packets)
-  pub counts : CountsRead g.watched.page (sent_by_pes_packets g pes_packets) a
+  pub counts : AreCountsOfFrames g.watched.page (sent_by_pes_packets g pes_packets) a
 
 -- The events of the PES packets were reported. If the source failed, only the events of the packets
 -- before the failure were reported.
 abbrev pub ReportsPesPackets : {D : Type 0} → Criteria → Clock → List ℕ → List PesPacket
     → (D → Event → D → Type 0) → D → D → Result (Option Accepted) CheckFault → Type 0
 ReportsPesPackets g clock bytes pes_packets IsReported old new (Ok (Some a)) =
-    Reports IsReported old new (all_of_pes_packets g pes_packets) × IsReadOn g clock bytes
+    Reports IsReported old new (all_events_of_pes_packets g pes_packets) × MatchesReadFile g clock
+    bytes
     pes_packets a
 ReportsPesPackets g clock bytes pes_packets IsReported old new (Ok None) =
-    ReportsPrefix IsReported old new (all_of_pes_packets g pes_packets)
+    ReportsPrefix IsReported old new (all_events_of_pes_packets g pes_packets)
 ReportsPesPackets g clock bytes pes_packets IsReported old new (Err f) =
     (n : ℕ)
     × (n ≤ length pes_packets)
@@ -50,19 +52,19 @@ ReportsPesPackets g clock bytes pes_packets IsReported old new (Err f) =
     × Reports IsReported old new (events_of_pes_packets g (take n pes_packets))
 
 -- The events of a PES file were reported, for whatever PES packets its bytes are.
-abbrev pub ReportsFile : {D : Type 0} → (Option Unread → Criteria) → Clock → List ℕ
+abbrev pub ReportsFile : {D : Type 0} → (Option UnreadReason → Criteria) → Clock → List ℕ
     → (D → Event → D → Type 0) → D → D → Result (Option Accepted) CheckFault → Type 0
 ReportsFile criteria clock bytes IsReported old new result =
-    (pes_packets : List PesPacket) (unread : Option Unread)
+    (pes_packets : List PesPacket) (unread : Option UnreadReason)
     → ReadsPesPackets clock 0 bytes pes_packets unread
     → ReportsPesPackets (criteria unread) clock bytes pes_packets IsReported old new result
 
 -- The source failed while PES packet number `pes` was read; the packets before it were consumed. If
 -- none of these was skipped, they are valid PES packets.
-abbrev pub FailsReadingOn : Clock → ℕ → Option (List ℕ) → Option (List ℕ) → Type 0
-FailsReadingOn clock pes known left =
+abbrev pub FailsWhileReadingOn : Clock → ℕ → Option (List ℕ) → Option (List ℕ) → Type 0
+FailsWhileReadingOn clock pes known left =
     FailsAtPesPacket pes known left
-    × ((pes_packets : List PesPacket) (unread : Option Unread)
+    × ((pes_packets : List PesPacket) (unread : Option UnreadReason)
     → IfKnown known (λ bytes.
     ReadsPesPackets clock 0 bytes pes_packets unread
     → length (frames_of (take pes pes_packets)) ≡ pes
@@ -70,4 +72,5 @@ FailsReadingOn clock pes known left =
 
 -- The events for a list of steps, followed by the end of the current run of skipped PES packets.
 abbrev pub finished : Relay → List CheckStep → List Event
-finished p steps = relayed p steps ++ ended_run (as_run (relay_after p steps).run)
+finished p steps = relayed_events p steps ++ run_ending_events
+    (skipped_run_of (relay_after p steps).run)

@@ -4,7 +4,7 @@ use Rattle.std.specs.List.{AllByRecursion, AllZip, concat}
 use Rattle.ttx_packet.specs.PageId.{PageIdValue}
 use Rattle.ttx_pes.specs.PesGrammar.{IsValidPesPacket, PesValue}
 use Rattle.sub_plan.specs.FrameTime.{Clock}
-use Rattle.sub_rules.specs.Events.{latest}
+use Rattle.sub_rules.specs.Events.{latest_frame}
 use Rattle.sub_rules.specs.FrameRules.{frame_at, packets_before}
 use Rattle.sub_rules.specs.PacketRules.{header_count}
 use Rattle.sub_rules.specs.PesFrames.{IsReadAs}
@@ -13,12 +13,13 @@ use Rattle.sub_checker.specs.declared.accepted.Accepted.{Accepted}
 
 -- The counts agree with the frames that were sent: the number of frames from the first to the
 -- greatest frame number, and the number of headers of the page.
-pub record CountsRead (page : PageIdValue) (frames : Transmission) (a : Accepted) : Type 0 where
-  pub none : length frames ≡ 0 → a.frames ≡ 0
-  pub frames_are :
-      0 < length frames → a.frames + frame_at frames 0 ≡ latest frames (length frames) + 1
-  pub transmissions_eq :
-      a.transmissions ≡ header_count page (packets_before frames (length frames))
+pub record AreCountsOfFrames (page : PageIdValue) (frames : Transmission) (a : Accepted) : Type 0
+  where
+    pub none : length frames ≡ 0 → a.frames ≡ 0
+    pub frames_are :
+        0 < length frames → a.frames + frame_at frames 0 ≡ latest_frame frames (length frames) + 1
+    pub transmissions_eq :
+        a.transmissions ≡ header_count page (packets_before frames (length frames))
 
 -- Each Teletext packet of the frames has 42 bytes.
 abbrev pub AreComplete : Transmission → Type 0

@@ -1,29 +1,29 @@
 -- The events that the reporter passes to a device.
 use Rattle.std.specs.Prelude.{◌≡◌, List, [], ◌∷◌}
 use Rattle.sub_io.specs.Reporting.{Reports}
-use Rattle.sub_rules.specs.PesPacketEvents.{all_announced, no_run, skipped_after_all}
+use Rattle.sub_rules.specs.PesPacketEvents.{announced_events, no_run, skipped_run_after_events}
 use Rattle.sub_rules.specs.Trusted.{CheckStep}
 use Rattle.sub_rules.specs.Trusted.CheckStep.{Emits}
 use Rattle.sub_rules.specs.declared.event.Event.{Event}
 use Rattle.sub_checker.specs.FusedAudience.{IsFused}
-use Rattle.sub_checker.specs.SkippedPesPackets.{as_run, kept_run}
+use Rattle.sub_checker.specs.SkippedPesPackets.{skipped_run_of, stored_run}
 use Rattle.sub_checker.specs.declared.reporter.Relay.{Relay}
 use Rattle.sub_checker.specs.declared.reporter.Reporter.{Reporter}
-use Rattle.sub_checker.specs.TrustTracker.{after_step, new_tracker, reported_by, tracker_after}
+use Rattle.sub_checker.specs.TrustTracker.{after_step, new_tracker, events_of_steps, tracker_after}
 
 -- The state of the reporter before the first step.
 abbrev pub initial_relay : Relay
-initial_relay = record { tracker = new_tracker; run = kept_run no_run }
+initial_relay = record { tracker = new_tracker; run = stored_run no_run }
 
 -- The events that the reporter passes to the device for a list of steps.
-unfoldable pub relayed : Relay → List CheckStep → List Event
-relayed p ms = all_announced (as_run p.run) (reported_by p.tracker ms)
+unfoldable pub relayed_events : Relay → List CheckStep → List Event
+relayed_events p ms = announced_events (skipped_run_of p.run) (events_of_steps p.tracker ms)
 
 -- The state of the reporter after a list of steps.
 unfoldable pub relay_after : Relay → List CheckStep → Relay
 relay_after p ms = record {
   tracker = tracker_after p.tracker ms;
-  run = kept_run (skipped_after_all (as_run p.run) (reported_by p.tracker ms));
+  run = stored_run (skipped_run_after_events (skipped_run_of p.run) (events_of_steps p.tracker ms));
 }
 
 -- The reporter after a step that reports nothing.
@@ -36,7 +36,7 @@ pub record ReporterRelays
     {D : Type 0} {g : _} (IsReported : D → Event → D → Type 0)
     (old : Reporter D g) (steps : List CheckStep) (new : Reporter D g)
     : Type 0 where
-  pub reported : Reports (IsFused IsReported) old.fused new.fused (relayed old.relay steps)
+  pub reported : Reports (IsFused IsReported) old.fused new.fused (relayed_events old.relay steps)
   pub kept : new.relay ≡ relay_after old.relay steps
 
 -- The reporter passed one event to its device.

@@ -2,7 +2,7 @@
 use Rattle.std.specs.Prelude.{ℕ, suc, ◌&&◌, ◌||◌, true, false, not, Bool, List, [], ◌∷◌, ◌++◌}
 use Rattle.std.specs.Prelude.{Option, Some, None, is_none, is_some, unwrap_or, if◌then◌else◌}
 use Rattle.sub_rules.specs.Fault.{invalidated_frame, fault_row}
-use Rattle.sub_rules.specs.Trusted.{CheckStep, at_pes, trusted}
+use Rattle.sub_rules.specs.Trusted.{CheckStep, with_pes_number, trusted}
 use Rattle.sub_rules.specs.Trusted.CheckStep.{AtEnd, AtPes, Begins, Closes, Ends, GoesBack, Emits}
 use Rattle.sub_rules.specs.declared.event.Event.{Event}
 use Rattle.sub_rules.specs.declared.event.Event.TheVariants.{Reported}
@@ -17,15 +17,15 @@ invalidated last late (Reported f) = invalidated_frame last late (fault_row f).i
 invalidated last late event = None
 
 -- The event reports that frame numbers do not increase.
-unfoldable pub is_order : Event → Bool
-is_order (Reported (fault.Order pes)) = true
-is_order event = false
+unfoldable pub is_order_fault : Event → Bool
+is_order_fault (Reported (fault.Order pes)) = true
+is_order_fault event = false
 
 -- The event for the trusted frames of a run that ends before this frame. The frames from `back` on
 -- have a wrong page and are not trusted.
-abbrev pub trusted_before : Option ℕ → Option ℕ → Option ℕ → Option ℕ → List Event
-trusted_before run whole back None = []
-trusted_before run whole back (Some f) = trusted run whole (unwrap_or back f)
+abbrev pub trusted_events_before : Option ℕ → Option ℕ → Option ℕ → Option ℕ → List Event
+trusted_events_before run whole back None = []
+trusted_events_before run whole back (Some f) = trusted run whole (unwrap_or back f)
 
 -- The run of trusted frames after frame f. `has_beginning` says whether f has a header with which a
 -- run can begin.
@@ -34,9 +34,9 @@ continued_run (Some from) has_beginning f = Some from
 continued_run None has_beginning f = if has_beginning then Some f else None
 
 -- The run of trusted frames after an event, which ends it if it invalidates a frame.
-abbrev pub run_after : Option ℕ → Option ℕ → Option ℕ
-run_after run None = run
-run_after run (Some f) = None
+abbrev pub trusted_run_after : Option ℕ → Option ℕ → Option ℕ
+trusted_run_after run None = run
+trusted_run_after run (Some f) = None
 
 -- The first frame of the run at whose end the page was correct, after frame f of the run. The page
 -- is correct at f if `first_unfinished` is `None`.
@@ -47,36 +47,37 @@ first_correct None (Some first_unfinished) f = None
 
 -- The first frame of the run at whose end the page was correct, after frame f, with which a run
 -- continues or begins.
-abbrev pub first_correct_in : Option ℕ → Option ℕ → Option ℕ → ℕ → Option ℕ
-first_correct_in None whole first_unfinished f = first_correct None first_unfinished f
-first_correct_in (Some from) whole first_unfinished f = first_correct whole first_unfinished f
+abbrev pub first_correct_frame_in : Option ℕ → Option ℕ → Option ℕ → ℕ → Option ℕ
+first_correct_frame_in None whole first_unfinished f = first_correct None first_unfinished f
+first_correct_frame_in (Some from) whole first_unfinished f = first_correct whole first_unfinished f
 
 -- The first frame with a wrong page, if the page is overdue.
-abbrev pub late_first_unfinished : TrustTracker → Option ℕ
-late_first_unfinished t = if t.is_late then t.first_unfinished else None
+abbrev pub overdue_run_start : TrustTracker → Option ℕ
+overdue_run_start t = if t.is_late then t.first_unfinished else None
 
 -- The first frame that is not trusted at the end of the file.
-abbrev pub closing_frame : TrustTracker → Bool → ℕ
-closing_frame t are_left =
+abbrev pub first_untrusted_frame : TrustTracker → Bool → ℕ
+first_untrusted_frame t are_left =
     unwrap_or t.first_unfinished (if are_left then unwrap_or t.back t.last else suc t.last)
 
 -- The events to report for one step: the trusted frames that end with it, and its own event. At the
 -- end of the file, trusted frames are reported only if anything else is.
-unfoldable pub reported_with : CheckStep → TrustTracker → List Event
-reported_with (Emits e) t =
-    trusted_before t.run t.whole t.back (invalidated t.last (late_first_unfinished t) e) ++ at_pes
+unfoldable pub events_of_step : CheckStep → TrustTracker → List Event
+events_of_step (Emits e) t =
+    trusted_events_before t.run t.whole t.back (invalidated t.last (overdue_run_start t) e) ++
+    with_pes_number
     t.pes e ∷ []
-reported_with (Closes are_left more) t =
-    if t.reported || more then trusted t.run t.whole (closing_frame t are_left) else []
-reported_with step t = []
+events_of_step (Closes are_left more) t =
+    if t.reported || more then trusted t.run t.whole (first_untrusted_frame t are_left) else []
+events_of_step step t = []
 
 -- The state of the tracker after one step.
 unfoldable pub after_step : CheckStep → TrustTracker → TrustTracker
 after_step (AtPes pes) t = record t { pes = pes }
 after_step (Emits e) t = record t {
-  run = run_after t.run (invalidated t.last (late_first_unfinished t) e);
-  rises = t.rises && not (is_order e);
-  is_clean = t.is_clean && is_none (invalidated t.last (late_first_unfinished t) e);
+  run = trusted_run_after t.run (invalidated t.last (overdue_run_start t) e);
+  rises = t.rises && not (is_order_fault e);
+  is_clean = t.is_clean && is_none (invalidated t.last (overdue_run_start t) e);
   reported = true;
 }
 after_step (Begins f) t = record t { last = f; is_clean = t.rises }
@@ -87,7 +88,7 @@ after_step (AtEnd f first_unfinished late) t = record t {
 }
 after_step (Ends f has_beginning none) t = record t {
   run = if t.is_clean && none then continued_run t.run has_beginning f else None;
-  whole = first_correct_in t.run t.whole t.first_unfinished f;
+  whole = first_correct_frame_in t.run t.whole t.first_unfinished f;
 }
 after_step (Closes are_left more) t = record t { run = None }
 after_step (GoesBack first_unfinished) t = record t { back = first_unfinished }
@@ -108,9 +109,9 @@ new_tracker = record {
 }
 
 -- The events to report for a list of steps.
-unfoldable pub reported_by : TrustTracker → List CheckStep → List Event
-reported_by t [] = []
-reported_by t (m ∷ ms) = reported_with m t ++ reported_by (after_step m t) ms
+unfoldable pub events_of_steps : TrustTracker → List CheckStep → List Event
+events_of_steps t [] = []
+events_of_steps t (m ∷ ms) = events_of_step m t ++ events_of_steps (after_step m t) ms
 
 -- The state of the tracker after a list of steps.
 unfoldable pub tracker_after : TrustTracker → List CheckStep → TrustTracker

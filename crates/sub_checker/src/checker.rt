@@ -2,7 +2,7 @@
 ghost use Rattle.std.specs.Prelude.{◌≡◌, ℕ, ◌+◌, ◌<◌, ◌≤◌, List, [], Option, max};
 ghost use Rattle.stl_file.specs.TimeCode.{day};
 ghost use Rattle.sub_checker.specs.Checker.{is_before};
-ghost use Rattle.sub_rules.specs.FrameRules.{Unread, criteria_of_judged};
+ghost use Rattle.sub_rules.specs.FrameRules.{UnreadReason, criteria_of_judged};
 ghost use Rattle.stl_rows.specs.Programme.{IsProgramme};
 ghost use Rattle.sub_plan.specs.Options.{IsOptions};
 
@@ -12,7 +12,7 @@ use crate::reporter::Reporter;
 use crate::undecided::first_known_from;
 use std::marker::Model;
 use stl_rows::{Judging, Programme};
-use sub_io::Audience;
+use sub_io::ReportSink;
 use sub_packets::Listener;
 use sub_plan::Options;
 use sub_rules::{ActiveFaults, Event, Watched};
@@ -23,7 +23,7 @@ pub(crate) struct Checker<'a> {
     pub judging: &'a Judging<'a>,
     pub programme: &'a Programme,
     // Whether subtitles of the file were rejected.
-    pub has_refused: bool,
+    pub has_unreliable_subtitle: bool,
     // The repeat bound in frames.
     pub every: u32,
     // The number of frames within which the page must become correct.
@@ -34,7 +34,7 @@ pub(crate) struct Checker<'a> {
     // The frame of the first PES packet.
     pub first: u32,
     // The greatest frame number of a PES packet so far.
-    pub latest: u32,
+    pub latest_frame: u32,
     // The current frame; `listener` has its expected page.
     pub frame: u32,
     // The next frame with another expected page, if there is one.
@@ -52,7 +52,7 @@ pub(crate) struct Checker<'a> {
     // is not 0.
     pub first_unfinished: Option<u32>,
     // The frame after the one at whose end the repeat bound is exceeded.
-    pub late_at: u32,
+    pub repeat_deadline: u32,
     pub counts: Counts,
 }
 
@@ -64,46 +64,48 @@ impl<'a> Model for Checker<'a> {
     ghost view = { λ c. record {
       programme = c.programme.now;
       judging = c.judging.now;
-      any_refused = c.has_refused;
+      any_refused = c.has_unreliable_subtitle;
       every = c.every;
       within = c.within;
       pace = c.pace;
       listener = c.listener;
       first = c.first;
-      latest = c.latest;
+      latest_frame = c.latest_frame;
       frame = c.frame;
       last = c.last;
       active_faults = c.active_faults;
       first_unfinished = c.first_unfinished;
-      late_at = c.late_at;
+      repeat_deadline = c.repeat_deadline;
       counts = c.counts;
     } };
 
-    ghost invariant = { λ c. IsAtFrame c.programme.now c.every c.listener c.first c.latest c.last
-        c.frame c.edge × IsJudged c.judging.now c.programme.now c.has_refused c.first c.within
+    ghost invariant = { λ c. IsAtFrame c.programme.now c.every c.listener c.first c.latest_frame
+        c.last
+        c.frame c.edge × IsJudged c.judging.now c.programme.now c.has_unreliable_subtitle c.first
+        c.within
         c.frame
         c.edge c.first_known_from };
 }
 
 impl<'a> Checker<'a> {
-    ghost use Rattle.sub_checker.specs.Checker.{FewMissing, checker_at_first, at_frame};
-    ghost use Rattle.sub_checker.specs.Checker.{checker_at_next, after_headers};
-    ghost use Rattle.sub_checker.specs.CheckedFrames.{BetweenPesPackets, back_reporter};
+    ghost use Rattle.sub_checker.specs.Checker.{AreCountsBounded, checker_at_first, at_frame};
+    ghost use Rattle.sub_checker.specs.Checker.{checker_at_next, checker_after_headers};
+    ghost use Rattle.sub_checker.specs.CheckedFrames.{BetweenPesPackets, reporter_after_back_step};
     ghost use Rattle.sub_checker.specs.Relay.{at_step};
     ghost use Rattle.sub_rules.specs.Trusted.CheckStep.{Begins};
-    ghost use Rattle.sub_checker.specs.LastEvents.{AreCounted};
+    ghost use Rattle.sub_checker.specs.LastEvents.{CountsMatchChecker};
 
     /// Returns the state of the checker before the first PES packet.
     pub fn new(judging: &'a Judging<'a>, options: &Options) -> Self
-        ensures none { FewMissing 0 result.counts }
-        ensures keeps { (last : List (List ℕ)) (unread : Option Unread)
+        ensures none { AreCountsBounded 0 result.counts }
+        ensures keeps { (last : List (List ℕ)) (unread : Option UnreadReason)
             → BetweenPesPackets (criteria_of_judged judging.now options.now unread) [] last result }
         ensures options { IsOptions options.now }
         ensures programme { IsProgramme judging.now.programme.drawing
             judging.now.programme.records }
     {
         let programme = judging.programme();
-        let has_refused = judging.has_refused();
+        let has_unreliable_subtitle = judging.has_unreliable_subtitle();
         let within = options.within() as u32;
         let watched = Watched {
             page: options.page(),
@@ -114,21 +116,21 @@ impl<'a> Checker<'a> {
         Checker {
             judging,
             programme,
-            has_refused,
+            has_unreliable_subtitle,
             every: options.every() as u32,
             within,
             pace: options.pace().map(|frames| frames as u32),
             listener: Listener::new(watched, programme.due_page(0)),
             first: 0,
-            latest: 0,
+            latest_frame: 0,
             frame: 0,
             edge: programme.next_edge(0),
             near: 0,
-            first_known_from: first_known_from(judging, has_refused, 0, 0, within),
+            first_known_from: first_known_from(judging, has_unreliable_subtitle, 0, 0, within),
             last: 0,
             active_faults: ActiveFaults::none(),
             first_unfinished: None,
-            late_at: 0,
+            repeat_deadline: 0,
             counts: Counts::new(),
         }
     }
@@ -159,7 +161,7 @@ impl<'a> Checker<'a> {
         self.near = near;
         self.first_known_from = first_known_from(
             self.judging,
-            self.has_refused,
+            self.has_unreliable_subtitle,
             self.first,
             f,
             self.within,
@@ -174,11 +176,11 @@ impl<'a> Checker<'a> {
     {
         self.draw(frame);
         self.first = frame;
-        self.latest = frame;
-        self.late_at = frame + self.every;
+        self.latest_frame = frame;
+        self.repeat_deadline = frame + self.every;
         self.first_known_from = first_known_from(
             self.judging,
-            self.has_refused,
+            self.has_unreliable_subtitle,
             frame,
             frame,
             self.within,
@@ -191,14 +193,14 @@ impl<'a> Checker<'a> {
         ensures { self.new ≡ checker_at_next frame self.old }
     {
         self.move_to(frame);
-        self.latest = greater(self.latest, frame);
+        self.latest_frame = greater(self.latest_frame, frame);
     }
 
     /// Tells the reporter that the next Teletext packets belong to the current frame.
     #[inline(always)]
-    pub fn begin_frame<A: Audience<Event>>(&self, reporter: &mut Reporter<'_, A>)
+    pub fn begin_frame<A: ReportSink<Event>>(&self, reporter: &mut Reporter<'_, A>)
         ensures begun { reporter.new
-            ≡ back_reporter self.now (at_step (Begins self.now.frame) reporter.old) }
+            ≡ reporter_after_back_step self.now (at_step (Begins self.now.frame) reporter.old) }
     {
         reporter.begin_frame(self.frame);
         self.go_back(reporter);
@@ -207,11 +209,11 @@ impl<'a> Checker<'a> {
     /// Tells the reporter the first frame of the run of frames with an unfinished page, up to the
     /// frame before. This is needed only if subtitles were rejected and `within` is not 0.
     #[inline(always)]
-    #[tactic(auto, unfolding(crate::specs::CheckedFrames::back_reporter))]
-    pub fn go_back<A: Audience<Event>>(&self, reporter: &mut Reporter<'_, A>)
-        ensures back { reporter.new ≡ back_reporter self.now reporter.old }
+    #[tactic(auto, unfolding(crate::specs::CheckedFrames::reporter_after_back_step))]
+    pub fn go_back<A: ReportSink<Event>>(&self, reporter: &mut Reporter<'_, A>)
+        ensures back { reporter.new ≡ reporter_after_back_step self.now reporter.old }
     {
-        if self.has_refused && self.within > 0 {
+        if self.has_unreliable_subtitle && self.within > 0 {
             reporter.go_back(self.first_unfinished);
         }
     }
@@ -219,36 +221,36 @@ impl<'a> Checker<'a> {
     /// Adds the page headers of a PES packet of the current frame to the counts.
     pub fn count(&mut self, headers: u8)
         requires room { self.old.counts.headers < 0xFFFF_FFFF_FF00 }
-        ensures { self.new ≡ after_headers headers self.old }
+        ensures { self.new ≡ checker_after_headers headers self.old }
     {
         self.counts.headers = self.counts.headers + u64::from(headers);
         if headers > 0 {
-            self.late_at = greater(self.late_at, self.frame + self.every + 1);
+            self.repeat_deadline = greater(self.repeat_deadline, self.frame + self.every + 1);
         }
     }
 
     /// Returns the counts for the PES packets read so far.
     pub fn read(&self) -> Accepted
-        ensures { AreCounted self.now result }
+        ensures { CountsMatchChecker self.now result }
     {
         Accepted {
-            frames: frame_count(self.counts.frames, self.first, self.latest),
+            frames: frame_count(self.counts.frames, self.first, self.latest_frame),
             transmissions: self.counts.headers,
         }
     }
 }
 
-// Returns the number of frames from `first`, the frame of the first PES packet, to `latest`, the
-// greatest frame number; 0 without a PES packet.
-fn frame_count(frames: u32, first: u32, latest: u32) -> u64
-    requires { first ≤ latest }
+// Returns the number of frames from `first`, the frame of the first PES packet, to `latest_frame`,
+// the greatest frame number; 0 without a PES packet.
+fn frame_count(frames: u32, first: u32, latest_frame: u32) -> u64
+    requires { first ≤ latest_frame }
     ensures none { frames ≡ 0 → result ≡ 0 }
-    ensures some { 0 < frames → result + first ≡ latest + 1 }
+    ensures some { 0 < frames → result + first ≡ latest_frame + 1 }
 {
     if frames == 0 {
         0
     } else {
-        u64::from(latest - first) + 1
+        u64::from(latest_frame - first) + 1
     }
 }
 

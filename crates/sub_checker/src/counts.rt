@@ -1,6 +1,6 @@
 //! Counts of the PES packets received so far.
 ghost use Rattle.std.specs.Prelude.{◌≡◌, ◌≤◌};
-ghost use Rattle.sub_checker.specs.Checker.{left_open, no_counts};
+ghost use Rattle.sub_checker.specs.Checker.{with_open_frame, no_counts};
 
 /// Counts of frames, page headers and Teletext packets received so far.
 #[derive(Clone, Copy)]
@@ -37,7 +37,7 @@ impl Counts {
     #[inline(never)]
     pub fn leave_open(&mut self, headers: u8, packets: u32)
         requires { headers ≤ self.old.headers }
-        ensures { self.new ≡ left_open headers packets self.old }
+        ensures { self.new ≡ with_open_frame headers packets self.old }
     {
         self.headers_before = self.headers - u64::from(headers);
         self.packets = packets;

@@ -6,22 +6,24 @@ ghost use Rattle.sub_checker.specs.FusedAudience.{IsFused};
 ghost use Rattle.sub_rules.specs.FrameRules.{Criteria};
 ghost use Rattle.sub_rules.specs.PesPacketEvents.{steps_of_closing};
 ghost use Rattle.sub_rules.specs.Transmission.{Transmission};
-ghost use Rattle.sub_rules.specs.Trusted.{reports_none};
-ghost use Rattle.sub_checker.specs.CheckedFrames.{AfterEnd, BetweenPesPackets, last_steps};
+ghost use Rattle.sub_rules.specs.Trusted.{reports_no_event};
+ghost use Rattle.sub_checker.specs.CheckedFrames.{AfterEnd, BetweenPesPackets};
+ghost use Rattle.sub_checker.specs.CheckedFrames.{steps_at_end_of_file};
 ghost use Rattle.sub_checker.specs.Relay.{ReporterRelays};
 ghost use Rattle.sub_checker.specs.PesFileEvents.{finished};
-ghost use Rattle.sub_checker.specs.LastEvents.{FinishesReporting, closing_now, ending_fault};
-ghost use Rattle.sub_checker.specs.ReadCounts.{CountsRead};
+ghost use Rattle.sub_checker.specs.LastEvents.{FinishesReporting, closing_events_of_checker};
+ghost use Rattle.sub_checker.specs.LastEvents.{ending_fault};
+ghost use Rattle.sub_checker.specs.ReadCounts.{AreCountsOfFrames};
 
 use crate::accepted::Accepted;
 use crate::checker::Checker;
-use crate::reporter::{Reporter, report_some};
-use sub_io::Audience;
+use crate::reporter::{Reporter, report_if_present};
+use sub_io::ReportSink;
 use sub_rules::{CheckFault, Event};
 
 /// Ends the last frame if it is still open, reports the events at the end of the file, and returns
 /// the counts, or `None` if the device stops the check. `fault` is the fault that ended reading.
-pub(crate) fn finish<A: Audience<Event>>(
+pub(crate) fn finish<A: ReportSink<Event>>(
     checker: &mut Checker<'_>,
     pes: u32,
     fault: Option<CheckFault>,
@@ -39,14 +41,15 @@ pub(crate) fn finish<A: Audience<Event>>(
         → fault ≡ ending_fault pes g.unread
         → FinishesReporting A.is_reported reporter.old.fused.device.now
         reporter.new.fused.device.now
-        (finished reporter.old.relay (last_steps g list pes)) result }
+        (finished reporter.old.relay (steps_at_end_of_file g list pes)) result }
     ensures counts { (g : Criteria) (list : Transmission) (last : List (List ℕ))
-        → BetweenPesPackets g list last checker.old → IfSome result (CountsRead g.watched.page
+        → BetweenPesPackets g list last checker.old → IfSome result
+        (AreCountsOfFrames g.watched.page
         list) }
 {
     let read = checker.read();
     end_and_close(checker, pes, fault, reporter);
-    report_some(reporter.relay.run.ended(), &mut reporter.fused);
+    report_if_present(reporter.relay.run.ended(), &mut reporter.fused);
     if reporter.fused.stopped {
         return None;
     }
@@ -55,7 +58,7 @@ pub(crate) fn finish<A: Audience<Event>>(
 
 // Ends the last frame, and reports the events at the end of the file after `pes` PES packets.
 // `fault` is the fault that ended reading.
-fn end_and_close<A: Audience<Event>>(
+fn end_and_close<A: ReportSink<Event>>(
     checker: &mut Checker<'_>,
     pes: u32,
     fault: Option<CheckFault>,
@@ -67,14 +70,14 @@ fn end_and_close<A: Audience<Event>>(
     ensures reported { (g : Criteria) (list : Transmission) (last : List (List ℕ))
         → BetweenPesPackets g list last checker.old
         → fault ≡ ending_fault pes g.unread
-        → ReporterRelays A.is_reported reporter.old (last_steps g list pes) reporter.new }
+        → ReporterRelays A.is_reported reporter.old (steps_at_end_of_file g list pes) reporter.new }
 {
     checker.end_pending_frame(reporter);
     close(checker, pes, fault, reporter);
 }
 
 // Reports the trusted frames of the last run, and the events after the end of the last frame.
-fn close<A: Audience<Event>>(
+fn close<A: ReportSink<Event>>(
     checker: &Checker<'_>,
     pes: u32,
     fault: Option<CheckFault>,
@@ -97,7 +100,8 @@ fn close<A: Audience<Event>>(
 // before: subtitles were rejected, or an event follows at the end of the file.
 fn reports_trusted(checker: &Checker<'_>, pes: u32, fault: Option<CheckFault>) -> bool
     ensures { result
-        ≡ (checker.now.any_refused || not (reports_none (closing_now pes fault checker.now))) }
+        ≡ (checker.now.any_refused || not
+        (reports_no_event (closing_events_of_checker pes fault checker.now))) }
 {
-    checker.has_refused || checker.reports_last(pes, fault)
+    checker.has_unreliable_subtitle || checker.reports_closing_events(pes, fault)
 }

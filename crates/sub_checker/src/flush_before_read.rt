@@ -1,10 +1,10 @@
 //! Flushes pending reports before a read that may block.
 ghost use Rattle.std.specs.Prelude.{◌≡◌, OnOk, false, is_err};
-ghost use Rattle.sub_io.specs.Flushing.{BuffersOnlyWhilePending, KeepsReported};
+ghost use Rattle.sub_io.specs.Flushing.{BuffersOnlyWhilePending, KeepsReports};
 ghost use Rattle.ttx_pes.specs.BorrowedPacket.{NothingIsPending};
 
 use crate::fused::FusedAudience;
-use sub_io::{LiveAudience, Stopped};
+use sub_io::{LiveReportSink, Stopped};
 use sub_rules::Event;
 use ttx_pes::{PesPackets, flush_first};
 
@@ -13,12 +13,12 @@ use ttx_pes::{PesPackets, flush_first};
 /// # Errors
 ///
 /// Returns `Stopped` if the reports cannot be flushed.
-pub(crate) fn flush_reports<P: PesPackets, A: LiveAudience<Event>>(
+pub(crate) fn flush_reports<P: PesPackets, A: LiveReportSink<Event>>(
     source: &P,
     fused: &mut FusedAudience<'_, A>,
 ) -> Result<(), Stopped>
     requires { fused.old.stopped ≡ false }
-    ensures reported { KeepsReported A.is_reported A.has_pending_reports fused.old.device.now
+    ensures reported { KeepsReports A.is_reported A.has_pending_reports fused.old.device.now
         fused.new.device.now }
     ensures same { fused.new.device.ghost_name ≡ fused.old.device.ghost_name }
     ensures stopped { fused.new.stopped ≡ is_err result }

@@ -2,42 +2,45 @@
 //!
 //! ```text
 //! end_pending_frame    the last frame, if it has not ended yet
-//!   end_open
-//!     end_sent   a frame with PES packets; checks that the first frame has a header
-//! end_of_frame   any frame, also called by `end_sent`
+//!   end_open_frame
+//!     end_sent_frame   a frame with PES packets; checks that the first frame has a header
+//! end_of_frame   any frame, also called by `end_sent_frame`
 //!   end_without_faults  no fault is active, and none was active before
-//!   end_otherwise
-//!     end_at_once, end_within   depending on whether `within` is 0
+//!   end_with_faults
+//!     end_without_delay, end_with_delay   depending on whether `within` is 0
 //! ```
 ghost use Rattle.std.specs.Prelude.{◌≡◌, ◌==◌, ◌&&◌, ℕ, suc, ◌+◌, ◌<◌, List, IsTrue, None};
 ghost use Rattle.std.specs.Prelude.{false, is_err, length, nat_le, not, true};
 ghost use Rattle.stl_file.specs.TimeCode.{day};
-ghost use Rattle.sub_checker.specs.Checker.{FewMissing, after_end, differs_now, end_steps};
-ghost use Rattle.sub_checker.specs.Checker.{is_overdue_at, is_undecided_by, late_now};
+ghost use Rattle.sub_checker.specs.Checker.{AreCountsBounded, checker_after_end};
+ghost use Rattle.sub_checker.specs.Checker.{current_wrong_cell, end_steps};
+ghost use Rattle.sub_checker.specs.Checker.{is_overdue_at, is_due_page_undecided};
+ghost use Rattle.sub_checker.specs.Checker.{is_currently_late};
 ghost use Rattle.sub_checker.specs.Checker.{IsFaultFreeEnd};
-ghost use Rattle.sub_checker.specs.Checker.{first_unfinished_now, active_faults_of, undecided_now};
-ghost use Rattle.sub_checker.specs.Checker.{unexpected_now};
+ghost use Rattle.sub_checker.specs.Checker.{current_run_start, active_faults_of};
+ghost use Rattle.sub_checker.specs.Checker.{is_currently_undecided};
+ghost use Rattle.sub_checker.specs.Checker.{current_unexpected_cell};
 ghost use Rattle.sub_checker.specs.CheckedFrames.{AfterEnd, AfterPackets, BetweenPesPackets};
 ghost use Rattle.sub_checker.specs.Relay.{ReporterRelays};
-ghost use Rattle.sub_rules.specs.Events.{silent_for};
+ghost use Rattle.sub_rules.specs.Events.{is_silent_for};
 ghost use Rattle.sub_rules.specs.FrameRules.{Criteria, packets_of_frame};
 ghost use Rattle.sub_rules.specs.PesPacketEvents.{steps_of_ending, steps_of_pending_end};
 ghost use Rattle.sub_rules.specs.Transmission.{Transmission};
-ghost use Rattle.sub_plan.specs.Schedule.{due_in};
+ghost use Rattle.sub_plan.specs.Schedule.{due_page_in};
 ghost use Rattle.ttx_page.specs.PacketKind.{kind};
-ghost use Rattle.ttx_page.specs.Span.{holds_header};
+ghost use Rattle.ttx_page.specs.Span.{has_page_header};
 
 use crate::checker::Checker;
-use crate::late_end::{is_overdue, unfinished_from};
+use crate::late_end::{extended_unfinished_run, is_overdue};
 use crate::reporter::Reporter;
 use crate::rule_changes::report_change;
-use sub_io::Audience;
+use sub_io::ReportSink;
 use sub_packets::report_if;
 use sub_rules::{ActiveFaults, CheckFault, Event};
 
 /// The state at the end of a frame, if `within` is not 0.
 #[derive(Drop)]
-pub(crate) struct EndWithin {
+pub(crate) struct DelayedEnd {
     /// The faults that are active at the end of the frame.
     pub active_faults: ActiveFaults,
     /// The first frame of the current run of frames with an unfinished page.
@@ -50,7 +53,7 @@ impl<'a> Checker<'a> {
     // Returns `true` if a few comparisons show that no fault was active at the last end and none is
     // active now, which is the usual case.
     #[inline(always)]
-    #[tactic(auto, using(crate::proofs::CompletePacketLemmas::fault_free_has_none_active))]
+    #[tactic(auto, using(crate::proofs::CompletePacketLemmas::correct_frame_has_no_active_fault))]
     fn is_fault_free(&self) -> bool
         ensures { IsTrue result → IsFaultFreeEnd self.now }
     {
@@ -60,7 +63,7 @@ impl<'a> Checker<'a> {
         if !self.listener.is_known_right() {
             return false;
         }
-        self.frame + 1 < self.late_at
+        self.frame + 1 < self.repeat_deadline
             && !self.is_undecided()
             && !self.listener.is_incomplete()
             && !self.is_silent()
@@ -89,23 +92,23 @@ impl<'a> Checker<'a> {
     // frames before.
     #[inline(always)]
     fn is_undecided(&self) -> bool
-        ensures { result ≡ undecided_now self.now }
+        ensures { result ≡ is_currently_undecided self.now }
     {
         u64::from(self.frame) < self.first_known_from
     }
 
     // Returns whether the expected page is unknown at the current frame.
-    fn is_undecided_here(&self) -> bool
-        ensures { result ≡ is_undecided_by self.now self.now.frame }
+    fn is_due_page_unknown(&self) -> bool
+        ensures { result ≡ is_due_page_undecided self.now self.now.frame }
     {
-        self.has_refused && self.judging.is_undecided(self.frame)
+        self.has_unreliable_subtitle && self.judging.is_undecided(self.frame)
     }
 
     // Returns the row (1 to 24) and column (0 to 39) of the first wrong cell; `None` if the
     // expected page is unknown.
     fn first_wrong(&self, is_undecided: bool) -> Option<(u8, u8)>
-        requires { is_undecided ≡ is_undecided_by self.now self.now.frame }
-        ensures { result ≡ differs_now self.now }
+        requires { is_undecided ≡ is_due_page_undecided self.now self.now.frame }
+        ensures { result ≡ current_wrong_cell self.now }
     {
         if is_undecided {
             return None;
@@ -116,33 +119,33 @@ impl<'a> Checker<'a> {
     // Returns whether the repeat bound is exceeded at the end of the current frame.
     #[inline(always)]
     fn has_gap(&self) -> bool
-        ensures { result ≡ nat_le self.now.late_at (self.now.frame + 1) }
+        ensures { result ≡ nat_le self.now.repeat_deadline (self.now.frame + 1) }
     {
-        self.late_at <= self.frame + 1
+        self.repeat_deadline <= self.frame + 1
     }
 
     // Returns whether no PES packet, valid or not, has come within `--pace` frames.
     #[inline(always)]
     fn is_silent(&self) -> bool
-        ensures { result ≡ silent_for self.now.pace self.now.latest self.now.frame }
+        ensures { result ≡ is_silent_for self.now.pace self.now.latest_frame self.now.frame }
     {
         match self.pace {
-            Some(pace) => u64::from(self.latest) + u64::from(pace) <= u64::from(self.frame),
+            Some(pace) => u64::from(self.latest_frame) + u64::from(pace) <= u64::from(self.frame),
             None => false,
         }
     }
 
     // Returns the state at the end of the current frame, if `within` is not 0. Until the page is
     // overdue, a cell may have any code that was expected within the last `within` frames.
-    fn end_now(&self) -> EndWithin
+    fn state_at_end(&self) -> DelayedEnd
         requires within { 0 < self.now.within }
         ensures active_faults { result.active_faults ≡ active_faults_of self.now }
-        ensures first_unfinished { result.first_unfinished ≡ first_unfinished_now self.now }
-        ensures late { result.is_late ≡ late_now self.now }
+        ensures first_unfinished { result.first_unfinished ≡ current_run_start self.now }
+        ensures late { result.is_late ≡ is_currently_late self.now }
     {
-        let differing = self.first_wrong(self.is_undecided_here());
+        let differing = self.first_wrong(self.is_due_page_unknown());
         let is_open = self.listener.is_incomplete();
-        let first_unfinished = unfinished_from(
+        let first_unfinished = extended_unfinished_run(
             self.first_unfinished,
             differing.is_some() || is_open,
             self.frame,
@@ -163,7 +166,7 @@ impl<'a> Checker<'a> {
             undecided,
             silent,
         };
-        EndWithin {
+        DelayedEnd {
             active_faults,
             first_unfinished,
             is_late,
@@ -174,7 +177,8 @@ impl<'a> Checker<'a> {
     // `None` if one of these expected pages is unknown, or if no cell differs from the expected
     // page.
     fn first_unexpected(&self, differing: Option<(u8, u8)>) -> Option<(u8, u8)>
-        ensures { differing ≡ differs_now self.now → result ≡ unexpected_now self.now }
+        ensures { differing ≡ current_wrong_cell self.now → result ≡ current_unexpected_cell
+            self.now }
     {
         let frame = self.frame;
         if differing.is_none() {
@@ -206,11 +210,11 @@ impl<'a> Checker<'a> {
 
     // Ends the current frame, at which no fault is active and none was active before.
     #[inline(always)]
-    fn end_without_faults<A: Audience<Event>>(&mut self, reporter: &mut Reporter<'_, A>)
+    fn end_without_faults<A: ReportSink<Event>>(&mut self, reporter: &mut Reporter<'_, A>)
         requires fault_free { IsFaultFreeEnd self.old }
         ensures reported { ReporterRelays A.is_reported reporter.old (end_steps self.old)
             reporter.new }
-        ensures ended { self.new ≡ after_end self.old }
+        ensures ended { self.new ≡ checker_after_end self.old }
     {
         self.last = self.frame;
         if self.within > 0 {
@@ -222,11 +226,11 @@ impl<'a> Checker<'a> {
 
     // Ends the current frame, if `within` is 0, and reports which faults became active or ended.
     #[inline(always)]
-    fn end_at_once<A: Audience<Event>>(&mut self, reporter: &mut Reporter<'_, A>)
+    fn end_without_delay<A: ReportSink<Event>>(&mut self, reporter: &mut Reporter<'_, A>)
         requires each { self.old.within ≡ 0 }
         ensures reported { ReporterRelays A.is_reported reporter.old (end_steps self.old)
             reporter.new }
-        ensures ended { self.new ≡ after_end self.old }
+        ensures ended { self.new ≡ checker_after_end self.old }
     {
         let frame = self.frame;
         let active_faults = self.active_faults_now();
@@ -244,14 +248,14 @@ impl<'a> Checker<'a> {
     // Ends the current frame, if `within` is not 0, and reports which faults became active or
     // ended.
     #[inline(never)]
-    fn end_within<A: Audience<Event>>(&mut self, reporter: &mut Reporter<'_, A>)
+    fn end_with_delay<A: ReportSink<Event>>(&mut self, reporter: &mut Reporter<'_, A>)
         requires within { 0 < self.old.within }
         ensures reported { ReporterRelays A.is_reported reporter.old (end_steps self.old)
             reporter.new }
-        ensures ended { self.new ≡ after_end self.old }
+        ensures ended { self.new ≡ checker_after_end self.old }
     {
         let frame = self.frame;
-        let end = self.end_now();
+        let end = self.state_at_end();
         self.go_back(reporter);
         reporter.at_end(frame, end.first_unfinished, end.is_late);
         report_change(
@@ -268,47 +272,52 @@ impl<'a> Checker<'a> {
 
     /// Ends the current frame, and reports which faults became active or ended.
     #[inline(always)]
-    pub fn end_of_frame<A: Audience<Event>>(&mut self, reporter: &mut Reporter<'_, A>)
-        ensures due { self.old.listener.comparison.due ≡ due_in self.old.programme self.old.frame }
+    pub fn end_of_frame<A: ReportSink<Event>>(&mut self, reporter: &mut Reporter<'_, A>)
+        ensures due { self.old.listener.comparison.due ≡ due_page_in self.old.programme
+            self.old.frame }
         ensures reported { ReporterRelays A.is_reported reporter.old (end_steps self.old)
             reporter.new }
-        ensures ended { self.new ≡ after_end self.old }
+        ensures ended { self.new ≡ checker_after_end self.old }
     {
         // Most frames have no fault, and the work for `within` would make their ends slower.
         if self.within == 0 && self.is_fault_free() {
             self.end_without_faults(reporter);
             return;
         }
-        self.end_otherwise(reporter);
+        self.end_with_faults(reporter);
     }
 
     // Ends a frame with an active fault, or any frame if `within` is not 0. Not inlined into
     // `end_of_frame`, which is inlined into each loop over frames.
     #[inline(never)]
-    fn end_otherwise<A: Audience<Event>>(&mut self, reporter: &mut Reporter<'_, A>)
+    fn end_with_faults<A: ReportSink<Event>>(&mut self, reporter: &mut Reporter<'_, A>)
         ensures reported { ReporterRelays A.is_reported reporter.old (end_steps self.old)
             reporter.new }
-        ensures ended { self.new ≡ after_end self.old }
+        ensures ended { self.new ≡ checker_after_end self.old }
     {
         if self.is_fault_free() {
             self.end_without_faults(reporter);
             return;
         }
         if self.within == 0 {
-            self.end_at_once(reporter);
+            self.end_without_delay(reporter);
         } else {
-            self.end_within(reporter);
+            self.end_with_delay(reporter);
         }
     }
 
     /// Ends a frame with PES packets, and reports a missing header if it is the first frame.
     /// `has_header` says whether the frame has a header of the page.
     #[inline(always)]
-    pub fn end_sent<A: Audience<Event>>(&mut self, has_header: bool, reporter: &mut Reporter<'_, A>)
+    pub fn end_sent_frame<A: ReportSink<Event>>(
+        &mut self,
+        has_header: bool,
+        reporter: &mut Reporter<'_, A>,
+    )
         ensures counts { self.new.counts ≡ self.old.counts }
         ensures reported { (g : Criteria) (frames : Transmission) (n : ℕ) (last : List (List ℕ))
             → AfterPackets g frames n last self.old → n < length frames
-            → has_header ≡ holds_header (kind g.watched.page) (packets_of_frame frames n)
+            → has_header ≡ has_page_header (kind g.watched.page) (packets_of_frame frames n)
             → ReporterRelays A.is_reported reporter.old (steps_of_ending g frames n) reporter.new
             × AfterEnd g frames (suc n) last self.new }
     {
@@ -325,9 +334,10 @@ impl<'a> Checker<'a> {
 
     /// Ends the last frame, if it has not ended yet.
     #[inline(always)]
-    pub fn end_pending_frame<A: Audience<Event>>(&mut self, reporter: &mut Reporter<'_, A>)
+    pub fn end_pending_frame<A: ReportSink<Event>>(&mut self, reporter: &mut Reporter<'_, A>)
         ensures closed { self.new.counts.is_open ≡ false }
-        ensures few { (pes : ℕ) → FewMissing pes self.old.counts → FewMissing pes self.new.counts }
+        ensures few { (pes : ℕ) → AreCountsBounded pes self.old.counts → AreCountsBounded pes
+            self.new.counts }
         ensures reported { (g : Criteria) (sent : Transmission) (last : List (List ℕ))
             → BetweenPesPackets g sent last self.old
             → ReporterRelays A.is_reported reporter.old (steps_of_pending_end g sent) reporter.new
@@ -336,15 +346,16 @@ impl<'a> Checker<'a> {
         if !self.counts.is_open {
             return;
         }
-        self.end_open(reporter);
+        self.end_open_frame(reporter);
     }
 
     // Ends the last frame, which has not ended yet.
     #[inline(never)]
-    fn end_open<A: Audience<Event>>(&mut self, reporter: &mut Reporter<'_, A>)
+    fn end_open_frame<A: ReportSink<Event>>(&mut self, reporter: &mut Reporter<'_, A>)
         requires opened { self.old.counts.is_open ≡ true }
         ensures closed { self.new.counts.is_open ≡ false }
-        ensures few { (pes : ℕ) → FewMissing pes self.old.counts → FewMissing pes self.new.counts }
+        ensures few { (pes : ℕ) → AreCountsBounded pes self.old.counts → AreCountsBounded pes
+            self.new.counts }
         ensures reported { (g : Criteria) (sent : Transmission) (last : List (List ℕ))
             → BetweenPesPackets g sent last self.old
             → ReporterRelays A.is_reported reporter.old (steps_of_pending_end g sent) reporter.new
@@ -352,7 +363,7 @@ impl<'a> Checker<'a> {
     {
         self.counts.is_open = false;
         let has_header = self.counts.headers_before < self.counts.headers;
-        self.end_sent(has_header, reporter);
+        self.end_sent_frame(has_header, reporter);
     }
 }
 

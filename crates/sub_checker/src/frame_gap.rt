@@ -7,24 +7,25 @@ ghost use Rattle.sub_rules.specs.FrameRules.{Criteria, frame_at};
 ghost use Rattle.sub_rules.specs.PesPacketEvents.{steps_of_gap};
 ghost use Rattle.sub_rules.specs.Transmission.{Transmission};
 ghost use Rattle.sub_checker.specs.CheckedFrames.{AfterEnd, BeforeEnd, BeforePackets};
-ghost use Rattle.sub_checker.specs.CheckedFrames.{reaching_steps};
+ghost use Rattle.sub_checker.specs.CheckedFrames.{steps_to_next_frame};
 ghost use Rattle.sub_checker.specs.Relay.{ReporterRelays};
 
 use crate::checker::Checker;
 use crate::reporter::Reporter;
-use sub_io::Audience;
+use sub_io::ReportSink;
 use sub_packets::report_if;
 use sub_rules::{CheckFault, Event};
 
 impl<'a> Checker<'a> {
     /// Moves the checker to the frame of a PES packet that begins a new frame.
-    pub fn reach<A: Audience<Event>>(&mut self, frame: u32, reporter: &mut Reporter<'_, A>)
+    pub fn reach<A: ReportSink<Event>>(&mut self, frame: u32, reporter: &mut Reporter<'_, A>)
         requires day { frame < day }
         ensures counts { self.new.counts ≡ self.old.counts }
         ensures frame { self.new.frame ≡ frame }
         ensures reported { (g : Criteria) (frames : Transmission) (n : ℕ) (last : List (List ℕ))
             → AfterEnd g frames n last self.old → frame_at frames n ≡ frame
-            → ReporterRelays A.is_reported reporter.old (reaching_steps g frames n) reporter.new
+            → ReporterRelays A.is_reported reporter.old (steps_to_next_frame g frames n)
+            reporter.new
             × BeforePackets g frames n last self.new }
     {
         if self.counts.frames == 0 {
@@ -35,13 +36,14 @@ impl<'a> Checker<'a> {
     }
 
     // Moves the checker to the frame of the first PES packet.
-    fn begin<A: Audience<Event>>(&mut self, frame: u32, reporter: &mut Reporter<'_, A>)
+    fn begin<A: ReportSink<Event>>(&mut self, frame: u32, reporter: &mut Reporter<'_, A>)
         requires day { frame < day }
         ensures counts { self.new.counts ≡ self.old.counts }
         ensures frame { self.new.frame ≡ frame }
         ensures reported { (g : Criteria) (frames : Transmission) (last : List (List ℕ))
             → AfterEnd g frames 0 last self.old → frame_at frames 0 ≡ frame
-            → ReporterRelays A.is_reported reporter.old (reaching_steps g frames 0) reporter.new
+            → ReporterRelays A.is_reported reporter.old (steps_to_next_frame g frames 0)
+            reporter.new
             × BeforePackets g frames 0 last self.new }
     {
         let is_reported = is_early(self.programme.first_tci(), frame);
@@ -54,13 +56,14 @@ impl<'a> Checker<'a> {
     }
 
     // Moves the checker to the frame of a later PES packet.
-    fn go_to<A: Audience<Event>>(&mut self, frame: u32, reporter: &mut Reporter<'_, A>)
+    fn go_to<A: ReportSink<Event>>(&mut self, frame: u32, reporter: &mut Reporter<'_, A>)
         requires day { frame < day }
         ensures counts { self.new.counts ≡ self.old.counts }
         ensures frame { self.new.frame ≡ frame }
         ensures reported { (g : Criteria) (frames : Transmission) (n : ℕ) (last : List (List ℕ))
             → AfterEnd g frames n last self.old → 0 < n → frame_at frames n ≡ frame
-            → ReporterRelays A.is_reported reporter.old (reaching_steps g frames n) reporter.new
+            → ReporterRelays A.is_reported reporter.old (steps_to_next_frame g frames n)
+            reporter.new
             × BeforePackets g frames n last self.new }
     {
         let pes = self.counts.frames;
@@ -70,15 +73,15 @@ impl<'a> Checker<'a> {
             Event::Reported(CheckFault::Order { pes }),
             reporter,
         );
-        self.cross_gap(frame, reporter);
+        self.end_gap_frames(frame, reporter);
         self.arrive(frame);
     }
 
     // Ends the frames between the last PES packet and frame `to`, which have no PES packet.
-    fn cross_gap<A: Audience<Event>>(&mut self, to: u32, reporter: &mut Reporter<'_, A>)
+    fn end_gap_frames<A: ReportSink<Event>>(&mut self, to: u32, reporter: &mut Reporter<'_, A>)
         requires day { to < day }
         ensures counts { self.new.counts ≡ self.old.counts }
-        ensures latest { self.new.latest ≡ self.old.latest }
+        ensures latest_frame { self.new.latest_frame ≡ self.old.latest_frame }
         ensures reported { (g : Criteria) (frames : Transmission) (n : ℕ) (last : List (List ℕ))
             → AfterEnd g frames n last self.old → 0 < n → frame_at frames n ≡ to
             → ReporterRelays A.is_reported reporter.old
@@ -86,7 +89,7 @@ impl<'a> Checker<'a> {
             reporter.new
             × BeforeEnd g frames n to last self.new }
     {
-        for f in self.latest + 1..to {
+        for f in self.latest_frame + 1..to {
             self.move_to(f);
             self.end_of_frame(reporter);
         }

@@ -4,12 +4,12 @@
 //! device received all events or, after a stop, a prefix of them.
 ghost use Rattle.std.specs.Prelude.{◌≡◌};
 
-use sub_io::Audience;
+use sub_io::ReportSink;
 use sub_rules::Event;
 
 /// Passes events to a device until it stops the check.
 #[derive(Drop)]
-pub(crate) struct FusedAudience<'a, A: Audience<Event>> {
+pub(crate) struct FusedAudience<'a, A: ReportSink<Event>> {
     /// The device that receives the events.
     pub device: &'a mut A,
     /// Whether the device has stopped the check.

@@ -2,11 +2,11 @@
 ghost use Rattle.sub_checker.specs.FusedAudience.{IsFused};
 
 use crate::fused::FusedAudience;
-use sub_io::Audience;
+use sub_io::ReportSink;
 use sub_packets::Taker;
 use sub_rules::Event;
 
-impl<A: Audience<Event>> Taker for FusedAudience<'_, A> {
+impl<A: ReportSink<Event>> Taker for FusedAudience<'_, A> {
     ghost is_reported = { IsFused A.is_reported };
 
     /// Reports the event to the device, unless the device has stopped the check.

@@ -1,10 +1,10 @@
 //! Reports the events after the end of the last frame.
 ghost use Rattle.std.specs.Prelude.{◌≡◌, not};
 ghost use Rattle.sub_io.specs.Reporting.{Reports};
-ghost use Rattle.sub_rules.specs.Events.{is_short};
-ghost use Rattle.sub_rules.specs.Trusted.{reports_none};
-ghost use Rattle.sub_checker.specs.Checker.{is_pending_now};
-ghost use Rattle.sub_checker.specs.LastEvents.{closing_now, fault_events, last_fault};
+ghost use Rattle.sub_rules.specs.Events.{ends_too_early};
+ghost use Rattle.sub_rules.specs.Trusted.{reports_no_event};
+ghost use Rattle.sub_checker.specs.Checker.{is_currently_pending};
+ghost use Rattle.sub_checker.specs.LastEvents.{closing_events_of_checker, fault_events, last_fault};
 
 use crate::checker::Checker;
 use crate::rule_changes::report_change;
@@ -16,7 +16,7 @@ impl<'a> Checker<'a> {
     /// end, and the last fault follows. `fault` is the fault that ended reading.
     pub fn close<A: Taker>(&self, pes: u32, fault: Option<CheckFault>, taker: &mut A)
         ensures { Reports A.is_reported taker.old taker.new
-            (closing_now pes fault self.now) }
+            (closing_events_of_checker pes fault self.now) }
     {
         let none = ActiveFaults::none();
         report_change(&self.active_faults, self.last, &none, self.last, taker);
@@ -24,8 +24,8 @@ impl<'a> Checker<'a> {
     }
 
     /// Returns whether `close` reports anything.
-    pub fn reports_last(&self, pes: u32, fault: Option<CheckFault>) -> bool
-        ensures { result ≡ not (reports_none (closing_now pes fault self.now)) }
+    pub fn reports_closing_events(&self, pes: u32, fault: Option<CheckFault>) -> bool
+        ensures { result ≡ not (reports_no_event (closing_events_of_checker pes fault self.now)) }
     {
         let is_reported = self.last_fault(pes, fault).is_some();
         is_reported || !self.active_faults.has_none()
@@ -44,7 +44,7 @@ impl<'a> Checker<'a> {
             }
             return Some(CheckFault::Empty);
         }
-        if is_short(self.programme.last_tco(), self.last) || self.is_pending() {
+        if ends_too_early(self.programme.last_tco(), self.last) || self.is_pending() {
             Some(CheckFault::Late { frame: self.last })
         } else {
             None
@@ -54,7 +54,7 @@ impl<'a> Checker<'a> {
     // Returns whether the page is wrong at the end of the last frame but not yet overdue: it could
     // have become correct in a later frame.
     fn is_pending(&self) -> bool
-        ensures { result ≡ is_pending_now self.now }
+        ensures { result ≡ is_currently_pending self.now }
     {
         self.within > 0
             && self.first_unfinished.is_some()
@@ -73,8 +73,8 @@ fn report_fault<A: Taker>(fault: Option<CheckFault>, taker: &mut A)
 }
 
 // Returns whether a subtitle ends after `frame`, the last frame of the file.
-fn is_short(last_tco: Option<u32>, frame: u32) -> bool
-    ensures { result ≡ is_short last_tco frame }
+fn ends_too_early(last_tco: Option<u32>, frame: u32) -> bool
+    ensures { result ≡ ends_too_early last_tco frame }
 {
     match last_tco {
         Some(last) => frame < last,

@@ -1,19 +1,19 @@
 //! Determines from which frame on the page has been wrong, and whether it is overdue.
 ghost use Rattle.std.specs.Prelude.{◌≡◌, ◌<◌};
 ghost use Rattle.stl_file.specs.TimeCode.{day};
-ghost use Rattle.sub_rules.specs.Events.{is_missed, unfinished_from};
+ghost use Rattle.sub_rules.specs.Events.{is_missed, extended_unfinished_run};
 ghost use Rattle.sub_checker.specs.Checker.{is_overdue_at};
 
 use stl_rows::Programme;
 
 /// Returns the first frame of the run of frames with an unfinished page, up to `frame`.
 /// `first_unfinished` is the result for the frame before.
-pub(crate) fn unfinished_from(
+pub(crate) fn extended_unfinished_run(
     first_unfinished: Option<u32>,
     unfinished: bool,
     frame: u32,
 ) -> Option<u32>
-    ensures { result ≡ unfinished_from first_unfinished unfinished frame }
+    ensures { result ≡ extended_unfinished_run first_unfinished unfinished frame }
 {
     if unfinished {
         Some(first_unfinished.unwrap_or(frame))
@@ -38,7 +38,11 @@ pub(crate) fn is_overdue(
         return false;
     };
     u64::from(first_unfinished) + u64::from(within) <= u64::from(frame)
-        || is_missed(programme.tci_of_ending(frame + 1), first, first_unfinished)
+        || is_missed(
+            programme.tci_of_subtitle_ending_at(frame + 1),
+            first,
+            first_unfinished,
+        )
 }
 
 // Returns whether the page was unfinished in all frames of the subtitle that ends. `tci` is its

@@ -1,12 +1,12 @@
 //! Checks a PES file, and reads on after skipped PES packets.
 ghost use Rattle.std.specs.Prelude.{◌≡◌, ℕ, ◌+◌, ◌<◌, ◌≤◌, [], ◌∷◌, Err, IfErr, IfOk, List};
 ghost use Rattle.std.specs.Prelude.{false, is_none, true};
-ghost use Rattle.sub_io.specs.Device.{CanFail, CountsIf, failed};
+ghost use Rattle.sub_io.specs.Device.{CanFail, CountsFailureIf, failed};
 ghost use Rattle.sub_io.specs.Reading.{IfKnown};
 ghost use Rattle.sub_io.specs.Reporting.{ReportsSome};
 ghost use Rattle.stl_file.specs.TimeCode.{day};
 ghost use Rattle.ttx_pes.specs.PesGrammar.{IsPesValue};
-ghost use Rattle.ttx_pes.specs.Reading.{most_packets};
+ghost use Rattle.ttx_pes.specs.Reading.{max_pes_packets};
 ghost use Rattle.stl_rows.specs.Programme.{IsProgramme};
 ghost use Rattle.sub_plan.specs.FrameTime.{clock_of};
 ghost use Rattle.sub_plan.specs.Options.{IsOptions};
@@ -15,13 +15,14 @@ ghost use Rattle.sub_rules.specs.FrameRules.{Criteria, criteria_of_judged};
 ghost use Rattle.sub_rules.specs.PacketRules.{packets_of_units};
 ghost use Rattle.sub_rules.specs.Transmission.{Transmission};
 ghost use Rattle.sub_rules.specs.Trusted.CheckStep.{AtPes, Emits};
-ghost use Rattle.sub_checker.specs.Checker.{FewMissing};
+ghost use Rattle.sub_checker.specs.Checker.{AreCountsBounded};
 ghost use Rattle.sub_checker.specs.CheckedFrames.{BetweenPesPackets};
-ghost use Rattle.sub_checker.specs.NextPesPackets.{IsRepeatSending, is_skipped, last_with};
-ghost use Rattle.sub_checker.specs.NextPesPackets.{sent_with};
-ghost use Rattle.sub_checker.specs.NextPesPackets.{steps_of_read};
+ghost use Rattle.sub_checker.specs.NextPesPackets.{RepeatsLastPacket, is_skipped};
+ghost use Rattle.sub_checker.specs.NextPesPackets.{last_packets_after_read};
+ghost use Rattle.sub_checker.specs.NextPesPackets.{frames_after_read};
+ghost use Rattle.sub_checker.specs.NextPesPackets.{steps_of_read_packet};
 ghost use Rattle.sub_checker.specs.Relay.{ReporterRelays};
-ghost use Rattle.sub_checker.specs.PesFileEvents.{FailsReadingOn, ReportsFile};
+ghost use Rattle.sub_checker.specs.PesFileEvents.{FailsWhileReadingOn, ReportsFile};
 
 use crate::accepted::{Accepted, is_source_failure};
 use crate::checker::Checker;
@@ -30,13 +31,13 @@ use crate::flush_before_read::flush_reports;
 use crate::fused::FusedAudience;
 use crate::reporter::{Relay, Reporter};
 use stl_rows::Judging;
-use sub_io::{Audience, LiveAudience};
+use sub_io::{LiveReportSink, ReportSink};
 use sub_plan::Options;
 use sub_rules::{CheckFault, Event, NextPesPacket, Sending, next_pes_packet, units_of};
 use ttx_pes::{ComparingReader, PesFault, PesPackets};
 
-/// Checks a PES file, one PES packet at a time, reports each broken rule to `audience`, and returns
-/// the counts. Returns `None` if `audience` stops the check.
+/// Checks a PES file, one PES packet at a time, reports each broken rule to `report_sink`, and
+/// returns the counts. Returns `None` if `report_sink` stops the check.
 ///
 /// Reading continues after a skipped packet. If subtitles were rejected, the transmission is
 /// checked against the other subtitles.
@@ -47,37 +48,40 @@ use ttx_pes::{ComparingReader, PesFault, PesPackets};
 ///
 /// Returns `Pes` with `Read` if the source fails. The events of all packets before the failure were
 /// reported.
-pub fn report_pes_packets<P: PesPackets, A: LiveAudience<Event>>(
+pub fn report_pes_packets<P: PesPackets, A: LiveReportSink<Event>>(
     judging: &Judging<'_>,
     source: &mut P,
     options: &Options,
-    audience: &mut A,
+    report_sink: &mut A,
 ) -> Result<Option<Accepted>, CheckFault>
     requires failures { CanFail (P.failure_count source.old) }
-    requires continues { A.has_stopped audience.old ≡ false }
-    requires still { A.has_pending_reports audience.old ≡ false }
+    requires continues { A.has_stopped report_sink.old ≡ false }
+    requires still { A.has_pending_reports report_sink.old ≡ false }
     ensures exact { IfKnown (P.remaining source.old) (λ bytes.
         ReportsFile (criteria_of_judged judging.now options.now) (clock_of options.now) bytes
-        A.is_reported audience.old audience.new result) }
-    ensures stopped { IfOk result (λ counts. A.has_stopped audience.new ≡ is_none counts) }
-    ensures some { ReportsSome A.is_reported audience.old audience.new }
-    ensures continues { IfErr result (λ _. A.has_stopped audience.new ≡ false) }
+        A.is_reported report_sink.old report_sink.new result) }
+    ensures stopped { IfOk result (λ counts. A.has_stopped report_sink.new ≡ is_none counts) }
+    ensures some { ReportsSome A.is_reported report_sink.old report_sink.new }
+    ensures continues { IfErr result (λ _. A.has_stopped report_sink.new ≡ false) }
     ensures read { (pes : ℕ) → result ≡ Err (CheckFault.Pes pes PesFault.Read)
-        → FailsReadingOn (clock_of options.now) pes (P.remaining source.old) (P.left source.new) }
+        → FailsWhileReadingOn (clock_of options.now) pes (P.remaining source.old)
+        (P.left source.new) }
     ensures only { IfErr result (λ f. is_pes_read f ≡ true) }
     ensures options { IsOptions options.now }
     ensures programme { IsProgramme judging.now.programme.drawing judging.now.programme.records }
     // If the source fails, all reports have been flushed.
-    ensures requested { A.buffered audience.old ≡ 0 → IfErr result (λ _. A.buffered audience.new ≡
+    ensures requested { A.buffered report_sink.old ≡ 0 → IfErr result
+        (λ _. A.buffered report_sink.new ≡
         0) }
     ensures device { P.device source.new ≡ P.device source.old }
-    ensures count { CountsIf P.failure_count source.old (failed is_pes_read result) source.new }
+    ensures count { CountsFailureIf P.failure_count source.old (failed is_pes_read result)
+        source.new }
 {
     let mut reader = ComparingReader::new();
     let mut checker = Checker::new(judging, options);
     let mut reporter = Reporter {
         fused: FusedAudience {
-            device: audience,
+            device: report_sink,
             stopped: false,
         },
         relay: Relay::new(),
@@ -117,7 +121,7 @@ pub fn report_pes_packets<P: PesPackets, A: LiveAudience<Event>>(
 
 // Checks one PES packet, and returns whether it is skipped. `skipped` says whether the packet
 // before was skipped.
-fn report_pes_packet<A: Audience<Event>>(
+fn report_pes_packet<A: ReportSink<Event>>(
     pes_packet: NextPesPacket,
     pes: u32,
     skipped: bool,
@@ -127,21 +131,23 @@ fn report_pes_packet<A: Audience<Event>>(
 ) -> bool
     requires day { (sending : Sending) → pes_packet ≡ NextPesPacket.Sent sending → sending.frame <
         day }
-    requires fewer { pes ≤ most_packets }
-    requires room { FewMissing pes checker.old.counts }
+    requires no_change_holds_for_later_subtitles { pes ≤ max_pes_packets }
+    requires room { AreCountsBounded pes checker.old.counts }
     ensures skipped { result ≡ is_skipped pes_packet }
     ensures frame { (sending : Sending) → pes_packet ≡ NextPesPacket.Sent sending
         → IsPesValue reader.now.frame }
-    ensures room { FewMissing (pes + 1) checker.new.counts }
+    ensures room { AreCountsBounded (pes + 1) checker.new.counts }
     ensures reported { (g : Criteria) (sent : Transmission) (last : List (List ℕ))
         → BetweenPesPackets g sent last checker.old
-        → (skipped ≡ false → IsRepeatSending pes_packet → last ≡ packets_of_units
+        → (skipped ≡ false → RepeatsLastPacket pes_packet → last ≡ packets_of_units
         reader.now.frame.units)
         → ReporterRelays A.is_reported reporter.old
-        (steps_of_read g sent pes pes_packet (packets_of_units reader.now.frame.units)) reporter.new
+        (steps_of_read_packet g sent pes pes_packet (packets_of_units reader.now.frame.units))
+        reporter.new
         × BetweenPesPackets g
-        (sent_with g sent pes_packet (packets_of_units reader.now.frame.units))
-        (last_with last pes_packet (packets_of_units reader.now.frame.units)) checker.new }
+        (frames_after_read g sent pes_packet (packets_of_units reader.now.frame.units))
+        (last_packets_after_read last pes_packet (packets_of_units reader.now.frame.units))
+        checker.new }
 {
     match pes_packet {
         NextPesPacket::Skipped(fault) => {
@@ -150,14 +156,19 @@ fn report_pes_packet<A: Audience<Event>>(
         }
         NextPesPacket::Sent(sending) => {
             let units = units_of(reader);
-            checker.go_on(pes, after_pes_packet(skipped, sending), &units, reporter);
+            checker.check_pes_packet(
+                pes,
+                sending_after_packet(skipped, sending),
+                &units,
+                reporter,
+            );
             false
         }
     }
 }
 
 // Clears `again` after a skipped packet, because it compares with the skipped packet.
-fn after_pes_packet(skipped: bool, sending: Sending) -> Sending
+fn sending_after_packet(skipped: bool, sending: Sending) -> Sending
     ensures frame { result.frame ≡ sending.frame }
     ensures again { result.again ≡ true → (sending.again ≡ true) × (skipped ≡ false) }
 {
@@ -168,7 +179,7 @@ fn after_pes_packet(skipped: bool, sending: Sending) -> Sending
 }
 
 // Reports the fault of a skipped PES packet.
-fn report_skipped<A: Audience<Event>>(pes: u32, fault: CheckFault, reporter: &mut Reporter<'_, A>)
+fn report_skipped<A: ReportSink<Event>>(pes: u32, fault: CheckFault, reporter: &mut Reporter<'_, A>)
     ensures { ReporterRelays A.is_reported reporter.old (AtPes pes ∷ Emits (Event.Reported fault) ∷
         [])
         reporter.new }

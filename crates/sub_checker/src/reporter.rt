@@ -1,18 +1,18 @@
 //! Passes the checker's events to a device, and adds the events for trusted frames. Of a run of
 //! skipped PES packets, only the first and the last are reported.
 ghost use Rattle.std.specs.Prelude.{◌≡◌, [], ◌∷◌, ◌++◌};
-ghost use Rattle.sub_io.specs.Reporting.{Reports, first_alone};
-ghost use Rattle.sub_rules.specs.PesPacketEvents.{all_announced, announced, skipped_run_after};
-ghost use Rattle.sub_rules.specs.PesPacketEvents.{skipped_after_all};
+ghost use Rattle.sub_io.specs.Reporting.{Reports, first_as_list};
+ghost use Rattle.sub_rules.specs.PesPacketEvents.{announced_events, announced, skipped_run_after};
+ghost use Rattle.sub_rules.specs.PesPacketEvents.{skipped_run_after_events};
 ghost use Rattle.sub_rules.specs.Trusted.CheckStep.{AtEnd, AtPes, Begins, Closes, Ends, GoesBack};
 ghost use Rattle.sub_rules.specs.Trusted.CheckStep.{Emits};
-ghost use Rattle.sub_checker.specs.SkippedPesPackets.{as_run, kept_run};
+ghost use Rattle.sub_checker.specs.SkippedPesPackets.{skipped_run_of, stored_run};
 ghost use Rattle.sub_checker.specs.Relay.{IsRelayed, ReporterRelays, at_step, initial_relay};
 
 use crate::fused::FusedAudience;
 use crate::skipped_run::SkippedPesPackets;
 use crate::trust_tracker::TrustTracker;
-use sub_io::Audience;
+use sub_io::ReportSink;
 use sub_packets::Taker;
 use sub_rules::Event;
 
@@ -27,7 +27,7 @@ pub(crate) struct Relay {
 
 /// Passes the checker's events to a device.
 #[derive(Drop)]
-pub(crate) struct Reporter<'a, A: Audience<Event>> {
+pub(crate) struct Reporter<'a, A: ReportSink<Event>> {
     /// The device, protected from events after it has stopped the check.
     pub fused: FusedAudience<'a, A>,
     /// The trusted frames and the run of skipped PES packets so far.
@@ -46,7 +46,7 @@ impl Relay {
     }
 }
 
-impl<A: Audience<Event>> Reporter<'_, A> {
+impl<A: ReportSink<Event>> Reporter<'_, A> {
     /// Sets the number of the current PES packet.
     pub fn go_to(&mut self, pes: u32)
         ensures { self.new ≡ at_step (AtPes pes) self.old }
@@ -94,7 +94,7 @@ impl<A: Audience<Event>> Reporter<'_, A> {
             self.new }
     {
         let last = self.relay.tracker.close(are_left, reports_more);
-        announce_some(last, &mut self.relay.run, &mut self.fused);
+        announce_if_present(last, &mut self.relay.run, &mut self.fused);
     }
 
     /// Passes an event to the device. If it ends a run of trusted frames, reports these frames
@@ -103,13 +103,13 @@ impl<A: Audience<Event>> Reporter<'_, A> {
         ensures { ReporterRelays A.is_reported self.old (Emits event ∷ []) self.new }
     {
         let first = self.relay.tracker.say(&event);
-        let event = self.relay.tracker.at_pes(event);
-        announce_some(first, &mut self.relay.run, &mut self.fused);
+        let event = self.relay.tracker.with_pes_number(event);
+        announce_if_present(first, &mut self.relay.run, &mut self.fused);
         announce(event, &mut self.relay.run, &mut self.fused);
     }
 }
 
-impl<A: Audience<Event>> Taker for Reporter<'_, A> {
+impl<A: ReportSink<Event>> Taker for Reporter<'_, A> {
     ghost is_reported = { IsRelayed A.is_reported };
 
     /// Reports the event. Of a run of skipped packets, only the first and the last are reported.
@@ -121,13 +121,14 @@ impl<A: Audience<Event>> Taker for Reporter<'_, A> {
 // Reports an event, if it is not `None`.
 #[rattlefmt::skip]
 #[tactic(auto, unfolding(
-    sub_rules::specs::PesPacketEvents::all_announced,
-    sub_rules::specs::PesPacketEvents::skipped_after_all
+    sub_rules::specs::PesPacketEvents::announced_events,
+    sub_rules::specs::PesPacketEvents::skipped_run_after_events
 ))]
-fn announce_some<T: Taker>(event: Option<Event>, run: &mut SkippedPesPackets, taker: &mut T)
+fn announce_if_present<T: Taker>(event: Option<Event>, run: &mut SkippedPesPackets, taker: &mut T)
     ensures reported { Reports T.is_reported taker.old taker.new
-        (all_announced (as_run run.old) (first_alone event)) }
-    ensures kept { run.new ≡ kept_run (skipped_after_all (as_run run.old) (first_alone event)) }
+        (announced_events (skipped_run_of run.old) (first_as_list event)) }
+    ensures kept { run.new ≡ stored_run (skipped_run_after_events (skipped_run_of run.old)
+        (first_as_list event)) }
 {
     if let Some(event) = event {
         announce(event, run, taker);
@@ -138,31 +139,31 @@ fn announce_some<T: Taker>(event: Option<Event>, run: &mut SkippedPesPackets, ta
 // first.
 #[tactic(auto, unfolding(sub_rules::specs::PesPacketEvents::announced))]
 fn announce<T: Taker>(event: Event, run: &mut SkippedPesPackets, taker: &mut T)
-    ensures reported { Reports T.is_reported taker.old taker.new (announced (as_run run.old)
+    ensures reported { Reports T.is_reported taker.old taker.new (announced (skipped_run_of run.old)
         event) }
-    ensures kept { run.new ≡ kept_run (skipped_run_after (as_run run.old) event) }
+    ensures kept { run.new ≡ stored_run (skipped_run_after (skipped_run_of run.old) event) }
 {
     let before = *run;
     *run = before.after(&event);
-    if before.joins(&event) {
+    if before.continues_skipped_run(&event) {
         return;
     }
-    report_after(before.ended(), event, taker);
+    report_with_first(before.ended(), event, taker);
 }
 
 // Reports an optional event, and then another event.
 #[tactic(auto, using(sub_io::proofs::ReportingLemmas::tellings))]
-fn report_after<T: Taker>(first: Option<Event>, event: Event, taker: &mut T)
-    ensures { Reports T.is_reported taker.old taker.new (first_alone first ++ event ∷ []) }
+fn report_with_first<T: Taker>(first: Option<Event>, event: Event, taker: &mut T)
+    ensures { Reports T.is_reported taker.old taker.new (first_as_list first ++ event ∷ []) }
 {
-    report_some(first, taker);
+    report_if_present(first, taker);
     taker.report(event);
 }
 
 /// Reports an event, if it is not `None`.
 #[tactic(auto, using(sub_io::proofs::ReportingLemmas::tellings))]
-pub(crate) fn report_some<T: Taker>(event: Option<Event>, taker: &mut T)
-    ensures { Reports T.is_reported taker.old taker.new (first_alone event) }
+pub(crate) fn report_if_present<T: Taker>(event: Option<Event>, taker: &mut T)
+    ensures { Reports T.is_reported taker.old taker.new (first_as_list event) }
 {
     if let Some(event) = event {
         taker.report(event);

@@ -1,7 +1,8 @@
 //! Reports the changes of the active faults at the end of a frame.
 ghost use Rattle.std.specs.Prelude.{◌≡◌, ◌==◌, ◌&&◌, ℕ};
 ghost use Rattle.sub_io.specs.Reporting.{Reports};
-ghost use Rattle.sub_rules.specs.Events.{broken_at, end_events, end_fault, end_rules, rule_events};
+ghost use Rattle.sub_rules.specs.Events.{place_of_broken_rule, end_events, end_rule_fault};
+ghost use Rattle.sub_rules.specs.Events.{end_rules, rule_events};
 
 use sub_packets::{Taker, report_if};
 use sub_rules::{ActiveFaults, CheckFault, EndRule, Event};
@@ -29,12 +30,12 @@ pub(crate) fn report_change<A: Taker>(
         (end_events old.now before new.now frame) }
 {
     for rule in &RULES {
-        report_of(*rule, old, before, new, frame, taker);
+        report_rule_change(*rule, old, before, new, frame, taker);
     }
 }
 
 // Reports whether a fault of this rule became active or ended.
-fn report_of<A: Taker>(
+fn report_rule_change<A: Taker>(
     rule: EndRule,
     old: &ActiveFaults,
     before: u32,
@@ -43,14 +44,15 @@ fn report_of<A: Taker>(
     taker: &mut A,
 )
     ensures { Reports A.is_reported taker.old taker.new
-        (rule_events rule (broken_at rule old.now) before (broken_at rule new.now) frame) }
+        (rule_events rule (place_of_broken_rule rule old.now) before (place_of_broken_rule rule
+        new.now) frame) }
 {
-    report_rule(rule, old.at(rule), before, new.at(rule), frame, taker)
+    report_place_change(rule, old.at(rule), before, new.at(rule), frame, taker)
 }
 
 // Reports that a fault ended, became active, or is now at another cell.
 #[tactic(auto, using(sub_io::proofs::ReportingLemmas::tellings))]
-fn report_rule<A: Taker>(
+fn report_place_change<A: Taker>(
     rule: EndRule,
     old: Option<(u8, u8)>,
     before: u32,
@@ -83,7 +85,7 @@ fn report_rule<A: Taker>(
 
 // Returns the fault for a broken rule, with the wrong cell.
 fn fault_of(rule: EndRule, frame: u32, cell: (u8, u8)) -> CheckFault
-    ensures { result ≡ end_fault rule frame cell }
+    ensures { result ≡ end_rule_fault rule frame cell }
 {
     let (row, column) = cell;
     match rule {

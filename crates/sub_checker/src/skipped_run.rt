@@ -1,10 +1,11 @@
 //! Runs of consecutive PES packets that are skipped because of the same fault.
 ghost use Rattle.std.specs.Prelude.{◌≡◌};
-ghost use Rattle.sub_io.specs.Reporting.{first_alone};
-ghost use Rattle.sub_rules.specs.PesPacketEvents.{ended_run, continues, continues_after, is_after};
-ghost use Rattle.sub_rules.specs.PesPacketEvents.{joins};
+ghost use Rattle.sub_io.specs.Reporting.{first_as_list};
+ghost use Rattle.sub_rules.specs.PesPacketEvents.{run_ending_events, continues, continues_after};
+ghost use Rattle.sub_rules.specs.PesPacketEvents.{is_after};
+ghost use Rattle.sub_rules.specs.PesPacketEvents.{continues_skipped_run};
 ghost use Rattle.sub_rules.specs.PesPacketEvents.{no_run, skipped_run_after};
-ghost use Rattle.sub_checker.specs.SkippedPesPackets.{as_run, kept_run};
+ghost use Rattle.sub_checker.specs.SkippedPesPackets.{skipped_run_of, stored_run};
 
 use sub_rules::{CheckFault, Event, FaultPlace};
 
@@ -20,7 +21,7 @@ pub(crate) struct SkippedPesPackets {
 impl SkippedPesPackets {
     /// Returns the state before the first PES packet, without a run.
     pub fn new() -> Self
-        ensures { result ≡ kept_run no_run }
+        ensures { result ≡ stored_run no_run }
     {
         SkippedPesPackets {
             last: None,
@@ -29,9 +30,9 @@ impl SkippedPesPackets {
     }
 
     /// Returns whether the event continues the run of skipped PES packets.
-    #[tactic(auto, unfolding(sub_rules::specs::PesPacketEvents::joins))]
-    pub fn joins(&self, event: &Event) -> bool
-        ensures { result ≡ joins (as_run self.now) event.now }
+    #[tactic(auto, unfolding(sub_rules::specs::PesPacketEvents::continues_skipped_run))]
+    pub fn continues_skipped_run(&self, event: &Event) -> bool
+        ensures { result ≡ continues_skipped_run (skipped_run_of self.now) event.now }
     {
         match event {
             Event::Reported(fault) => follows(&self.last, fault),
@@ -42,7 +43,7 @@ impl SkippedPesPackets {
     /// Returns the run of skipped PES packets after the event.
     #[tactic(auto, unfolding(sub_rules::specs::PesPacketEvents::skipped_run_after))]
     pub fn after(&self, event: &Event) -> SkippedPesPackets
-        ensures { result ≡ kept_run (skipped_run_after (as_run self.now) event.now) }
+        ensures { result ≡ stored_run (skipped_run_after (skipped_run_of self.now) event.now) }
     {
         match event {
             Event::Reported(fault) => SkippedPesPackets {
@@ -60,7 +61,7 @@ impl SkippedPesPackets {
     /// Returns the event that reports the last packet of the run; `None` if the run has only one
     /// packet.
     pub fn ended(&self) -> Option<Event>
-        ensures { first_alone result ≡ ended_run (as_run self.now) }
+        ensures { first_as_list result ≡ run_ending_events (skipped_run_of self.now) }
     {
         match self.last {
             Some(fault) if self.many => Some(Event::SkippedUntil(fault)),

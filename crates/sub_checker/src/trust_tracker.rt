@@ -1,12 +1,13 @@
 //! Tracks which frames are trusted: frames that can be broadcast unchanged.
 ghost use Rattle.std.specs.Prelude.{◌≡◌, ◌≤◌, ◌&&◌, is_some};
-ghost use Rattle.sub_io.specs.Reporting.{first_alone};
-ghost use Rattle.sub_rules.specs.Trusted.{at_pes, trusted};
+ghost use Rattle.sub_io.specs.Reporting.{first_as_list};
+ghost use Rattle.sub_rules.specs.Trusted.{with_pes_number, trusted};
 ghost use Rattle.sub_rules.specs.Trusted.CheckStep.{AtEnd, AtPes, Begins, Closes, Ends, GoesBack};
 ghost use Rattle.sub_rules.specs.Trusted.CheckStep.{Emits};
-ghost use Rattle.sub_checker.specs.TrustTracker.{after_step, invalidated, first_correct, is_order};
-ghost use Rattle.sub_checker.specs.TrustTracker.{late_first_unfinished, new_tracker, reported_with};
-ghost use Rattle.sub_checker.specs.TrustTracker.{trusted_before};
+ghost use Rattle.sub_checker.specs.TrustTracker.{after_step, invalidated, first_correct};
+ghost use Rattle.sub_checker.specs.TrustTracker.{is_order_fault};
+ghost use Rattle.sub_checker.specs.TrustTracker.{overdue_run_start, new_tracker, events_of_step};
+ghost use Rattle.sub_checker.specs.TrustTracker.{trusted_events_before};
 
 use sub_rules::{CheckFault, Event};
 
@@ -108,7 +109,7 @@ impl TrustTracker {
         if self.stays_correct() && none_active {
             return;
         }
-        self.end_another(frame, has_beginning, none_active);
+        self.update_trusted_run(frame, has_beginning, none_active);
     }
 
     // Returns whether the run of trusted frames continues with a correct page and a frame without
@@ -124,7 +125,7 @@ impl TrustTracker {
     // Ends a frame that may change the run of trusted frames.
     #[inline(never)]
     #[tactic(auto, unfolding(crate::specs::TrustTracker::after_step))]
-    fn end_another(&mut self, frame: u32, has_beginning: bool, none_active: bool)
+    fn update_trusted_run(&mut self, frame: u32, has_beginning: bool, none_active: bool)
         ensures { self.new ≡ after_step (Ends frame has_beginning none_active) self.old }
     {
         let before = if self.run.is_some() { self.whole } else { None };
@@ -140,9 +141,9 @@ impl TrustTracker {
     /// it.
     #[tactic(auto, unfolding(crate::specs::TrustTracker::after_step))]
     pub fn say(&mut self, event: &Event) -> Option<Event>
-        ensures before { first_alone result
-            ≡ trusted_before self.old.run self.old.whole self.old.back
-            (invalidated self.old.last (late_first_unfinished self.old) event.now) }
+        ensures before { first_as_list result
+            ≡ trusted_events_before self.old.run self.old.whole self.old.back
+            (invalidated self.old.last (overdue_run_start self.old) event.now) }
         ensures kept { self.new ≡ after_step (Emits event.now) self.old }
     {
         let late = if self.is_late {
@@ -156,7 +157,7 @@ impl TrustTracker {
             self.run = None;
             self.is_clean = false;
         }
-        if is_order(event) {
+        if is_order_fault(event) {
             self.rises = false;
         }
         self.reported = true;
@@ -171,19 +172,19 @@ impl TrustTracker {
     /// wrong page.
     #[tactic(auto, unfolding(crate::specs::TrustTracker::after_step))]
     pub fn close(&mut self, are_left: bool, reports_more: bool) -> Option<Event>
-        ensures reported { first_alone result ≡ reported_with (Closes are_left reports_more)
+        ensures reported { first_as_list result ≡ events_of_step (Closes are_left reports_more)
             self.old }
         ensures kept { self.new ≡ after_step (Closes are_left reports_more) self.old }
     {
-        let last = self.trusted_last(are_left, reports_more);
+        let last = self.last_trusted_frames(are_left, reports_more);
         self.run = None;
         last
     }
 
     // Returns the trusted frames of the last run at the end of the file.
-    #[tactic(auto, unfolding(crate::specs::TrustTracker::reported_with))]
-    fn trusted_last(&self, are_left: bool, reports_more: bool) -> Option<Event>
-        ensures { first_alone result ≡ reported_with (Closes are_left reports_more) self.now }
+    #[tactic(auto, unfolding(crate::specs::TrustTracker::events_of_step))]
+    fn last_trusted_frames(&self, are_left: bool, reports_more: bool) -> Option<Event>
+        ensures { first_as_list result ≡ events_of_step (Closes are_left reports_more) self.now }
     {
         let end = if are_left {
             u64::from(self.back.unwrap_or(self.last))
@@ -203,12 +204,12 @@ impl TrustTracker {
 
     /// Returns the event with the number of the current PES packet, which counts skipped packets
     /// too.
-    #[tactic(auto, unfolding(sub_rules::specs::Trusted::at_pes))]
-    pub fn at_pes(&self, event: Event) -> Event
-        ensures { result ≡ at_pes self.now.pes event }
+    #[tactic(auto, unfolding(sub_rules::specs::Trusted::with_pes_number))]
+    pub fn with_pes_number(&self, event: Event) -> Event
+        ensures { result ≡ with_pes_number self.now.pes event }
     {
         match event {
-            Event::Reported(fault) => Event::Reported(fault.at_pes(self.pes)),
+            Event::Reported(fault) => Event::Reported(fault.with_pes_number(self.pes)),
             _ => event,
         }
     }
@@ -232,7 +233,7 @@ fn first_correct(whole: Option<u32>, first_unfinished: Option<u32>, frame: u32) 
 // Returns the event for the trusted frames of the run before `frame`; `None` if there are none.
 fn trusted(run: Option<u32>, whole: Option<u32>, frame: u64) -> Option<Event>
     requires { frame ≤ 0x1_0000_0000 }
-    ensures { first_alone result ≡ trusted run whole frame }
+    ensures { first_as_list result ≡ trusted run whole frame }
 {
     let from = run?;
     let whole = whole?;
@@ -257,9 +258,9 @@ fn invalidated(last: u32, late: Option<u32>, event: &Event) -> Option<u32>
 }
 
 // Returns whether the event reports that frame numbers do not increase.
-#[tactic(auto, unfolding(crate::specs::TrustTracker::is_order))]
-fn is_order(event: &Event) -> bool
-    ensures { result ≡ is_order event.now }
+#[tactic(auto, unfolding(crate::specs::TrustTracker::is_order_fault))]
+fn is_order_fault(event: &Event) -> bool
+    ensures { result ≡ is_order_fault event.now }
 {
     match event {
         Event::Reported(CheckFault::Order { .. }) => true,

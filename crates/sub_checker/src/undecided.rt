@@ -2,7 +2,7 @@
 ghost use Rattle.std.specs.Prelude.{◌≡◌, ℕ, ◌+◌, ◌<◌, ◌≤◌, MatchOption, Option};
 ghost use Rattle.std.specs.Prelude.{false, true};
 ghost use Rattle.stl_rows.specs.DuePage.{ReportsNextEdge};
-ghost use Rattle.stl_rows.specs.Judged.{has_refused, is_undecided_in};
+ghost use Rattle.stl_rows.specs.Judged.{has_unreliable_subtitle, is_undecided_in};
 ghost use Rattle.sub_rules.specs.FrameRules.{is_due_undecided};
 ghost use Rattle.sub_checker.specs.Checker.{IsKnownFrom};
 
@@ -19,7 +19,7 @@ pub(crate) fn first_known_from(
     frame: u32,
     within: u32,
 ) -> u64
-    requires { any_refused ≡ has_refused judging.now }
+    requires { any_refused ≡ has_unreliable_subtitle judging.now }
     ensures { (edge : Option ℕ) → ReportsNextEdge judging.now.programme.records frame edge
         → IsKnownFrom (is_due_undecided judging.now) first within frame edge result }
 {

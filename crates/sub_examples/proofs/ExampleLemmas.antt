@@ -11,16 +11,17 @@ use Rattle.ttx_packet.specs.PacketAddress.{IsPacket}
 use Rattle.sub_rules.specs.FrameRules.{criteria_of}
 use Rattle.sub_rules.specs.Good.{Good}
 use Rattle.sub_rules.specs.Transmission.{Transmission}
-use Rattle.sub_rules.proofs.TestLemmas.{all_below, below, each_packet, packets_decided}
+use Rattle.sub_rules.proofs.TestLemmas.{passes_all_below, below, each_packet_passes}
+use Rattle.sub_rules.proofs.TestLemmas.{packets_decided}
 use Rattle.sub_laws.proofs.ReportedLemmas.{none_reported}
 use Rattle.sub_rules.proofs.FrameEvents.{events}
 
 abbrev is_packet : List ℕ → Bool
 is_packet packet =
-    length packet == 42 && all_below (λ place. nat_lt (slice_index packet place) 0x100) 42
+    length packet == 42 && passes_all_below (λ place. nat_lt (slice_index packet place) 0x100) 42
 
-packet_decided : (packet : List ℕ) → Decides (is_packet packet) (IsPacket packet)
-packet_decided packet =
+packet_test_is_decided : (packet : List ℕ) → Decides (is_packet packet) (IsPacket packet)
+packet_test_is_decided packet =
     Decides-like (is_packet packet)
     (λ h. record {
       size = h.0;
@@ -35,7 +36,7 @@ packet_decided packet =
     (λ place. Decides-ltb (slice_index packet place) 0x100) 42))
 
 abbrev pub are_packets : Transmission → Bool
-are_packets frames = each_packet is_packet frames
+are_packets frames = each_packet_passes is_packet frames
 
 pub good_by_events :
     (programme : ProgrammeValue) (frames : Transmission) (o : OptionsValue)
@@ -46,5 +47,5 @@ pub good_by_events :
     → events (criteria_of programme o None) frames ≡ []
     → Good programme frames o
 good_by_events programme frames o none at_once some whole fault_free =
-    let packets = (packets_decided is_packet IsPacket packet_decided frames).0 whole in
+    let packets = (packets_decided is_packet IsPacket packet_test_is_decided frames).0 whole in
     ((none_reported programme o None frames none at_once some packets).0 fault_free).0

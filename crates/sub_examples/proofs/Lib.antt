@@ -1,7 +1,7 @@
 pub mod ExampleLemmas
 pub mod GoodExample
-pub mod NotRobust
+pub mod NotRobustExamples
 pub mod RobustTests
 pub mod ScreenTests
-pub mod StretchExample
-pub mod TrustedRows
+pub mod CleanFramesExample
+pub mod TrustedFramesExample

@@ -14,12 +14,13 @@ use Rattle.sub_plan.specs.Examples.{page_888}
 use Rattle.sub_plan.specs.Options.{OptionsValue}
 use Rattle.sub_rules.specs.Transmission.{IsRising, Transmission, first_frame, last_frame}
 use Rattle.sub_rules.specs.Events.{packet_fault, active_faults_at}
-use Rattle.sub_rules.specs.Fault.{check_code}
+use Rattle.sub_rules.specs.Fault.{code_of_check_fault}
 use Rattle.sub_rules.specs.FrameRules.{Criteria, criteria_of}
 use Rattle.sub_rules.specs.Good.{Good}
 use Rattle.sub_rules.specs.PacketTests.{breaks}
 use Rattle.sub_rules.specs.declared.packet_rule.PacketRule.{PacketRule}
-use Rattle.sub_laws.specs.CleanStretch.{AtEnds, AtPackets, IsUnreported, is_needed}
+use Rattle.sub_laws.specs.CleanStretch.{HoldsAtFrameEnds, HoldsAtPackets, IsUnreported}
+use Rattle.sub_laws.specs.CleanStretch.{is_needed_by_receivers}
 use Rattle.sub_laws.specs.Recovery.{RecoversWithin}
 use Rattle.sub_laws.specs.Robust.{Robust}
 
@@ -32,18 +33,18 @@ header_of_coded_bytes coded = coded ++ replicate 32 0x20
 -- A header of page 888 with four given bytes: `c4` codes S2 and C4, `c5_c6` codes S4, C5 and C6,
 -- `c7_c10` codes C7 to C10, and `c11_c14` codes C11 to C14. The other coded bytes are the address
 -- (two bytes), page units, page tens, S1 and S3.
-abbrev pub header_with : ℕ → ℕ → ℕ → ℕ → List ℕ
-header_with c4 c5_c6 c7_c10 c11_c14 =
+abbrev pub header_888_with : ℕ → ℕ → ℕ → ℕ → List ℕ
+header_888_with c4 c5_c6 c7_c10 c11_c14 =
     header_of_coded_bytes (0x15 ∷ 0x15 ∷ 0xD0 ∷ 0xD0 ∷ 0x15 ∷ c4 ∷ 0x15 ∷ c5_c6 ∷ c7_c10 ∷ c11_c14 ∷
     [])
 
 -- A header of page 888 in English and in parallel mode: C4, C6 and C7 are set.
 abbrev pub english_header : List ℕ
-english_header = header_with 0xD0 0xD0 0x02 0x15
+english_header = header_888_with 0xD0 0xD0 0x02 0x15
 
 -- A header of page 888 in which C4 (erase page) is clear.
 abbrev pub header_without_c4 : List ℕ
-header_without_c4 = header_with 0x15 0xD0 0x02 0x15
+header_without_c4 = header_888_with 0x15 0xD0 0x02 0x15
 
 -- A header of page 888 with one wrong bit in its first address byte.
 abbrev pub header_with_wrong_bit : List ℕ
@@ -51,14 +52,16 @@ header_with_wrong_bit =
     header_of_coded_bytes (0x14 ∷ 0x15 ∷ 0xD0 ∷ 0xD0 ∷ 0x15 ∷ 0xD0 ∷ 0x15 ∷ 0xD0 ∷ 0x02 ∷ 0x15 ∷ [])
 
 -- A packet X/0 whose page units can't be decoded. With one more wrong bit it is a header.
-abbrev pub no_header : List ℕ
-no_header = header_of_coded_bytes (0x15 ∷ 0x15 ∷ 0xD3 ∷ 0xD0 ∷ 0x15 ∷ 0xD0 ∷ 0x15 ∷ 0xD0 ∷ 0x02 ∷
+abbrev pub undecodable_header : List ℕ
+undecodable_header = header_of_coded_bytes (0x15 ∷ 0x15 ∷ 0xD3 ∷ 0xD0 ∷ 0x15 ∷ 0xD0 ∷ 0x15 ∷ 0xD0 ∷
+    0x02 ∷
     0x15 ∷ [])
 
 -- The header of page FF with subcode 3F7F (in EN 300 706: time filling header), which ends the
 -- page.
-abbrev pub closing : List ℕ
-closing = header_of_coded_bytes (0x15 ∷ 0x15 ∷ 0xEA ∷ 0xEA ∷ 0xEA ∷ 0x2F ∷ 0xEA ∷ 0x5E ∷ 0x15 ∷ 0x15
+abbrev pub closing_header : List ℕ
+closing_header = header_of_coded_bytes (0x15 ∷ 0x15 ∷ 0xEA ∷ 0xEA ∷ 0xEA ∷ 0x2F ∷ 0xEA ∷ 0x5E ∷ 0x15
+    ∷ 0x15
     ∷ [])
 
 -- Packet 8/1, row 1 of magazine 8: the given first byte of text, and 39 spaces.
@@ -99,7 +102,7 @@ each every =
 
 -- A transmission of frame 900000 with this header and the header that ends the page.
 abbrev pub one_header : List ℕ → Transmission
-one_header sent = one_frame (sent ∷ closing ∷ [])
+one_header sent = one_frame (sent ∷ closing_header ∷ [])
 
 -- A programme without subtitles: the expected page is always blank.
 abbrev pub no_subtitles : ProgrammeValue
@@ -128,37 +131,40 @@ one_subtitle text =
 
 -- The text `Hi` in frame 900000, followed by a blank page in the next frame, is a good
 -- transmission.
-abbrev pub ExampleOfGood : Type 0
-ExampleOfGood =
+abbrev pub ExampleOfGoodTransmission : Type 0
+ExampleOfGoodTransmission =
     Good (one_subtitle (0x48 ∷ 0x69 ∷ []))
-    (two_frames (english_header ∷ row_22 ∷ closing ∷ []) (english_header ∷ closing ∷ []))
+    (two_frames (english_header ∷ row_22 ∷ closing_header ∷ []) (english_header ∷ closing_header ∷
+    []))
     (each 1)
 
 -- ---- for each fault that matters to receivers, a transmission that fails at a receiver
 
 -- The number of the fault for a packet that breaks rule `r`.
 abbrev pub number_of : PacketRule → ℕ
-number_of r = (check_code (packet_fault r 0 0)).number
+number_of r = (code_of_check_fault (packet_fault r 0 0)).number
 
 -- No fault that matters to receivers is reported in the frames from `a` to `b`, except for faults
 -- with this number.
-pub record IsUnreportedBut (number : ℕ) (g : Criteria) (frames : Transmission) (a b : ℕ) : Type 0
+pub record IsUnreportedExcept (number : ℕ) (g : Criteria) (frames : Transmission) (a b : ℕ) : Type 0
   where
     pub rising : number ≢ 62 → IsRising frames
     pub packets :
         (r : PacketRule)
-        → IsTrue (is_needed r)
+        → IsTrue (is_needed_by_receivers r)
         → number ≢ number_of r
-        → AtPackets (λ before p. IsFalse (breaks r g.watched before p)) frames a b
+        → HoldsAtPackets (λ before p. IsFalse (breaks r g.watched before p)) frames a b
     pub content :
-        number ≢ 72 → AtEnds (λ n f. (active_faults_at g frames n f).content ≡ None) frames a b
-    pub gap : number ≢ 73 → AtEnds (λ n f. IsFalse (active_faults_at g frames n f).gap) frames a b
+        number ≢ 72 → HoldsAtFrameEnds (λ n f. (active_faults_at g frames n f).content ≡ None)
+        frames a b
+    pub gap : number ≢ 73 → HoldsAtFrameEnds (λ n f. IsFalse (active_faults_at g frames n f).gap)
+        frames a b
 
 -- If the expected pages are blank, the only faults that matter to receivers are faults with this
 -- number, and a receiver of the transmission has a wrong page.
-pub record IsNeeded (number : ℕ) (transmission : Transmission) (every : ℕ) : Type 0 where
+pub record IsRuleNeeded (number : ℕ) (transmission : Transmission) (every : ℕ) : Type 0 where
   pub others :
-      IsUnreportedBut number (criteria_of no_subtitles (each every) None) transmission
+      IsUnreportedExcept number (criteria_of no_subtitles (each every) None) transmission
       (first_frame transmission) (last_frame transmission)
   pub not_robust : Robust no_subtitles transmission (each every) → ⊥
   pub not_trusted :
@@ -168,39 +174,42 @@ pub record IsNeeded (number : ℕ) (transmission : Transmission) (every : ℕ) :
 
 -- A transmission in which row 1 is first blank, and then has an exclamation mark.
 abbrev pub changed_row : Transmission
-changed_row = one_frame (english_header ∷ row_1 0x20 ∷ row_1 0xA1 ∷ closing ∷ [])
+changed_row = one_frame (english_header ∷ row_1 0x20 ∷ row_1 0xA1 ∷ closing_header ∷ [])
 
 -- A transmission with frame 900001 listed after frame 900002, which ends the page. So its row is
 -- ignored.
-abbrev pub listed_late : Transmission
-listed_late =
+abbrev pub transmission_out_of_order : Transmission
+transmission_out_of_order =
     record { frame = 900000; packets = english_header ∷ [] }
-    ∷ record { frame = 900002; packets = closing ∷ [] }
+    ∷ record { frame = 900002; packets = closing_header ∷ [] }
     ∷ record { frame = 900001; packets = row_1 0xA1 ∷ [] }
-    ∷ record { frame = 900003; packets = english_header ∷ closing ∷ [] }
+    ∷ record { frame = 900003; packets = english_header ∷ closing_header ∷ [] }
     ∷ []
 
 -- Each of the eight rules is necessary: a transmission that breaks only this rule fails at a
 -- receiver.
 pub record ExamplesOfNeededParts : Type 0 where
   -- A receiver of the frames up to 900001 shows an exclamation mark that is not expected.
-  pub frames_rise : IsNeeded 62 listed_late 3
+  pub frames_rise : IsRuleNeeded 62 transmission_out_of_order 3
   -- With another wrong bit the address byte can't be decoded, so the receiver misses the header.
-  pub exact_addresses : IsNeeded 64 (one_header header_with_wrong_bit) 1
+  pub exact_addresses : IsRuleNeeded 64 (one_header header_with_wrong_bit) 1
   -- With one wrong bit, a packet X/0 becomes a header that was never sent.
-  pub exact_headers : IsNeeded 65 (one_frame (english_header ∷ closing ∷ no_header ∷ [])) 1
+  pub exact_headers : IsRuleNeeded 65
+      (one_frame (english_header ∷ closing_header ∷ undecodable_header ∷ [])) 1
   -- Without C4, a receiver does not erase its old page.
-  pub subtitle_headers : IsNeeded 67 (one_header header_without_c4) 1
+  pub subtitle_headers : IsRuleNeeded 67 (one_header header_without_c4) 1
   -- The byte A0 may be received as A1, which has odd parity: an exclamation mark that was never
   -- sent.
-  pub odd_rows : IsNeeded 68 (one_frame (english_header ∷ row_1 0xA0 ∷ closing ∷ [])) 1
+  pub odd_rows : IsRuleNeeded 68 (one_frame (english_header ∷ row_1 0xA0 ∷ closing_header ∷ [])) 1
   -- Row 1 is sent twice with different codes. The check uses the first packet, but a receiver
   -- stores the second.
-  pub same_rows : IsNeeded 69 changed_row 1
+  pub same_rows : IsRuleNeeded 69 changed_row 1
   -- Every receiver shows an exclamation mark that is not expected.
-  pub due_content : IsNeeded 72 (one_frame (english_header ∷ row_1 0xA1 ∷ closing ∷ [])) 1
+  pub due_content : IsRuleNeeded 72 (one_frame (english_header ∷ row_1 0xA1 ∷ closing_header ∷ []))
+      1
   -- A receiver that starts after the first frame receives no header within the repeat bound.
-  pub headers_in_time : IsNeeded 73 (two_frames (english_header ∷ closing ∷ []) (closing ∷ [])) 1
+  pub headers_in_time : IsRuleNeeded 73 (two_frames (english_header ∷ closing_header ∷ [])
+      (closing_header ∷ [])) 1
 
 -- ---- clean frames of a rejected transmission
 
@@ -223,21 +232,22 @@ later_subtitle = record {
 
 -- A transmission of three frames. In frame 900000, the header does not erase the page, and a row
 -- has a byte with even parity.
-abbrev pub damaged_first : Transmission
-damaged_first =
-    record { frame = 900000; packets = header_without_c4 ∷ row_1 0xA0 ∷ closing ∷ [] }
-    ∷ record { frame = 900001; packets = english_header ∷ row_22 ∷ closing ∷ [] }
-    ∷ record { frame = 900002; packets = english_header ∷ closing ∷ [] }
+abbrev pub transmission_damaged_first : Transmission
+transmission_damaged_first =
+    record { frame = 900000; packets = header_without_c4 ∷ row_1 0xA0 ∷ closing_header ∷ [] }
+    ∷ record { frame = 900001; packets = english_header ∷ row_22 ∷ closing_header ∷ [] }
+    ∷ record { frame = 900002; packets = english_header ∷ closing_header ∷ [] }
     ∷ []
 
 -- The transmission is rejected, but no fault is reported after its first frame. So a receiver of
 -- frame 900001, with at most one wrong bit in each byte and any earlier state, has the code of `H`
 -- in the right cell, or a space if its byte was received wrong.
-pub record ExampleOfCleanStretch : Type 0 where
-  pub refused : Good later_subtitle damaged_first (each 1) → ⊥
-  pub clean : IsUnreported (criteria_of later_subtitle (each 1) None) damaged_first 900001 900002
-  pub held :
+pub record ExampleOfCleanFrames : Type 0 where
+  pub refused : Good later_subtitle transmission_damaged_first (each 1) → ⊥
+  pub clean : IsUnreported (criteria_of later_subtitle (each 1) None) transmission_damaged_first
+      900001 900002
+  pub receiver_state :
       (got : List (List ℕ)) (old new : State)
-      → AllZip AreNear (english_header ∷ row_22 ∷ closing ∷ []) got
+      → AllZip AreNear (english_header ∷ row_22 ∷ closing_header ∷ []) got
       → Hears page_888 old got new
       → (cell new.page 22 19 ≡ 0x48) ⊎ (cell new.page 22 19 ≡ space)

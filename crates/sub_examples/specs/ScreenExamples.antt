@@ -7,7 +7,7 @@ use Rattle.ttx_page.specs.Screen.{Display, Shows}
 use Rattle.stl_rows.specs.Programme.{ProgrammeValue}
 use Rattle.sub_plan.specs.Options.{OptionsValue}
 use Rattle.sub_plan.specs.Examples.{page_888}
-use Rattle.sub_examples.specs.Examples.{english_header, row_22, closing, one_frame, each}
+use Rattle.sub_examples.specs.Examples.{english_header, row_22, closing_header, one_frame, each}
 use Rattle.sub_examples.specs.Examples.{no_subtitles}
 use Rattle.sub_rules.specs.Good.{Good}
 use Rattle.sub_laws.specs.OnScreen.{Complete, ShownWithin}
@@ -15,36 +15,41 @@ use Rattle.sub_rules.specs.Transmission.{Transmission, first_frame, last_frame}
 
 -- The state of a receiver that has received no header and has a blank page, with `screen` on its
 -- screen.
-abbrev pub unheard : Option Rows → Display
-unheard screen =
-    record { held = record { heard = false; is_open = false; page = blank }; screen = screen }
+abbrev pub display_before_header : Option Rows → Display
+display_before_header screen =
+    record {
+      receiver_state = record { heard = false; is_open = false; page = blank };
+      screen = screen;
+    }
 
 -- When a header ends the page, the receiver shows the page, whatever its state was before.
 abbrev pub ExampleOfEndedPage : Type 0
 ExampleOfEndedPage =
     (old new : Display)
-    → Shows page_888 old (english_header ∷ closing ∷ []) new
+    → Shows page_888 old (english_header ∷ closing_header ∷ []) new
     → new.screen ≡ Some blank
 
 -- The screen does not change before a header ends the page: rows alone do not change it.
 abbrev pub ExampleOfPageNotEnded : Type 0
 ExampleOfPageNotEnded =
     (screen : Option Rows) (new : Display)
-    → Shows page_888 (unheard screen) (english_header ∷ row_22 ∷ []) new
+    → Shows page_888 (display_before_header screen) (english_header ∷ row_22 ∷ []) new
     → new.screen ≡ screen
 
 -- If the header of an open page is received again, some receivers show the page, and others do not.
 pub record ExampleOfRestartedPage : Type 0 where
   pub shown : Display
-  pub shows : Shows page_888 (unheard None) (english_header ∷ english_header ∷ []) shown
-  pub is_shown : shown.screen ≡ Some blank
+  pub shows : Shows page_888 (display_before_header None) (english_header ∷ english_header ∷ [])
+      shown
+  pub shows_blank_page : shown.screen ≡ Some blank
   pub other : Display
-  pub waits : Shows page_888 (unheard None) (english_header ∷ english_header ∷ []) other
-  pub is_nothing : other.screen ≡ None
+  pub waits : Shows page_888 (display_before_header None) (english_header ∷ english_header ∷ [])
+      other
+  pub shows_no_page : other.screen ≡ None
 
 -- The transmission is good, so every receiver has the expected page. But its pages are not
 -- complete, so some receivers do not show the page.
-pub record IsHeldAndNotShown
+pub record IsReceivedButNotShown
     (programme : ProgrammeValue) (transmission : Transmission) (options : OptionsValue)
     : Type 0 where
   pub good : Good programme transmission options
@@ -56,5 +61,5 @@ pub record IsHeldAndNotShown
 
 -- A header without packets after it is a good transmission, but some receivers do not show its
 -- page.
-abbrev pub ExampleOfNoEnd : Type 0
-ExampleOfNoEnd = IsHeldAndNotShown no_subtitles (one_frame (english_header ∷ [])) (each 1)
+abbrev pub ExampleOfUnendedPage : Type 0
+ExampleOfUnendedPage = IsReceivedButNotShown no_subtitles (one_frame (english_header ∷ [])) (each 1)

@@ -2,31 +2,31 @@
 //! that breaks only this rule and fails at a receiver.
 //!
 //! The examples test the definitions of `specs/`. The functions have no body.
-ghost use Rattle.sub_examples.specs.Examples.{ExampleOfCleanStretch, ExampleOfGood};
+ghost use Rattle.sub_examples.specs.Examples.{ExampleOfCleanFrames, ExampleOfGoodTransmission};
 ghost use Rattle.sub_examples.specs.Examples.{ExamplesOfNeededParts};
-ghost use Rattle.sub_examples.specs.TrustedExamples.{ExamplesOfTrusted};
+ghost use Rattle.sub_examples.specs.TrustedExamples.{ExamplesOfTrustedFrames};
 
 /// A good transmission: a subtitle in one frame, and a blank page in the next frame.
-#[tactic(auto, using(crate::proofs::GoodExample::example_of_good))]
-pub fn example_of_good()
-    ensures { ExampleOfGood }
+#[tactic(auto, using(crate::proofs::GoodExample::example_of_good_transmission))]
+pub fn example_of_good_transmission()
+    ensures { ExampleOfGoodTransmission }
 {}
 
 /// Each of the eight rules for clean frames is necessary: for each rule there is a transmission
 /// that breaks only this rule and fails at a receiver.
-#[tactic(auto, using(crate::proofs::NotRobust::examples_of_needed_parts))]
+#[tactic(auto, using(crate::proofs::NotRobustExamples::examples_of_needed_parts))]
 pub fn examples_of_needed_parts()
     ensures { ExamplesOfNeededParts }
 {}
 
 /// A rejected transmission with clean frames, and the codes that a receiver has in these frames.
-#[tactic(auto, using(crate::proofs::StretchExample::example_of_clean_stretch))]
-pub fn example_of_clean_stretch()
-    ensures { ExampleOfCleanStretch }
+#[tactic(auto, using(crate::proofs::CleanFramesExample::example_of_clean_frames))]
+pub fn example_of_clean_frames()
+    ensures { ExampleOfCleanFrames }
 {}
 
 /// Examples of clean frames: which frames are reported as `trusted`, and before which events.
-#[tactic(auto, using(crate::proofs::TrustedRows::examples_of_trusted))]
-pub fn examples_of_trusted()
-    ensures { ExamplesOfTrusted }
+#[tactic(auto, using(crate::proofs::TrustedFramesExample::examples_of_trusted_frames))]
+pub fn examples_of_trusted_frames()
+    ensures { ExamplesOfTrustedFrames }
 {}

@@ -2,7 +2,7 @@
 //! that some receivers do not show.
 //!
 //! The examples test the definitions of `specs/`. The functions have no body.
-ghost use Rattle.sub_examples.specs.ScreenExamples.{ExampleOfEndedPage, ExampleOfNoEnd};
+ghost use Rattle.sub_examples.specs.ScreenExamples.{ExampleOfEndedPage, ExampleOfUnendedPage};
 ghost use Rattle.sub_examples.specs.ScreenExamples.{ExampleOfRestartedPage, ExampleOfPageNotEnded};
 
 /// A receiver shows a page when a header ends the page, and not when a row is received. If the
@@ -15,6 +15,6 @@ pub fn examples_of_screens()
 
 /// A good transmission whose page is never ended by a header: every receiver has the page, but some
 /// receivers do not show it.
-pub fn example_of_no_end()
-    ensures { ExampleOfNoEnd }
+pub fn example_of_unended_page()
+    ensures { ExampleOfUnendedPage }
 {}

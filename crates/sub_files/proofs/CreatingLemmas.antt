@@ -1,17 +1,17 @@
 -- The system calls that create an output file after the input was opened.
 use Rattle.std.proofs.Common.{◌≡◌, ℕ, Bool, true, false, List, [], ◌∷◌, Option, Some, None}
 use Rattle.std.proofs.Common.{option_map, refl, ◌∙◌}
-use Rattle.sub_files.specs.Apart.{may_create}
+use Rattle.sub_files.specs.DistinctFiles.{may_create}
 use Rattle.sub_files.specs.FileCalls.{CallsInOrder, FileCall}
 use Rattle.sub_files.specs.FileCalls.FileCall.{Create, LookUp, LookUpStandardOutput, Open}
 use Rattle.sub_files.specs.Opening.{OpensAndCreates}
-use Rattle.sub_files.specs.declared.files.LookedUp.{LookedUp}
-use Rattle.sub_files.specs.declared.opening.Opened.{Opened}
+use Rattle.sub_files.specs.declared.files.LookupResults.{LookupResults}
+use Rattle.sub_files.specs.declared.opening.OpenedFiles.{OpenedFiles}
 
 pub creates :
-    {I O D : Type 0} (IsCall : D → FileCall I O → D → Type 0) (made : I → O → Opened I O)
+    {I O D : Type 0} (IsCall : D → FileCall I O → D → Type 0) (made : I → O → OpenedFiles I O)
     (start opened looked_up end : D)
-    (name output : List ℕ) (input : I) (found : LookedUp) (file : Option O)
+    (name output : List ℕ) (input : I) (found : LookupResults) (file : Option O)
     → IsCall start (Open name (Some input)) opened
     → CallsInOrder IsCall opened looked_up
     (LookUp name found.input ∷ LookUp output found.output
@@ -25,7 +25,7 @@ pub creates :
     × OpensAndCreates made name output calls (option_map (made input) file)
 creates
     {I} {O} {D} IsCall made start opened looked_up end name output input found file opens
-    (mid, first, (last, second, (here, third, looked_up_is))) apart over =
+    (mid, first, (last, second, (here, third, looked_up_is))) distinct_files refuses_overwriting =
     go (may_create found.input found.standard_output found.output) refl
   where
     go :
@@ -47,7 +47,7 @@ creates
         (
           mid,
           first,
-          (last, second, (here, third, (end, rw looked_up_is at (apart is), refl))),
+          (last, second, (here, third, (end, rw looked_up_is at (distinct_files is), refl))),
         ),
       ),
       (refl, refl, refl, rw is (refl, refl)),
@@ -61,7 +61,7 @@ creates
       (
         opened,
         opens,
-        (mid, first, (last, second, (here, third, (over is).1 ∙ looked_up_is))),
+        (mid, first, (last, second, (here, third, (refuses_overwriting is).1 ∙ looked_up_is))),
       ),
-      (refl, refl, refl, rw (is, (over is).0) refl),
+      (refl, refl, refl, rw (is, (refuses_overwriting is).0) refl),
     )

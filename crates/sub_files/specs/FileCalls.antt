@@ -1,15 +1,15 @@
 -- The calls of a device that opens files, with their arguments, order and results. A device that
 -- does not define the relation `is_call` has the relation `any_file_call`.
 use Rattle.std.specs.Prelude.{◌≡◌, ℕ, List, [], ◌∷◌, Option}
-use Rattle.sub_files.specs.declared.apart.Found.{Found}
+use Rattle.sub_files.specs.declared.distinct_files.LookupResult.{LookupResult}
 
 -- A call of a device that opens files, with its result. Input files have type I, output files type
 -- O.
 pub data FileCall (I O : Type 0) : Type 0 where
   -- Looks up a file by its name.
-  LookUp : (name : List ℕ) → Found → FileCall I O
+  LookUp : (name : List ℕ) → LookupResult → FileCall I O
   -- Looks up the file that receives standard output.
-  LookUpStandardOutput : Found → FileCall I O
+  LookUpStandardOutput : LookupResult → FileCall I O
   -- Opens a file for reading; `None` if the file can't be opened.
   Open : (name : List ℕ) → Option I → FileCall I O
   -- Creates a file for writing; `None` if the file can't be created.

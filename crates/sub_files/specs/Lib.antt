@@ -1,5 +1,5 @@
-pub mod Apart
-pub mod Checked
+pub mod DistinctFiles
+pub mod SizeCheckedFiles
 pub mod FileCalls
 pub mod MemoryFiles
 pub mod Opening

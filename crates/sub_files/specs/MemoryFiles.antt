@@ -2,12 +2,12 @@
 -- files.
 use Rattle.std.specs.Prelude.{◌≡◌, ℕ, List, [], Option, Some, None, option_map}
 use Rattle.std.specs.Prelude.{bytes_eq, if◌then◌else◌}
-use Rattle.sub_io.specs.Memory.{Written}
+use Rattle.sub_io.specs.Memory.{MemSinkValue}
 use Rattle.sub_files.specs.FileCalls.{FileCall}
 use Rattle.sub_files.specs.FileCalls.FileCall.{Create, ReleaseInput, ReleaseOutput, LookUp}
 use Rattle.sub_files.specs.FileCalls.FileCall.{LookUpStandardOutput, Open}
-use Rattle.sub_files.specs.declared.apart.Found.{Found}
-use Rattle.sub_files.specs.declared.apart.Found.TheVariants.{At, Nothing}
+use Rattle.sub_files.specs.declared.distinct_files.LookupResult.{LookupResult}
+use Rattle.sub_files.specs.declared.distinct_files.LookupResult.TheVariants.{At, Nothing}
 use Rattle.sub_files.specs.declared.memory.MemFile.{MemFile}
 
 -- Two existing files, and the number of bytes that a created file can have; `None` if no file can
@@ -26,23 +26,23 @@ bytes_at name files =
 
 -- The lookup result for a file with these bytes, or for a missing file. All files in memory have
 -- the same device and inode, so an existing file is never overwritten.
-abbrev pub found_for_bytes : Option (List ℕ) → Found
-found_for_bytes (Some bytes) = At 0 0
-found_for_bytes None = Nothing
+abbrev pub lookup_result_for_bytes : Option (List ℕ) → LookupResult
+lookup_result_for_bytes (Some bytes) = At 0 0
+lookup_result_for_bytes None = Nothing
 
 -- A created file without contents, which can have this many bytes.
-abbrev pub empty_file_with : ℕ → Written
-empty_file_with room = record { bytes = []; room = room; failure_count = 0 }
+abbrev pub empty_file_with_capacity : ℕ → MemSinkValue
+empty_file_with_capacity room = record { bytes = []; room = room; failure_count = 0 }
 
 -- The effect of each call on files in memory. An input file is the list of its bytes that are still
 -- to be read, and an output file is the list of the bytes written to it. At most one file is
 -- created.
-abbrev pub IsMemoryCall : MemFilesValue → FileCall (List ℕ) Written → MemFilesValue → Type 0
+abbrev pub IsMemoryCall : MemFilesValue → FileCall (List ℕ) MemSinkValue → MemFilesValue → Type 0
 IsMemoryCall old (LookUp name found) new = (new ≡ old) ×
-    (found ≡ found_for_bytes (bytes_at name old))
+    (found ≡ lookup_result_for_bytes (bytes_at name old))
 IsMemoryCall old (LookUpStandardOutput found) new = (new ≡ old) × (found ≡ Nothing)
 IsMemoryCall old (Open name file) new = (new ≡ old) × (file ≡ bytes_at name old)
 IsMemoryCall old (Create name file) new =
-    (new ≡ record old { room = None }) × (file ≡ option_map empty_file_with old.room)
+    (new ≡ record old { room = None }) × (file ≡ option_map empty_file_with_capacity old.room)
 IsMemoryCall old (ReleaseInput file) new = new ≡ old
 IsMemoryCall old (ReleaseOutput file) new = new ≡ old

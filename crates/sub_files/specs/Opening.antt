@@ -5,47 +5,50 @@ use Rattle.sub_request.specs.declared.files.FileNames.{FileNames}
 use Rattle.sub_request.specs.declared.files.FileNames.TheVariants as names
 use Rattle.sub_request.specs.declared.request.UsageFault.{UsageFault}
 use Rattle.sub_request.specs.declared.request.UsageFault.TheVariants as usage
-use Rattle.sub_files.specs.Apart.{may_create}
+use Rattle.sub_files.specs.DistinctFiles.{may_create}
 use Rattle.sub_files.specs.FileCalls.{FileCall}
 use Rattle.sub_files.specs.FileCalls.FileCall.{Create, LookUp, LookUpStandardOutput, Open}
-use Rattle.sub_files.specs.declared.opening.Opened.{Opened}
-use Rattle.sub_files.specs.declared.opening.Opened.TheVariants.{Nothing, ReadBoth, ReadPes, ReadStl}
-use Rattle.sub_files.specs.declared.opening.Opened.TheVariants.{Extract, Write}
+use Rattle.sub_files.specs.declared.opening.OpenedFiles.{OpenedFiles}
+use Rattle.sub_files.specs.declared.opening.OpenedFiles.TheVariants.{Nothing, ReadBoth, ReadPes}
+use Rattle.sub_files.specs.declared.opening.OpenedFiles.TheVariants.{ReadStl}
+use Rattle.sub_files.specs.declared.opening.OpenedFiles.TheVariants.{Extract, Write}
 
 -- The calls for an output file after the input was opened. If the output is another file, it is
 -- created; otherwise no further call is made, and no file is returned. `opened` combines both
 -- files.
-abbrev pub CreatesApart :
+abbrev pub CreatesDistinctFile :
     {I O : Type 0}
-    → (O → Opened I O) → Bool → (output : List ℕ) → List (FileCall I O) → Option (Opened I O)
+    → (O → OpenedFiles I O) → Bool → (output : List ℕ) → List (FileCall I O) → Option
+    (OpenedFiles I O)
     → Type 0
-CreatesApart opened true output (Create name file ∷ []) result =
+CreatesDistinctFile opened true output (Create name file ∷ []) result =
     (name ≡ output) × (result ≡ option_map opened file)
-CreatesApart opened false output [] result = result ≡ None
-CreatesApart opened are_apart output calls result = ⊥
+CreatesDistinctFile opened false output [] result = result ≡ None
+CreatesDistinctFile opened may_be_created output calls result = ⊥
 
 -- The calls that open an input and create an output. After the input was opened, both names and
 -- standard output are looked up, and the output is created only if it is another file.
 abbrev pub OpensAndCreates :
     {I O : Type 0}
-    → (I → O → Opened I O) → (input output : List ℕ) → List (FileCall I O) → Option (Opened I O)
+    → (I → O → OpenedFiles I O) → (input output : List ℕ) → List (FileCall I O) → Option
+    (OpenedFiles I O)
     → Type 0
 OpensAndCreates opened input output (Open name None ∷ []) result =
     (name ≡ input) × (result ≡ None)
 OpensAndCreates
     opened input output
     (Open name (Some file)
-    ∷ LookUp first found ∷ LookUp other there ∷ LookUpStandardOutput own ∷ calls)
+    ∷ LookUp first found ∷ LookUp other found_file ∷ LookUpStandardOutput own ∷ calls)
     result =
     (name ≡ input) × (first ≡ input) × (other ≡ output)
-    × CreatesApart (opened file) (may_create found own there) output calls result
+    × CreatesDistinctFile (opened file) (may_create found own found_file) output calls result
 OpensAndCreates _ _ _ _ _ = ⊥
 
 -- The calls that open the files of a request, and the opened files. Input files are opened in the
 -- order of the arguments, before an output is created. If a call fails, it is the last call, and no
 -- files are returned.
 abbrev pub Opens :
-    {I O : Type 0} → FileNames → List (FileCall I O) → Option (Opened I O) → Type 0
+    {I O : Type 0} → FileNames → List (FileCall I O) → Option (OpenedFiles I O) → Type 0
 Opens names.None [] result = result ≡ Some Nothing
 Opens (names.ReadStl stl) (Open name file ∷ []) result =
     (name ≡ stl) × (result ≡ option_map ReadStl file)
@@ -60,12 +63,12 @@ Opens (names.Extract recording output) calls result =
 Opens _ _ _ = ⊥
 
 -- The device made calls that open the files of a request, with this result.
-pub record OpensBy
+pub record OpensWithCalls
     {I O : Type 0} (AreMade : List (FileCall I O) → Type 0) (names : FileNames)
-    (result : Option (Opened I O))
+    (result : Option (OpenedFiles I O))
     : Type 0 where
   pub calls : List (FileCall I O)
-  pub are_made : AreMade calls
+  pub calls_were_made : AreMade calls
   pub opens : Opens names calls result
 
 -- The size of a buffer in bytes: the maximum that a system call reads or writes at once.
@@ -73,25 +76,25 @@ abbrev pub buffer_size : ℕ
 buffer_size = 0x1_0000
 
 -- The total size of the buffers of a request's files in bytes, one buffer per file.
-abbrev pub buffers_size : FileNames → ℕ
-buffers_size (names.ReadBoth stl pes) = 2 * buffer_size
-buffers_size (names.Write stl output) = 2 * buffer_size
-buffers_size (names.Extract recording output) = 2 * buffer_size
-buffers_size _ = buffer_size
+abbrev pub total_buffer_size : FileNames → ℕ
+total_buffer_size (names.ReadBoth stl pes) = 2 * buffer_size
+total_buffer_size (names.Write stl output) = 2 * buffer_size
+total_buffer_size (names.Extract recording output) = 2 * buffer_size
+total_buffer_size _ = buffer_size
 
 -- The reason why no files are opened. `Memory`: memory ran out before any call. `Open`: the call
 -- for one of the files failed, or the output would overwrite the input.
-abbrev pub IsUnopened :
+abbrev pub IsOpeningFault :
     {I O : Type 0} → (List (FileCall I O) → Type 0) → FileNames → UsageFault → Type 0
-IsUnopened AreMade names usage.Memory = AreMade []
-IsUnopened AreMade names usage.Open = OpensBy AreMade names None
-IsUnopened AreMade names _ = ⊥
+IsOpeningFault AreMade names usage.Memory = AreMade []
+IsOpeningFault AreMade names usage.Open = OpensWithCalls AreMade names None
+IsOpeningFault AreMade names _ = ⊥
 
 -- No call of the opened files has failed yet.
-abbrev pub AreUnused : {I O : Type 0} → (I → ℕ) → (O → ℕ) → Opened I O → Type 0
-AreUnused reads writes Nothing = Unit {0}
-AreUnused reads writes (ReadStl stl) = reads stl ≡ 0
-AreUnused reads writes (ReadPes pes) = reads pes ≡ 0
-AreUnused reads writes (ReadBoth stl pes) = (reads stl ≡ 0) × (reads pes ≡ 0)
-AreUnused reads writes (Write stl output) = (reads stl ≡ 0) × (writes output ≡ 0)
-AreUnused reads writes (Extract recording output) = (reads recording ≡ 0) × (writes output ≡ 0)
+abbrev pub HaveNoFailures : {I O : Type 0} → (I → ℕ) → (O → ℕ) → OpenedFiles I O → Type 0
+HaveNoFailures reads writes Nothing = Unit {0}
+HaveNoFailures reads writes (ReadStl stl) = reads stl ≡ 0
+HaveNoFailures reads writes (ReadPes pes) = reads pes ≡ 0
+HaveNoFailures reads writes (ReadBoth stl pes) = (reads stl ≡ 0) × (reads pes ≡ 0)
+HaveNoFailures reads writes (Write stl output) = (reads stl ≡ 0) × (writes output ≡ 0)
+HaveNoFailures reads writes (Extract recording output) = (reads recording ≡ 0) × (writes output ≡ 0)

@@ -7,8 +7,8 @@ ghost use Rattle.std.specs.Prelude.{◌≡◌, ℕ, [], Bool, None, OnOk, Some, 
 ghost use Rattle.std.specs.Prelude.{true};
 ghost use Rattle.std.specs.Io.Iter.{u64_saturate};
 ghost use Rattle.std.specs.Io.KnownBytes.{Keeps};
-ghost use Rattle.sub_io.specs.Device.{CanFail, CountsFailure, buffers_nothing};
-ghost use Rattle.sub_files.specs.Checked.{ClosesFile};
+ghost use Rattle.sub_io.specs.Device.{CanFail, CountsFailure, zero_buffered_bytes};
+ghost use Rattle.sub_files.specs.SizeCheckedFiles.{ClosesFile};
 
 use std::io::Write;
 use std::marker::Model;
@@ -16,12 +16,12 @@ use sub_io::{Close, Failed, Flush, IntoFile, Release, Sink, Store};
 
 /// A device that looks up the size of a file after the file was closed.
 pub trait SizeLookup {
-    // Relates the device's state and the expected number of bytes to the result of `has_all`.
+    // Relates the device's state and the expected number of bytes to the result of `has_all_bytes`.
     ghost is_size_lookup: { Self → ℕ → Bool → Type 0 };
 
     /// Returns whether the closed file has this many bytes. Also returns `true` for a pipe, a
     /// terminal or another device, which stores nothing.
-    fn has_all<W: Write>(&self, file: &IntoFile<W>, length: u64) -> bool
+    fn has_all_bytes<W: Write>(&self, file: &IntoFile<W>, length: u64) -> bool
         requires { file.now.device ≡ None }
         ensures { is_size_lookup self.now length result };
 }
@@ -39,9 +39,9 @@ pub struct CheckedFile<W, L> {
 impl<W, L> Model for CheckedFile<W, L> {
     ghost use Rattle.std.specs.Prelude.{◌≡◌, length};
     ghost use Rattle.std.specs.Io.Iter.{u64_saturate};
-    ghost use Rattle.sub_files.specs.Checked.{CheckedValue};
+    ghost use Rattle.sub_files.specs.SizeCheckedFiles.{CheckedFileValue};
 
-    ghost Value = { CheckedValue W L };
+    ghost Value = { CheckedFileValue W L };
 
     ghost view = { λ s. record { file = s.file; lookup = s.lookup } };
 
@@ -94,7 +94,7 @@ impl<W: Write, L: SizeLookup> Sink for CheckedFile<W, L> {
 
 impl<W: Write, L: SizeLookup> Flush for CheckedFile<W, L> {
     // The file passes all bytes to the writer at once, without a buffer of its own.
-    ghost buffered = { buffers_nothing };
+    ghost buffered = { zero_buffered_bytes };
 
     /// Flushes the writer.
     ///
@@ -126,14 +126,14 @@ impl<W: Write + Release + Store, L: SizeLookup> Close for CheckedFile<W, L> {
         ensures lookup { OnOk result (L.is_size_lookup self.new.lookup
             (u64_saturate (length self.new.file.taken)) true) }
         ensures bytes { Keeps (Some self.old.file.taken) (Some self.new.file.taken) }
-        ensures buffered { OnOk result (buffers_nothing self.new ≡ 0) }
+        ensures buffered { OnOk result (zero_buffered_bytes self.new ≡ 0) }
         ensures stored { OnOk result (self.new.file.is_stored ≡ true) }
         ensures count { CountsFailure self.old.file.failure_count result
             self.new.file.failure_count }
     {
         self.file.store()?;
         self.file.close();
-        if self.lookup.has_all(&self.file, self.count) {
+        if self.lookup.has_all_bytes(&self.file, self.count) {
             return Ok(());
         }
         // A closed file returns an error for each call, and counts the error.

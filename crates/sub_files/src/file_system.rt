@@ -7,7 +7,7 @@
 ghost use Rattle.std.specs.Prelude.{◌≡◌, IfSome, Option};
 ghost use Rattle.sub_files.specs.FileCalls.{FileCall, any_file_call};
 
-use crate::apart::Found;
+use crate::distinct_files::LookupResult;
 use sub_io::{Close, Sink, Source};
 
 /// A device that opens and creates files by their names.
@@ -23,24 +23,24 @@ pub trait FileSystem {
     ghost is_call: { Self → FileCall Self.Input Self.Output → Self → Type 0 } = { any_file_call };
 
     /// Looks up a file by its name.
-    fn look_up(&mut self, name: &str) -> Found
+    fn look_up(&mut self, name: &str) -> LookupResult
         ensures { is_call self.old (FileCall.LookUp name.now result) self.new };
 
     /// Looks up the file that receives standard output. Returns `Nothing` if standard output is a
     /// pipe, a terminal or another device, or unknown.
-    fn look_up_standard_output(&mut self) -> Found
+    fn look_up_standard_output(&mut self) -> LookupResult
         ensures { is_call self.old (FileCall.LookUpStandardOutput result) self.new };
 
     /// Opens a file for reading. Returns `None` if the file can't be opened.
     fn open(&mut self, name: &str) -> Option<Self::Input>
         ensures call { is_call self.old (FileCall.Open name.now result) self.new }
-        ensures unused { IfSome result (λ file. Self.Input.failure_count file ≡ 0) };
+        ensures no_failures { IfSome result (λ file. Self.Input.failure_count file ≡ 0) };
 
     /// Creates a file for writing, and empties an existing file. Returns `None` if the file can't
     /// be created.
     fn create(&mut self, name: &str) -> Option<Self::Output>
         ensures call { is_call self.old (FileCall.Create name.now result) self.new }
-        ensures unused { IfSome result (λ file. Self.Output.failure_count file ≡ 0) };
+        ensures no_failures { IfSome result (λ file. Self.Output.failure_count file ≡ 0) };
 
     /// Drops a file that was opened for reading. The argument is the file's state after the
     /// command.

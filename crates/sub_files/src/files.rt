@@ -3,10 +3,10 @@
 //! A subtitle file, a file of PES packets and an output file have different types, and only this
 //! module creates them, from the names in a request. So they cannot be confused.
 ghost use Rattle.std.specs.Prelude.{◌≡◌, IfSome, None, false, true};
-ghost use Rattle.sub_files.specs.Apart.{may_create};
+ghost use Rattle.sub_files.specs.DistinctFiles.{may_create};
 ghost use Rattle.sub_files.specs.FileCalls.{FileCall};
 
-use crate::apart::{Found, are_other_files, is_apart};
+use crate::distinct_files::{LookupResult, differs_from_input, differs_from_standard_output};
 use crate::file_system::FileSystem;
 use std::marker::Model;
 use sub_request::{Output, PesInput, StlInput};
@@ -79,7 +79,7 @@ impl<F> CreatedFile<F> {
 
 /// Opens a subtitle file for reading. Returns `None` if the file can't be opened.
 pub fn open_stl<D: FileSystem>(files: &mut D, stl: &StlInput<'_>) -> Option<StlFile<D::Input>>
-    ensures unused { IfSome result (λ file. D.Input.failure_count file ≡ 0) }
+    ensures no_failures { IfSome result (λ file. D.Input.failure_count file ≡ 0) }
     ensures call { D.is_call files.old (FileCall.Open stl.now result) files.new }
 {
     match files.open(stl.name()) {
@@ -90,7 +90,7 @@ pub fn open_stl<D: FileSystem>(files: &mut D, stl: &StlInput<'_>) -> Option<StlF
 
 /// Opens a file of PES packets for reading. Returns `None` if the file can't be opened.
 pub fn open_pes<D: FileSystem>(files: &mut D, pes: &PesInput<'_>) -> Option<PesFile<D::Input>>
-    ensures unused { IfSome result (λ file. D.Input.failure_count file ≡ 0) }
+    ensures no_failures { IfSome result (λ file. D.Input.failure_count file ≡ 0) }
     ensures call { D.is_call files.old (FileCall.Open pes.now result) files.new }
 {
     match files.open(pes.name()) {
@@ -101,33 +101,33 @@ pub fn open_pes<D: FileSystem>(files: &mut D, pes: &PesInput<'_>) -> Option<PesF
 
 /// The results of the lookups before a file is created.
 #[derive(Clone, Copy)]
-pub struct LookedUp {
+pub struct LookupResults {
     /// The lookup result for the name of the input.
-    pub input: Found,
+    pub input: LookupResult,
     /// The lookup result for the name of the output.
-    pub output: Found,
+    pub output: LookupResult,
     /// The lookup result for standard output.
-    pub standard_output: Found,
+    pub standard_output: LookupResult,
 }
 
 /// Creates a file for writing, if the lookups show that this empties neither the input nor the file
 /// that receives standard output. Otherwise returns `None` without a call.
-pub fn create_other_file<D: FileSystem>(
+pub fn create_distinct_file<D: FileSystem>(
     files: &mut D,
     output: &Output<'_>,
-    found: LookedUp,
+    found: LookupResults,
 ) -> Option<CreatedFile<D::Output>>
-    ensures unused { IfSome result (λ file. D.Output.failure_count file ≡ 0) }
-    ensures apart { may_create found.input found.standard_output found.output ≡ true
+    ensures no_failures { IfSome result (λ file. D.Output.failure_count file ≡ 0) }
+    ensures distinct_files { may_create found.input found.standard_output found.output ≡ true
         → D.is_call files.old (FileCall.Create output.now result) files.new }
-    ensures over { may_create found.input found.standard_output found.output ≡ false
+    ensures refuses_overwriting { may_create found.input found.standard_output found.output ≡ false
         → (result ≡ None) × (files.new ≡ files.old) }
 {
-    if !is_apart(found.input, found.output) {
+    if !differs_from_input(found.input, found.output) {
         files.refuse(output.name(), "it is the file that is read");
         return None;
     }
-    if !are_other_files(found.standard_output, found.output) {
+    if !differs_from_standard_output(found.standard_output, found.output) {
         files.refuse(output.name(), "standard output goes into it");
         return None;
     }

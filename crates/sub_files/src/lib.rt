@@ -9,8 +9,8 @@
 //! ```
 #![tactic(auto)]
 
-mod apart;
 mod checked_file;
+mod distinct_files;
 mod error_reporter;
 mod file_system;
 mod files;
@@ -18,11 +18,11 @@ mod memory;
 mod opening;
 mod system;
 
-pub use apart::Found;
 pub use checked_file::{CheckedFile, SizeLookup};
+pub use distinct_files::LookupResult;
 pub use error_reporter::ErrorReporter;
 pub use file_system::FileSystem;
 pub use files::{CreatedFile, PesFile, StlFile};
 pub use memory::{MemFile, MemFiles};
-pub use opening::{BUFFER, Opened, open, room, size_of_buffers};
-pub use system::{NAMES, SystemFiles};
+pub use opening::{BUFFER_SIZE, OpenedFiles, open, required_buffer_size, room};
+pub use system::{NAMES_CAPACITY, SystemFiles};

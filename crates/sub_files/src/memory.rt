@@ -5,7 +5,7 @@
 ghost use Rattle.std.specs.Prelude.{◌≡◌, option_map};
 ghost use Rattle.sub_files.specs.MemoryFiles.{IsMemoryCall, bytes_at};
 
-use crate::apart::Found;
+use crate::distinct_files::LookupResult;
 use crate::file_system::FileSystem;
 use std::marker::Model;
 use sub_io::{MemSink, MemSource};
@@ -80,15 +80,15 @@ impl<'a> FileSystem for MemFiles<'a> {
 
     ghost is_call = { IsMemoryCall };
 
-    fn look_up(&mut self, name: &str) -> Found {
+    fn look_up(&mut self, name: &str) -> LookupResult {
         match self.bytes_at(name) {
-            Some(_) => Found::At(0, 0),
-            None => Found::Nothing,
+            Some(_) => LookupResult::At(0, 0),
+            None => LookupResult::Nothing,
         }
     }
 
-    fn look_up_standard_output(&mut self) -> Found {
-        Found::Nothing
+    fn look_up_standard_output(&mut self) -> LookupResult {
+        LookupResult::Nothing
     }
 
     fn open(&mut self, name: &str) -> Option<MemSource<'a>> {

@@ -4,21 +4,21 @@
 //! access to the device that opened them.
 ghost use Rattle.std.specs.Prelude.{◌≡◌, ◌≤◌, [], ◌∷◌, IfSome, vec_len};
 ghost use Rattle.sub_files.specs.FileCalls.{CallsInOrder, FileCall};
-ghost use Rattle.sub_files.specs.Opening.{AreUnused, OpensBy, buffers_size};
+ghost use Rattle.sub_files.specs.Opening.{HaveNoFailures, OpensWithCalls, total_buffer_size};
 
 use crate::file_system::FileSystem;
 use crate::files::{
-    CreatedFile, LookedUp, PesFile, StlFile, create_other_file, open_pes, open_stl,
+    CreatedFile, LookupResults, PesFile, StlFile, create_distinct_file, open_pes, open_stl,
 };
 use std::alloc::Global;
 use sub_request::{FileNames, Output, PesInput, StlInput};
 
 /// The size of a buffer in bytes, which is the maximum for one system call.
-pub const BUFFER: usize = 0x1_0000;
+pub const BUFFER_SIZE: usize = 0x1_0000;
 
 /// The opened files of a request.
 #[derive(Drop)]
-pub enum Opened<I, O> {
+pub enum OpenedFiles<I, O> {
     /// The request names no file.
     Nothing,
     /// A subtitle file to read.
@@ -41,13 +41,13 @@ pub fn room(alloc: Global, size: usize) -> Option<Vec<u8>>
 }
 
 /// Returns the total size of the buffers of a request's files in bytes.
-pub fn size_of_buffers(names: &FileNames<'_>) -> usize
-    ensures size { result ≡ buffers_size names.now }
-    ensures least { 2 ≤ result }
+pub fn required_buffer_size(names: &FileNames<'_>) -> usize
+    ensures size { result ≡ total_buffer_size names.now }
+    ensures at_least_two_bytes { 2 ≤ result }
 {
     match names {
-        FileNames::ReadBoth(..) | FileNames::Write(..) | FileNames::Extract(..) => 2 * BUFFER,
-        _ => BUFFER,
+        FileNames::ReadBoth(..) | FileNames::Write(..) | FileNames::Extract(..) => 2 * BUFFER_SIZE,
+        _ => BUFFER_SIZE,
     }
 }
 
@@ -56,18 +56,19 @@ pub fn size_of_buffers(names: &FileNames<'_>) -> usize
 pub fn open<D: FileSystem>(
     files: &mut D,
     names: &FileNames<'_>,
-) -> Option<Opened<D::Input, D::Output>>
-    ensures unused { IfSome result (AreUnused D.Input.failure_count D.Output.failure_count) }
-    ensures calls { OpensBy (CallsInOrder D.is_call files.old files.new) names.now result }
+) -> Option<OpenedFiles<D::Input, D::Output>>
+    ensures no_failures { IfSome result
+        (HaveNoFailures D.Input.failure_count D.Output.failure_count) }
+    ensures calls { OpensWithCalls (CallsInOrder D.is_call files.old files.new) names.now result }
 {
     match names {
-        FileNames::None => Some(Opened::Nothing),
+        FileNames::None => Some(OpenedFiles::Nothing),
         FileNames::ReadStl(stl) => match open_stl(files, stl) {
-            Some(file) => Some(Opened::ReadStl(file)),
+            Some(file) => Some(OpenedFiles::ReadStl(file)),
             None => None,
         },
         FileNames::ReadPes(pes) => match open_pes(files, pes) {
-            Some(file) => Some(Opened::ReadPes(file)),
+            Some(file) => Some(OpenedFiles::ReadPes(file)),
             None => None,
         },
         FileNames::ReadBoth(stl, pes) => open_both(files, stl, pes),
@@ -80,16 +81,17 @@ fn open_both<D: FileSystem>(
     files: &mut D,
     stl: &StlInput<'_>,
     pes: &PesInput<'_>,
-) -> Option<Opened<D::Input, D::Output>>
-    ensures unused { IfSome result (AreUnused D.Input.failure_count D.Output.failure_count) }
-    ensures calls { OpensBy (CallsInOrder D.is_call files.old files.new)
+) -> Option<OpenedFiles<D::Input, D::Output>>
+    ensures no_failures { IfSome result
+        (HaveNoFailures D.Input.failure_count D.Output.failure_count) }
+    ensures calls { OpensWithCalls (CallsInOrder D.is_call files.old files.new)
         (FileNames.ReadBoth stl.now pes.now) result }
 {
     let Some(first) = open_stl(files, stl) else {
         return None;
     };
     match open_pes(files, pes) {
-        Some(second) => Some(Opened::ReadBoth(first, second)),
+        Some(second) => Some(OpenedFiles::ReadBoth(first, second)),
         None => None,
     }
 }
@@ -98,17 +100,18 @@ fn open_and_create<D: FileSystem>(
     files: &mut D,
     stl: &StlInput<'_>,
     output: &Output<'_>,
-) -> Option<Opened<D::Input, D::Output>>
-    ensures unused { IfSome result (AreUnused D.Input.failure_count D.Output.failure_count) }
-    ensures calls { OpensBy (CallsInOrder D.is_call files.old files.new)
+) -> Option<OpenedFiles<D::Input, D::Output>>
+    ensures no_failures { IfSome result
+        (HaveNoFailures D.Input.failure_count D.Output.failure_count) }
+    ensures calls { OpensWithCalls (CallsInOrder D.is_call files.old files.new)
         (FileNames.Write stl.now output.now) result }
 {
     let Some(input) = open_stl(files, stl) else {
         return None;
     };
     let found = look_up_all(files, stl.name(), output);
-    match create_other_file(files, output, found) {
-        Some(created) => Some(Opened::Write(input, created)),
+    match create_distinct_file(files, output, found) {
+        Some(created) => Some(OpenedFiles::Write(input, created)),
         None => None,
     }
 }
@@ -117,32 +120,33 @@ fn open_and_extract<D: FileSystem>(
     files: &mut D,
     recording: &PesInput<'_>,
     output: &Output<'_>,
-) -> Option<Opened<D::Input, D::Output>>
-    ensures unused { IfSome result (AreUnused D.Input.failure_count D.Output.failure_count) }
-    ensures calls { OpensBy (CallsInOrder D.is_call files.old files.new)
+) -> Option<OpenedFiles<D::Input, D::Output>>
+    ensures no_failures { IfSome result
+        (HaveNoFailures D.Input.failure_count D.Output.failure_count) }
+    ensures calls { OpensWithCalls (CallsInOrder D.is_call files.old files.new)
         (FileNames.Extract recording.now output.now) result }
 {
     let Some(input) = open_pes(files, recording) else {
         return None;
     };
     let found = look_up_all(files, recording.name(), output);
-    match create_other_file(files, output, found) {
-        Some(created) => Some(Opened::Extract(input, created)),
+    match create_distinct_file(files, output, found) {
+        Some(created) => Some(OpenedFiles::Extract(input, created)),
         None => None,
     }
 }
 
 // Looks up the names of the input and the output, and the file that receives standard output.
-fn look_up_all<D: FileSystem>(files: &mut D, name: &str, output: &Output<'_>) -> LookedUp
+fn look_up_all<D: FileSystem>(files: &mut D, name: &str, output: &Output<'_>) -> LookupResults
     ensures { CallsInOrder D.is_call files.old files.new
         (FileCall.LookUp name.now result.input ∷ FileCall.LookUp output.now result.output
         ∷ FileCall.LookUpStandardOutput result.standard_output ∷ []) }
 {
     let input = files.look_up(name);
-    let there = files.look_up(output.name());
-    LookedUp {
+    let found_file = files.look_up(output.name());
+    LookupResults {
         input,
-        output: there,
+        output: found_file,
         standard_output: files.look_up_standard_output(),
     }
 }

@@ -1,10 +1,10 @@
 //! Opens and creates files of the operating system.
 ghost use Rattle.std.specs.Prelude.{◌≡◌, ◌≢◌, IfErr, IfOk, true};
 ghost use Rattle.std.specs.IoError.{error_kind};
-ghost use Rattle.sub_files.specs.Apart.{was_found};
+ghost use Rattle.sub_files.specs.DistinctFiles.{is_file_found};
 
-use crate::apart::Found;
 use crate::checked_file::{CheckedFile, SizeLookup};
+use crate::distinct_files::LookupResult;
 use crate::error_reporter::{ErrorReporter, explain};
 use crate::file_system::FileSystem;
 use std::fs::{Metadata, OpenFile};
@@ -16,7 +16,7 @@ use std::{fs, io, str};
 use sub_io::{FromRead, IntoFile, Store};
 
 /// The number of bytes for the names of a request's files: Linux opens no file with a longer name.
-pub const NAMES: usize = 2 * 4096;
+pub const NAMES_CAPACITY: usize = 2 * 4096;
 
 // The path of the link to the file that receives standard output.
 const STANDARD_OUTPUT: &str = "/proc/self/fd/1";
@@ -33,8 +33,8 @@ pub struct SystemFiles<'a, R> {
 }
 
 impl<'a, R: Files + Eprint> SystemFiles<'a, R> {
-    /// Creates a device for the files that this runtime opens. `names` provides `NAMES` bytes for
-    /// the names of the files.
+    /// Creates a device for the files that this runtime opens. `names` provides `NAMES_CAPACITY`
+    /// bytes for the names of the files.
     pub fn new(rt: &'a R, names: &'a mut [u8]) -> Self {
         SystemFiles {
             rt,
@@ -62,20 +62,23 @@ impl<'a, R: Files + Eprint> FileSystem for SystemFiles<'a, R> {
 
     type Output = CheckedFile<ErrorReporter<'a, R::File, R>, SystemSizeLookup<'a, R>>;
 
-    fn look_up(&mut self, name: &str) -> Found {
-        let there = fs::metadata(self.rt, name);
-        if let Err(error) = &there {
+    fn look_up(&mut self, name: &str) -> LookupResult {
+        let found_file = fs::metadata(self.rt, name);
+        if let Err(error) = &found_file {
             if error.kind() != ErrorKind::NotFound {
                 explain(self.rt, "look up", name, error);
             }
         }
-        found_from_metadata(there)
+        lookup_result_from_metadata(found_file)
     }
 
-    fn look_up_standard_output(&mut self) -> Found {
+    fn look_up_standard_output(&mut self) -> LookupResult {
         match fs::metadata(self.rt, STANDARD_OUTPUT) {
-            Ok(there) if there.is_file() => Found::At(there.dev(), there.ino()),
-            _ => Found::Nothing,
+            Ok(found_file) if found_file.is_file() => LookupResult::At(
+                found_file.dev(),
+                found_file.ino(),
+            ),
+            _ => LookupResult::Nothing,
         }
     }
 
@@ -105,7 +108,7 @@ impl<'a, R: Files + Eprint> FileSystem for SystemFiles<'a, R> {
         match fs::create(rt, name) {
             Ok(file) => {
                 let is_file = match file.metadata() {
-                    Ok(there) => there.is_file(),
+                    Ok(found_file) => found_file.is_file(),
                     Err(_) => true,
                 };
                 let lookup = SystemSizeLookup { rt, name, is_file };
@@ -131,18 +134,18 @@ impl<'a, R: Files + Eprint> FileSystem for SystemFiles<'a, R> {
 }
 
 // Converts the result of a lookup. Only the error `NotFound` means that no file has this name.
-fn found_from_metadata(looked_up: io::Result<Metadata>) -> Found
-    ensures there { IfOk looked_up (λ _. was_found result ≡ true) }
+fn lookup_result_from_metadata(looked_up: io::Result<Metadata>) -> LookupResult
+    ensures found_file { IfOk looked_up (λ _. is_file_found result ≡ true) }
     ensures nothing { IfErr looked_up (λ error.
-        error_kind error ≡ ErrorKind.NotFound → result ≡ Found.Nothing) }
+        error_kind error ≡ ErrorKind.NotFound → result ≡ LookupResult.Nothing) }
     ensures unknown { IfErr looked_up (λ error.
-        error_kind error ≢ ErrorKind.NotFound → result ≡ Found.Unknown) }
+        error_kind error ≢ ErrorKind.NotFound → result ≡ LookupResult.Unknown) }
 {
     match looked_up {
-        Ok(there) => Found::At(there.dev(), there.ino()),
+        Ok(found_file) => LookupResult::At(found_file.dev(), found_file.ino()),
         Err(error) => match error.kind() {
-            ErrorKind::NotFound => Found::Nothing,
-            _ => Found::Unknown,
+            ErrorKind::NotFound => LookupResult::Nothing,
+            _ => LookupResult::Unknown,
         },
     }
 }
@@ -161,11 +164,11 @@ impl<R: Files + Eprint> SizeLookup for SystemSizeLookup<'_, R> {
 
     /// Also synchronises the file's folder to disk, if the folder can be opened: a new file can't
     /// be found if its entry in the folder is lost.
-    fn has_all<W: Write>(&self, _file: &IntoFile<W>, length: u64) -> bool {
+    fn has_all_bytes<W: Write>(&self, _file: &IntoFile<W>, length: u64) -> bool {
         if !self.is_file {
             return true;
         }
-        match length_of(self.rt, self.name) {
+        match file_length(self.rt, self.name) {
             Ok(found) if found == length => is_folder_stored(self.rt, self.name),
             Ok(found) => {
                 let name = self.name;
@@ -184,16 +187,16 @@ impl<R: Files + Eprint> SizeLookup for SystemSizeLookup<'_, R> {
 
 // Returns the number of bytes of a file: of the file opened again, or looked up by its name if the
 // file can't be read.
-fn length_of<R: Files>(rt: &R, name: &str) -> io::Result<u64> {
-    let there = match fs::open(rt, name) {
+fn file_length<R: Files>(rt: &R, name: &str) -> io::Result<u64> {
+    let found_file = match fs::open(rt, name) {
         Ok(file) => file.metadata(),
         Err(error) => match error.kind() {
             ErrorKind::PermissionDenied => fs::metadata(rt, name),
             _ => Err(error),
         },
     };
-    match there {
-        Ok(there) => Ok(there.len()),
+    match found_file {
+        Ok(found_file) => Ok(found_file.len()),
         Err(error) => Err(error),
     }
 }
@@ -208,11 +211,11 @@ fn is_folder_stored<R: Files + Eprint>(rt: &R, name: &str) -> bool {
     match fs::open(rt, folder) {
         Ok(file) => ErrorReporter::new(file, folder, rt).store(),
         Err(error) => {
-            let may_not = error.kind() == ErrorKind::PermissionDenied;
-            if !may_not {
+            let is_permission_denied = error.kind() == ErrorKind::PermissionDenied;
+            if !is_permission_denied {
                 explain(rt, "open", folder, &error);
             }
-            may_not
+            is_permission_denied
         }
     }
 }

@@ -6,59 +6,60 @@ use Rattle.std.specs.List.{AllZip}
 use Rattle.std.proofs.lemmas.List.Elements.{All-cons, All-nil}
 use Rattle.stl_file.specs.Subtitle.{IsSubtitle, SubtitleValue}
 use Rattle.stl_file.specs.SubtitleBlocks.{AreBlocksOf}
-use Rattle.stl_file.proofs.SubtitleBlocksLemmas.{blocks_subtitle}
+use Rattle.stl_file.proofs.SubtitleBlocksLemmas.{blocks_make_valid_subtitle}
 use Rattle.stl_rows.specs.Programme.{IsProgramme, ProgrammeValue}
 use Rattle.stl_rows.specs.declared.layout.Drawing.{Drawing}
 use Rattle.sub_plan.specs.Options.{OptionsValue}
-use Rattle.sub_rules.specs.Repeats.{GoodBy}
+use Rattle.sub_rules.specs.Repeats.{GoodWithRepeats}
 use Rattle.sub_rules.specs.Transmission.{Transmission}
-use Rattle.sub_laws.proofs.GoodByLemmas.{law_of_no_delay}
+use Rattle.sub_laws.proofs.GoodWithRepeatsLemmas.{law_of_no_delay}
 use Rattle.sub_laws.proofs.PesFileLemmas.{law_of_exact_frames}
-use Rattle.sub_check.specs.CheckedFiles.{IsAccepted, IsAcceptedBy, Mean, MeanWithin}
+use Rattle.sub_check.specs.CheckedFiles.{IsAccepted, IsAcceptedBy, FilesMean, FilesMeanWithin}
 use Rattle.sub_headline.specs.Acceptance.{LawOfPlainAcceptance}
 
-pub all_subtitles : (ts : List SubtitleValue) (gs : List (List (List ℕ)))
+pub all_subtitles_are_valid : (ts : List SubtitleValue) (gs : List (List (List ℕ)))
     → AllZip AreBlocksOf ts gs
     → All IsSubtitle ts
-all_subtitles [] gs e = All-nil IsSubtitle
-all_subtitles (t ∷ ts) [] e = λ k d h. absurd e
-all_subtitles (t ∷ ts) (g ∷ gs) e =
-    All-cons IsSubtitle t ts (blocks_subtitle t g e.0) (all_subtitles ts gs e.1)
+all_subtitles_are_valid [] gs e = All-nil IsSubtitle
+all_subtitles_are_valid (t ∷ ts) [] e = λ k d h. absurd e
+all_subtitles_are_valid (t ∷ ts) (g ∷ gs) e =
+    All-cons IsSubtitle t ts (blocks_make_valid_subtitle t g e.0) (all_subtitles_are_valid ts gs
+    e.1)
 
 module _ (drawing : Drawing) (options : OptionsValue) (stl pes : List ℕ)
     (subtitles : List SubtitleValue) (t : Transmission) where
   pub programme_of :
-      Mean drawing options.origin stl pes subtitles t
+      FilesMean drawing options.origin stl pes subtitles t
       → IsProgramme drawing subtitles
-  programme_of mean = record {
-    each = all_subtitles subtitles _ mean.subtitle_file.rest.are_of;
-    in_order = mean.in_order;
-    drawable = mean.drawable;
+  programme_of files_mean = record {
+    each = all_subtitles_are_valid subtitles _ files_mean.subtitle_file.rest.are_subtitle_blocks;
+    in_order = files_mean.in_order;
+    drawable = files_mean.drawable;
   }
 
   -- If `within` is 0, the contents of both files do not depend on the precision of each PTS.
   exact_of :
       options.within ≡ 0
-      → MeanWithin drawing options stl pes subtitles t
-      → Mean drawing options.origin stl pes subtitles t
-  exact_of none mean = record {
-    gsi = mean.gsi;
-    subtitle_file = mean.subtitle_file;
-    in_order = mean.in_order;
-    drawable = mean.drawable;
-    carries = (law_of_exact_frames options pes t none).0 mean.carries;
+      → FilesMeanWithin drawing options stl pes subtitles t
+      → FilesMean drawing options.origin stl pes subtitles t
+  exact_of none files_mean = record {
+    gsi = files_mean.gsi;
+    subtitle_file = files_mean.subtitle_file;
+    in_order = files_mean.in_order;
+    drawable = files_mean.drawable;
+    carries = (law_of_exact_frames options pes t none).0 files_mean.carries;
   }
 
   of_exact :
       options.within ≡ 0
-      → Mean drawing options.origin stl pes subtitles t
-      → MeanWithin drawing options stl pes subtitles t
-  of_exact none mean = record {
-    gsi = mean.gsi;
-    subtitle_file = mean.subtitle_file;
-    in_order = mean.in_order;
-    drawable = mean.drawable;
-    carries = (law_of_exact_frames options pes t none).1 mean.carries;
+      → FilesMean drawing options.origin stl pes subtitles t
+      → FilesMeanWithin drawing options stl pes subtitles t
+  of_exact none files_mean = record {
+    gsi = files_mean.gsi;
+    subtitle_file = files_mean.subtitle_file;
+    in_order = files_mean.in_order;
+    drawable = files_mean.drawable;
+    carries = (law_of_exact_frames options pes t none).1 files_mean.carries;
   }
 
 there :
@@ -69,15 +70,16 @@ there :
     → IsAccepted drawing options stl pes
 there drawing options stl pes off none is =
     let programme : ProgrammeValue = record { drawing = drawing; records = is.subtitles } in
-    let mean = exact_of drawing options stl pes is.subtitles is.transmission none is.mean in
+    let files_mean = exact_of drawing options stl pes is.subtitles is.transmission none
+    is.files_mean in
     let good =
     (law_of_no_delay programme is.transmission options
-    (programme_of drawing options stl pes is.subtitles is.transmission mean) none).0
-    (subst (λ (k : Bool). GoodBy k programme is.transmission options) off is.good) in
+    (programme_of drawing options stl pes is.subtitles is.transmission files_mean) none).0
+    (subst (λ (k : Bool). GoodWithRepeats k programme is.transmission options) off is.good) in
     record {
       subtitles = is.subtitles;
       transmission = is.transmission;
-      mean = mean;
+      files_mean = files_mean;
       good = good.0;
       complete = good.1;
     }
@@ -93,11 +95,11 @@ back drawing options stl pes off none is =
     record {
       subtitles = is.subtitles;
       transmission = is.transmission;
-      mean = of_exact drawing options stl pes is.subtitles is.transmission none is.mean;
+      files_mean = of_exact drawing options stl pes is.subtitles is.transmission none is.files_mean;
       good =
-          subst (λ (k : Bool). GoodBy k programme is.transmission options) (sym off)
+          subst (λ (k : Bool). GoodWithRepeats k programme is.transmission options) (sym off)
           ((law_of_no_delay programme is.transmission options
-          (programme_of drawing options stl pes is.subtitles is.transmission is.mean) none).1
+          (programme_of drawing options stl pes is.subtitles is.transmission is.files_mean) none).1
           (is.good, is.complete));
     }
 

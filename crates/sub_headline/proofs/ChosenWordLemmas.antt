@@ -18,51 +18,55 @@ use Rattle.stl_file.specs.Scope.{whole}
 use Rattle.stl_file.specs.declared.scope.Scope.{Scope}
 use Rattle.stl_file.specs.TimeCode.{day}
 use Rattle.stl_rows.specs.Layout.{default_layout}
-use Rattle.stl_rows.specs.SubSets.{option_named, sub_set}
+use Rattle.stl_rows.specs.SubSets.{named_option, sub_set}
 use Rattle.stl_rows.specs.declared.national.National.TheVariants.{English}
 use Rattle.sub_plan.specs.Options.{OptionsValue}
 use Rattle.sub_request.specs.declared.request.UsageFault.TheVariants as fault
-use Rattle.sub_words.specs.Arguments.{between, pacing_of, pes_selection_of, scope_of}
+use Rattle.sub_words.specs.Arguments.{between, options_with_pace, pes_selection_of, scope_of}
 use Rattle.sub_words.specs.Commands.{command_in, subttx_app}
 use Rattle.sub_words.specs.Help.{requests_help}
 use Rattle.std.specs.Option.{option_map_or}
 use Rattle.std.specs.Prelude.{map}
 use Rattle.sub_words.specs.PesTexts.{packet_size_of_text, pid_of_text, range_of_text}
-use Rattle.sub_words.specs.Requests.{Requested, IsRequestOf, requested_by, request_by_command}
-use Rattle.sub_words.specs.Requests.{requested_in}
-use Rattle.sub_words.specs.Requests.{check_requested}
+use Rattle.sub_words.specs.Requests.{Requested, IsRequestOf, value_of_request, request_by_command}
+use Rattle.sub_words.specs.Requests.{command_request}
+use Rattle.sub_words.specs.Requests.{check_request}
 use Rattle.sub_words.specs.Texts.{frame_of_text, number_of_text}
 use Rattle.sub_words.specs.Version.{requests_version}
-use Rattle.sub_headline.specs.PlainOptions.{Choice, LawOfChosenArguments, with_choice}
-use Rattle.sub_headline.specs.PlainOptions.{arguments_of_choice}
-use Rattle.sub_headline.specs.RecordingOptions.{LawOfPartArguments, Portion, Reading, read_by}
+use Rattle.sub_headline.specs.PlainOptions.{CheckOption, LawOfChosenArguments, with_check_option}
+use Rattle.sub_headline.specs.PlainOptions.{arguments_of_check_option}
+use Rattle.sub_headline.specs.RecordingOptions.{LawOfPartArguments, RecordingOption, Reading}
+use Rattle.sub_headline.specs.RecordingOptions.{read_by}
 use Rattle.sub_headline.specs.RecordingOptions.{reading_of}
 use Rattle.sub_headline.specs.DrawnOptions.{LawOfDisplayArguments, DisplayOption, DisplayOptions}
-use Rattle.sub_headline.specs.DrawnOptions.{displayed_by, display_options_of}
-use Rattle.sub_headline.specs.DrawnOptions.{arguments_for}
+use Rattle.sub_headline.specs.DrawnOptions.{with_display_option, display_options_of}
+use Rattle.sub_headline.specs.DrawnOptions.{arguments_of_display_option}
 use Rattle.sub_headline.specs.DrawnOptions.DisplayOption.{Letters, Lines, Of}
 use Rattle.stl_rows.specs.LayoutText.{layout_of_text}
-use Rattle.sub_headline.specs.RecordingOptions.{recording_requested, arguments_in}
-use Rattle.sub_headline.specs.RecordingOptions.Portion.{Pid, Size, Numbers, From, To, AlsoOpen}
-use Rattle.sub_headline.specs.RecordingOptions.Portion.{Any}
-use Rattle.sub_headline.specs.PlainOptions.Choice.{Page, Every, Origin, Pace, Complete}
-use Rattle.sub_headline.specs.PlainOptions.Choice.{EveryFault}
+use Rattle.sub_headline.specs.RecordingOptions.{requested_recording, arguments_of_recording_option}
+use Rattle.sub_headline.specs.RecordingOptions.RecordingOption.{Pid, Size, Numbers, From, To}
+use Rattle.sub_headline.specs.RecordingOptions.RecordingOption.{IncludeOpen}
+use Rattle.sub_headline.specs.RecordingOptions.RecordingOption.{Any}
+use Rattle.sub_headline.specs.PlainOptions.CheckOption.{Page, Every, Origin, Pace, Complete}
+use Rattle.sub_headline.specs.PlainOptions.CheckOption.{EveryFault}
 use Rattle.sub_headline.specs.PlainArguments.{IsName}
 use Rattle.sub_headline.proofs.OptionWordLemmas.{values_after_options, key, next, rows_of_state}
 use Rattle.sub_headline.proofs.OptionWordLemmas.{rules}
 use Rattle.sub_headline.proofs.OptionWordLemmas.{values_with_choice}
 use Rattle.sub_headline.proofs.OptionWordLemmas.{option_values}
-use Rattle.sub_headline.proofs.OptionWordLemmas.{walk_all}
-use Rattle.sub_headline.proofs.PlainWordLemmas.{at_rest, state_after_files, walked_plain}
-use Rattle.sub_headline.proofs.RowLemmas.{default_at, defaulted, first_is, first_text, values_at}
+use Rattle.sub_headline.proofs.OptionWordLemmas.{walk_reads_display_options}
+use Rattle.sub_headline.proofs.PlainWordLemmas.{walk_at_position, state_after_files}
+use Rattle.sub_headline.proofs.PlainWordLemmas.{walk_takes_plain_word}
+use Rattle.sub_headline.proofs.RowLemmas.{default_at, rules_fill_defaults}
+use Rattle.sub_headline.proofs.RowLemmas.{first_value_is_first_text, first_text, values_at}
 use Rattle.sub_headline.proofs.RowLemmas.{or_default}
 
 abbrev values_after_parts : Text → List (List Text) → List DisplayOption → List (List Text)
 values_after_parts id vs parts = fold (values_with_choice id) vs parts
 
 -- The first text among an argument's values, or the default text if there are none.
-abbrev text_in : Text → List (List Text) → Text
-text_in default vs = unwrap_or (first_text (or_default vs (default ∷ []))) []
+abbrev text_without_zeros : Text → List (List Text) → Text
+text_without_zeros default vs = unwrap_or (first_text (or_default vs (default ∷ []))) []
 
 -- The names of the arguments of `check` to which an option may give a value.
 abbrev keys : List Text
@@ -82,37 +86,52 @@ keys =
     codes "option" ∷
     codes "layout" ∷ []
 
-abbrev is_any : Text → List Text → Bool
-is_any id [] = false
-is_any id (one ∷ others) = bytes_eq one id || is_any id others
+abbrev contains_text : Text → List Text → Bool
+contains_text id [] = false
+contains_text id (one ∷ others) = bytes_eq one id || contains_text id others
 
 or_false_parts : (a b : Bool) → (a || b) ≡ false → (a ≡ false) × (b ≡ false)
 or_false_parts a b none = grind (arith, nat_tests)
 
-all_apart : (id : Text) (ids : List Text)
-    → is_any id ids ≡ false
+unlisted_id_differs_from_all : (id : Text) (ids : List Text)
+    → contains_text id ids ≡ false
     → AllByRecursion (λ one. bytes_eq one id ≡ false) ids
-all_apart id [] none = tt
-all_apart id (one ∷ others) none =
-    let by = or_false_parts (bytes_eq one id) (is_any id others) none in
-    (by.0, all_apart id others by.1)
+unlisted_id_differs_from_all id [] none = tt
+unlisted_id_differs_from_all id (one ∷ others) none =
+    let by = or_false_parts (bytes_eq one id) (contains_text id others) none in
+    (by.0, unlisted_id_differs_from_all id others by.1)
 
-key_apart : (id : Text) → is_any id keys ≡ false → (part : DisplayOption) → bytes_eq (key part) id ≡
+unlisted_id_differs_from_key : (id : Text) → contains_text id keys ≡ false → (part : DisplayOption)
+    → bytes_eq (key part) id ≡
     false
-key_apart id none (Of (Any (Page text n is))) = (all_apart id keys none).0
-key_apart id none (Of (Any (Every text n is))) = (all_apart id keys none).1.0
-key_apart id none (Of (Any (Origin text n is))) = (all_apart id keys none).1.1.0
-key_apart id none (Of (Any (Pace text n is))) = (all_apart id keys none).1.1.1.0
-key_apart id none (Of (Any Complete)) = (all_apart id keys none).1.1.1.1.0
-key_apart id none (Of (Any EveryFault)) = (all_apart id keys none).1.1.1.1.1.0
-key_apart id none (Of (Pid text n is)) = (all_apart id keys none).1.1.1.1.1.1.0
-key_apart id none (Of (Size text n is)) = (all_apart id keys none).1.1.1.1.1.1.1.0
-key_apart id none (Of (Numbers text n is)) = (all_apart id keys none).1.1.1.1.1.1.1.1.0
-key_apart id none (Of (From text n name is)) = (all_apart id keys none).1.1.1.1.1.1.1.1.1.0
-key_apart id none (Of (To text n name is)) = (all_apart id keys none).1.1.1.1.1.1.1.1.1.1.0
-key_apart id none (Of AlsoOpen) = (all_apart id keys none).1.1.1.1.1.1.1.1.1.1.1.0
-key_apart id none (Letters text n name is) = (all_apart id keys none).1.1.1.1.1.1.1.1.1.1.1.1.0
-key_apart id none (Lines text n name is) = (all_apart id keys none).1.1.1.1.1.1.1.1.1.1.1.1.1.0
+unlisted_id_differs_from_key id none (Of (Any (Page text n is))) = (unlisted_id_differs_from_all id
+    keys none).0
+unlisted_id_differs_from_key id none (Of (Any (Every text n is))) = (unlisted_id_differs_from_all id
+    keys none).1.0
+unlisted_id_differs_from_key id none (Of (Any (Origin text n is))) = (unlisted_id_differs_from_all
+    id keys none).1.1.0
+unlisted_id_differs_from_key id none (Of (Any (Pace text n is))) = (unlisted_id_differs_from_all id
+    keys none).1.1.1.0
+unlisted_id_differs_from_key id none (Of (Any Complete)) = (unlisted_id_differs_from_all id keys
+    none).1.1.1.1.0
+unlisted_id_differs_from_key id none (Of (Any EveryFault)) = (unlisted_id_differs_from_all id keys
+    none).1.1.1.1.1.0
+unlisted_id_differs_from_key id none (Of (Pid text n is)) = (unlisted_id_differs_from_all id keys
+    none).1.1.1.1.1.1.0
+unlisted_id_differs_from_key id none (Of (Size text n is)) = (unlisted_id_differs_from_all id keys
+    none).1.1.1.1.1.1.1.0
+unlisted_id_differs_from_key id none (Of (Numbers text n is)) = (unlisted_id_differs_from_all id
+    keys none).1.1.1.1.1.1.1.1.0
+unlisted_id_differs_from_key id none (Of (From text n name is)) = (unlisted_id_differs_from_all id
+    keys none).1.1.1.1.1.1.1.1.1.0
+unlisted_id_differs_from_key id none (Of (To text n name is)) = (unlisted_id_differs_from_all id
+    keys none).1.1.1.1.1.1.1.1.1.1.0
+unlisted_id_differs_from_key id none (Of IncludeOpen) = (unlisted_id_differs_from_all id keys
+    none).1.1.1.1.1.1.1.1.1.1.1.0
+unlisted_id_differs_from_key id none (Letters text n name is) = (unlisted_id_differs_from_all id
+    keys none).1.1.1.1.1.1.1.1.1.1.1.1.0
+unlisted_id_differs_from_key id none (Lines text n name is) = (unlisted_id_differs_from_all id keys
+    none).1.1.1.1.1.1.1.1.1.1.1.1.1.0
 
 not_given :
     (id : Text) (apart : (part : DisplayOption) → bytes_eq (key part) id ≡ false)
@@ -127,47 +146,60 @@ not_given id apart vs (part ∷ parts) =
     (apart part)
     ∙ not_given id apart vs parts
 
-abbrev emitted_by : {A : Type 0} → (Text → Option A) → Option Text → Option (Option A)
-emitted_by stated text = option_map_or (λ text. option_map Some (stated text)) text (Some None)
+abbrev parsed_option_text : {A : Type 0} → (Text → Option A) → Option Text → Option (Option A)
+parsed_option_text printed_usage_fault_is_fault text = option_map_or (λ text. option_map Some
+    (printed_usage_fault_is_fault text)) text (Some None)
 
 -- The number of frames in the text of `--pace`: at least 1, and at most the frames of a day.
 abbrev pace_of_text : Text → Option ℕ
 pace_of_text text = between 1 day (number_of_text text)
 
 -- The values of the arguments give the settings `l` for reading and drawing.
-record Meant (held : Text → List (List Text)) (l : DisplayOptions) : Type 0 where
-  pub page_is :
-      page_of_text (text_in (codes "888") (held (codes "page"))) ≡ Some l.reading.options.page
-  pub every_eq :
-      number_of_text (text_in (codes "250") (held (codes "every"))) ≡ Some l.reading.options.every
-  pub origin_eq :
-      number_of_text (text_in (codes "0") (held (codes "origin"))) ≡ Some l.reading.options.origin
-  pub pace_eq :
-      emitted_by pace_of_text (first_text (held (codes "pace"))) ≡ Some l.reading.options.pace
-  pub complete_eq :
-      bytes_eq (text_in (codes "false") (held (codes "complete"))) (codes "true")
-      ≡ l.reading.options.asks_complete
-  pub within_eq : l.reading.options.within ≡ 0
-  pub keeps_eq : l.reading.options.keeps ≡ false
-  pub pid_eq : emitted_by pid_of_text (first_text (held (codes "pid"))) ≡ Some l.reading.pid
-  pub size_eq :
-      packet_size_of_text (text_in (codes "188") (held (codes "packet-size")))
-      ≡ Some l.reading.size
-  pub range_eq : emitted_by range_of_text (first_text (held (codes "pes"))) ≡ Some l.reading.range
-  pub from_eq :
-      option_map_or frame_of_text (first_text (held (codes "from"))) (Some 0)
-      ≡ Some l.reading.scope.from
-  pub to_eq :
-      option_map_or frame_of_text (first_text (held (codes "to"))) (Some day)
-      ≡ Some l.reading.scope.to
-  pub open_eq :
-      bytes_eq (text_in (codes "false") (held (codes "open"))) (codes "true")
-      ≡ l.reading.scope.takes_open
-  pub option_eq :
-      option_named (text_in (codes "english") (held (codes "option"))) ≡ Some l.national
-  pub layout_eq :
-      option_map_or layout_of_text (first_text (held (codes "layout"))) (Some default_layout)
-      ≡ Some l.layout
+record OptionsHaveValues (receiver_state : Text → List (List Text)) (l : DisplayOptions) : Type 0
+  where
+    pub page_is :
+        page_of_text (text_without_zeros (codes "888") (receiver_state (codes "page"))) ≡ Some
+        l.reading.options.page
+    pub every_eq :
+        number_of_text (text_without_zeros (codes "250") (receiver_state (codes "every"))) ≡ Some
+        l.reading.options.every
+    pub origin_eq :
+        number_of_text (text_without_zeros (codes "0") (receiver_state (codes "origin"))) ≡ Some
+        l.reading.options.origin
+    pub pace_eq :
+        parsed_option_text pace_of_text (first_text (receiver_state (codes "pace"))) ≡ Some
+        l.reading.options.pace
+    pub complete_eq :
+        bytes_eq (text_without_zeros (codes "false") (receiver_state (codes "complete")))
+        (codes "true")
+        ≡ l.reading.options.asks_complete
+    pub within_option_is_zero : l.reading.options.within ≡ 0
+    pub keeps_is_false : l.reading.options.keeps ≡ false
+    pub pid_eq : parsed_option_text pid_of_text (first_text (receiver_state (codes "pid"))) ≡ Some
+        l.reading.pid
+    pub size_eq :
+        packet_size_of_text (text_without_zeros (codes "188")
+        (receiver_state (codes "packet-size")))
+        ≡ Some l.reading.size
+    pub range_eq : parsed_option_text range_of_text
+        (first_text (receiver_state (codes "pes"))) ≡ Some
+        l.reading.range
+    pub from_eq :
+        option_map_or frame_of_text (first_text (receiver_state (codes "from"))) (Some 0)
+        ≡ Some l.reading.scope.from
+    pub to_eq :
+        option_map_or frame_of_text (first_text (receiver_state (codes "to"))) (Some day)
+        ≡ Some l.reading.scope.to
+    pub open_eq :
+        bytes_eq (text_without_zeros (codes "false") (receiver_state (codes "open"))) (codes "true")
+        ≡ l.reading.scope.takes_open
+    pub option_eq :
+        named_option (text_without_zeros (codes "english") (receiver_state (codes "option"))) ≡
+        Some l.national
+    pub layout_eq :
+        option_map_or layout_of_text (first_text (receiver_state (codes "layout")))
+        (Some default_layout)
+        ≡ Some l.layout
 
 abbrev with_options : Reading → OptionsValue → Reading
 with_options r o = record r { options = o }
@@ -176,62 +208,68 @@ abbrev with_reading : DisplayOptions → Reading → DisplayOptions
 with_reading l r = record l { reading = r }
 
 abbrev values_after_next : (Text → List (List Text)) → DisplayOption → Text → List (List Text)
-values_after_next held part id = values_with_choice id (held id) part
+values_after_next receiver_state part id = values_with_choice id (receiver_state id) part
 
-meant_then : (held : Text → List (List Text)) (l : DisplayOptions) (part : DisplayOption)
-    → Meant held l
-    → Meant (values_after_next held part) (displayed_by l part)
-meant_then held l (Of (Any (Page text n is))) m = assumption (is, m)
-meant_then held l (Of (Any (Every text n is))) m = assumption (is, m)
-meant_then held l (Of (Any (Origin text n is))) m = assumption (is, m)
-meant_then held l (Of (Any (Pace text n is))) m = assumption (ap (option_map Some) is, m)
-meant_then held l (Of (Any Complete)) m =
+next_option_keeps_meaning : (receiver_state : Text → List (List Text)) (l : DisplayOptions)
+    (part : DisplayOption)
+    → OptionsHaveValues receiver_state l
+    → OptionsHaveValues (values_after_next receiver_state part) (with_display_option l part)
+next_option_keeps_meaning receiver_state l (Of (Any (Page text n is))) m = assumption (is, m)
+next_option_keeps_meaning receiver_state l (Of (Any (Every text n is))) m = assumption (is, m)
+next_option_keeps_meaning receiver_state l (Of (Any (Origin text n is))) m = assumption (is, m)
+next_option_keeps_meaning receiver_state l (Of (Any (Pace text n is))) m = assumption
+    (ap (option_map Some) is, m)
+next_option_keeps_meaning receiver_state l (Of (Any Complete)) m =
     let is : bytes_eq (codes "true") (codes "true") ≡ true = refl in assumption (is, m)
-meant_then held l (Of (Any EveryFault)) m = assumption m
-meant_then held l (Of (Pid text n is)) m = assumption (ap (option_map Some) is, m)
-meant_then held l (Of (Size text n is)) m = assumption (is, m)
-meant_then held l (Of (Numbers text n is)) m = assumption (ap (option_map Some) is, m)
-meant_then held l (Of (From text n name is)) m = assumption (is, m)
-meant_then held l (Of (To text n name is)) m = assumption (is, m)
-meant_then held l (Of AlsoOpen) m =
+next_option_keeps_meaning receiver_state l (Of (Any EveryFault)) m = assumption m
+next_option_keeps_meaning receiver_state l (Of (Pid text n is)) m = assumption
+    (ap (option_map Some) is, m)
+next_option_keeps_meaning receiver_state l (Of (Size text n is)) m = assumption (is, m)
+next_option_keeps_meaning receiver_state l (Of (Numbers text n is)) m = assumption
+    (ap (option_map Some) is, m)
+next_option_keeps_meaning receiver_state l (Of (From text n name is)) m = assumption (is, m)
+next_option_keeps_meaning receiver_state l (Of (To text n name is)) m = assumption (is, m)
+next_option_keeps_meaning receiver_state l (Of IncludeOpen) m =
     let is : bytes_eq (codes "true") (codes "true") ≡ true = refl in assumption (is, m)
-meant_then held l (Letters text n name is) m = assumption (is, m)
-meant_then held l (Lines text n name is) m = assumption (is, m)
+next_option_keeps_meaning receiver_state l (Letters text n name is) m = assumption (is, m)
+next_option_keeps_meaning receiver_state l (Lines text n name is) m = assumption (is, m)
 
 abbrev values_by_parts : (Text → List (List Text)) → List DisplayOption → Text → List (List Text)
-values_by_parts held parts id = values_after_parts id (held id) parts
+values_by_parts receiver_state parts id = values_after_parts id (receiver_state id) parts
 
-meant_by : (held : Text → List (List Text)) (l : DisplayOptions) (parts : List DisplayOption)
-    → Meant held l
-    → Meant (values_by_parts held parts) (fold displayed_by l parts)
-meant_by held l [] m = m
-meant_by held l (part ∷ parts) m =
-    meant_by (values_after_next held part) (displayed_by l part) parts (meant_then held l part m)
+options_keep_meaning : (receiver_state : Text → List (List Text)) (l : DisplayOptions)
+    (parts : List DisplayOption)
+    → OptionsHaveValues receiver_state l
+    → OptionsHaveValues (values_by_parts receiver_state parts) (fold with_display_option l parts)
+options_keep_meaning receiver_state l [] m = m
+options_keep_meaning receiver_state l (part ∷ parts) m =
+    options_keep_meaning (values_after_next receiver_state part) (with_display_option l part) parts
+    (next_option_keeps_meaning receiver_state l part m)
 
-english_named : option_named (codes "english") ≡ Some English
-unfolding option_named sub_set
-english_named = refl
+english_is_option_name : named_option (codes "english") ≡ Some English
+unfolding named_option sub_set
+english_is_option_name = refl
 
 abbrev nothing : Text → List (List Text)
 nothing id = []
 
-meant_at_first : Meant nothing (display_options_of [])
+no_options_give_defaults : OptionsHaveValues nothing (display_options_of [])
 unfolding page_of_text number_of_text packet_size_of_text
-meant_at_first = record {
+no_options_give_defaults = record {
   page_is = refl;
   every_eq = refl;
   origin_eq = refl;
   pace_eq = refl;
   complete_eq = refl;
-  within_eq = refl;
-  keeps_eq = refl;
+  within_option_is_zero = refl;
+  keeps_is_false = refl;
   pid_eq = refl;
   size_eq = refl;
   range_eq = refl;
   from_eq = refl;
   to_eq = refl;
   open_eq = refl;
-  option_eq = english_named;
+  option_eq = english_is_option_name;
   layout_eq = refl;
 }
 
@@ -240,89 +278,97 @@ HasText [] = ⊤
 HasText ([] ∷ vs) = ⊥
 HasText ((text ∷ more) ∷ vs) = ⊤
 
-has_text : (part : DisplayOption) → HasText (option_values part ∷ [])
-has_text (Of (Any (Page text n is))) = tt
-has_text (Of (Any (Every text n is))) = tt
-has_text (Of (Any (Origin text n is))) = tt
-has_text (Of (Any (Pace text n is))) = tt
-has_text (Of (Any Complete)) = tt
-has_text (Of (Any EveryFault)) = tt
-has_text (Of (Pid text n is)) = tt
-has_text (Of (Size text n is)) = tt
-has_text (Of (Numbers text n is)) = tt
-has_text (Of (From text n name is)) = tt
-has_text (Of (To text n name is)) = tt
-has_text (Of AlsoOpen) = tt
-has_text (Letters text n name is) = tt
-has_text (Lines text n name is) = tt
+option_has_text : (part : DisplayOption) → HasText (option_values part ∷ [])
+option_has_text (Of (Any (Page text n is))) = tt
+option_has_text (Of (Any (Every text n is))) = tt
+option_has_text (Of (Any (Origin text n is))) = tt
+option_has_text (Of (Any (Pace text n is))) = tt
+option_has_text (Of (Any Complete)) = tt
+option_has_text (Of (Any EveryFault)) = tt
+option_has_text (Of (Pid text n is)) = tt
+option_has_text (Of (Size text n is)) = tt
+option_has_text (Of (Numbers text n is)) = tt
+option_has_text (Of (From text n name is)) = tt
+option_has_text (Of (To text n name is)) = tt
+option_has_text (Of IncludeOpen) = tt
+option_has_text (Letters text n name is) = tt
+option_has_text (Lines text n name is) = tt
 
-text_then : (b : Bool) (part : DisplayOption) (vs : List (List Text))
+further_option_keeps_text : (b : Bool) (part : DisplayOption) (vs : List (List Text))
     → HasText vs
     → HasText (if b then option_values part ∷ [] else vs)
-text_then true part vs has = has_text part
-text_then false part vs has = has
+further_option_keeps_text true part vs has = option_has_text part
+further_option_keeps_text false part vs has = has
 
-texts_given : (id : Text) (parts : List DisplayOption) (vs : List (List Text))
+options_keep_texts : (id : Text) (parts : List DisplayOption) (vs : List (List Text))
     → HasText vs
     → HasText (values_after_parts id vs parts)
-texts_given id [] vs has = has
-texts_given id (part ∷ parts) vs has =
-    texts_given id parts (values_with_choice id vs part)
-    (text_then (bytes_eq (key part) id) part vs has)
+options_keep_texts id [] vs has = has
+options_keep_texts id (part ∷ parts) vs has =
+    options_keep_texts id parts (values_with_choice id vs part)
+    (further_option_keeps_text (bytes_eq (key part) id) part vs has)
 
-some_text : (default : Text) (vs : List (List Text))
+nonempty_values_have_text : (default : Text) (vs : List (List Text))
     → HasText vs
-    → first_text (or_default vs (default ∷ [])) ≡ Some (text_in default vs)
-some_text default [] has = refl
-some_text default ([] ∷ vs) has = absurd has
-some_text default ((text ∷ more) ∷ vs) has = refl
+    → first_text (or_default vs (default ∷ [])) ≡ Some (text_without_zeros default vs)
+nonempty_values_have_text default [] has = refl
+nonempty_values_have_text default ([] ∷ vs) has = absurd has
+nonempty_values_have_text default ((text ∷ more) ∷ vs) has = refl
 
-no_default : (vs : List (List Text)) → first_text (or_default vs []) ≡ first_text vs
-no_default [] = refl
-no_default (v ∷ vs) = refl
+empty_default_adds_nothing : (vs : List (List Text)) → first_text (or_default vs []) ≡ first_text vs
+empty_default_adds_nothing [] = refl
+empty_default_adds_nothing (v ∷ vs) = refl
 
-record RowsMean (rows : List Row) (stl recording : Text) (held : Text → List (List Text))
+record RowsHaveValues (rows : List Row) (stl recording : Text) (receiver_state : Text → List
+    (List Text))
     : Type 0 where
   pub stl_eq : first_of (codes "stl") rows ≡ Some stl
   pub recording_eq : first_of (codes "recording") rows ≡ Some recording
-  pub page_is : first_of (codes "page") rows ≡ Some (text_in (codes "888") (held (codes "page")))
+  pub page_is : first_of (codes "page") rows ≡ Some (text_without_zeros (codes "888")
+      (receiver_state (codes "page")))
   pub every_eq :
-      first_of (codes "every") rows ≡ Some (text_in (codes "250") (held (codes "every")))
+      first_of (codes "every") rows ≡ Some
+      (text_without_zeros (codes "250") (receiver_state (codes "every")))
   pub origin_eq :
-      first_of (codes "origin") rows ≡ Some (text_in (codes "0") (held (codes "origin")))
+      first_of (codes "origin") rows ≡ Some
+      (text_without_zeros (codes "0") (receiver_state (codes "origin")))
   pub complete_eq :
-      first_of (codes "complete") rows ≡ Some (text_in (codes "false") (held (codes "complete")))
-  pub all_eq : first_of (codes "all") rows ≡ Some (text_in (codes "false") (held (codes "all")))
+      first_of (codes "complete") rows ≡ Some
+      (text_without_zeros (codes "false") (receiver_state (codes "complete")))
+  pub all_eq : first_of (codes "all") rows ≡ Some (text_without_zeros (codes "false")
+      (receiver_state (codes "all")))
   pub option_eq :
-      first_of (codes "option") rows ≡ Some (text_in (codes "english") (held (codes "option")))
-  pub layout_eq : first_of (codes "layout") rows ≡ first_text (held (codes "layout"))
-  pub from_eq : first_of (codes "from") rows ≡ first_text (held (codes "from"))
-  pub to_eq : first_of (codes "to") rows ≡ first_text (held (codes "to"))
+      first_of (codes "option") rows ≡ Some
+      (text_without_zeros (codes "english") (receiver_state (codes "option")))
+  pub layout_eq : first_of (codes "layout") rows ≡ first_text (receiver_state (codes "layout"))
+  pub from_eq : first_of (codes "from") rows ≡ first_text (receiver_state (codes "from"))
+  pub to_eq : first_of (codes "to") rows ≡ first_text (receiver_state (codes "to"))
   pub open_eq :
-      first_of (codes "open") rows ≡ Some (text_in (codes "false") (held (codes "open")))
-  pub within_eq : first_of (codes "within") rows ≡ Some (codes "0")
-  pub pid_eq : first_of (codes "pid") rows ≡ first_text (held (codes "pid"))
+      first_of (codes "open") rows ≡ Some
+      (text_without_zeros (codes "false") (receiver_state (codes "open")))
+  pub within_option_is_zero : first_of (codes "within") rows ≡ Some (codes "0")
+  pub pid_eq : first_of (codes "pid") rows ≡ first_text (receiver_state (codes "pid"))
   pub packet_size_eq :
       first_of (codes "packet-size") rows
-      ≡ Some (text_in (codes "188") (held (codes "packet-size")))
-  pub pes_eq : first_of (codes "pes") rows ≡ first_text (held (codes "pes"))
-  pub pace_eq : first_of (codes "pace") rows ≡ first_text (held (codes "pace"))
+      ≡ Some (text_without_zeros (codes "188") (receiver_state (codes "packet-size")))
+  pub pes_eq : first_of (codes "pes") rows ≡ first_text (receiver_state (codes "pes"))
+  pub pace_eq : first_of (codes "pace") rows ≡ first_text (receiver_state (codes "pace"))
   pub keeping_eq : first_of (codes "keeping") rows ≡ Some (codes "false")
 
 module _ (stl pes : Text) (parts : List DisplayOption) where
   abbrev pub final_state : Held
   final_state = fold next (state_after_files stl pes) parts
 
-  first_by :
+  first_value_by_test :
       (id : Text) (vs : List (List Text))
       → bytes_eq id id ≡ true
       → values_at id (rows_of_state (state_after_files stl pes)) ≡ vs
       → drop 1 vs ≡ []
       → first_of id (finished rules final_state)
       ≡ first_text (fold (default_at id) (values_after_parts id vs parts) rules)
-  first_by id vs same is short =
-      first_is id (finished rules final_state)
-      ∙ ap first_text (defaulted id rules (rows_of_state final_state) same)
+  first_value_by_test id vs same is short =
+      first_value_is_first_text id (finished rules final_state)
+      ∙ ap first_text (rules_fill_defaults id rules (rows_of_state final_state) same)
       ∙ ap (λ (us : List (List Text)). first_text (fold (default_at id) us rules))
       (values_after_options id (state_after_files stl pes) parts (ap (drop 1) is ∙ short)
       ∙ ap (λ (us : List (List Text)). values_after_parts id us parts) is)
@@ -335,90 +381,92 @@ module _ (stl pes : Text) (parts : List DisplayOption) where
       → ((part : DisplayOption) → bytes_eq (key part) id ≡ false)
       → first_of id (finished rules final_state) ≡ first_text (fold (default_at id) vs rules)
   first_not_given id vs same is short apart =
-      first_by id vs same is short
+      first_value_by_test id vs same is short
       ∙ ap (λ (us : List (List Text)). first_text (fold (default_at id) us rules))
       (not_given id apart vs parts)
 
-  rows_mean : RowsMean (finished rules final_state) stl pes (values_by_parts nothing parts)
+  final_rows_have_values : RowsHaveValues (finished rules final_state) stl pes
+      (values_by_parts nothing parts)
   unfolding subttx_app
-  rows_mean = record {
+  final_rows_have_values = record {
     stl_eq =
         first_not_given (codes "stl") ((stl ∷ []) ∷ []) refl refl refl
-        (key_apart (codes "stl") refl);
+        (unlisted_id_differs_from_key (codes "stl") refl);
     recording_eq =
         first_not_given (codes "recording") ((pes ∷ []) ∷ []) refl refl refl
-        (key_apart (codes "recording") refl);
+        (unlisted_id_differs_from_key (codes "recording") refl);
     page_is =
-        first_by (codes "page") [] refl refl refl
-        ∙ some_text (codes "888") (values_after_parts (codes "page") [] parts)
-        (texts_given (codes "page") parts [] tt);
+        first_value_by_test (codes "page") [] refl refl refl
+        ∙ nonempty_values_have_text (codes "888") (values_after_parts (codes "page") [] parts)
+        (options_keep_texts (codes "page") parts [] tt);
     every_eq =
-        first_by (codes "every") [] refl refl refl
-        ∙ some_text (codes "250") (values_after_parts (codes "every") [] parts)
-        (texts_given (codes "every") parts [] tt);
+        first_value_by_test (codes "every") [] refl refl refl
+        ∙ nonempty_values_have_text (codes "250") (values_after_parts (codes "every") [] parts)
+        (options_keep_texts (codes "every") parts [] tt);
     origin_eq =
-        first_by (codes "origin") [] refl refl refl
-        ∙ some_text (codes "0") (values_after_parts (codes "origin") [] parts)
-        (texts_given (codes "origin") parts [] tt);
+        first_value_by_test (codes "origin") [] refl refl refl
+        ∙ nonempty_values_have_text (codes "0") (values_after_parts (codes "origin") [] parts)
+        (options_keep_texts (codes "origin") parts [] tt);
     complete_eq =
-        first_by (codes "complete") [] refl refl refl
-        ∙ some_text (codes "false") (values_after_parts (codes "complete") [] parts)
-        (texts_given (codes "complete") parts [] tt);
+        first_value_by_test (codes "complete") [] refl refl refl
+        ∙ nonempty_values_have_text (codes "false") (values_after_parts (codes "complete") [] parts)
+        (options_keep_texts (codes "complete") parts [] tt);
     all_eq =
-        first_by (codes "all") [] refl refl refl
-        ∙ some_text (codes "false") (values_after_parts (codes "all") [] parts)
-        (texts_given (codes "all") parts [] tt);
+        first_value_by_test (codes "all") [] refl refl refl
+        ∙ nonempty_values_have_text (codes "false") (values_after_parts (codes "all") [] parts)
+        (options_keep_texts (codes "all") parts [] tt);
     option_eq =
-        first_by (codes "option") [] refl refl refl
-        ∙ some_text (codes "english") (values_after_parts (codes "option") [] parts)
-        (texts_given (codes "option") parts [] tt);
+        first_value_by_test (codes "option") [] refl refl refl
+        ∙ nonempty_values_have_text (codes "english") (values_after_parts (codes "option") [] parts)
+        (options_keep_texts (codes "option") parts [] tt);
     layout_eq =
-        first_by (codes "layout") [] refl refl refl
-        ∙ no_default (values_after_parts (codes "layout") [] parts);
+        first_value_by_test (codes "layout") [] refl refl refl
+        ∙ empty_default_adds_nothing (values_after_parts (codes "layout") [] parts);
     from_eq =
-        first_by (codes "from") [] refl refl refl
-        ∙ no_default (values_after_parts (codes "from") [] parts);
+        first_value_by_test (codes "from") [] refl refl refl
+        ∙ empty_default_adds_nothing (values_after_parts (codes "from") [] parts);
     to_eq =
-        first_by (codes "to") [] refl refl refl
-        ∙ no_default (values_after_parts (codes "to") [] parts);
+        first_value_by_test (codes "to") [] refl refl refl
+        ∙ empty_default_adds_nothing (values_after_parts (codes "to") [] parts);
     open_eq =
-        first_by (codes "open") [] refl refl refl
-        ∙ some_text (codes "false") (values_after_parts (codes "open") [] parts)
-        (texts_given (codes "open") parts [] tt);
-    within_eq =
+        first_value_by_test (codes "open") [] refl refl refl
+        ∙ nonempty_values_have_text (codes "false") (values_after_parts (codes "open") [] parts)
+        (options_keep_texts (codes "open") parts [] tt);
+    within_option_is_zero =
         first_not_given (codes "within") [] refl refl refl
-        (key_apart (codes "within") refl);
+        (unlisted_id_differs_from_key (codes "within") refl);
     pid_eq =
-        first_by (codes "pid") [] refl refl refl
-        ∙ no_default (values_after_parts (codes "pid") [] parts);
+        first_value_by_test (codes "pid") [] refl refl refl
+        ∙ empty_default_adds_nothing (values_after_parts (codes "pid") [] parts);
     packet_size_eq =
-        first_by (codes "packet-size") [] refl refl refl
-        ∙ some_text (codes "188") (values_after_parts (codes "packet-size") [] parts)
-        (texts_given (codes "packet-size") parts [] tt);
+        first_value_by_test (codes "packet-size") [] refl refl refl
+        ∙ nonempty_values_have_text (codes "188") (values_after_parts (codes "packet-size") []
+        parts)
+        (options_keep_texts (codes "packet-size") parts [] tt);
     pes_eq =
-        first_by (codes "pes") [] refl refl refl
-        ∙ no_default (values_after_parts (codes "pes") [] parts);
+        first_value_by_test (codes "pes") [] refl refl refl
+        ∙ empty_default_adds_nothing (values_after_parts (codes "pes") [] parts);
     pace_eq =
-        first_by (codes "pace") [] refl refl refl
-        ∙ no_default (values_after_parts (codes "pace") [] parts);
+        first_value_by_test (codes "pace") [] refl refl refl
+        ∙ empty_default_adds_nothing (values_after_parts (codes "pace") [] parts);
     keeping_eq =
         first_not_given (codes "keeping") [] refl refl refl
-        (key_apart (codes "keeping") refl);
+        (unlisted_id_differs_from_key (codes "keeping") refl);
   }
 
-within_number : number_of_text (codes "0") ≡ Some 0
+text_zero_is_number : number_of_text (codes "0") ≡ Some 0
 unfolding number_of_text
-within_number = refl
+text_zero_is_number = refl
 
 pes_selection_eq : (rows : List Row) (name size : Text) (pid pes : Option Text) (r : Reading)
     → first_of (codes "recording") rows ≡ Some name
     → first_of (codes "pid") rows ≡ pid
     → first_of (codes "packet-size") rows ≡ Some size
     → first_of (codes "pes") rows ≡ pes
-    → emitted_by pid_of_text pid ≡ Some r.pid
+    → parsed_option_text pid_of_text pid ≡ Some r.pid
     → packet_size_of_text size ≡ Some r.size
-    → emitted_by range_of_text pes ≡ Some r.range
-    → pes_selection_of rows ≡ Ok (recording_requested name r)
+    → parsed_option_text range_of_text pes ≡ Some r.range
+    → pes_selection_of rows ≡ Ok (requested_recording name r)
 unfolding pes_selection_of
 pes_selection_eq rows name size pid pes r recording pid_eq size_eq pes_eq pid_says size_says
     pes_says = rw (pid_eq, pid_says, size_eq, size_says, pes_eq, pes_says, recording) refl
@@ -437,19 +485,19 @@ options_in o = record {
 pacing_eq : (options : OptionsValue) (rows : List Row) (pace : Option Text) (frames : Option ℕ)
     → options.pace ≡ None
     → first_of (codes "pace") rows ≡ pace
-    → emitted_by pace_of_text pace ≡ Some frames
-    → pacing_of options rows ≡ Ok (record options { pace = frames })
+    → parsed_option_text pace_of_text pace ≡ Some frames
+    → options_with_pace options rows ≡ Ok (record options { pace = frames })
 pacing_eq options rows None frames none first says = grind (arith, nat_tests)
 pacing_eq options rows (Some text) frames none first says = grind (arith, nat_tests)
 
-time_by : (text : Option Text) (default frame : ℕ)
+time_text_gives_frame : (text : Option Text) (default frame : ℕ)
     → option_map_or frame_of_text text (Some default) ≡ Some frame
     → (o : Option ℕ)
     × (option_map_or (λ text. option_map Some (frame_of_text text)) text (Some None) ≡ Some o)
     × (unwrap_or o default ≡ frame)
-time_by None default frame is =
+time_text_gives_frame None default frame is =
     let e : default ≡ frame = cc in (None, refl, e)
-time_by (Some text) default frame is = (Some frame, ap (option_map Some) is, refl)
+time_text_gives_frame (Some text) default frame is = (Some frame, ap (option_map Some) is, refl)
 
 scope_eq : (rows : List Row) (from to : Option Text) (also : Text) (scope : Scope)
     → first_of (codes "from") rows ≡ from
@@ -460,8 +508,8 @@ scope_eq : (rows : List Row) (from to : Option Text) (also : Text) (scope : Scop
     → bytes_eq also (codes "true") ≡ scope.takes_open
     → scope_of rows ≡ Ok scope
 scope_eq rows from to also scope from_eq to_eq open_eq from_says to_says open_says =
-    let first = time_by from 0 scope.from from_says in
-    let last = time_by to day scope.to to_says in
+    let first = time_text_gives_frame from 0 scope.from from_says in
+    let last = time_text_gives_frame to day scope.to to_says in
     rw (
       from_eq,
       to_eq,
@@ -475,20 +523,22 @@ scope_eq rows from to also scope from_eq to_eq open_eq from_says to_says open_sa
 
 -- The arguments contain `--all`.
 abbrev lists_all : (Text → List (List Text)) → Bool
-lists_all held = bytes_eq (text_in (codes "false") (held (codes "all"))) (codes "true")
+lists_all receiver_state = bytes_eq
+    (text_without_zeros (codes "false") (receiver_state (codes "all"))) (codes "true")
 
-module _ (rows : List Row) (stl recording : Text) (held : Text → List (List Text))
+module _ (rows : List Row) (stl recording : Text) (receiver_state : Text → List (List Text))
     (l : DisplayOptions)
-    (say : RowsMean rows stl recording held) (m : Meant held l) where
+    (say : RowsHaveValues rows stl recording receiver_state) (m : OptionsHaveValues receiver_state
+    l) where
   too_far :
       nat_le 1 l.reading.options.every && nat_le l.reading.options.every day ≡ false
-      → check_requested rows ≡ Err fault.Every
+      → check_request rows ≡ Err fault.Every
   too_far out = rw (say.page_is, m.page_is, say.every_eq, m.every_eq, out) refl
 
   no_time :
       nat_le 1 l.reading.options.every && nat_le l.reading.options.every day ≡ true
       → nat_le 0 l.reading.options.origin && nat_le l.reading.options.origin (2 ^ 33 - 1) ≡ false
-      → check_requested rows ≡ Err fault.Origin
+      → check_request rows ≡ Err fault.Origin
   no_time near out =
       rw (say.page_is, m.page_is, say.every_eq, m.every_eq, near, say.origin_eq, m.origin_eq, out)
       refl
@@ -496,10 +546,10 @@ module _ (rows : List Row) (stl recording : Text) (held : Text → List (List Te
   check_eq :
       nat_le 1 l.reading.options.every && nat_le l.reading.options.every day ≡ true
       → nat_le 0 l.reading.options.origin && nat_le l.reading.options.origin (2 ^ 33 - 1) ≡ true
-      → check_requested rows
-      ≡ Ok (Requested.Check stl (recording_requested recording l.reading)
+      → check_request rows
+      ≡ Ok (Requested.Check stl (requested_recording recording l.reading)
       (options_in l.reading.options)
-      l.national l.layout l.reading.scope (lists_all held))
+      l.national l.layout l.reading.scope (lists_all receiver_state))
   check_eq near time =
       rw (
         say.page_is,
@@ -514,8 +564,8 @@ module _ (rows : List Row) (stl recording : Text) (held : Text → List (List Te
         m.complete_eq,
         say.option_eq,
         m.option_eq,
-        say.within_eq,
-        within_number,
+        say.within_option_is_zero,
+        text_zero_is_number,
         pes_selection_eq rows recording _ _ _ l.reading say.recording_eq say.pid_eq
             say.packet_size_eq say.pes_eq m.pid_eq m.size_eq m.range_eq,
         say.layout_eq,
@@ -533,136 +583,149 @@ module _ (rows : List Row) (stl recording : Text) (held : Text → List (List Te
       (near time : Bool) (requested : Requested)
       → nat_le 1 l.reading.options.every && nat_le l.reading.options.every day ≡ near
       → nat_le 0 l.reading.options.origin && nat_le l.reading.options.origin (2 ^ 33 - 1) ≡ time
-      → check_requested rows ≡ Ok requested
+      → check_request rows ≡ Ok requested
       → (requested
-      ≡ Requested.Check stl (recording_requested recording l.reading) (options_in l.reading.options)
-      l.national l.layout l.reading.scope (lists_all held))
+      ≡ Requested.Check stl (requested_recording recording l.reading) (options_in l.reading.options)
+      l.national l.layout l.reading.scope (lists_all receiver_state))
       × (l.reading.options.origin < 2 ^ 33)
-  in_range false time requested near_is time_eq is = let e = sym (too_far near_is) ∙ is in cc
-  in_range true false requested near_is time_eq is = let e = sym (no_time near_is time_eq) ∙ is
+  in_range false time requested near_is time_field_gives_frame is = let e = sym (too_far near_is) ∙
+      is in cc
+  in_range true false requested near_is time_field_gives_frame is = let e = sym
+      (no_time near_is time_field_gives_frame) ∙ is
       in cc
-  in_range true true requested near_is time_eq is =
-      let e = sym is ∙ check_eq near_is time_eq in (cc, grind (arith, nat_tests, time_eq))
+  in_range true true requested near_is time_field_gives_frame is =
+      let e = sym is ∙ check_eq near_is time_field_gives_frame
+      in (cc, grind (arith, nat_tests, time_field_gives_frame))
 
-options_are : (o : OptionsValue)
+options_are_equal : (o : OptionsValue)
     → o.within ≡ 0
     → o.keeps ≡ false
     → options_in o ≡ o
-options_are o within keeps = grind (arith, nat_tests)
+options_are_equal o within keeps = grind (arith, nat_tests)
 
 -- With any of these options `within` is 0, and each header of the page has to erase the page.
-pub plain_by : (parts : List DisplayOption)
+pub check_arguments_are_found : (parts : List DisplayOption)
     → ((display_options_of parts).reading.options.within ≡ 0)
     × IsFalse (display_options_of parts).reading.options.keeps
-plain_by parts =
-    let m = meant_by nothing (display_options_of []) parts meant_at_first in
-    (m.within_eq, m.keeps_eq)
+check_arguments_are_found parts =
+    let m = options_keep_meaning nothing (display_options_of []) parts no_options_give_defaults in
+    (m.within_option_is_zero, m.keeps_is_false)
 
 -- After the name of a command, all words are arguments of this command.
-stopped_walk : (c : List Rule) (names : Names) (name : Text) (arguments more : List Text) (w : Walk)
+finished_walk_ignores_words : (c : List Rule) (names : Names) (name : Text)
+    (arguments more : List Text) (w : Walk)
     → w.stopped ≡ Some (name, arguments)
     → (fold (walked c names) w more).stopped ≡ Some (name, arguments ++ more)
 unfolding walked
-stopped_walk c names name arguments [] w is =
+finished_walk_ignores_words c names name arguments [] w is =
     is ∙ ap (λ (ws : List Text). Some (name, ws)) (sym (append-nil arguments))
-stopped_walk c names name arguments (word ∷ more) w is =
-    stopped_walk c names name (arguments ++ word ∷ []) more (walked c names w word)
+finished_walk_ignores_words c names name arguments (word ∷ more) w is =
+    finished_walk_ignores_words c names name (arguments ++ word ∷ []) more (walked c names w word)
     (ap (λ s. (walked_from c names s w word).stopped) is)
     ∙ ap (λ (ws : List Text). Some (name, ws)) (append_assoc arguments (word ∷ []) more)
 
 abbrev entire_app : App
 entire_app = built subttx_app
 
-command_of : (program : Text) (more : List Text)
+program_name_gives_command : (program : Text) (more : List Text)
     → command_in (program ∷ codes "check" ∷ more)
     ≡ Some (codes "check", rows_after rules [] more)
 unfolding command_in subttx_app clap_on_literals
-command_of program more =
+program_name_gives_command program more =
     ap (entered entire_app)
-    (stopped_walk entire_app.top.rules (names_of entire_app) (codes "check") [] more
+    (finished_walk_ignores_words entire_app.top.rules (names_of entire_app) (codes "check") [] more
     (walked entire_app.top.rules (names_of entire_app) (walk_from nothing_held) (codes "check"))
     refl)
 
-rows_chosen : (stl pes : Text) (parts : List DisplayOption)
+check_rows_are_found : (stl pes : Text) (parts : List DisplayOption)
     → IsName stl
     → IsName pes
-    → rows_after rules [] (stl ∷ pes ∷ flat_map arguments_for parts)
+    → rows_after rules [] (stl ∷ pes ∷ flat_map arguments_of_display_option parts)
     ≡ finished rules (final_state stl pes parts)
 unfolding subttx_app
-rows_chosen stl pes parts is_stl is_pes =
-    let more = flat_map arguments_for parts in
+check_rows_are_found stl pes parts is_stl is_pes =
+    let more = flat_map arguments_of_display_option parts in
     ap
-    (λ (w : Walk). finished rules (fold (walked rules []) (walked rules [] w pes) more).held)
-    (walked_plain rules nothing_held 1 stl is_stl)
-    ∙ ap (λ (w : Walk). finished rules (fold (walked rules []) w more).held)
-    (walked_plain rules
-    (to_positional rules (arg_by_index rules 1) stl (at_rest nothing_held 1)
-    nothing_held).held 2 pes is_pes)
-    ∙ ap (λ (w : Walk). finished rules w.held) (walk_all (state_after_files stl pes) parts)
+    (λ (w : Walk). finished rules
+    (fold (walked rules []) (walked rules [] w pes) more).receiver_state)
+    (walk_takes_plain_word rules nothing_held 1 stl is_stl)
+    ∙ ap (λ (w : Walk). finished rules (fold (walked rules []) w more).receiver_state)
+    (walk_takes_plain_word rules
+    (to_positional rules (arg_by_index rules 1) stl (walk_at_position nothing_held 1)
+    nothing_held).receiver_state 2 pes is_pes)
+    ∙ ap (λ (w : Walk). finished rules w.receiver_state)
+    (walk_reads_display_options (state_after_files stl pes) parts)
 
-no_help : (program stl pes : Text) (more : List Text)
+requests_no_help : (program stl pes : Text) (more : List Text)
     → requests_help (program ∷ codes "check" ∷ stl ∷ pes ∷ more) ≡ false
 unfolding requests_help
-no_help program stl pes more = refl
+requests_no_help program stl pes more = refl
 
-no_version : (program stl pes : Text) (more : List Text)
+requests_no_version : (program stl pes : Text) (more : List Text)
     → requests_version (program ∷ codes "check" ∷ stl ∷ pes ∷ more) ≡ false
 unfolding requests_version
-no_version program stl pes more = refl
+requests_no_version program stl pes more = refl
 
 check_requested_ok : (arguments : List Text) (rows : List Row) (requested : Requested)
     → command_in arguments ≡ Some (codes "check", rows)
     → request_by_command arguments ≡ Some (Ok requested)
-    → check_requested rows ≡ Ok requested
+    → check_request rows ≡ Ok requested
 check_requested_ok arguments rows requested command is =
     let e =
-    sym (ap (option_map (λ command. requested_in command.0 command.1)) command) ∙ is in cc
+    sym (ap (option_map (λ command. command_request command.0 command.1)) command) ∙ is in cc
 
-display_rows : (stl recording : Text) (parts : List DisplayOption) (requested : Requested)
-    → check_requested (finished rules (final_state stl recording parts)) ≡ Ok requested
+rows_give_request : (stl recording : Text) (parts : List DisplayOption) (requested : Requested)
+    → check_request (finished rules (final_state stl recording parts)) ≡ Ok requested
     → (all : Bool)
     × (requested
-    ≡ Requested.Check stl (recording_requested recording (display_options_of parts).reading)
+    ≡ Requested.Check stl (requested_recording recording (display_options_of parts).reading)
     (display_options_of parts).reading.options (display_options_of parts).national
     (display_options_of parts).layout
     (display_options_of parts).reading.scope all)
     × ((display_options_of parts).reading.options.origin < 2 ^ 33)
-display_rows stl recording parts requested is =
-    let m = meant_by nothing (display_options_of []) parts meant_at_first in
+rows_give_request stl recording parts requested is =
+    let m = options_keep_meaning nothing (display_options_of []) parts no_options_give_defaults in
     let l = display_options_of parts in
     let so =
     in_range (finished rules (final_state stl recording parts)) stl recording _ l
-    (rows_mean stl recording parts) m _ _ requested refl refl is in (
+    (final_rows_have_values stl recording parts) m _ _ requested refl refl is in (
       lists_all (values_by_parts nothing parts),
       so.0
           ∙ ap
           (λ (options : OptionsValue).
-          Requested.Check stl (recording_requested recording l.reading) options l.national l.layout
+          Requested.Check stl (requested_recording recording l.reading) options l.national l.layout
           l.reading.scope (lists_all (values_by_parts nothing parts)))
-          (options_are l.reading.options m.within_eq m.keeps_eq),
+          (options_are_equal l.reading.options m.within_option_is_zero m.keeps_is_false),
       so.1,
     )
 
 pub law_of_display_arguments : LawOfDisplayArguments
 law_of_display_arguments program stl pes parts request is_stl is_pes (inl version) =
-    let e = sym (no_version program stl pes (flat_map arguments_for parts)) ∙ version.0 in cc
+    let e = sym (requests_no_version program stl pes (flat_map arguments_of_display_option parts)) ∙
+    version.0 in cc
 law_of_display_arguments program stl pes parts request is_stl is_pes (inr (inl help)) =
-    let e = sym (no_help program stl pes (flat_map arguments_for parts)) ∙ help.1 in cc
+    let e = sym (requests_no_help program stl pes (flat_map arguments_of_display_option parts)) ∙
+    help.1 in cc
 law_of_display_arguments program stl pes parts request is_stl is_pes (inr (inr asks)) =
-    display_rows stl pes parts (requested_by request)
-    (sym (ap check_requested (rows_chosen stl pes parts is_stl is_pes))
-    ∙ check_requested_ok (program ∷ codes "check" ∷ stl ∷ pes ∷ flat_map arguments_for parts)
-    (rows_after rules [] (stl ∷ pes ∷ flat_map arguments_for parts)) (requested_by request)
-    (command_of program (stl ∷ pes ∷ flat_map arguments_for parts)) asks.2.requested)
+    rows_give_request stl pes parts (value_of_request request)
+    (sym (ap check_request (check_rows_are_found stl pes parts is_stl is_pes))
+    ∙ check_requested_ok (program ∷ codes "check" ∷ stl ∷ pes ∷ flat_map arguments_of_display_option
+    parts)
+    (rows_after rules [] (stl ∷ pes ∷ flat_map arguments_of_display_option parts))
+    (value_of_request request)
+    (program_name_gives_command program (stl ∷ pes ∷ flat_map arguments_of_display_option parts))
+    asks.2.requested)
 
-arguments_of_parts : (parts : List Portion)
-    → flat_map arguments_for (map Of parts) ≡ flat_map arguments_in parts
+arguments_of_parts : (parts : List RecordingOption)
+    → flat_map arguments_of_display_option (map Of parts) ≡ flat_map arguments_of_recording_option
+    parts
 arguments_of_parts [] = refl
-arguments_of_parts (part ∷ parts) = ap (λ (ws : List Text). arguments_in part ++ ws)
+arguments_of_parts (part ∷ parts) = ap (λ (ws : List Text). arguments_of_recording_option part ++
+    ws)
     (arguments_of_parts parts)
 
-pub display_of_parts : (l : DisplayOptions) (parts : List Portion)
-    → fold displayed_by l (map Of parts) ≡ with_reading l (fold read_by l.reading parts)
+pub display_of_parts : (l : DisplayOptions) (parts : List RecordingOption)
+    → fold with_display_option l (map Of parts) ≡ with_reading l (fold read_by l.reading parts)
 display_of_parts l [] = refl
 display_of_parts l (part ∷ parts) = display_of_parts (with_reading l (read_by l.reading part)) parts
 
@@ -678,23 +741,25 @@ law_of_part_arguments program stl pes parts request is_stl is_pes asks =
       so.1
           ∙ ap
           (λ (l : DisplayOptions).
-          Requested.Check stl (recording_requested pes l.reading) l.reading.options l.national
+          Requested.Check stl (requested_recording pes l.reading) l.reading.options l.national
           l.layout
           l.reading.scope so.0)
           at,
       subst (λ (l : DisplayOptions). l.reading.options.origin < 2 ^ 33) at so.2,
     )
 
-pub arguments_any : (choices : List Choice)
-    → flat_map arguments_in (map Any choices) ≡ flat_map arguments_of_choice choices
-arguments_any [] = refl
-arguments_any (choice ∷ choices) =
-    ap (λ (ws : List Text). arguments_of_choice choice ++ ws) (arguments_any choices)
+pub choices_keep_arguments : (choices : List CheckOption)
+    → flat_map arguments_of_recording_option (map Any choices) ≡ flat_map arguments_of_check_option
+    choices
+choices_keep_arguments [] = refl
+choices_keep_arguments (choice ∷ choices) =
+    ap (λ (ws : List Text). arguments_of_check_option choice ++ ws) (choices_keep_arguments choices)
 
-pub read_any : (r : Reading) (choices : List Choice)
-    → fold read_by r (map Any choices) ≡ with_options r (fold with_choice r.options choices)
-read_any r [] = refl
-read_any r (choice ∷ choices) = read_any (with_options r (with_choice r.options choice)) choices
+pub choices_keep_reading : (r : Reading) (choices : List CheckOption)
+    → fold read_by r (map Any choices) ≡ with_options r (fold with_check_option r.options choices)
+choices_keep_reading r [] = refl
+choices_keep_reading r (choice ∷ choices) = choices_keep_reading
+    (with_options r (with_check_option r.options choice)) choices
 
 pub law_of_chosen_arguments : LawOfChosenArguments
 law_of_chosen_arguments program stl pes choices request is_stl is_pes asks =
@@ -702,13 +767,13 @@ law_of_chosen_arguments program stl pes choices request is_stl is_pes asks =
     law_of_part_arguments program stl pes (map Any choices) request is_stl is_pes
     (subst
     (λ (ws : List Text). IsRequestOf (program ∷ codes "check" ∷ stl ∷ pes ∷ ws) request)
-    (sym (arguments_any choices)) asks) in
-    let at = read_any (reading_of []) choices in (
+    (sym (choices_keep_arguments choices)) asks) in
+    let at = choices_keep_reading (reading_of []) choices in (
       so.0,
       so.1
           ∙ ap
           (λ (r : Reading).
-          Requested.Check stl (recording_requested pes r) r.options English default_layout r.scope
+          Requested.Check stl (requested_recording pes r) r.options English default_layout r.scope
           so.0)
           at,
       subst (λ (r : Reading). r.options.origin < 2 ^ 33) at so.2,

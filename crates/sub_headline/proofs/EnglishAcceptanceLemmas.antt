@@ -15,34 +15,37 @@ use Rattle.sub_plan.specs.Sending.{national_bits}
 use Rattle.sub_laws.specs.OnScreen.{Complete}
 use Rattle.sub_rules.specs.Good.{Good, IsSubtitleHeader}
 use Rattle.sub_rules.specs.Transmission.{Transmission}
-use Rattle.sub_check.specs.CheckedFiles.{IsAccepted, Mean}
+use Rattle.sub_check.specs.CheckedFiles.{IsAccepted, FilesMean}
 use Rattle.sub_headline.specs.Acceptance.{LawOfEnglishAcceptance, default_drawing}
-use Rattle.sub_headline.specs.PlainAcceptance.{IsEnglishGood, IsEnglishHeader, IsPlainlyAccepted}
-use Rattle.sub_headline.specs.PlainFiles.{AreFilesOf}
+use Rattle.sub_headline.specs.PlainAcceptance.{IsEnglishGood, IsEnglishHeader}
+use Rattle.sub_headline.specs.PlainAcceptance.{IsAcceptedInPlainTerms}
+use Rattle.sub_headline.specs.PlainFiles.{AreReadFrom}
 use Rattle.sub_headline.specs.PlainArguments.{default_options}
-use Rattle.sub_headline.proofs.AcceptanceLemmas.{all_subtitles, programme_of}
-use Rattle.sub_headline.proofs.EnglishLemmas.{IsDrawn, all_drawn, due_eq, english_within}
-use Rattle.sub_headline.proofs.EnglishLemmas.{ok_of_complete, same_drawn}
+use Rattle.sub_headline.proofs.AcceptanceLemmas.{all_subtitles_are_valid, programme_of}
+use Rattle.sub_headline.proofs.EnglishLemmas.{IsDrawnAsEnglish, accepted_subtitles_are_drawn}
+use Rattle.sub_headline.proofs.EnglishLemmas.{due_eq, english_within}
+use Rattle.sub_headline.proofs.EnglishLemmas.{complete_subtitle_is_accepted}
+use Rattle.sub_headline.proofs.EnglishLemmas.{scope_does_not_change_drawing}
 use Rattle.stl_file.specs.Scope.{whole}
 use Rattle.stl_file.specs.declared.scope.Scope.{Scope}
 use Rattle.stl_rows.specs.declared.fault.RowFault.{RowFault}
 
-abbrev bits_of : Bool → Bool → Bool → NationalBits
-bits_of a b c = record { c12 = a; c13 = b; c14 = c }
+abbrev national_bits_of : Bool → Bool → Bool → NationalBits
+national_bits_of a b c = record { c12 = a; c13 = b; c14 = c }
 
 option_eq : (h : Header)
     → IsFalse (c12 h)
     → IsFalse (c13 h)
     → IsFalse (c14 h)
-    → national_bits h ≡ bits_of false false false
+    → national_bits h ≡ national_bits_of false false false
 option_eq h first second third =
-    ap (λ (a : Bool). bits_of a (c13 h) (c14 h)) first
-    ∙ ap (λ (b : Bool). bits_of false b (c14 h)) second
-    ∙ ap (λ (c : Bool). bits_of false false c) third
+    ap (λ (a : Bool). national_bits_of a (c13 h) (c14 h)) first
+    ∙ ap (λ (b : Bool). national_bits_of false b (c14 h)) second
+    ∙ ap (λ (c : Bool). national_bits_of false false c) third
 
-english_header : (h : Header) → IsSubtitleHeader English h → IsEnglishHeader h
+subtitle_header_is_english : (h : Header) → IsSubtitleHeader English h → IsEnglishHeader h
 unfolding sub_set
-english_header h is = record {
+subtitle_header_is_english h is = record {
   erases = is.erases;
   no_newsflash = is.no_newsflash;
   subtitle = is.subtitle;
@@ -53,9 +56,9 @@ english_header h is = record {
   third_option = ap (λ (bits : NationalBits). bits.c14) is.option;
 }
 
-subtitle_header : (h : Header) → IsEnglishHeader h → IsSubtitleHeader English h
+english_header_is_subtitle_header : (h : Header) → IsEnglishHeader h → IsSubtitleHeader English h
 unfolding sub_set
-subtitle_header h is = record {
+english_header_is_subtitle_header h is = record {
   erases = is.erases;
   no_newsflash = is.no_newsflash;
   subtitle = is.subtitle;
@@ -65,7 +68,7 @@ subtitle_header h is = record {
 }
 
 module _ (options : OptionsValue) (subtitles : List SubtitleValue) (transmission : Transmission)
-    (drawn : All IsDrawn subtitles) where
+    (drawn : All IsDrawnAsEnglish subtitles) where
   english_of :
       Good (record { drawing = default_drawing; records = subtitles }) transmission options
       → (IsTrue options.asks_complete → Complete transmission options)
@@ -79,7 +82,7 @@ module _ (options : OptionsValue) (subtitles : List SubtitleValue) (transmission
     exact = good.rules.exact;
     serial = good.rules.serial;
     control = λ k d below n packet within h is.
-        english_header h (good.rules.control k d below n packet within h is);
+        subtitle_header_is_english h (good.rules.control k d below n packet within h is);
     spans = good.rules.spans;
     opens = good.rules.opens;
     repeats = good.rules.repeats;
@@ -103,7 +106,7 @@ module _ (options : OptionsValue) (subtitles : List SubtitleValue) (transmission
       exact = good.exact;
       serial = good.serial;
       control = λ k d below n packet within h is.
-          subtitle_header h (good.control k d below n packet within h is);
+          english_header_is_subtitle_header h (good.control k d below n packet within h is);
       spans = good.spans;
       opens = good.opens;
       repeats = good.repeats;
@@ -114,74 +117,77 @@ module _ (options : OptionsValue) (subtitles : List SubtitleValue) (transmission
         ∙ ap (λ (due : Rows). cell due row column) (sym (due_eq subtitles f drawn));
   }
 
-abbrev from_origin : ℕ → OptionsValue
-from_origin origin = record default_options { origin = origin }
+abbrev options_with_origin : ℕ → OptionsValue
+options_with_origin origin = record default_options { origin = origin }
 
 module _ (scope : Scope) (origin : ℕ) (stl pes : List ℕ) (subtitles : List SubtitleValue)
     (transmission : Transmission) where
   pub drawn_of :
-      Mean (english_within scope) origin stl pes subtitles transmission
-      → All IsDrawn subtitles
-  drawn_of mean =
+      FilesMean (english_within scope) origin stl pes subtitles transmission
+      → All IsDrawnAsEnglish subtitles
+  drawn_of files_mean =
       let of =
-      programme_of (english_within scope) (from_origin origin) stl pes subtitles transmission mean
+      programme_of (english_within scope) (options_with_origin origin) stl pes subtitles
+      transmission files_mean
       in
-      all_drawn subtitles of.each
+      accepted_subtitles_are_drawn subtitles of.each
       (λ k d below.
-      subst (λ (r : Result Rows RowFault). IsOk r) (same_drawn scope _) (of.drawable k d below))
+      subst (λ (r : Result Rows RowFault). IsOk r) (scope_does_not_change_drawing scope _)
+      (of.drawable k d below))
 
-  pub files_of :
-      Mean (english_within scope) origin stl pes subtitles transmission
-      → AreFilesOf scope origin stl pes subtitles transmission
-  files_of mean = record {
-    gsi = mean.gsi;
-    subtitle_file = mean.subtitle_file;
-    in_order = mean.in_order;
-    texts = λ k d below. (drawn_of mean k d below).whole;
-    carries = mean.carries;
+  pub files_of_request :
+      FilesMean (english_within scope) origin stl pes subtitles transmission
+      → AreReadFrom scope origin stl pes subtitles transmission
+  files_of_request files_mean = record {
+    gsi = files_mean.gsi;
+    subtitle_file = files_mean.subtitle_file;
+    in_order = files_mean.in_order;
+    texts = λ k d below. (drawn_of files_mean k d below).whole;
+    carries = files_mean.carries;
   }
 
 module _ (origin : ℕ) (stl pes : List ℕ) (subtitles : List SubtitleValue)
     (transmission : Transmission) where
   mean_of :
-      AreFilesOf whole origin stl pes subtitles transmission
-      → Mean default_drawing origin stl pes subtitles transmission
+      AreReadFrom whole origin stl pes subtitles transmission
+      → FilesMean default_drawing origin stl pes subtitles transmission
   mean_of files =
       let each : All IsSubtitle subtitles =
-      all_subtitles subtitles _ files.subtitle_file.rest.are_of in
+      all_subtitles_are_valid subtitles _ files.subtitle_file.rest.are_subtitle_blocks in
       record {
         gsi = files.gsi;
         subtitle_file = files.subtitle_file;
         in_order = files.in_order;
-        drawable = λ k d below. ok_of_complete _ (each k d below) (files.texts k d below);
+        drawable = λ k d below. complete_subtitle_is_accepted _ (each k d below)
+            (files.texts k d below);
         carries = files.carries;
       }
 
 there : (options : OptionsValue) (stl pes : List ℕ)
     → IsAccepted default_drawing options stl pes
-    → IsPlainlyAccepted options stl pes
+    → IsAcceptedInPlainTerms options stl pes
 there options stl pes is = record {
   subtitles = is.subtitles;
   transmission = is.transmission;
-  files = files_of whole options.origin stl pes is.subtitles is.transmission is.mean;
+  files = files_of_request whole options.origin stl pes is.subtitles is.transmission is.files_mean;
   good =
       english_of options is.subtitles is.transmission
-      (drawn_of whole options.origin stl pes is.subtitles is.transmission is.mean) is.good
+      (drawn_of whole options.origin stl pes is.subtitles is.transmission is.files_mean) is.good
       is.complete;
 }
 
 back : (options : OptionsValue) (stl pes : List ℕ)
-    → IsPlainlyAccepted options stl pes
+    → IsAcceptedInPlainTerms options stl pes
     → IsAccepted default_drawing options stl pes
 back options stl pes is =
-    let mean = mean_of options.origin stl pes is.subtitles is.transmission is.files in
+    let files_mean = mean_of options.origin stl pes is.subtitles is.transmission is.files in
     record {
       subtitles = is.subtitles;
       transmission = is.transmission;
-      mean = mean;
+      files_mean = files_mean;
       good =
           good_of options is.subtitles is.transmission
-          (drawn_of whole options.origin stl pes is.subtitles is.transmission mean) is.good;
+          (drawn_of whole options.origin stl pes is.subtitles is.transmission files_mean) is.good;
       complete = is.good.complete;
     }
 

@@ -9,7 +9,7 @@ use Rattle.std.specs.List.{find, flat_map}
 use Rattle.clap.specs.Words.{Text}
 use Rattle.ttx_page.specs.Page.{Rows, cell, space}
 use Rattle.ttx_page.specs.DroppedRows.{ExcusedBy}
-use Rattle.ttx_page.specs.LostRows.{IsHitOrLost, arrivals_of}
+use Rattle.ttx_page.specs.LostRows.{IsHitOrLost, arrivals_from_flags}
 use Rattle.ttx_page.specs.Receiver.{ReceiverClass}
 use Rattle.ttx_page.specs.Receiver.ReceiverClass.{Dropping, Storing}
 use Rattle.mpeg_ts.specs.declared.packet_size.PacketSize.{PacketSize}
@@ -32,60 +32,67 @@ use Rattle.sub_request.specs.declared.request.Request.TheVariants as ask
 use Rattle.sub_request.specs.declared.request.UsageFault.{UsageFault}
 use Rattle.sub_files.specs.FileCalls.{CallsInOrder}
 use Rattle.sub_files.specs.MemoryFiles.{IsMemoryCall, MemFilesValue, bytes_at}
-use Rattle.sub_words.specs.Requests.{Requested, IsRequestOf, requested_by}
+use Rattle.sub_words.specs.Requests.{Requested, IsRequestOf, value_of_request}
 use Rattle.sub_rules.specs.Transmission.{Transmission, on_air}
-use Rattle.sub_laws.proofs.GoodByLemmas.{begins_in, ends_in}
+use Rattle.sub_laws.proofs.GoodWithRepeatsLemmas.{begins_in, ends_in}
 use Rattle.sub_laws.proofs.RobustLemmas.{law_of_good}
 use Rattle.sub_check.specs.CheckedFiles.{IsAccepted, IsAcceptedBy}
 use Rattle.sub_listing.specs.Listing.{exit_code}
 use Rattle.sub_listing.specs.declared.status.Status.{Status}
 use Rattle.sub_listing.specs.declared.status.Status.TheVariants.{Done}
 use Rattle.sub_answer.specs.FilesInMemory.{DecidesAccepted, memory_observations}
-use Rattle.sub_answer.specs.Part.{through_range, through_stream}
+use Rattle.sub_answer.specs.Part.{bytes_in_range, carried_bytes_if_stream}
 use Rattle.sub_answer.specs.Ending.{BufferHoldsOneLineOnly}
 use Rattle.sub_answer.proofs.MemoryLemmas.{law_of_files_in_memory}
 use Rattle.sub_headline.specs.Acceptance.{default_drawing}
-use Rattle.sub_headline.specs.BothClasses.{EachOfClassGets}
-use Rattle.sub_headline.specs.DrawnOptions.{DisplayOptions, display_options_of, arguments_for}
+use Rattle.sub_headline.specs.BothClasses.{EachReceiverOfClassGets}
+use Rattle.sub_headline.specs.DrawnOptions.{DisplayOptions, display_options_of}
+use Rattle.sub_headline.specs.DrawnOptions.{arguments_of_display_option}
 use Rattle.sub_headline.specs.DrawnOptions.DisplayOption.{Of}
-use Rattle.sub_headline.specs.EnglishPage.{english_due}
+use Rattle.sub_headline.specs.EnglishPage.{english_due_page}
 use Rattle.sub_headline.specs.EnglishScreen.{EachScreenShows}
-use Rattle.sub_headline.specs.Headline.{ServesOthers, LawOfHeadline, OfChosen, OfDisplay}
-use Rattle.sub_headline.specs.Headline.{OfRecording}
-use Rattle.sub_headline.specs.Headline.{ImpliesChosen}
+use Rattle.sub_headline.specs.Headline.{ServesOtherReceivers, LawOfHeadline, ForChosenOptions}
+use Rattle.sub_headline.specs.Headline.{ForDisplayOptions}
+use Rattle.sub_headline.specs.Headline.{ForRecordingCheck}
+use Rattle.sub_headline.specs.Headline.{ImpliesChosenHeadline}
 use Rattle.sub_headline.specs.OnScreens.{EachDisplayShows}
-use Rattle.sub_headline.specs.RecordingOptions.{Portion, Reading, bytes_read, carried_by}
-use Rattle.sub_headline.specs.RecordingOptions.{numbered_by}
-use Rattle.sub_headline.specs.RecordingOptions.{reading_of, arguments_in}
-use Rattle.sub_headline.specs.RecordingOptions.Portion.{Any}
-use Rattle.sub_headline.specs.PlainOptions.{Choice, options_by, arguments_of_choice}
-use Rattle.sub_headline.specs.PlainFiles.{AreFilesOf}
+use Rattle.sub_headline.specs.RecordingOptions.{RecordingOption, Reading, bytes_selected}
+use Rattle.sub_headline.specs.RecordingOptions.{bytes_carried_in_pid}
+use Rattle.sub_headline.specs.RecordingOptions.{pes_packets_in_range}
+use Rattle.sub_headline.specs.RecordingOptions.{reading_of, arguments_of_recording_option}
+use Rattle.sub_headline.specs.RecordingOptions.RecordingOption.{Any}
+use Rattle.sub_headline.specs.PlainOptions.{CheckOption, options_of_check_options}
+use Rattle.sub_headline.specs.PlainOptions.{arguments_of_check_option}
+use Rattle.sub_headline.specs.PlainFiles.{AreReadFrom}
 use Rattle.sub_headline.specs.PlainHeadline.{Headline}
 use Rattle.sub_headline.specs.PlainReading.{frames_by_place, subtitles_by_place, subtitles_within}
 use Rattle.sub_headline.specs.PlainArguments.{IsName}
 use Rattle.sub_headline.specs.Run.{RunsProgram}
 use Rattle.sub_headline.proofs.ChosenWordLemmas.{law_of_chosen_arguments, law_of_display_arguments}
-use Rattle.sub_headline.proofs.ChosenWordLemmas.{law_of_part_arguments, display_of_parts, plain_by}
-use Rattle.sub_headline.proofs.ChosenWordLemmas.{read_any}
+use Rattle.sub_headline.proofs.ChosenWordLemmas.{law_of_part_arguments, display_of_parts}
+use Rattle.sub_headline.proofs.ChosenWordLemmas.{check_arguments_are_found}
+use Rattle.sub_headline.proofs.ChosenWordLemmas.{choices_keep_reading}
 use Rattle.sub_headline.proofs.AcceptanceLemmas.{law_of_plain_acceptance, programme_of}
-use Rattle.sub_headline.proofs.EnglishAcceptanceLemmas.{drawn_of, files_of}
+use Rattle.sub_headline.proofs.EnglishAcceptanceLemmas.{drawn_of, files_of_request}
 use Rattle.sub_headline.proofs.EnglishAcceptanceLemmas.{law_of_english_acceptance}
-use Rattle.sub_headline.proofs.EnglishLemmas.{due_within, english_within}
-use Rattle.sub_headline.proofs.FrameReadingLemmas.{frames_are}
-use Rattle.sub_headline.proofs.RunLemmas.{HasAnswered, answered, done_by_code, no_fault}
-use Rattle.sub_headline.proofs.ScreenLemmas.{screens_of}
-use Rattle.sub_headline.proofs.SubtitleReadingLemmas.{subtitles_are, taken_subtitles_are}
+use Rattle.sub_headline.proofs.EnglishLemmas.{scope_does_not_change_due_page, english_within}
+use Rattle.sub_headline.proofs.FrameReadingLemmas.{bytes_give_transmission}
+use Rattle.sub_headline.proofs.RunLemmas.{HasAnswered, answered, zero_code_means_done}
+use Rattle.sub_headline.proofs.RunLemmas.{code_other_than_two_means_no_fault}
+use Rattle.sub_headline.proofs.ScreenLemmas.{receivers_show_on_screens}
+use Rattle.sub_headline.proofs.SubtitleReadingLemmas.{file_bytes_give_subtitles}
+use Rattle.sub_headline.proofs.SubtitleReadingLemmas.{scope_of_file_gives_subtitles}
 
 -- The request for a check of two files with options.
-abbrev check_by :
+abbrev request_check_with :
     (stl pes : Text) → Option TransportStream → Option PesPacketRangeValue → OptionsValue → National
     → Layout → Scope → Bool → Requested
-check_by stl pes stream range options national layout scope all =
+request_check_with stl pes stream range options national layout scope all =
     Requested.Check stl (record { name = pes; stream = stream; range = range }) options national
     layout
     scope all
 
-record IsCheckBy
+record HasEqualCheckParts
     (stl0 name : Text) (stream0 : Option TransportStream) (range0 : Option PesPacketRangeValue)
     (options0 : OptionsValue) (national0 : National) (layout0 : Layout) (scope0 : Scope)
     (stl pes : Text) (stream : Option TransportStream) (range : Option PesPacketRangeValue)
@@ -95,7 +102,7 @@ record IsCheckBy
   pub name_eq : name ≡ pes
   pub stream_eq : stream0 ≡ stream
   pub range_eq : range0 ≡ range
-  pub options_are : options0 ≡ options
+  pub options_are_equal : options0 ≡ options
   pub national_eq : national0 ≡ national
   pub layout_eq : layout0 ≡ layout
   pub scope_eq : scope0 ≡ scope
@@ -109,8 +116,9 @@ is_check_by :
     → Requested.Check stl0 (record { name = name; stream = stream0; range = range0 }) options0
     national0
     layout0 scope0 all0
-    ≡ check_by stl pes stream range options national layout scope all
-    → IsCheckBy stl0 name stream0 range0 options0 national0 layout0 scope0 stl pes stream range
+    ≡ request_check_with stl pes stream range options national layout scope all
+    → HasEqualCheckParts stl0 name stream0 range0 options0 national0 layout0 scope0 stl pes stream
+    range
     options national layout scope
 is_check_by stl0 name stream0 range0 options0 national0 layout0 scope0 all0 stl pes stream range
     options national layout scope all e = grind (arith, nat_tests)
@@ -120,10 +128,11 @@ reports :
     (range : Option PesPacketRangeValue) (options : OptionsValue) (national : National)
     (layout : Layout) (scope : Scope) (all : Bool) (file bytes read : List ℕ)
     (files : MemFilesValue) (status : Status)
-    → requested_by request ≡ check_by stl pes stream range options national layout scope all
+    → value_of_request request ≡ request_check_with stl pes stream range options national layout
+    scope all
     → bytes_at stl files ≡ Some file
     → bytes_at pes files ≡ Some bytes
-    → through_range range (through_stream stream (Some bytes)) ≡ Some read
+    → bytes_in_range range (carried_bytes_if_stream stream (Some bytes)) ≡ Some read
     → DecidesAccepted request files status
     → (status ≡ Done) ↔ IsAcceptedBy (drawing_within national layout scope) options file read
 reports
@@ -141,38 +150,42 @@ reports
     (subst
     (λ (o : OptionsValue).
     (status ≡ Done) ↔ IsAcceptedBy (drawing_within national0 layout0 scope0) o file read)
-    is.options_are
+    is.options_are_equal
     (reported file bytes read (ap (λ n. bytes_at n files) is.stl_eq ∙ stl_eq)
     (ap (λ n. bytes_at n files) is.name_eq ∙ pes_eq)
-    (ap (λ r. through_range r (through_stream pes0.stream (Some bytes))) is.range_eq
-    ∙ ap (λ s. through_range range (through_stream s (Some bytes))) is.stream_eq
+    (ap (λ r. bytes_in_range r (carried_bytes_if_stream pes0.stream (Some bytes))) is.range_eq
+    ∙ ap (λ s. bytes_in_range range (carried_bytes_if_stream s (Some bytes))) is.stream_eq
     ∙ read_is)))
-reports ask.Help stl pes st ra o n y c all file bytes read files s e at_stl at_pes r reported = cc
-reports ask.Version stl pes st ra o n y c all file bytes read files s e at_stl at_pes r
+reports ask.Help stl pes st ra o n y c all file bytes read files s e at_stl with_pes_number r
     reported = cc
-reports (ask.Packet p) stl pes st ra o n y c all file bytes read files s e at_stl at_pes r
+reports ask.Version stl pes st ra o n y c all file bytes read files s e at_stl with_pes_number r
+    reported = cc
+reports (ask.Packet p) stl pes st ra o n y c all file bytes read files s e at_stl with_pes_number r
     reported =
     cc
-reports (ask.Packets p) stl pes st ra o n y c all file bytes read files s e at_stl at_pes r
+reports (ask.Packets p) stl pes st ra o n y c all file bytes read files s e at_stl with_pes_number r
     reported =
     cc
-reports (ask.Show p) stl pes st ra o n y c all file bytes read files s e at_stl at_pes r
+reports (ask.Show p) stl pes st ra o n y c all file bytes read files s e at_stl with_pes_number r
     reported = cc
 reports
-    (ask.Normal a b) stl pes st ra o n y c all file bytes read files s e at_stl at_pes r reported =
+    (ask.Normal a b) stl pes st ra o n y c all file bytes read files s e at_stl with_pes_number r
+    reported =
     cc
 reports
     (ask.Schedule a b d serial national layout scope) stl pes st ra o n y c all file bytes read
-    files s e at_stl at_pes r reported = cc
+    files s e at_stl with_pes_number r reported = cc
 reports
-    (ask.Listen p l) stl pes st ra o n y c all file bytes read files s e at_stl at_pes r reported =
-    cc
-reports
-    (ask.Extract a b d) stl pes st ra o n y c all file bytes read files s e at_stl at_pes r
+    (ask.Listen p l) stl pes st ra o n y c all file bytes read files s e at_stl with_pes_number r
     reported =
     cc
 reports
-    (ask.Survey a b) stl pes st ra o n y c all file bytes read files s e at_stl at_pes r reported =
+    (ask.Extract a b d) stl pes st ra o n y c all file bytes read files s e at_stl with_pes_number r
+    reported =
+    cc
+reports
+    (ask.Survey a b) stl pes st ra o n y c all file bytes read files s e at_stl with_pes_number r
+    reported =
     cc
 
 given_arguments :
@@ -181,11 +194,11 @@ given_arguments given a b one other = let e = sym one ∙ other in cc
 
 module _ (scope : Scope) (options : OptionsValue) (stl pes : List ℕ)
     (is : IsAccepted (english_within scope) options stl pes) where
-  files : AreFilesOf scope options.origin stl pes is.subtitles is.transmission
-  files = files_of scope options.origin stl pes is.subtitles is.transmission is.mean
+  files : AreReadFrom scope options.origin stl pes is.subtitles is.transmission
+  files = files_of_request scope options.origin stl pes is.subtitles is.transmission is.files_mean
 
   each : (class : ReceiverClass)
-      → EachOfClassGets class options.page options.every is.subtitles is.transmission
+      → EachReceiverOfClassGets class options.page options.every is.subtitles is.transmission
   each class = λ g j f arrived got old new is_got hears.
       let programme : ProgrammeValue =
       record { drawing = english_within scope; records = is.subtitles } in
@@ -200,10 +213,11 @@ module _ (scope : Scope) (options : OptionsValue) (stl pes : List ℕ)
             (cell new.page row column ≡ cell due row column)
             ⊎ ((cell new.page row column ≡ space)
             × ExcusedBy class
-            (IsHitOrLost options.page (on_air is.transmission g j f) (arrivals_of arrived got))
+            (IsHitOrLost options.page (on_air is.transmission g j f) (arrivals_from_flags arrived
+            got))
             row column))
-            (due_within scope is.subtitles f
-            (drawn_of scope options.origin stl pes is.subtitles is.transmission is.mean))
+            (scope_does_not_change_due_page scope is.subtitles f
+            (drawn_of scope options.origin stl pes is.subtitles is.transmission is.files_mean))
             (served.cells header row column is_cell);
       }
 
@@ -223,19 +237,21 @@ module _ (scope : Scope) (options : OptionsValue) (stl pes : List ℕ)
             (cell page row column ≡ cell due row column)
             ⊎ ((cell page row column ≡ space)
             × ExcusedBy class
-            (IsHitOrLost options.page (on_air is.transmission g j f) (arrivals_of arrived got))
+            (IsHitOrLost options.page (on_air is.transmission g j f) (arrivals_from_flags arrived
+            got))
             row column))
-            (due_within scope is.subtitles f
-            (drawn_of scope options.origin stl pes is.subtitles is.transmission is.mean))
+            (scope_does_not_change_due_page scope is.subtitles f
+            (drawn_of scope options.origin stl pes is.subtitles is.transmission is.files_mean))
             (holds row column is_cell),
       )
 
-  headline : Headline options.page options.every english_due is.subtitles is.transmission
+  headline : Headline options.page options.every english_due_page is.subtitles is.transmission
   headline =
       let programme : ProgrammeValue =
       record { drawing = english_within scope; records = is.subtitles } in
       let of =
-      programme_of (english_within scope) options stl pes is.subtitles is.transmission is.mean in
+      programme_of (english_within scope) options stl pes is.subtitles is.transmission is.files_mean
+      in
       let rules = is.good.rules in
       record {
         covers = λ k d below. (
@@ -251,48 +267,50 @@ module _ (scope : Scope) (options : OptionsValue) (stl pes : List ℕ)
       → IsSo (subtitles_within scope stl) (frames_by_place options.origin pes)
   read fits IsSo so =
       subst (λ (ts : List SubtitleValue). IsSo ts (frames_by_place options.origin pes))
-      (sym (taken_subtitles_are scope stl files.gsi is.subtitles files.subtitle_file))
+      (sym (scope_of_file_gives_subtitles scope stl files.gsi is.subtitles files.subtitle_file))
       (subst (λ (t : Transmission). IsSo is.subtitles t)
-      (sym (frames_are options.origin pes is.transmission fits files.carries)) so)
+      (sym (bytes_give_transmission options.origin pes is.transmission fits files.carries)) so)
 
   kept : options.origin < 2 ^ 33
-      → ServesOthers options (subtitles_within scope stl) (frames_by_place options.origin pes)
+      → ServesOtherReceivers options (subtitles_within scope stl) (frames_by_place options.origin
+      pes)
   kept fits = record {
     dropping =
-        read fits (EachOfClassGets Dropping options.page options.every) (each Dropping);
+        read fits (EachReceiverOfClassGets Dropping options.page options.every) (each Dropping);
     screens =
         read fits (EachScreenShows options.page)
-        (screens_of options.page options.every is.subtitles is.transmission each);
+        (receivers_show_on_screens options.page options.every is.subtitles is.transmission each);
     complete = λ asks. read fits (EachDisplayShows options.page) (complete asks);
   }
 
-read_to_the_end : (options : OptionsValue) (stl pes : List ℕ)
+laws_hold_for_bytes : (options : OptionsValue) (stl pes : List ℕ)
     (is : IsAccepted default_drawing options stl pes)
     → options.origin < 2 ^ 33
     → (IsSo : List SubtitleValue → Transmission → Type 0)
     → IsSo is.subtitles is.transmission
     → IsSo (subtitles_by_place stl) (frames_by_place options.origin pes)
-read_to_the_end options stl pes is fits IsSo so =
+laws_hold_for_bytes options stl pes is fits IsSo so =
     let of = files whole options stl pes is in
     subst (λ (ts : List SubtitleValue). IsSo ts (frames_by_place options.origin pes))
-    (sym (subtitles_are stl of.gsi is.subtitles of.subtitle_file))
+    (sym (file_bytes_give_subtitles stl of.gsi is.subtitles of.subtitle_file))
     (subst (λ (t : Transmission). IsSo is.subtitles t)
-    (sym (frames_are options.origin pes is.transmission fits of.carries)) so)
+    (sym (bytes_give_transmission options.origin pes is.transmission fits of.carries)) so)
 
 -- The selected part of the subtitle file does not affect the expected page.
-drawn_within : (national : National) (layout : Layout) (scope : Scope) (o : Option SubtitleValue)
+scope_keeps_drawn_page : (national : National) (layout : Layout) (scope : Scope)
+    (o : Option SubtitleValue)
     → drawn_or_blank (drawing_within national layout scope) o
     ≡ drawn_or_blank (drawing_by national layout) o
 unfolding drawn
-drawn_within national layout scope None = refl
-drawn_within national layout scope (Some t) = refl
+scope_keeps_drawn_page national layout scope None = refl
+scope_keeps_drawn_page national layout scope (Some t) = refl
 
-due_drawn_within : (national : National) (layout : Layout) (scope : Scope)
+scope_keeps_expected_page : (national : National) (layout : Layout) (scope : Scope)
     (ts : List SubtitleValue) (f : ℕ)
     → due (drawing_within national layout scope) ts f ≡ due (drawing_by national layout) ts f
 unfolding due
-due_drawn_within national layout scope ts f =
-    drawn_within national layout scope (find (is_due f) ts)
+scope_keeps_expected_page national layout scope ts f =
+    scope_keeps_drawn_page national layout scope (find (is_due f) ts)
 
 module _ (national : National) (layout : Layout) (scope : Scope) (options : OptionsValue)
     (stl pes : List ℕ)
@@ -306,7 +324,7 @@ module _ (national : National) (layout : Layout) (scope : Scope) (options : Opti
       let good = law_of_good programme is.transmission options is.good in
       let of =
       programme_of (drawing_within national layout scope) options stl pes is.subtitles
-      is.transmission is.mean in
+      is.transmission is.files_mean in
       let rules = is.good.rules in
       record {
         covers = λ k d below. (
@@ -324,8 +342,8 @@ module _ (national : National) (layout : Layout) (scope : Scope) (options : Opti
                   (cell new.page row column ≡ cell due row column)
                   ⊎ ((cell new.page row column ≡ space)
                   × IsHitOrLost options.page (on_air is.transmission g j f)
-                  (arrivals_of arrived got) row column))
-                  (due_drawn_within national layout scope is.subtitles f)
+                  (arrivals_from_flags arrived got) row column))
+                  (scope_keeps_expected_page national layout scope is.subtitles f)
                   (served.cells header row column is_cell);
             };
       }
@@ -337,29 +355,33 @@ module _ (national : National) (layout : Layout) (scope : Scope) (options : Opti
   drawn_read fits =
       let IsSo = Headline options.page options.every (due (drawing_by national layout)) in
       subst (λ (ts : List SubtitleValue). IsSo ts (frames_by_place options.origin pes))
-      (sym (taken_subtitles_are scope stl is.mean.gsi is.subtitles is.mean.subtitle_file))
+      (sym (scope_of_file_gives_subtitles scope stl is.files_mean.gsi is.subtitles
+      is.files_mean.subtitle_file))
       (subst (λ (t : Transmission). IsSo is.subtitles t)
-      (sym (frames_are options.origin pes is.transmission fits is.mean.carries)) drawn_headline)
+      (sym (bytes_give_transmission options.origin pes is.transmission fits is.files_mean.carries))
+      drawn_headline)
 
 abbrev stream_of : Reading → Option TransportStream
 stream_of r = option_map (λ pid. record { pid = pid; packet_size = r.size }) r.pid
 
-through_range_known : (range : Option PesPacketRangeValue) (bytes : List ℕ)
-    → through_range range (Some bytes) ≡ Some (numbered_by range bytes)
-through_range_known None bytes = refl
-through_range_known (Some range) bytes = refl
+range_of_known_bytes : (range : Option PesPacketRangeValue) (bytes : List ℕ)
+    → bytes_in_range range (Some bytes) ≡ Some (pes_packets_in_range range bytes)
+range_of_known_bytes None bytes = refl
+range_of_known_bytes (Some range) bytes = refl
 
-read_so : (pid : Option ℕ) (size : PacketSize) (range : Option PesPacketRangeValue) (bytes : List ℕ)
-    → through_range range
-    (through_stream (option_map (λ pid. record { pid = pid; packet_size = size }) pid)
+part_of_known_bytes : (pid : Option ℕ) (size : PacketSize) (range : Option PesPacketRangeValue)
+    (bytes : List ℕ)
+    → bytes_in_range range
+    (carried_bytes_if_stream (option_map (λ pid. record { pid = pid; packet_size = size }) pid)
     (Some bytes))
-    ≡ Some (numbered_by range (carried_by pid size bytes))
-read_so None size range bytes = through_range_known range bytes
-read_so (Some pid) size range bytes = through_range_known range (carried_by (Some pid) size bytes)
+    ≡ Some (pes_packets_in_range range (bytes_carried_in_pid pid size bytes))
+part_of_known_bytes None size range bytes = range_of_known_bytes range bytes
+part_of_known_bytes (Some pid) size range bytes = range_of_known_bytes range
+    (bytes_carried_in_pid (Some pid) size bytes)
 
 -- The arguments request a check of the given files and of the given part of the recording, with
 -- `within` 0, and each header of the page has to erase the page.
-record RequestsCheck
+record ArgumentsRequestCheck
     (arguments : List Text) (stl pes : Text) (stream : Option TransportStream)
     (range : Option PesPacketRangeValue) (options : OptionsValue) (national : National)
     (layout : Layout) (scope : Scope)
@@ -368,13 +390,14 @@ record RequestsCheck
       (request : Request)
       → IsRequestOf arguments request
       → (all : Bool)
-      × (requested_by request ≡ check_by stl pes stream range options national layout scope all)
+      × (value_of_request request ≡ request_check_with stl pes stream range options national layout
+      scope all)
       × (options.origin < 2 ^ 33)
   pub none : options.within ≡ 0
   pub off : IsFalse options.keeps
 
 -- The exit code of a run of `check` decides whether the bytes of both files are accepted.
-record CodeImplies
+record ExitCodeDecides
     (drawing : Drawing) (options : OptionsValue) (file read : List ℕ) (code : ℕ)
     : Type 0 where
   pub fits : options.origin < 2 ^ 33
@@ -389,29 +412,34 @@ module _ {K : Type 0} (contents : K → Option (List ℕ)) (failure_count : K �
   module _ (arguments : List Text) (stl pes : Text) (stream : Option TransportStream)
       (range : Option PesPacketRangeValue) (options : OptionsValue) (national : National)
       (layout : Layout) (scope : Scope) (file bytes read : List ℕ)
-      (requests_check : RequestsCheck arguments stl pes stream range options national layout scope)
+      (requests_check : ArgumentsRequestCheck arguments stl pes stream range options national layout
+      scope)
       (given_is : given ≡ Ok arguments)
       (stl_eq : bytes_at stl before ≡ Some file) (pes_eq : bytes_at pes before ≡ Some bytes)
-      (read_is : through_range range (through_stream stream (Some bytes)) ≡ Some read)
+      (read_is : bytes_in_range range (carried_bytes_if_stream stream (Some bytes)) ≡ Some read)
       (not_two : code ≢ 2) where
-    ran : HasAnswered (CallsInOrder IsMemoryCall before after) memory_observations
+    run_answers_request : HasAnswered (CallsInOrder IsMemoryCall before after) memory_observations
         (λ was is. is ≡ was) given (BufferHoldsOneLineOnly contents failure_count IsPush) code
-    ran = answered _ _ _ _ contents failure_count IsPush output left code runs not_two
+    run_answers_request = answered _ _ _ _ contents failure_count IsPush output left code runs
+        not_two
 
-    code_reports : CodeImplies (drawing_within national layout scope) options file read code
-    code_reports =
-        let of = ran.answered in
+    exit_code_decides_acceptance : ExitCodeDecides (drawing_within national layout scope) options
+        file read code
+    exit_code_decides_acceptance =
+        let of = run_answers_request.answered in
         let (all, requested, fits) =
         requests_check.requested of.request
         (subst (λ arguments. IsRequestOf arguments of.request)
-        (given_arguments given _ _ of.are_given given_is)
+        (given_arguments given _ _ of.arguments_were_given given_is)
         of.requested) in
         let reported =
-        law_of_files_in_memory _ of.request before after ran.old ran.new ran.status of.ends
-        (no_fault ran.status (λ e. not_two (ran.code_eq ∙ e))) in
+        law_of_files_in_memory _ of.request before after run_answers_request.old
+        run_answers_request.new run_answers_request.status of.ends
+        (code_other_than_two_means_no_fault run_answers_request.status
+        (λ e. not_two (run_answers_request.code_eq ∙ e))) in
         let by =
         reports of.request stl pes stream range options national layout scope all file bytes read
-        before ran.status requested stl_eq pes_eq read_is reported in
+        before run_answers_request.status requested stl_eq pes_eq read_is reported in
         let same =
         law_of_plain_acceptance (drawing_within national layout scope) options file read
         requests_check.off
@@ -419,20 +447,23 @@ module _ {K : Type 0} (contents : K → Option (List ℕ)) (failure_count : K �
         record {
           fits = fits;
           reports = (
-            λ none. same.0 (by.0 (done_by_code ran.status (sym ran.code_eq ∙ none))),
-            λ is. ran.code_eq ∙ ap exit_code (by.1 (same.1 is)),
+            λ none. same.0 (by.0 (zero_code_means_done run_answers_request.status
+                (sym run_answers_request.code_eq ∙ none))),
+            λ is. run_answers_request.code_eq ∙ ap exit_code (by.1 (same.1 is)),
           );
         }
 
   requests_check_parts :
-      (program stl pes : Text) (parts : List Portion)
+      (program stl pes : Text) (parts : List RecordingOption)
       → IsName stl
       → IsName pes
-      → RequestsCheck (program ∷ codes "check" ∷ stl ∷ pes ∷ flat_map arguments_in parts) stl pes
+      → ArgumentsRequestCheck
+      (program ∷ codes "check" ∷ stl ∷ pes ∷ flat_map arguments_of_recording_option parts) stl
+      pes
       (stream_of (reading_of parts)) (reading_of parts).range (reading_of parts).options English
       default_layout (reading_of parts).scope
   requests_check_parts program stl pes parts is_stl is_pes =
-      let by = plain_by (map Of parts) in
+      let by = check_arguments_are_found (map Of parts) in
       let at = ap (λ (l : DisplayOptions). l.reading.options)
       (display_of_parts (display_options_of [])
       parts) in
@@ -442,50 +473,58 @@ module _ {K : Type 0} (contents : K → Option (List ℕ)) (failure_count : K �
         off = ap (λ (o : OptionsValue). o.keeps) (sym at) ∙ by.1;
       }
 
-  part_reports : OfRecording given before
+  recording_run_decides_acceptance : ForRecordingCheck given before
       (λ r file bytes.
-      code ≢ 2 → CodeImplies (english_within r.scope) r.options file (bytes_read r bytes) code)
-  part_reports = λ program stl pes parts file bytes is_stl is_pes given_is stl_eq pes_eq not_two.
+      code ≢ 2 → ExitCodeDecides (english_within r.scope) r.options file (bytes_selected r bytes)
+      code)
+  recording_run_decides_acceptance = λ program stl pes parts file bytes is_stl is_pes given_is
+      stl_eq pes_eq not_two.
       let r = reading_of parts in
-      code_reports _ stl pes (stream_of r) r.range r.options English default_layout r.scope file
+      exit_code_decides_acceptance _ stl pes (stream_of r) r.range r.options English default_layout
+      r.scope file
       bytes
-      (bytes_read r bytes)
+      (bytes_selected r bytes)
       (requests_check_parts program stl pes parts is_stl is_pes) given_is stl_eq pes_eq
-      (read_so r.pid r.size r.range bytes) not_two
+      (part_of_known_bytes r.pid r.size r.range bytes) not_two
 
-  display_reports : OfDisplay given before
+  display_run_decides_acceptance : ForDisplayOptions given before
       (λ l file bytes.
       code ≢ 2
-      → CodeImplies (drawing_within l.national l.layout l.reading.scope) l.reading.options file
-      (bytes_read l.reading bytes) code)
-  display_reports = λ program stl pes display_options file bytes is_stl is_pes given_is stl_eq
+      → ExitCodeDecides (drawing_within l.national l.layout l.reading.scope) l.reading.options file
+      (bytes_selected l.reading bytes) code)
+  display_run_decides_acceptance = λ program stl pes display_options file bytes is_stl is_pes
+      given_is stl_eq
       pes_eq not_two.
       let l = display_options_of display_options in
       let r = l.reading in
-      let by = plain_by display_options in
-      code_reports (program ∷ codes "check" ∷ stl ∷ pes ∷ flat_map arguments_for display_options)
+      let by = check_arguments_are_found display_options in
+      exit_code_decides_acceptance
+      (program ∷ codes "check" ∷ stl ∷ pes ∷ flat_map arguments_of_display_option
+      display_options)
       stl pes
-      (stream_of r) r.range r.options l.national l.layout r.scope file bytes (bytes_read r bytes)
+      (stream_of r) r.range r.options l.national l.layout r.scope file bytes
+      (bytes_selected r bytes)
       (record {
         requested = λ request. law_of_display_arguments program stl pes display_options request
             is_stl is_pes;
         none = by.0;
         off = by.1;
-      }) given_is stl_eq pes_eq (read_so r.pid r.size r.range bytes) not_two
+      }) given_is stl_eq pes_eq (part_of_known_bytes r.pid r.size r.range bytes) not_two
 
   requests_check_chosen :
-      (program stl pes : Text) (choices : List Choice)
+      (program stl pes : Text) (choices : List CheckOption)
       → IsName stl
       → IsName pes
-      → RequestsCheck (program ∷ codes "check" ∷ stl ∷ pes ∷ flat_map arguments_of_choice choices)
+      → ArgumentsRequestCheck
+      (program ∷ codes "check" ∷ stl ∷ pes ∷ flat_map arguments_of_check_option choices)
       stl pes
-      None None (options_by choices) English default_layout whole
+      None None (options_of_check_options choices) English default_layout whole
   requests_check_chosen program stl pes choices is_stl is_pes =
-      let by = plain_by (map Of (map Any choices)) in
+      let by = check_arguments_are_found (map Of (map Any choices)) in
       let at =
       ap (λ (l : DisplayOptions). l.reading.options)
       (display_of_parts (display_options_of []) (map Any choices))
-      ∙ ap (λ (r : Reading). r.options) (read_any (reading_of []) choices) in
+      ∙ ap (λ (r : Reading). r.options) (choices_keep_reading (reading_of []) choices) in
       record {
         requested = λ request. law_of_chosen_arguments program stl pes choices request is_stl
             is_pes;
@@ -493,52 +532,58 @@ module _ {K : Type 0} (contents : K → Option (List ℕ)) (failure_count : K �
         off = ap (λ (o : OptionsValue). o.keeps) (sym at) ∙ by.1;
       }
 
-  chosen_reports : OfChosen given before
-      (λ o file bytes. code ≢ 2 → CodeImplies default_drawing o file bytes code)
-  chosen_reports = λ program stl pes choices file bytes is_stl is_pes given_is stl_eq pes_eq
+  chosen_run_decides_acceptance : ForChosenOptions given before
+      (λ o file bytes. code ≢ 2 → ExitCodeDecides default_drawing o file bytes code)
+  chosen_run_decides_acceptance = λ program stl pes choices file bytes is_stl is_pes given_is stl_eq
+      pes_eq
       not_two.
-      code_reports _ stl pes None None (options_by choices) English default_layout whole file bytes
+      exit_code_decides_acceptance _ stl pes None None (options_of_check_options choices) English
+      default_layout whole file bytes
       bytes
       (requests_check_chosen program stl pes choices is_stl is_pes) given_is stl_eq pes_eq refl
       not_two
 
-  of_accepted :
+  accepted_transmission_is_good :
       (IsSo : OptionsValue → List ℕ → List ℕ → List SubtitleValue → Transmission → Type 0)
       → ((o : OptionsValue) (file bytes : List ℕ) (is : IsAccepted default_drawing o file bytes)
       → IsSo o file bytes is.subtitles is.transmission)
-      → OfChosen given before
+      → ForChosenOptions given before
       (λ o file bytes.
       code ≡ 0
       → IsSo o file bytes (subtitles_by_place file) (frames_by_place o.origin bytes))
-  of_accepted IsSo so =
+  accepted_transmission_is_good IsSo so =
       λ program stl pes choices file bytes is_stl is_pes given_is stl_eq pes_eq none.
       let reported =
-      chosen_reports program stl pes choices file bytes is_stl is_pes given_is stl_eq pes_eq
+      chosen_run_decides_acceptance program stl pes choices file bytes is_stl is_pes given_is stl_eq
+      pes_eq
       (λ two. absurd (omega (arith, none, two))) in
-      let o = options_by choices in
+      let o = options_of_check_options choices in
       let is = reported.reports.0 none in
-      read_to_the_end o file bytes is reported.fits (IsSo o file bytes) (so o file bytes is)
+      laws_hold_for_bytes o file bytes is reported.fits (IsSo o file bytes) (so o file bytes is)
 
 pub law_of_headline : {K : Type 0} (contents : K → Option (List ℕ)) (failure_count : K → ℕ)
     (IsPush : K → List ℕ → Option ℕ → K → Type 0)
     → LawOfHeadline contents failure_count IsPush
 law_of_headline contents failure_count IsPush given before after output left code runs =
     let by =
-    of_accepted contents failure_count IsPush output left before after given code runs in
-    let chosen : ImpliesChosen given before code =
-    by (λ o file bytes. Headline o.page o.every english_due)
+    accepted_transmission_is_good contents failure_count IsPush output left before after given code
+    runs in
+    let chosen : ImpliesChosenHeadline given before code =
+    by (λ o file bytes. Headline o.page o.every english_due_page)
     (λ o file bytes is. headline whole o file bytes is) in
     let reports =
-    part_reports contents failure_count IsPush output left before after given code runs in
+    recording_run_decides_acceptance contents failure_count IsPush output left before after given
+    code runs in
     let not_two = λ (none : code ≡ 0) (two : code ≡ 2). absurd (omega (arith, none, two)) in (
       λ program stl pes. chosen program stl pes [],
       chosen,
-      by (λ o file bytes. EachOfClassGets Dropping o.page o.every)
+      by (λ o file bytes. EachReceiverOfClassGets Dropping o.page o.every)
           (λ o file bytes is. each whole o file bytes is Dropping),
       by (λ o file bytes. EachScreenShows o.page)
           (λ o file bytes is.
-          screens_of o.page o.every is.subtitles is.transmission (each whole o file bytes is)),
-      by (λ o file bytes. AreFilesOf whole o.origin file bytes)
+          receivers_show_on_screens o.page o.every is.subtitles is.transmission
+          (each whole o file bytes is)),
+      by (λ o file bytes. AreReadFrom whole o.origin file bytes)
           (λ o file bytes is. files whole o file bytes is),
       by
           (λ o file bytes subtitles transmission.
@@ -550,37 +595,40 @@ law_of_headline contents failure_count IsPush given before after output left cod
           reports program stl pes parts file bytes is_stl is_pes given_is stl_eq pes_eq
           (not_two none) in
           let is = reported.reports.0 none in
-          read r.scope r.options file (bytes_read r bytes) is reported.fits
-          (Headline r.options.page r.options.every english_due)
-          (headline r.scope r.options file (bytes_read r bytes) is),
+          read r.scope r.options file (bytes_selected r bytes) is reported.fits
+          (Headline r.options.page r.options.every english_due_page)
+          (headline r.scope r.options file (bytes_selected r bytes) is),
       λ program stl pes parts file bytes is_stl is_pes given_is stl_eq pes_eq none.
           let r = reading_of parts in
           let reported =
           reports program stl pes parts file bytes is_stl is_pes given_is stl_eq pes_eq
           (not_two none) in
-          kept r.scope r.options file (bytes_read r bytes) (reported.reports.0 none) reported.fits,
+          kept r.scope r.options file (bytes_selected r bytes) (reported.reports.0 none)
+          reported.fits,
       λ program stl pes parts file bytes is_stl is_pes given_is stl_eq pes_eq none.
           let r = reading_of parts in
           let reported =
           reports program stl pes parts file bytes is_stl is_pes given_is stl_eq pes_eq
           (not_two none) in
           let is = reported.reports.0 none in
-          read r.scope r.options file (bytes_read r bytes) is reported.fits
-          (AreFilesOf r.scope r.options.origin file (bytes_read r bytes))
-          (files r.scope r.options file (bytes_read r bytes) is),
+          read r.scope r.options file (bytes_selected r bytes) is reported.fits
+          (AreReadFrom r.scope r.options.origin file (bytes_selected r bytes))
+          (files r.scope r.options file (bytes_selected r bytes) is),
       λ program stl pes display_options file bytes is_stl is_pes given_is stl_eq pes_eq none.
           let l = display_options_of display_options in
           let reported =
-          display_reports contents failure_count IsPush output left before after given code runs
+          display_run_decides_acceptance contents failure_count IsPush output left before after
+          given code runs
           program
           stl pes display_options file bytes is_stl is_pes given_is stl_eq pes_eq (not_two none) in
           drawn_read l.national l.layout l.reading.scope l.reading.options file
-          (bytes_read l.reading bytes)
+          (bytes_selected l.reading bytes)
           (reported.reports.0 none) reported.fits,
       λ program stl pes choices file bytes is_stl is_pes given_is stl_eq pes_eq not_two.
           let reported =
-          chosen_reports contents failure_count IsPush output left before after given code runs
+          chosen_run_decides_acceptance contents failure_count IsPush output left before after given
+          code runs
           program stl pes choices file bytes is_stl is_pes given_is stl_eq pes_eq not_two in
-          let same = law_of_english_acceptance (options_by choices) file bytes in
+          let same = law_of_english_acceptance (options_of_check_options choices) file bytes in
           (λ none. same.0 (reported.reports.0 none), λ is. reported.reports.1 (same.1 is)),
     )

@@ -29,16 +29,19 @@ use Rattle.sub_words.specs.PesTexts.{packet_size_of_text, pid_of_text}
 use Rattle.sub_words.specs.PesTexts.{is_dash, range_of_numbers, range_of_text}
 use Rattle.stl_file.specs.TimeCode.{day}
 use Rattle.sub_words.specs.Arguments.{between}
-use Rattle.sub_headline.specs.PlainOptions.Choice.{Page, Every, Origin, Pace, Complete}
-use Rattle.sub_headline.specs.PlainOptions.Choice.{EveryFault}
-use Rattle.sub_headline.specs.DrawnOptions.{DisplayOption, arguments_for}
+use Rattle.sub_headline.specs.PlainOptions.CheckOption.{Page, Every, Origin, Pace, Complete}
+use Rattle.sub_headline.specs.PlainOptions.CheckOption.{EveryFault}
+use Rattle.sub_headline.specs.DrawnOptions.{DisplayOption, arguments_of_display_option}
 use Rattle.sub_headline.specs.DrawnOptions.DisplayOption.{Letters, Lines, Of}
-use Rattle.sub_headline.specs.RecordingOptions.Portion.{Pid, Size, Numbers, From, To, AlsoOpen}
-use Rattle.sub_headline.specs.RecordingOptions.Portion.{Any}
+use Rattle.sub_headline.specs.RecordingOptions.RecordingOption.{Pid, Size, Numbers, From, To}
+use Rattle.sub_headline.specs.RecordingOptions.RecordingOption.{IncludeOpen}
+use Rattle.sub_headline.specs.RecordingOptions.RecordingOption.{Any}
 use Rattle.sub_headline.specs.PlainArguments.{IsName}
-use Rattle.sub_headline.proofs.PlainWordLemmas.{at_rest, check_shape, no_dashes, no_long_option}
-use Rattle.sub_headline.proofs.PlainWordLemmas.{no_short_option}
-use Rattle.sub_headline.proofs.RowLemmas.{values_at, same_id, set_other, set_row, set_same}
+use Rattle.sub_headline.proofs.PlainWordLemmas.{walk_at_position, check_shape}
+use Rattle.sub_headline.proofs.PlainWordLemmas.{name_is_not_two_dashes, name_is_no_long_option}
+use Rattle.sub_headline.proofs.PlainWordLemmas.{name_is_no_short_option}
+use Rattle.sub_headline.proofs.RowLemmas.{values_at, equal_bytes_mean_equal_ids, set_other, set_row}
+use Rattle.sub_headline.proofs.RowLemmas.{set_same}
 
 page_is_name : (text : Text) (page : PageIdValue) → page_of_text text ≡ Some page → IsName text
 unfolding page_of_text
@@ -64,19 +67,20 @@ pace_is_name text frames is =
     let number = pace_number (number_of_text text) frames is in
     number_is_name text number.0 number.1
 
-no_pid : (xs : Text) (pid : ℕ) → pid_of_text (0x2D ∷ xs) ≡ Some pid → ⊥
+hyphen_begins_no_pid : (xs : Text) (pid : ℕ) → pid_of_text (0x2D ∷ xs) ≡ Some pid → ⊥
 unfolding pid_of_text number_of_text
-no_pid xs pid is = grind (arith, nat_tests)
+hyphen_begins_no_pid xs pid is = grind (arith, nat_tests)
 
 pid_is_name : (text : Text) (pid : ℕ) → pid_of_text text ≡ Some pid → IsName text
 pid_is_name [] pid is = λ e. cc
 pid_is_name (x ∷ xs) pid is = λ e.
     let at : x ≡ 0x2D = cc in
-    no_pid xs pid (subst (λ (c : ℕ). pid_of_text (c ∷ xs) ≡ Some pid) at is)
+    hyphen_begins_no_pid xs pid (subst (λ (c : ℕ). pid_of_text (c ∷ xs) ≡ Some pid) at is)
 
-no_size : (xs : Text) (size : PacketSize) → packet_size_of_text (0x2D ∷ xs) ≡ Some size → ⊥
+hyphen_begins_no_size : (xs : Text) (size : PacketSize) → packet_size_of_text (0x2D ∷ xs) ≡ Some
+    size → ⊥
 unfolding packet_size_of_text
-no_size xs size is = cc
+hyphen_begins_no_size xs size is = cc
 
 size_is_name : (text : Text) (size : PacketSize)
     → packet_size_of_text text ≡ Some size
@@ -84,26 +88,29 @@ size_is_name : (text : Text) (size : PacketSize)
 size_is_name [] size is = λ e. cc
 size_is_name (x ∷ xs) size is = λ e.
     let at : x ≡ 0x2D = cc in
-    no_size xs size (subst (λ (c : ℕ). packet_size_of_text (c ∷ xs) ≡ Some size) at is)
+    hyphen_begins_no_size xs size (subst (λ (c : ℕ). packet_size_of_text (c ∷ xs) ≡ Some size) at
+    is)
 
-no_first : (last : Text) → range_of_numbers [] last ≡ None
+empty_first_gives_nothing : (last : Text) → range_of_numbers [] last ≡ None
 unfolding number_of_text
-no_first last = refl
+empty_first_gives_nothing last = refl
 
-no_range_by : (b : Bool) (first last : Text) (range : PesPacketRangeValue)
+empty_first_number_gives_no_range : (b : Bool) (first last : Text) (range : PesPacketRangeValue)
     → first ≡ []
     → (let o : Option (Text × Text) = if b then Some (first, last) else None in o)
     >>= (λ numbers. range_of_numbers numbers.0 numbers.1)
     ≡ Some range
     → ⊥
-no_range_by true first last range none is =
-    let e = sym is ∙ ap (λ (f : Text). range_of_numbers f last) none ∙ no_first last in cc
-no_range_by false first last range none is = cc
+empty_first_number_gives_no_range true first last range none is =
+    let e = sym is ∙ ap (λ (f : Text). range_of_numbers f last) none ∙ empty_first_gives_nothing
+    last in cc
+empty_first_number_gives_no_range false first last range none is = cc
 
-no_range : (xs : Text) (range : PesPacketRangeValue) → range_of_text (0x2D ∷ xs) ≡ Some range → ⊥
+hyphen_begins_no_range : (xs : Text) (range : PesPacketRangeValue) → range_of_text (0x2D ∷ xs) ≡
+    Some range → ⊥
 unfolding range_of_text
-no_range xs range is =
-    no_range_by
+hyphen_begins_no_range xs range is =
+    empty_first_number_gives_no_range
     (nat_lt (position_or_len is_dash (0x2D ∷ xs)) (length (0x2D ∷ xs)))
     (before_first is_dash (0x2D ∷ xs)) (after_first is_dash (0x2D ∷ xs)) range refl is
 
@@ -113,39 +120,39 @@ range_is_name : (text : Text) (range : PesPacketRangeValue)
 range_is_name [] range is = λ e. cc
 range_is_name (x ∷ xs) range is = λ e.
     let at : x ≡ 0x2D = cc in
-    no_range xs range (subst (λ (c : ℕ). range_of_text (c ∷ xs) ≡ Some range) at is)
+    hyphen_begins_no_range xs range (subst (λ (c : ℕ). range_of_text (c ∷ xs) ≡ Some range) at is)
 
 -- The state of the argument parser `clap` after the name of an option, before its value.
-abbrev at_option : Text → Held → Walk
-at_option id h = record {
-  held = h;
+abbrev walk_at_option : Text → Held → Walk
+walk_at_option id h = record {
+  receiver_state = h;
   waiting = option id;
   position = 3;
   is_trailing = false;
   stopped = None;
 }
 
-value_word : (c : List Rule) (id : Text) (word : Text) (h : Held)
+option_value_is_plain_word : (c : List Rule) (id : Text) (word : Text) (h : Held)
     → IsName word
     → subcommand_or_other c None (option id) 3 word h ≡ plain_word c (option id) word h
-value_word c id word h name =
+option_value_is_plain_word c id word h name =
     ap
     (λ (b : Bool).
     let met : Held × Step =
     if b then (h, trailing 3) else long_or_other c (option id) word (long_of word) h in met)
-    (no_dashes word name)
-    ∙ ap (λ o. long_or_other c (option id) word o h) (no_long_option word name)
-    ∙ ap (λ o. short_or_plain c (option id) word o h) (no_short_option word name)
+    (name_is_not_two_dashes word name)
+    ∙ ap (λ o. long_or_other c (option id) word o h) (name_is_no_long_option word name)
+    ∙ ap (λ o. short_or_plain c (option id) word o h) (name_is_no_short_option word name)
 
-value_walked : (c : List Rule) (id : Text) (h : Held) (word : Text)
+walk_takes_option_value : (c : List Rule) (id : Text) (h : Held) (word : Text)
     → IsName word
-    → walked c [] (at_option id h) word
-    ≡ after_step c word (at_option id h) (plain_word c (option id) word h).0
+    → walked c [] (walk_at_option id h) word
+    ≡ after_step c word (walk_at_option id h) (plain_word c (option id) word h).0
     (plain_word c (option id) word h).1
 unfolding walked
-value_walked c id h word name =
-    ap (λ (met : Held × Step). after_step c word (at_option id h) met.0 met.1)
-    (value_word c id word h name)
+walk_takes_option_value c id h word name =
+    ap (λ (met : Held × Step). after_step c word (walk_at_option id h) met.0 met.1)
+    (option_value_is_plain_word c id word h name)
 
 abbrev pub rules : List Rule
 rules = check_shape.rules
@@ -162,7 +169,7 @@ key (Of (Size text size is)) = codes "packet-size"
 key (Of (Numbers text range is)) = codes "pes"
 key (Of (From text frame name is)) = codes "from"
 key (Of (To text frame name is)) = codes "to"
-key (Of AlsoOpen) = codes "open"
+key (Of IncludeOpen) = codes "open"
 key (Letters text national name is) = codes "option"
 key (Lines text layout name is) = codes "layout"
 
@@ -178,7 +185,7 @@ option_values (Of (Size text size is)) = text ∷ []
 option_values (Of (Numbers text range is)) = text ∷ []
 option_values (Of (From text frame name is)) = text ∷ []
 option_values (Of (To text frame name is)) = text ∷ []
-option_values (Of AlsoOpen) = codes "true" ∷ []
+option_values (Of IncludeOpen) = codes "true" ∷ []
 option_values (Letters text national name is) = text ∷ []
 option_values (Lines text layout name is) = text ∷ []
 
@@ -203,285 +210,297 @@ next h (Of (Size text size is)) = state_with_value (codes "packet-size") text h
 next h (Of (Numbers text range is)) = state_with_value (codes "pes") text h
 next h (Of (From text frame name is)) = state_with_value (codes "from") text h
 next h (Of (To text frame name is)) = state_with_value (codes "to") text h
-next h (Of AlsoOpen) = reacted rules (rule_at (codes "open")) [] h
+next h (Of IncludeOpen) = reacted rules (rule_at (codes "open")) [] h
 next h (Letters text national name is) = state_with_value (codes "option") text h
 next h (Lines text layout name is) = state_with_value (codes "layout") text h
 
-page_word : (h : Held)
-    → walked rules [] (at_rest h 3) (codes "--page")
-    ≡ at_option (codes "page") (waiting_state (codes "page") h)
+walk_reads_page_option : (h : Held)
+    → walked rules [] (walk_at_position h 3) (codes "--page")
+    ≡ walk_at_option (codes "page") (waiting_state (codes "page") h)
 unfolding subttx_app clap_on_literals
-page_word h = refl
+walk_reads_page_option h = refl
 
-every_word : (h : Held)
-    → walked rules [] (at_rest h 3) (codes "--every")
-    ≡ at_option (codes "every") (waiting_state (codes "every") h)
+walk_reads_every_option : (h : Held)
+    → walked rules [] (walk_at_position h 3) (codes "--every")
+    ≡ walk_at_option (codes "every") (waiting_state (codes "every") h)
 unfolding subttx_app clap_on_literals
-every_word h = refl
+walk_reads_every_option h = refl
 
-origin_word : (h : Held)
-    → walked rules [] (at_rest h 3) (codes "--origin")
-    ≡ at_option (codes "origin") (waiting_state (codes "origin") h)
+walk_reads_origin_option : (h : Held)
+    → walked rules [] (walk_at_position h 3) (codes "--origin")
+    ≡ walk_at_option (codes "origin") (waiting_state (codes "origin") h)
 unfolding subttx_app clap_on_literals
-origin_word h = refl
+walk_reads_origin_option h = refl
 
-pace_word : (h : Held)
-    → walked rules [] (at_rest h 3) (codes "--pace")
-    ≡ at_option (codes "pace") (waiting_state (codes "pace") h)
+walk_reads_pace_option : (h : Held)
+    → walked rules [] (walk_at_position h 3) (codes "--pace")
+    ≡ walk_at_option (codes "pace") (waiting_state (codes "pace") h)
 unfolding subttx_app clap_on_literals
-pace_word h = refl
+walk_reads_pace_option h = refl
 
-pace_value : (h : Held) (text : Text)
+walk_reads_pace_value : (h : Held) (text : Text)
     → IsName text
-    → walked rules [] (at_option (codes "pace") (waiting_state (codes "pace") h)) text
-    ≡ at_rest (state_with_value (codes "pace") text h) 3
+    → walked rules [] (walk_at_option (codes "pace") (waiting_state (codes "pace") h)) text
+    ≡ walk_at_position (state_with_value (codes "pace") text h) 3
 unfolding subttx_app
-pace_value h text name =
-    value_walked rules (codes "pace") (waiting_state (codes "pace") h) text name ∙ refl
+walk_reads_pace_value h text name =
+    walk_takes_option_value rules (codes "pace") (waiting_state (codes "pace") h) text name ∙ refl
 
-complete_word : (h : Held)
-    → walked rules [] (at_rest h 3) (codes "--complete") ≡ at_rest (next h (Of (Any Complete))) 3
+walk_reads_complete_option : (h : Held)
+    → walked rules [] (walk_at_position h 3) (codes "--complete") ≡ walk_at_position
+    (next h (Of (Any Complete))) 3
 unfolding subttx_app clap_on_literals
-complete_word h = refl
+walk_reads_complete_option h = refl
 
-all_word : (h : Held)
-    → walked rules [] (at_rest h 3) (codes "--all") ≡ at_rest (next h (Of (Any EveryFault))) 3
+walk_reads_all_option : (h : Held)
+    → walked rules [] (walk_at_position h 3) (codes "--all") ≡ walk_at_position
+    (next h (Of (Any EveryFault))) 3
 unfolding subttx_app clap_on_literals
-all_word h = refl
+walk_reads_all_option h = refl
 
-option_word : (h : Held)
-    → walked rules [] (at_rest h 3) (codes "--option")
-    ≡ at_option (codes "option") (waiting_state (codes "option") h)
+walk_reads_national_option : (h : Held)
+    → walked rules [] (walk_at_position h 3) (codes "--option")
+    ≡ walk_at_option (codes "option") (waiting_state (codes "option") h)
 unfolding subttx_app clap_on_literals
-option_word h = refl
+walk_reads_national_option h = refl
 
-option_value : (h : Held) (text : Text)
+walk_reads_national_value : (h : Held) (text : Text)
     → IsName text
-    → walked rules [] (at_option (codes "option") (waiting_state (codes "option") h)) text
-    ≡ at_rest (state_with_value (codes "option") text h) 3
+    → walked rules [] (walk_at_option (codes "option") (waiting_state (codes "option") h)) text
+    ≡ walk_at_position (state_with_value (codes "option") text h) 3
 unfolding subttx_app
-option_value h text name =
-    value_walked rules (codes "option") (waiting_state (codes "option") h) text name ∙ refl
-
-layout_word : (h : Held)
-    → walked rules [] (at_rest h 3) (codes "--layout")
-    ≡ at_option (codes "layout") (waiting_state (codes "layout") h)
-unfolding subttx_app clap_on_literals
-layout_word h = refl
-
-layout_value : (h : Held) (text : Text)
-    → IsName text
-    → walked rules [] (at_option (codes "layout") (waiting_state (codes "layout") h)) text
-    ≡ at_rest (state_with_value (codes "layout") text h) 3
-unfolding subttx_app
-layout_value h text name =
-    value_walked rules (codes "layout") (waiting_state (codes "layout") h) text name ∙ refl
-
-pid_word : (h : Held)
-    → walked rules [] (at_rest h 3) (codes "--pid")
-    ≡ at_option (codes "pid") (waiting_state (codes "pid") h)
-unfolding subttx_app clap_on_literals
-pid_word h = refl
-
-size_word : (h : Held)
-    → walked rules [] (at_rest h 3) (codes "--packet-size")
-    ≡ at_option (codes "packet-size") (waiting_state (codes "packet-size") h)
-unfolding subttx_app clap_on_literals
-size_word h = refl
-
-pes_word : (h : Held)
-    → walked rules [] (at_rest h 3) (codes "--pes")
-    ≡ at_option (codes "pes") (waiting_state (codes "pes") h)
-unfolding subttx_app clap_on_literals
-pes_word h = refl
-
-pid_value : (h : Held) (text : Text)
-    → IsName text
-    → walked rules [] (at_option (codes "pid") (waiting_state (codes "pid") h)) text
-    ≡ at_rest (state_with_value (codes "pid") text h) 3
-unfolding subttx_app
-pid_value h text name =
-    value_walked rules (codes "pid") (waiting_state (codes "pid") h) text name ∙ refl
-
-size_value : (h : Held) (text : Text)
-    → IsName text
-    → walked rules [] (at_option (codes "packet-size") (waiting_state (codes "packet-size") h)) text
-    ≡ at_rest (state_with_value (codes "packet-size") text h) 3
-unfolding subttx_app
-size_value h text name =
-    value_walked rules (codes "packet-size") (waiting_state (codes "packet-size") h) text name ∙
+walk_reads_national_value h text name =
+    walk_takes_option_value rules (codes "option") (waiting_state (codes "option") h) text name ∙
     refl
 
-pes_value : (h : Held) (text : Text)
-    → IsName text
-    → walked rules [] (at_option (codes "pes") (waiting_state (codes "pes") h)) text
-    ≡ at_rest (state_with_value (codes "pes") text h) 3
-unfolding subttx_app
-pes_value h text name =
-    value_walked rules (codes "pes") (waiting_state (codes "pes") h) text name ∙ refl
-
-page_value : (h : Held) (text : Text)
-    → IsName text
-    → walked rules [] (at_option (codes "page") (waiting_state (codes "page") h)) text
-    ≡ at_rest (state_with_value (codes "page") text h) 3
-unfolding subttx_app
-page_value h text name =
-    value_walked rules (codes "page") (waiting_state (codes "page") h) text name ∙ refl
-
-every_value : (h : Held) (text : Text)
-    → IsName text
-    → walked rules [] (at_option (codes "every") (waiting_state (codes "every") h)) text
-    ≡ at_rest (state_with_value (codes "every") text h) 3
-unfolding subttx_app
-every_value h text name =
-    value_walked rules (codes "every") (waiting_state (codes "every") h) text name ∙ refl
-
-origin_value : (h : Held) (text : Text)
-    → IsName text
-    → walked rules [] (at_option (codes "origin") (waiting_state (codes "origin") h)) text
-    ≡ at_rest (state_with_value (codes "origin") text h) 3
-unfolding subttx_app
-origin_value h text name =
-    value_walked rules (codes "origin") (waiting_state (codes "origin") h) text name ∙ refl
-
-from_word : (h : Held)
-    → walked rules [] (at_rest h 3) (codes "--from")
-    ≡ at_option (codes "from") (waiting_state (codes "from") h)
+walk_reads_layout_option : (h : Held)
+    → walked rules [] (walk_at_position h 3) (codes "--layout")
+    ≡ walk_at_option (codes "layout") (waiting_state (codes "layout") h)
 unfolding subttx_app clap_on_literals
-from_word h = refl
+walk_reads_layout_option h = refl
 
-from_value : (h : Held) (text : Text)
+walk_reads_layout_value : (h : Held) (text : Text)
     → IsName text
-    → walked rules [] (at_option (codes "from") (waiting_state (codes "from") h)) text
-    ≡ at_rest (state_with_value (codes "from") text h) 3
+    → walked rules [] (walk_at_option (codes "layout") (waiting_state (codes "layout") h)) text
+    ≡ walk_at_position (state_with_value (codes "layout") text h) 3
 unfolding subttx_app
-from_value h text name =
-    value_walked rules (codes "from") (waiting_state (codes "from") h) text name ∙ refl
+walk_reads_layout_value h text name =
+    walk_takes_option_value rules (codes "layout") (waiting_state (codes "layout") h) text name ∙
+    refl
 
-to_word : (h : Held)
-    → walked rules [] (at_rest h 3) (codes "--to")
-    ≡ at_option (codes "to") (waiting_state (codes "to") h)
+walk_reads_pid_option : (h : Held)
+    → walked rules [] (walk_at_position h 3) (codes "--pid")
+    ≡ walk_at_option (codes "pid") (waiting_state (codes "pid") h)
 unfolding subttx_app clap_on_literals
-to_word h = refl
+walk_reads_pid_option h = refl
 
-to_value : (h : Held) (text : Text)
+walk_reads_size_option : (h : Held)
+    → walked rules [] (walk_at_position h 3) (codes "--packet-size")
+    ≡ walk_at_option (codes "packet-size") (waiting_state (codes "packet-size") h)
+unfolding subttx_app clap_on_literals
+walk_reads_size_option h = refl
+
+walk_reads_pes_option : (h : Held)
+    → walked rules [] (walk_at_position h 3) (codes "--pes")
+    ≡ walk_at_option (codes "pes") (waiting_state (codes "pes") h)
+unfolding subttx_app clap_on_literals
+walk_reads_pes_option h = refl
+
+walk_reads_pid_value : (h : Held) (text : Text)
     → IsName text
-    → walked rules [] (at_option (codes "to") (waiting_state (codes "to") h)) text
-    ≡ at_rest (state_with_value (codes "to") text h) 3
+    → walked rules [] (walk_at_option (codes "pid") (waiting_state (codes "pid") h)) text
+    ≡ walk_at_position (state_with_value (codes "pid") text h) 3
 unfolding subttx_app
-to_value h text name =
-    value_walked rules (codes "to") (waiting_state (codes "to") h) text name ∙ refl
+walk_reads_pid_value h text name =
+    walk_takes_option_value rules (codes "pid") (waiting_state (codes "pid") h) text name ∙ refl
 
-open_word : (h : Held)
-    → walked rules [] (at_rest h 3) (codes "--open") ≡ at_rest (next h (Of AlsoOpen)) 3
+walk_reads_size_value : (h : Held) (text : Text)
+    → IsName text
+    → walked rules [] (walk_at_option (codes "packet-size") (waiting_state (codes "packet-size") h))
+    text
+    ≡ walk_at_position (state_with_value (codes "packet-size") text h) 3
+unfolding subttx_app
+walk_reads_size_value h text name =
+    walk_takes_option_value rules (codes "packet-size") (waiting_state (codes "packet-size") h) text
+    name ∙
+    refl
+
+walk_reads_pes_value : (h : Held) (text : Text)
+    → IsName text
+    → walked rules [] (walk_at_option (codes "pes") (waiting_state (codes "pes") h)) text
+    ≡ walk_at_position (state_with_value (codes "pes") text h) 3
+unfolding subttx_app
+walk_reads_pes_value h text name =
+    walk_takes_option_value rules (codes "pes") (waiting_state (codes "pes") h) text name ∙ refl
+
+walk_reads_page_value : (h : Held) (text : Text)
+    → IsName text
+    → walked rules [] (walk_at_option (codes "page") (waiting_state (codes "page") h)) text
+    ≡ walk_at_position (state_with_value (codes "page") text h) 3
+unfolding subttx_app
+walk_reads_page_value h text name =
+    walk_takes_option_value rules (codes "page") (waiting_state (codes "page") h) text name ∙ refl
+
+walk_reads_every_value : (h : Held) (text : Text)
+    → IsName text
+    → walked rules [] (walk_at_option (codes "every") (waiting_state (codes "every") h)) text
+    ≡ walk_at_position (state_with_value (codes "every") text h) 3
+unfolding subttx_app
+walk_reads_every_value h text name =
+    walk_takes_option_value rules (codes "every") (waiting_state (codes "every") h) text name ∙ refl
+
+walk_reads_origin_value : (h : Held) (text : Text)
+    → IsName text
+    → walked rules [] (walk_at_option (codes "origin") (waiting_state (codes "origin") h)) text
+    ≡ walk_at_position (state_with_value (codes "origin") text h) 3
+unfolding subttx_app
+walk_reads_origin_value h text name =
+    walk_takes_option_value rules (codes "origin") (waiting_state (codes "origin") h) text name ∙
+    refl
+
+walk_reads_from_option : (h : Held)
+    → walked rules [] (walk_at_position h 3) (codes "--from")
+    ≡ walk_at_option (codes "from") (waiting_state (codes "from") h)
 unfolding subttx_app clap_on_literals
-open_word h = refl
+walk_reads_from_option h = refl
 
-walk_step : (h : Held) (choice : DisplayOption)
-    → fold (walked rules []) (at_rest h 3) (arguments_for choice) ≡ at_rest (next h choice) 3
-walk_step h (Of (Any (Page text page is))) =
-    ap (λ (w : Walk). walked rules [] w text) (page_word h)
-    ∙ page_value h text (page_is_name text page is)
-walk_step h (Of (Any (Every text frames is))) =
-    ap (λ (w : Walk). walked rules [] w text) (every_word h)
-    ∙ every_value h text (number_is_name text frames is)
-walk_step h (Of (Any (Origin text pts is))) =
-    ap (λ (w : Walk). walked rules [] w text) (origin_word h)
-    ∙ origin_value h text (number_is_name text pts is)
-walk_step h (Of (Any (Pace text frames is))) =
-    ap (λ (w : Walk). walked rules [] w text) (pace_word h)
-    ∙ pace_value h text (pace_is_name text frames is)
-walk_step h (Of (Any Complete)) = complete_word h
-walk_step h (Of (Any EveryFault)) = all_word h
-walk_step h (Of (Pid text pid is)) =
-    ap (λ (w : Walk). walked rules [] w text) (pid_word h)
-    ∙ pid_value h text (pid_is_name text pid is)
-walk_step h (Of (Size text size is)) =
-    ap (λ (w : Walk). walked rules [] w text) (size_word h)
-    ∙ size_value h text (size_is_name text size is)
-walk_step h (Of (Numbers text range is)) =
-    ap (λ (w : Walk). walked rules [] w text) (pes_word h)
-    ∙ pes_value h text (range_is_name text range is)
-walk_step h (Of (From text frame name is)) =
-    ap (λ (w : Walk). walked rules [] w text) (from_word h) ∙ from_value h text name
-walk_step h (Of (To text frame name is)) =
-    ap (λ (w : Walk). walked rules [] w text) (to_word h) ∙ to_value h text name
-walk_step h (Of AlsoOpen) = open_word h
-walk_step h (Letters text national name is) =
-    ap (λ (w : Walk). walked rules [] w text) (option_word h)
-    ∙ option_value h text name
-walk_step h (Lines text layout name is) =
-    ap (λ (w : Walk). walked rules [] w text) (layout_word h)
-    ∙ layout_value h text name
+walk_reads_from_value : (h : Held) (text : Text)
+    → IsName text
+    → walked rules [] (walk_at_option (codes "from") (waiting_state (codes "from") h)) text
+    ≡ walk_at_position (state_with_value (codes "from") text h) 3
+unfolding subttx_app
+walk_reads_from_value h text name =
+    walk_takes_option_value rules (codes "from") (waiting_state (codes "from") h) text name ∙ refl
 
-pub walk_all : (h : Held) (choices : List DisplayOption)
-    → fold (walked rules []) (at_rest h 3) (flat_map arguments_for choices)
-    ≡ at_rest (fold next h choices) 3
-walk_all h [] = refl
-walk_all h (choice ∷ choices) =
-    fold-append (walked rules []) (at_rest h 3) (arguments_for choice)
-    (flat_map arguments_for choices)
-    ∙ ap (λ (w : Walk). fold (walked rules []) w (flat_map arguments_for choices))
-    (walk_step h choice)
-    ∙ walk_all (next h choice) choices
+walk_reads_to_option : (h : Held)
+    → walked rules [] (walk_at_position h 3) (codes "--to")
+    ≡ walk_at_option (codes "to") (waiting_state (codes "to") h)
+unfolding subttx_app clap_on_literals
+walk_reads_to_option h = refl
+
+walk_reads_to_value : (h : Held) (text : Text)
+    → IsName text
+    → walked rules [] (walk_at_option (codes "to") (waiting_state (codes "to") h)) text
+    ≡ walk_at_position (state_with_value (codes "to") text h) 3
+unfolding subttx_app
+walk_reads_to_value h text name =
+    walk_takes_option_value rules (codes "to") (waiting_state (codes "to") h) text name ∙ refl
+
+walk_reads_open_option : (h : Held)
+    → walked rules [] (walk_at_position h 3) (codes "--open") ≡ walk_at_position
+    (next h (Of IncludeOpen)) 3
+unfolding subttx_app clap_on_literals
+walk_reads_open_option h = refl
+
+walk_reads_display_option : (h : Held) (choice : DisplayOption)
+    → fold (walked rules []) (walk_at_position h 3) (arguments_of_display_option choice) ≡
+    walk_at_position (next h choice) 3
+walk_reads_display_option h (Of (Any (Page text page is))) =
+    ap (λ (w : Walk). walked rules [] w text) (walk_reads_page_option h)
+    ∙ walk_reads_page_value h text (page_is_name text page is)
+walk_reads_display_option h (Of (Any (Every text frames is))) =
+    ap (λ (w : Walk). walked rules [] w text) (walk_reads_every_option h)
+    ∙ walk_reads_every_value h text (number_is_name text frames is)
+walk_reads_display_option h (Of (Any (Origin text pts is))) =
+    ap (λ (w : Walk). walked rules [] w text) (walk_reads_origin_option h)
+    ∙ walk_reads_origin_value h text (number_is_name text pts is)
+walk_reads_display_option h (Of (Any (Pace text frames is))) =
+    ap (λ (w : Walk). walked rules [] w text) (walk_reads_pace_option h)
+    ∙ walk_reads_pace_value h text (pace_is_name text frames is)
+walk_reads_display_option h (Of (Any Complete)) = walk_reads_complete_option h
+walk_reads_display_option h (Of (Any EveryFault)) = walk_reads_all_option h
+walk_reads_display_option h (Of (Pid text pid is)) =
+    ap (λ (w : Walk). walked rules [] w text) (walk_reads_pid_option h)
+    ∙ walk_reads_pid_value h text (pid_is_name text pid is)
+walk_reads_display_option h (Of (Size text size is)) =
+    ap (λ (w : Walk). walked rules [] w text) (walk_reads_size_option h)
+    ∙ walk_reads_size_value h text (size_is_name text size is)
+walk_reads_display_option h (Of (Numbers text range is)) =
+    ap (λ (w : Walk). walked rules [] w text) (walk_reads_pes_option h)
+    ∙ walk_reads_pes_value h text (range_is_name text range is)
+walk_reads_display_option h (Of (From text frame name is)) =
+    ap (λ (w : Walk). walked rules [] w text) (walk_reads_from_option h) ∙ walk_reads_from_value h
+    text name
+walk_reads_display_option h (Of (To text frame name is)) =
+    ap (λ (w : Walk). walked rules [] w text) (walk_reads_to_option h) ∙ walk_reads_to_value h text
+    name
+walk_reads_display_option h (Of IncludeOpen) = walk_reads_open_option h
+walk_reads_display_option h (Letters text national name is) =
+    ap (λ (w : Walk). walked rules [] w text) (walk_reads_national_option h)
+    ∙ walk_reads_national_value h text name
+walk_reads_display_option h (Lines text layout name is) =
+    ap (λ (w : Walk). walked rules [] w text) (walk_reads_layout_option h)
+    ∙ walk_reads_layout_value h text name
+
+pub walk_reads_display_options : (h : Held) (choices : List DisplayOption)
+    → fold (walked rules []) (walk_at_position h 3) (flat_map arguments_of_display_option choices)
+    ≡ walk_at_position (fold next h choices) 3
+walk_reads_display_options h [] = refl
+walk_reads_display_options h (choice ∷ choices) =
+    fold-append (walked rules []) (walk_at_position h 3) (arguments_of_display_option choice)
+    (flat_map arguments_of_display_option choices)
+    ∙ ap (λ (w : Walk). fold (walked rules []) w (flat_map arguments_of_display_option choices))
+    (walk_reads_display_option h choice)
+    ∙ walk_reads_display_options (next h choice) choices
 
 abbrev pub rows_of_state : Held → List Row
 rows_of_state h = (settled rules h).rows
 
-rows_step : (h : Held) (choice : DisplayOption)
+option_sets_row : (h : Held) (choice : DisplayOption)
     → rows_of_state (next h choice)
     ≡ set_row (key choice) (reading_by (rule_at (key choice))) (option_values choice)
     (rows_of_state h)
 unfolding subttx_app
-rows_step h (Of (Any (Page text page is))) = refl
-rows_step h (Of (Any (Every text frames is))) = refl
-rows_step h (Of (Any (Origin text pts is))) = refl
-rows_step h (Of (Any (Pace text frames is))) = refl
-rows_step h (Of (Any Complete)) = refl
-rows_step h (Of (Any EveryFault)) = refl
-rows_step h (Of (Pid text pid is)) = refl
-rows_step h (Of (Size text size is)) = refl
-rows_step h (Of (Numbers text range is)) = refl
-rows_step h (Of (From text frame name is)) = refl
-rows_step h (Of (To text frame name is)) = refl
-rows_step h (Of AlsoOpen) = refl
-rows_step h (Letters text national name is) = refl
-rows_step h (Lines text layout name is) = refl
+option_sets_row h (Of (Any (Page text page is))) = refl
+option_sets_row h (Of (Any (Every text frames is))) = refl
+option_sets_row h (Of (Any (Origin text pts is))) = refl
+option_sets_row h (Of (Any (Pace text frames is))) = refl
+option_sets_row h (Of (Any Complete)) = refl
+option_sets_row h (Of (Any EveryFault)) = refl
+option_sets_row h (Of (Pid text pid is)) = refl
+option_sets_row h (Of (Size text size is)) = refl
+option_sets_row h (Of (Numbers text range is)) = refl
+option_sets_row h (Of (From text frame name is)) = refl
+option_sets_row h (Of (To text frame name is)) = refl
+option_sets_row h (Of IncludeOpen) = refl
+option_sets_row h (Letters text national name is) = refl
+option_sets_row h (Lines text layout name is) = refl
 
 -- The values of an argument after one more option.
 abbrev pub values_with_choice : Text → List (List Text) → DisplayOption → List (List Text)
 values_with_choice id vs choice = if bytes_eq (key choice) id then option_values choice ∷ [] else vs
 
-key_same : (choice : DisplayOption) → bytes_eq (key choice) (key choice) ≡ true
-key_same (Of (Any (Page text page is))) = refl
-key_same (Of (Any (Every text frames is))) = refl
-key_same (Of (Any (Origin text pts is))) = refl
-key_same (Of (Any (Pace text frames is))) = refl
-key_same (Of (Any Complete)) = refl
-key_same (Of (Any EveryFault)) = refl
-key_same (Of (Pid text pid is)) = refl
-key_same (Of (Size text size is)) = refl
-key_same (Of (Numbers text range is)) = refl
-key_same (Of (From text frame name is)) = refl
-key_same (Of (To text frame name is)) = refl
-key_same (Of AlsoOpen) = refl
-key_same (Letters text national name is) = refl
-key_same (Lines text layout name is) = refl
+key_equals_itself : (choice : DisplayOption) → bytes_eq (key choice) (key choice) ≡ true
+key_equals_itself (Of (Any (Page text page is))) = refl
+key_equals_itself (Of (Any (Every text frames is))) = refl
+key_equals_itself (Of (Any (Origin text pts is))) = refl
+key_equals_itself (Of (Any (Pace text frames is))) = refl
+key_equals_itself (Of (Any Complete)) = refl
+key_equals_itself (Of (Any EveryFault)) = refl
+key_equals_itself (Of (Pid text pid is)) = refl
+key_equals_itself (Of (Size text size is)) = refl
+key_equals_itself (Of (Numbers text range is)) = refl
+key_equals_itself (Of (From text frame name is)) = refl
+key_equals_itself (Of (To text frame name is)) = refl
+key_equals_itself (Of IncludeOpen) = refl
+key_equals_itself (Letters text national name is) = refl
+key_equals_itself (Lines text layout name is) = refl
 
-set_by : (b : Bool) (id : Text) (how : Reading) (choice : DisplayOption) (rows : List Row)
+setting_row_changes_own_id : (b : Bool) (id : Text) (how : Reading) (choice : DisplayOption)
+    (rows : List Row)
     → bytes_eq (key choice) id ≡ b
     → drop 1 (values_at id rows) ≡ []
     → values_at id (set_row (key choice) how (option_values choice) rows)
     ≡ (if b then option_values choice ∷ [] else values_at id rows)
-set_by true id how choice rows is short =
+setting_row_changes_own_id true id how choice rows is short =
     subst
     (λ (x : Text).
     drop 1 (values_at x rows) ≡ []
     → values_at x (set_row (key choice) how (option_values choice) rows) ≡ option_values choice ∷
     [])
-    (same_id (key choice) id is)
-    (set_same (key choice) (key_same choice) how (option_values choice) rows) short
-set_by false id how choice rows is short =
+    (equal_bytes_mean_equal_ids (key choice) id is)
+    (set_same (key choice) (key_equals_itself choice) how (option_values choice) rows) short
+setting_row_changes_own_id false id how choice rows is short =
     set_other (key choice) id is how (option_values choice) rows
 
 values_after_option : (id : Text) (h : Held) (choice : DisplayOption)
@@ -490,16 +509,17 @@ values_after_option : (id : Text) (h : Held) (choice : DisplayOption)
     (values_at id (rows_of_state h))
     choice
 values_after_option id h choice short =
-    ap (values_at id) (rows_step h choice)
-    ∙ set_by (bytes_eq (key choice) id) id (reading_by (rule_at (key choice))) choice
+    ap (values_at id) (option_sets_row h choice)
+    ∙ setting_row_changes_own_id (bytes_eq (key choice) id) id (reading_by (rule_at (key choice)))
+    choice
     (rows_of_state h)
     refl short
 
-short_by : (b : Bool) (v : List Text) (vs : List (List Text))
+option_keeps_one_value : (b : Bool) (v : List Text) (vs : List (List Text))
     → drop 1 vs ≡ []
     → drop 1 (if b then v ∷ [] else vs) ≡ []
-short_by true v vs short = refl
-short_by false v vs short = short
+option_keeps_one_value true v vs short = refl
+option_keeps_one_value false v vs short = short
 
 pub values_after_options : (id : Text) (h : Held) (choices : List DisplayOption)
     → drop 1 (values_at id (rows_of_state h)) ≡ []
@@ -510,6 +530,7 @@ values_after_options id h (choice ∷ choices) short =
     let one = values_after_option id h choice short in
     values_after_options id (next h choice) choices
     (ap (drop 1) one
-    ∙ short_by (bytes_eq (key choice) id) (option_values choice) (values_at id (rows_of_state h))
+    ∙ option_keeps_one_value (bytes_eq (key choice) id) (option_values choice)
+    (values_at id (rows_of_state h))
     short)
     ∙ ap (λ (vs : List (List Text)). fold (values_with_choice id) vs choices) one

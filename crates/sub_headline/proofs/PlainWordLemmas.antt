@@ -18,7 +18,7 @@ use Rattle.clap.proofs.OnLiterals.{clap_on_literals}
 use Rattle.ttx_packet.specs.PageId.{page_of_text}
 use Rattle.stl_file.specs.Scope.{whole}
 use Rattle.stl_rows.specs.Layout.{default_layout}
-use Rattle.stl_rows.specs.SubSets.{option_named, sub_set}
+use Rattle.stl_rows.specs.SubSets.{named_option, sub_set}
 use Rattle.stl_rows.specs.declared.national.National.TheVariants.{English}
 use Rattle.sub_request.specs.declared.request.Request.{Request}
 use Rattle.sub_request.specs.declared.request.UsageFault.{UsageFault}
@@ -26,73 +26,79 @@ use Rattle.sub_words.specs.Arguments.{pes_selection_of}
 use Rattle.sub_words.specs.Commands.{command_in, subttx_app}
 use Rattle.sub_words.specs.Help.{requests_help}
 use Rattle.sub_words.specs.PesTexts.{packet_size_of_text}
-use Rattle.sub_words.specs.Requests.{Requested, IsRequestOf, requested_by, request_by_command}
-use Rattle.sub_words.specs.Requests.{requested_in}
+use Rattle.sub_words.specs.Requests.{Requested, IsRequestOf, value_of_request, request_by_command}
+use Rattle.sub_words.specs.Requests.{command_request}
 use Rattle.sub_words.specs.Texts.{number_of_text}
 use Rattle.sub_words.specs.Version.{requests_version}
 use Rattle.sub_headline.specs.PlainArguments.{IsName, LawOfPlainArguments, default_options}
 use Rattle.sub_headline.specs.PlainArguments.{entire_pes_file}
 
-no_hyphen : (x : ℕ) (xs : Text) → IsName (x ∷ xs) → nat_eq x 45 ≡ false
-no_hyphen x xs name = grind (arith, nat_tests)
+name_has_no_hyphen : (x : ℕ) (xs : Text) → IsName (x ∷ xs) → nat_eq x 45 ≡ false
+name_has_no_hyphen x xs name = grind (arith, nat_tests)
 
-pub no_dashes : (word : Text) → IsName word → bytes_eq word (45 ∷ 45 ∷ []) ≡ false
-no_dashes [] name = refl
-no_dashes (x ∷ xs) name =
-    ap (λ (b : Bool). b && bytes_eq xs (45 ∷ [])) (no_hyphen x xs name)
+pub name_is_not_two_dashes : (word : Text) → IsName word → bytes_eq word (45 ∷ 45 ∷ []) ≡ false
+name_is_not_two_dashes [] name = refl
+name_is_not_two_dashes (x ∷ xs) name =
+    ap (λ (b : Bool). b && bytes_eq xs (45 ∷ [])) (name_has_no_hyphen x xs name)
 
-no_help : (program stl pes : Text)
+requests_no_help : (program stl pes : Text)
     → requests_help (program ∷ codes "check" ∷ stl ∷ pes ∷ []) ≡ false
 unfolding requests_help
-no_help program stl pes = refl
+requests_no_help program stl pes = refl
 
-no_version : (program stl pes : Text)
+requests_no_version : (program stl pes : Text)
     → requests_version (program ∷ codes "check" ∷ stl ∷ pes ∷ []) ≡ false
 unfolding requests_version
-no_version program stl pes = refl
+requests_no_version program stl pes = refl
 
-pub no_long_option : (word : Text) → IsName word → long_of word ≡ None
-no_long_option [] name = refl
-no_long_option (x ∷ xs) name =
+pub name_is_no_long_option : (word : Text) → IsName word → long_of word ≡ None
+name_is_no_long_option [] name = refl
+name_is_no_long_option (x ∷ xs) name =
     ap
     (λ (b : Bool).
     option_and_then long_of_rest
     (option_and_then (strip_byte 45) (let o : Option Text = if b then Some xs else None in o)))
-    (no_hyphen x xs name)
+    (name_has_no_hyphen x xs name)
 
-pub no_short_option : (word : Text) → IsName word → short_of word ≡ None
-no_short_option [] name = refl
-no_short_option (x ∷ xs) name =
+pub name_is_no_short_option : (word : Text) → IsName word → short_of word ≡ None
+name_is_no_short_option [] name = refl
+name_is_no_short_option (x ∷ xs) name =
     ap
     (λ (b : Bool).
     option_and_then short_of_rest (let o : Option Text = if b then Some xs else None in o))
-    (no_hyphen x xs name)
+    (name_has_no_hyphen x xs name)
 
-plain_other : (c : List Rule) (position : ℕ) (word : Text) (h : Held)
+name_is_plain_word : (c : List Rule) (position : ℕ) (word : Text) (h : Held)
     → IsName word
     → subcommand_or_other c None idle position word h ≡ (h, value)
-plain_other c position word h name =
+name_is_plain_word c position word h name =
     ap
     (λ (b : Bool).
     let met : Held × Step =
     if b then (h, trailing position) else long_or_other c idle word (long_of word) h in met)
-    (no_dashes word name)
-    ∙ ap (λ o. long_or_other c idle word o h) (no_long_option word name)
-    ∙ ap (λ o. short_or_plain c idle word o h) (no_short_option word name)
+    (name_is_not_two_dashes word name)
+    ∙ ap (λ o. long_or_other c idle word o h) (name_is_no_long_option word name)
+    ∙ ap (λ o. short_or_plain c idle word o h) (name_is_no_short_option word name)
 
 -- The state of the argument parser `clap` if no option lacks its value.
-abbrev pub at_rest : Held → ℕ → Walk
-at_rest h position =
-    record { held = h; waiting = idle; position = position; is_trailing = false; stopped = None }
+abbrev pub walk_at_position : Held → ℕ → Walk
+walk_at_position h position =
+    record {
+      receiver_state = h;
+      waiting = idle;
+      position = position;
+      is_trailing = false;
+      stopped = None;
+    }
 
-pub walked_plain : (c : List Rule) (h : Held) (position : ℕ) (word : Text)
+pub walk_takes_plain_word : (c : List Rule) (h : Held) (position : ℕ) (word : Text)
     → IsName word
-    → walked c [] (at_rest h position) word
-    ≡ to_positional c (arg_by_index c position) word (at_rest h position) h
+    → walked c [] (walk_at_position h position) word
+    ≡ to_positional c (arg_by_index c position) word (walk_at_position h position) h
 unfolding walked
-walked_plain c h position word name =
-    ap (λ (met : Held × Step). after_step c word (at_rest h position) met.0 met.1)
-    (plain_other c position word h name)
+walk_takes_plain_word c h position word name =
+    ap (λ (met : Held × Step). after_step c word (walk_at_position h position) met.0 met.1)
+    (name_is_plain_word c position word h name)
 
 -- The definition of the command `check`, as the argument parser `clap` builds it.
 abbrev pub check_shape : Shape
@@ -103,72 +109,76 @@ check_shape =
 abbrev pub state_after_files : (stl pes : Text) → Held
 state_after_files stl pes =
     let c = check_shape.rules in
-    let one = to_positional c (arg_by_index c 1) stl (at_rest nothing_held 1) nothing_held in
-    (to_positional c (arg_by_index c 2) pes one one.held).held
+    let one = to_positional c (arg_by_index c 1) stl (walk_at_position nothing_held 1) nothing_held
+    in
+    (to_positional c (arg_by_index c 2) pes one one.receiver_state).receiver_state
 
-command_eq : (program stl pes : Text)
+program_name_gives_check : (program stl pes : Text)
     → command_in (program ∷ codes "check" ∷ stl ∷ pes ∷ [])
     ≡ Some (codes "check", rows_after check_shape.rules [] (stl ∷ pes ∷ []))
 unfolding command_in subttx_app clap_on_literals
-command_eq program stl pes = refl
+program_name_gives_check program stl pes = refl
 
-rows_are : (stl pes : Text)
+file_arguments_give_rows : (stl pes : Text)
     → IsName stl
     → IsName pes
     → rows_after check_shape.rules [] (stl ∷ pes ∷ [])
     ≡ finished check_shape.rules (state_after_files stl pes)
 unfolding subttx_app
-rows_are stl pes is_stl is_pes =
-    ap (λ (w : Walk). finished check_shape.rules (walked check_shape.rules [] w pes).held)
-    (walked_plain check_shape.rules nothing_held 1 stl is_stl)
-    ∙ ap (λ (w : Walk). finished check_shape.rules w.held)
-    (walked_plain check_shape.rules
-    (to_positional check_shape.rules (arg_by_index check_shape.rules 1) stl (at_rest nothing_held 1)
-    nothing_held).held 2 pes is_pes)
+file_arguments_give_rows stl pes is_stl is_pes =
+    ap (λ (w : Walk). finished check_shape.rules (walked check_shape.rules [] w pes).receiver_state)
+    (walk_takes_plain_word check_shape.rules nothing_held 1 stl is_stl)
+    ∙ ap (λ (w : Walk). finished check_shape.rules w.receiver_state)
+    (walk_takes_plain_word check_shape.rules
+    (to_positional check_shape.rules (arg_by_index check_shape.rules 1) stl
+    (walk_at_position nothing_held 1)
+    nothing_held).receiver_state 2 pes is_pes)
 
-requested_are : (stl pes : Text)
-    → requested_in (codes "check") (finished check_shape.rules (state_after_files stl pes))
+file_rows_give_request : (stl pes : Text)
+    → command_request (codes "check") (finished check_shape.rules (state_after_files stl pes))
     ≡ Ok (Requested.Check stl (entire_pes_file pes) default_options English default_layout whole
     false)
-unfolding subttx_app clap_on_literals number_of_text page_of_text option_named sub_set
+unfolding subttx_app clap_on_literals number_of_text page_of_text named_option sub_set
     pes_selection_of packet_size_of_text
-requested_are stl pes = refl
+file_rows_give_request stl pes = refl
 
-same_requested : (reported : Option (Result Requested UsageFault)) (a b : Requested)
+equal_results_request_equally : (reported : Option (Result Requested UsageFault)) (a b : Requested)
     → reported ≡ Some (Ok a)
     → reported ≡ Some (Ok b)
     → a ≡ b
-same_requested reported a b one other = let e = sym one ∙ other in cc
+equal_results_request_equally reported a b one other = let e = sym one ∙ other in cc
 
-plain_requested : (program stl pes : Text)
+file_arguments_give_request : (program stl pes : Text)
     → IsName stl
     → IsName pes
     → request_by_command (program ∷ codes "check" ∷ stl ∷ pes ∷ [])
     ≡ Some
     (Ok (Requested.Check stl (entire_pes_file pes) default_options English default_layout whole
     false))
-plain_requested program stl pes is_stl is_pes =
-    ap (option_map (λ command. requested_in command.0 command.1)) (command_eq program stl pes)
-    ∙ ap (λ (rows : List Row). Some (requested_in (codes "check") rows))
-    (rows_are stl pes is_stl is_pes)
-    ∙ ap (λ requested. Some requested) (requested_are stl pes)
+file_arguments_give_request program stl pes is_stl is_pes =
+    ap (option_map (λ command. command_request command.0 command.1)) (program_name_gives_check
+    program stl pes)
+    ∙ ap (λ (rows : List Row). Some (command_request (codes "check") rows))
+    (file_arguments_give_rows stl pes is_stl is_pes)
+    ∙ ap (λ requested. Some requested) (file_rows_give_request stl pes)
 
 pub request_of_arguments : (arguments : List Text) (request : Request) (requested : Requested)
     → requests_version arguments ≡ false
     → requests_help arguments ≡ false
     → request_by_command arguments ≡ Some (Ok requested)
     → IsRequestOf arguments request
-    → requested_by request ≡ requested
+    → value_of_request request ≡ requested
 request_of_arguments arguments request requested unversioned none is (inl version) =
     let e = sym unversioned ∙ version.0 in cc
 request_of_arguments arguments request requested unversioned none is (inr (inl help)) = let e = sym
     none
     ∙ help.1 in cc
-request_of_arguments arguments request requested unversioned none is (inr (inr of)) = same_requested
+request_of_arguments arguments request requested unversioned none is
+    (inr (inr of)) = equal_results_request_equally
     _ _ _ of.2.requested is
 
 pub law_of_plain_arguments : LawOfPlainArguments
 law_of_plain_arguments program stl pes request is_stl is_pes asks =
     request_of_arguments (program ∷ codes "check" ∷ stl ∷ pes ∷ []) request _
-    (no_version program stl pes) (no_help program stl pes)
-    (plain_requested program stl pes is_stl is_pes) asks
+    (requests_no_version program stl pes) (requests_no_help program stl pes)
+    (file_arguments_give_request program stl pes is_stl is_pes) asks

@@ -21,75 +21,84 @@ abbrev pub first_text : List (List Text) → Option Text
 first_text [] = None
 first_text (v ∷ vs) = slice_get v 0
 
-abbrev is_there : List (List Text) → Bool
-is_there [] = false
-is_there (v ∷ vs) = true
+abbrev is_present : List (List Text) → Bool
+is_present [] = false
+is_present (v ∷ vs) = true
 
 -- The rows after an argument was used again.
 abbrev pub set_row : Text → Reading → List Text → List Row → List Row
 set_row id how option_values rows = with_values id how CommandLine option_values (without id rows)
 
-pub same_id : (a b : Text) → bytes_eq a b ≡ true → a ≡ b
-same_id a b is = (bytes_eq-Decides a b).0 is
+pub equal_bytes_mean_equal_ids : (a b : Text) → bytes_eq a b ≡ true → a ≡ b
+equal_bytes_mean_equal_ids a b is = (bytes_eq-Decides a b).0 is
 
-first_by : (b : Bool) (id : Text) (r : Row) (rs : List Row)
+first_value_by_test : (b : Bool) (id : Text) (r : Row) (rs : List Row)
     → first_of id rs ≡ first_text (values_at id rs)
     → option_and_then (λ (r : Row). slice_get r.values 0)
     (if b then Some r else find (λ (r : Row). bytes_eq r.id id) rs)
     ≡ first_text (if b then r.values ∷ values_at id rs else values_at id rs)
-first_by true id r rs rest = refl
-first_by false id r rs rest = rest
+first_value_by_test true id r rs rest = refl
+first_value_by_test false id r rs rest = rest
 
-pub first_is : (id : Text) (rows : List Row) → first_of id rows ≡ first_text (values_at id rows)
-first_is id [] = refl
-first_is id (r ∷ rs) = first_by (bytes_eq r.id id) id r rs (first_is id rs)
+pub first_value_is_first_text : (id : Text) (rows : List Row) → first_of id rows ≡ first_text
+    (values_at id rows)
+first_value_is_first_text id [] = refl
+first_value_is_first_text id (r ∷ rs) = first_value_by_test (bytes_eq r.id id) id r rs
+    (first_value_is_first_text id rs)
 
-has_by : (b : Bool) (id : Text) (r : Row) (rs : List Row)
-    → has_row id rs ≡ is_there (values_at id rs)
-    → b || has_row id rs ≡ is_there (if b then r.values ∷ values_at id rs else values_at id rs)
-has_by true id r rs rest = refl
-has_by false id r rs rest = rest
+row_presence_by_test : (b : Bool) (id : Text) (r : Row) (rs : List Row)
+    → has_row id rs ≡ is_present (values_at id rs)
+    → b || has_row id rs ≡ is_present (if b then r.values ∷ values_at id rs else values_at id rs)
+row_presence_by_test true id r rs rest = refl
+row_presence_by_test false id r rs rest = rest
 
-has_eq : (id : Text) (rows : List Row) → has_row id rows ≡ is_there (values_at id rows)
-has_eq id [] = refl
-has_eq id (r ∷ rs) = has_by (bytes_eq r.id id) id r rs (has_eq id rs)
+row_presence_is_value_presence : (id : Text) (rows : List Row) → has_row id rows ≡ is_present
+    (values_at id rows)
+row_presence_is_value_presence id [] = refl
+row_presence_is_value_presence id (r ∷ rs) = row_presence_by_test (bytes_eq r.id id) id r rs
+    (row_presence_is_value_presence id rs)
 
 module _ (id other : Text) (apart : bytes_eq id other ≡ false) where
-  row_apart : (r : Row) → bytes_eq r.id id ≡ true → bytes_eq r.id other ≡ false
-  row_apart r is = ap (λ (x : Text). bytes_eq x other) (same_id r.id id is) ∙ apart
+  row_has_no_other_id : (r : Row) → bytes_eq r.id id ≡ true → bytes_eq r.id other ≡ false
+  row_has_no_other_id r is = ap (λ (x : Text). bytes_eq x other) (equal_bytes_mean_equal_ids r.id id
+      is) ∙ apart
 
   -- Changing the rows with one id does not change the values for another id.
   module _ (change : Row → List Row) (missing : List Row)
       (changed : (r : Row) → bytes_eq r.id other ≡ false
       → (rs : List Row) → values_at other (change r ++ rs) ≡ values_at other rs)
       (added : values_at other missing ≡ []) where
-    other_by : (b : Bool) (r : Row) (rs : List Row)
+    removal_keeps_other_by_test : (b : Bool) (r : Row) (rs : List Row)
         → bytes_eq r.id id ≡ b
         → values_at other (at_row id change missing rs) ≡ values_at other rs
         → values_at other (if b then change r ++ rs else r ∷ at_row id change missing rs)
         ≡ values_at other (r ∷ rs)
-    other_by true r rs is rest =
-        let far = row_apart r is in
+    removal_keeps_other_by_test true r rs is rest =
+        let far = row_has_no_other_id r is in
         changed r far rs
         ∙ sym (ap (λ (b : Bool). if b then r.values ∷ values_at other rs else values_at other rs)
         far)
-    other_by false r rs is rest =
+    removal_keeps_other_by_test false r rs is rest =
         ap
         (λ (vs : List (List Text)). if bytes_eq r.id other then r.values ∷ vs else vs)
         rest
 
-    other_row : (rows : List Row)
+    changed_row_keeps_other_values : (rows : List Row)
         → values_at other (at_row id change missing rows) ≡ values_at other rows
-    other_row [] = added
-    other_row (r ∷ rs) = other_by (bytes_eq r.id id) r rs refl (other_row rs)
+    changed_row_keeps_other_values [] = added
+    changed_row_keeps_other_values (r ∷ rs) = removal_keeps_other_by_test (bytes_eq r.id id) r rs
+        refl (changed_row_keeps_other_values rs)
 
-  without_other : (rows : List Row) → values_at other (without id rows) ≡ values_at other rows
-  without_other rows = other_row (λ _. []) [] (λ r far rs. refl) refl rows
+  removal_keeps_other_values : (rows : List Row) → values_at other (without id rows) ≡ values_at
+      other rows
+  removal_keeps_other_values rows = changed_row_keeps_other_values (λ _. []) [] (λ r far rs. refl)
+      refl rows
 
-  with_other : (how : Reading) (s : ValueSource) (option_values : List Text) (rows : List Row)
+  new_value_keeps_other_values : (how : Reading) (s : ValueSource) (option_values : List Text)
+      (rows : List Row)
       → values_at other (with_values id how s option_values rows) ≡ values_at other rows
-  with_other how s option_values rows =
-      other_row (more_values s option_values)
+  new_value_keeps_other_values how s option_values rows =
+      changed_row_keeps_other_values (more_values s option_values)
       (record { id = id; values = option_values; count = None; source = Some s; reading = how } ∷
       [])
       (λ r far rs.
@@ -102,27 +111,31 @@ module _ (id other : Text) (apart : bytes_eq id other ≡ false) where
   pub set_other : (how : Reading) (option_values : List Text) (rows : List Row)
       → values_at other (set_row id how option_values rows) ≡ values_at other rows
   set_other how option_values rows =
-      with_other how CommandLine option_values (without id rows) ∙ without_other rows
+      new_value_keeps_other_values how CommandLine option_values (without id rows) ∙
+      removal_keeps_other_values rows
 
 module _ (id : Text) (same : bytes_eq id id ≡ true) where
-  without_by : (b : Bool) (r : Row) (rs : List Row)
+  removal_by_test : (b : Bool) (r : Row) (rs : List Row)
       → bytes_eq r.id id ≡ b
       → values_at id (without id rs) ≡ drop 1 (values_at id rs)
       → values_at id (if b then rs else r ∷ without id rs)
       ≡ drop 1 (if b then r.values ∷ values_at id rs else values_at id rs)
-  without_by true r rs is rest = refl
-  without_by false r rs is rest =
+  removal_by_test true r rs is rest = refl
+  removal_by_test false r rs is rest =
       ap
       (λ (b : Bool).
       if b then r.values ∷ values_at id (without id rs) else values_at id (without id rs))
       is
       ∙ rest
 
-  without_same : (rows : List Row) → values_at id (without id rows) ≡ drop 1 (values_at id rows)
-  without_same [] = refl
-  without_same (r ∷ rs) = without_by (bytes_eq r.id id) r rs refl (without_same rs)
+  removal_drops_first_value : (rows : List Row) → values_at id (without id rows) ≡ drop 1
+      (values_at id rows)
+  removal_drops_first_value [] = refl
+  removal_drops_first_value (r ∷ rs) = removal_by_test (bytes_eq r.id id) r rs refl
+      (removal_drops_first_value rs)
 
-  new_by : (how : Reading) (s : ValueSource) (option_values : List Text) (b : Bool) (r : Row)
+  new_value_by_test : (how : Reading) (s : ValueSource) (option_values : List Text) (b : Bool)
+      (r : Row)
       (rs : List Row)
       → bytes_eq r.id id ≡ b
       → (if b then r.values ∷ values_at id rs else values_at id rs) ≡ []
@@ -131,8 +144,8 @@ module _ (id : Text) (same : bytes_eq id id ≡ true) where
       → values_at id
       (if b then more_values s option_values r ++ rs else r ∷ with_values id how s option_values rs)
       ≡ option_values ∷ []
-  new_by how s option_values true r rs is none rest = cc
-  new_by how s option_values false r rs is none rest =
+  new_value_by_test how s option_values true r rs is none rest = cc
+  new_value_by_test how s option_values false r rs is none rest =
       ap
       (λ (b : Bool).
       if b then r.values ∷ values_at id (with_values id how s option_values rs)
@@ -140,19 +153,23 @@ module _ (id : Text) (same : bytes_eq id id ≡ true) where
       is
       ∙ rest none
 
-  with_new : (how : Reading) (s : ValueSource) (option_values : List Text) (rows : List Row)
+  new_value_is_only_value : (how : Reading) (s : ValueSource) (option_values : List Text)
+      (rows : List Row)
       → values_at id rows ≡ []
       → values_at id (with_values id how s option_values rows) ≡ option_values ∷ []
-  with_new how s option_values [] none = ap (λ (b : Bool). if b then option_values ∷ [] else [])
+  new_value_is_only_value how s option_values [] none = ap (λ (b : Bool). if b then option_values ∷
+      [] else [])
       same
-  with_new how s option_values (r ∷ rs) none =
-      new_by how s option_values (bytes_eq r.id id) r rs refl none (with_new how s option_values rs)
+  new_value_is_only_value how s option_values (r ∷ rs) none =
+      new_value_by_test how s option_values (bytes_eq r.id id) r rs refl none
+      (new_value_is_only_value how s option_values rs)
 
   pub set_same : (how : Reading) (option_values : List Text) (rows : List Row)
       → drop 1 (values_at id rows) ≡ []
       → values_at id (set_row id how option_values rows) ≡ option_values ∷ []
   set_same how option_values rows short =
-      with_new how CommandLine option_values (without id rows) (without_same rows ∙ short)
+      new_value_is_only_value how CommandLine option_values (without id rows)
+      (removal_drops_first_value rows ∙ short)
 
 -- The given values, or the default values if there are none.
 abbrev pub or_default : List (List Text) → List Text → List (List Text)
@@ -163,51 +180,55 @@ or_default (x ∷ xs) defaults = x ∷ xs
 abbrev pub default_at : Text → List (List Text) → Rule → List (List Text)
 default_at id vs a = if bytes_eq a.id id then or_default vs a.defaults else vs
 
-default_by : (id : Text) (same : bytes_eq id id ≡ true) (how : Reading) (defaults : List Text)
+default_replaces_missing_value : (id : Text) (same : bytes_eq id id ≡ true) (how : Reading)
+    (defaults : List Text)
     (rows : List Row) (vs : List (List Text))
     → values_at id rows ≡ vs
-    → values_at id (if is_there vs then rows else default_rows id how defaults rows)
+    → values_at id (if is_present vs then rows else default_rows id how defaults rows)
     ≡ or_default vs defaults
-default_by id same how [] rows [] is = is
-default_by id same how (v ∷ vs) rows [] is = with_new id same how DefaultValue (v ∷ vs) rows is
-default_by id same how defaults rows (x ∷ xs) is = is
+default_replaces_missing_value id same how [] rows [] is = is
+default_replaces_missing_value id same how (v ∷ vs) rows [] is = new_value_is_only_value id same how
+    DefaultValue (v ∷ vs) rows is
+default_replaces_missing_value id same how defaults rows (x ∷ xs) is = is
 
-default_same : (id : Text) (same : bytes_eq id id ≡ true) (how : Reading) (defaults : List Text)
+default_fills_own_id : (id : Text) (same : bytes_eq id id ≡ true) (how : Reading)
+    (defaults : List Text)
     (rows : List Row)
     → values_at id (if has_row id rows then rows else default_rows id how defaults rows)
     ≡ or_default (values_at id rows) defaults
-default_same id same how defaults rows =
+default_fills_own_id id same how defaults rows =
     ap (λ (b : Bool). values_at id (if b then rows else default_rows id how defaults rows))
-    (has_eq id rows)
-    ∙ default_by id same how defaults rows (values_at id rows) refl
+    (row_presence_is_value_presence id rows)
+    ∙ default_replaces_missing_value id same how defaults rows (values_at id rows) refl
 
-other_default : (id other : Text) (apart : bytes_eq id other ≡ false) (how : Reading)
+default_keeps_other_id : (id other : Text) (apart : bytes_eq id other ≡ false) (how : Reading)
     (defaults : List Text) (rows : List Row) (b : Bool)
     → values_at other (if b then rows else default_rows id how defaults rows) ≡ values_at other rows
-other_default id other apart how defaults rows true = refl
-other_default id other apart how [] rows false = refl
-other_default id other apart how (v ∷ vs) rows false =
-    with_other id other apart how DefaultValue (v ∷ vs) rows
+default_keeps_other_id id other apart how defaults rows true = refl
+default_keeps_other_id id other apart how [] rows false = refl
+default_keeps_other_id id other apart how (v ∷ vs) rows false =
+    new_value_keeps_other_values id other apart how DefaultValue (v ∷ vs) rows
 
-default_one : (id : Text) (same : bytes_eq id id ≡ true) (a : Rule) (rows : List Row) (b : Bool)
+rule_fills_default : (id : Text) (same : bytes_eq id id ≡ true) (a : Rule) (rows : List Row)
+    (b : Bool)
     → bytes_eq a.id id ≡ b
     → values_at id (with_default rows a)
     ≡ (if b then or_default (values_at id rows) a.defaults else values_at id rows)
-default_one id same a rows true is =
-    let at : a.id ≡ id = same_id a.id id is in
+rule_fills_default id same a rows true is =
+    let at : a.id ≡ id = equal_bytes_mean_equal_ids a.id id is in
     ap
     (λ (x : Text).
     values_at id (if has_row x rows then rows else default_rows x (reading_by a) a.defaults rows))
     at
-    ∙ default_same id same (reading_by a) a.defaults rows
-default_one id same a rows false is =
-    other_default a.id id is (reading_by a) a.defaults rows (has_row a.id rows)
+    ∙ default_fills_own_id id same (reading_by a) a.defaults rows
+rule_fills_default id same a rows false is =
+    default_keeps_other_id a.id id is (reading_by a) a.defaults rows (has_row a.id rows)
 
-pub defaulted : (id : Text) (rules : List Rule) (rows : List Row)
+pub rules_fill_defaults : (id : Text) (rules : List Rule) (rows : List Row)
     → bytes_eq id id ≡ true
     → values_at id (fold with_default rows rules) ≡ fold (default_at id) (values_at id rows) rules
-defaulted id [] rows same = refl
-defaulted id (a ∷ rules) rows same =
-    defaulted id rules (with_default rows a) same
+rules_fill_defaults id [] rows same = refl
+rules_fill_defaults id (a ∷ rules) rows same =
+    rules_fill_defaults id rules (with_default rows a) same
     ∙ ap (λ (vs : List (List Text)). fold (default_at id) vs rules)
-    (default_one id same a rows (bytes_eq a.id id) refl)
+    (rule_fills_default id same a rows (bytes_eq a.id id) refl)

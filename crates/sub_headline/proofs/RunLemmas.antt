@@ -9,12 +9,12 @@ use Rattle.sub_listing.specs.Listing.{exit_code}
 use Rattle.sub_listing.specs.declared.status.Status.{Status}
 use Rattle.sub_listing.specs.declared.status.Status.TheVariants.{Done, Fault}
 use Rattle.sub_answer.specs.Ending.{BufferHoldsOneLineOnly, FileObservations, Lines, PrintsFault}
-use Rattle.sub_headline.specs.Run.{Answered, EndsRun, RunsProgram}
+use Rattle.sub_headline.specs.Run.{RunAnswers, RunEnds, RunsProgram}
 
-stated : (fault : UsageFault) (old new : Lines) (result : Status)
+printed_usage_fault_is_fault : (fault : UsageFault) (old new : Lines) (result : Status)
     → PrintsFault fault old new result
     → result ≡ Fault
-stated fault old new result says = grind (arith, nat_tests)
+printed_usage_fault_is_fault fault old new result says = grind (arith, nat_tests)
 
 -- The run answered its request, and the exit code is the number of the answer's status.
 pub record HasAnswered
@@ -26,7 +26,7 @@ pub record HasAnswered
   pub new : Lines
   pub status : Status
   pub code_eq : code ≡ exit_code status
-  pub answered : Answered AreMade reported IsClose given IsAlone old new status
+  pub answered : RunAnswers AreMade reported IsClose given IsAlone old new status
 
 exit_code_explained :
     {I O : Type 0} (AreMade : List (FileCall I O) → Type 0) (reported : FileObservations I O)
@@ -34,7 +34,7 @@ exit_code_explained :
     (code : ℕ) (status : Status) (old new : Lines)
     → code ≡ exit_code status
     → code ≢ 2
-    → EndsRun AreMade reported IsClose given IsAlone old new status
+    → RunEnds AreMade reported IsClose given IsAlone old new status
     ⊎ (AreMade [] × PrintsFault usage.Memory old new status)
     → HasAnswered AreMade reported IsClose given IsAlone code
 exit_code_explained AreMade reported IsClose given IsAlone code status old new code_eq not_two
@@ -42,10 +42,12 @@ exit_code_explained AreMade reported IsClose given IsAlone code status old new c
     record { old = old; new = new; status = status; code_eq = code_eq; answered = is }
 exit_code_explained AreMade reported IsClose given IsAlone code status old new code_eq not_two
     (inl (inr un)) =
-    absurd (not_two (code_eq ∙ ap exit_code (stated un.fault old new status un.says)))
+    absurd (not_two (code_eq ∙ ap exit_code (printed_usage_fault_is_fault un.fault old new status
+    un.says)))
 exit_code_explained AreMade reported IsClose given IsAlone code status old new code_eq not_two
     (inr memory) =
-    absurd (not_two (code_eq ∙ ap exit_code (stated usage.Memory old new status memory.1)))
+    absurd (not_two (code_eq ∙ ap exit_code (printed_usage_fault_is_fault usage.Memory old new
+    status memory.1)))
 
 pub answered :
     {I O K : Type 0} (AreMade : List (FileCall I O) → Type 0) (reported : FileObservations I O)
@@ -62,8 +64,8 @@ answered AreMade reported IsClose given contents failure_count IsPush output lef
     exit_code_explained AreMade reported IsClose given _ code runs.status _ _ runs.code_eq not_two
     runs.ends
 
-pub done_by_code : (status : Status) → exit_code status ≡ 0 → status ≡ Done
-done_by_code status e = grind (arith, nat_tests)
+pub zero_code_means_done : (status : Status) → exit_code status ≡ 0 → status ≡ Done
+zero_code_means_done status e = grind (arith, nat_tests)
 
-pub no_fault : (status : Status) → exit_code status ≢ 2 → status ≢ Fault
-no_fault status e is = e (ap exit_code is)
+pub code_other_than_two_means_no_fault : (status : Status) → exit_code status ≢ 2 → status ≢ Fault
+code_other_than_two_means_no_fault status e is = e (ap exit_code is)

@@ -12,19 +12,21 @@ use Rattle.stl_file.specs.Scope.{begins_outside, is_inside, is_outside, whole}
 use Rattle.stl_file.specs.declared.scope.Scope.{Scope}
 use Rattle.stl_file.specs.Subtitle.{SubtitleValue}
 use Rattle.stl_file.specs.SubtitleBlocks.{AreBlocksOf, AreLinked, AreOutside, IsBlock}
-use Rattle.stl_file.specs.TimeCode.{frame_in, is_time}
-use Rattle.stl_file.specs.Tti.{cf, ebn, is_kept, tci, text_of}
-use Rattle.stl_file.proofs.ScopeLemmas.{all_inside}
-use Rattle.sub_headline.specs.PlainReading.{groups_read, is_of_subtitle, chunks_of, subtitle_read}
+use Rattle.stl_file.specs.TimeCode.{frame_from_bytes, is_valid_time_field}
+use Rattle.stl_file.specs.Tti.{cf, ebn, is_subtitle_block, tci, text_of_block}
+use Rattle.stl_file.proofs.ScopeLemmas.{whole_scope_keeps_all_groups}
+use Rattle.sub_headline.specs.PlainReading.{groups_of_blocks, is_subtitle_load_fault}
+use Rattle.sub_headline.specs.PlainReading.{chunks_of_size, subtitle_of_blocks}
 use Rattle.sub_headline.specs.PlainReading.{begins_in, subtitles_by_place, subtitles_within}
-use Rattle.sub_headline.specs.PlainReading.{time_read}
+use Rattle.sub_headline.specs.PlainReading.{frame_of_time_code}
 use Rattle.sub_headline.proofs.FrameReadingLemmas.{chunks_of_cons}
 
-blocks_are : (bs : List (List ℕ)) → AllByRecursion IsBlock bs → chunks_of 128 (concat bs) ≡ bs
-blocks_are [] each = refl
-blocks_are (b ∷ bs) each =
+chunks_are_blocks : (bs : List (List ℕ)) → AllByRecursion IsBlock bs → chunks_of_size 128
+    (concat bs) ≡ bs
+chunks_are_blocks [] each = refl
+chunks_are_blocks (b ∷ bs) each =
     chunks_of_cons 128 b (concat bs) each.0 (omega (arith, length-append b (concat bs), each.0))
-    ∙ ap (λ (rest : List (List ℕ)). b ∷ rest) (blocks_are bs each.1)
+    ∙ ap (λ (rest : List (List ℕ)). b ∷ rest) (chunks_are_blocks bs each.1)
 
 abbrev IsNoComment : List ℕ → Type 0
 IsNoComment b = cf b ≡ 0
@@ -32,67 +34,84 @@ IsNoComment b = cf b ≡ 0
 -- Two tests agree for a block that is read as part of a subtitle and is not a comment: the test by
 -- the format of the file, and the test by the fixed positions of the fields. They also agree for a
 -- block that is skipped.
-same_kept_test : (e c : ℕ)
+kept_block_is_of_subtitle : (e c : ℕ)
     → c ≡ 0
     → not ((e == 0xFE) || ((nat_lt e 0xF0 || (e == 0xFF)) && (c == 0x01))) ≡ true
     → not ((e == 0xFE) || (c == 0x01)) ≡ true
-same_kept_test e c none is = grind (arith, nat_tests)
+kept_block_is_of_subtitle e c none is = grind (arith, nat_tests)
 
-same_skipped : (e c : ℕ)
+skipped_block_is_not_of_subtitle : (e c : ℕ)
     → not ((e == 0xFE) || ((nat_lt e 0xF0 || (e == 0xFF)) && (c == 0x01))) ≡ false
     → not ((e == 0xFE) || (c == 0x01)) ≡ false
-same_skipped e c is = grind (arith, nat_tests)
+skipped_block_is_not_of_subtitle e c is = grind (arith, nat_tests)
 
-filter_kept_by : (is : Bool) (b : List ℕ) (bs : List (List ℕ))
-    → is_kept b ≡ is
-    → AllByRecursion IsNoComment (if is then b ∷ filter is_kept bs else filter is_kept bs)
-    → (is_of_subtitle b ≡ is) × AllByRecursion IsNoComment (filter is_kept bs)
-filter_kept_by true b bs is none = (same_kept_test (ebn b) (cf b) none.0 is, none.1)
-filter_kept_by false b bs is none = (same_skipped (ebn b) (cf b) is, none)
+filters_agree_by_test : (is : Bool) (b : List ℕ) (bs : List (List ℕ))
+    → is_subtitle_block b ≡ is
+    → AllByRecursion IsNoComment (if is then b ∷ filter is_subtitle_block bs else filter
+    is_subtitle_block bs)
+    → (is_subtitle_load_fault b ≡ is) × AllByRecursion IsNoComment (filter is_subtitle_block bs)
+filters_agree_by_test true b bs is none = (
+  kept_block_is_of_subtitle (ebn b) (cf b) none.0 is,
+  none.1,
+)
+filters_agree_by_test false b bs is none = (
+  skipped_block_is_not_of_subtitle (ebn b) (cf b) is,
+  none,
+)
 
-kept_blocks_no_comment : (bs : List (List ℕ))
-    → AllByRecursion IsNoComment (filter is_kept bs)
-    → filter is_of_subtitle bs ≡ filter is_kept bs
-kept_blocks_no_comment [] none = refl
-kept_blocks_no_comment (b ∷ bs) none =
-    let by = filter_kept_by (is_kept b) b bs refl none in rw (by.0, kept_blocks_no_comment bs by.1)
+filters_agree_without_comments : (bs : List (List ℕ))
+    → AllByRecursion IsNoComment (filter is_subtitle_block bs)
+    → filter is_subtitle_load_fault bs ≡ filter is_subtitle_block bs
+filters_agree_without_comments [] none = refl
+filters_agree_without_comments (b ∷ bs) none =
+    let by = filters_agree_by_test (is_subtitle_block b) b bs refl none in rw
+    (by.0, filters_agree_without_comments bs by.1)
     refl
 
 abbrev joined : List (List (List ℕ)) → List (List ℕ)
 joined groups = flat_map (λ group. group) groups
 
-all_joined : {X : Type 0} (P : X → Type 0) (xs ys : List X)
+joined_lists_satisfy : {X : Type 0} (P : X → Type 0) (xs ys : List X)
     → AllByRecursion P xs
     → AllByRecursion P ys
     → AllByRecursion P (xs ++ ys)
-all_joined P [] ys each others = others
-all_joined P (x ∷ xs) ys each others = (each.0, all_joined P xs ys each.1 others)
+joined_lists_satisfy P [] ys each others = others
+joined_lists_satisfy P (x ∷ xs) ys each others = (
+  each.0,
+  joined_lists_satisfy P xs ys each.1
+      others,
+)
 
-none_of_linked : (sgn_is sn_is : ℕ) (g : List (List ℕ))
+linked_blocks_have_no_comment : (sgn_is sn_is : ℕ) (g : List (List ℕ))
     → AreLinked sgn_is sn_is g
     → AllByRecursion IsNoComment g
-none_of_linked sgn_is sn_is [] linked = tt
-none_of_linked sgn_is sn_is (b ∷ []) linked = (linked.0.is_subtitle, tt)
-none_of_linked sgn_is sn_is (b ∷ c ∷ g) linked =
-    (linked.0.is_subtitle, none_of_linked sgn_is sn_is (c ∷ g) linked.2)
+linked_blocks_have_no_comment sgn_is sn_is [] linked = tt
+linked_blocks_have_no_comment sgn_is sn_is (b ∷ []) linked = (linked.0.is_subtitle, tt)
+linked_blocks_have_no_comment sgn_is sn_is (b ∷ c ∷ g) linked =
+    (linked.0.is_subtitle, linked_blocks_have_no_comment sgn_is sn_is (c ∷ g) linked.2)
 
-not_last : (e : ℕ) → e < 0xF0 → (e == 0xFF) ≡ false
-not_last e low = grind (arith, nat_tests)
+low_number_is_not_last : (e : ℕ) → e < 0xF0 → (e == 0xFF) ≡ false
+low_number_is_not_last e low = grind (arith, nat_tests)
 
 last : (e : ℕ) → e ≡ 0xFF → (e == 0xFF) ≡ true
 last e is = grind (arith, nat_tests)
 
-group_cut : (sgn_is sn_is : ℕ) (g rest : List (List ℕ))
+first_group_is_split_off : (sgn_is sn_is : ℕ) (g rest : List (List ℕ))
     → AreLinked sgn_is sn_is g
-    → groups_read (g ++ rest) ≡ g ∷ groups_read rest
-group_cut sgn_is sn_is [] rest linked = absurd linked
-group_cut sgn_is sn_is (b ∷ []) rest linked = rw (last (ebn b) linked.1) refl
-group_cut sgn_is sn_is (b ∷ c ∷ g) rest linked =
-    rw (not_last (ebn b) linked.1, group_cut sgn_is sn_is (c ∷ g) rest linked.2) refl
+    → groups_of_blocks (g ++ rest) ≡ g ∷ groups_of_blocks rest
+first_group_is_split_off sgn_is sn_is [] rest linked = absurd linked
+first_group_is_split_off sgn_is sn_is (b ∷ []) rest linked = rw (last (ebn b) linked.1) refl
+first_group_is_split_off sgn_is sn_is (b ∷ c ∷ g) rest linked =
+    rw (
+      low_number_is_not_last (ebn b) linked.1,
+      first_group_is_split_off sgn_is sn_is (c ∷ g) rest
+          linked.2,
+    ) refl
 
-time_eq : (b : List ℕ) (at : ℕ) → time_read b at ≡ frame_in (take 4 (drop at b))
-unfolding frame_in
-time_eq b at =
+time_field_gives_frame : (b : List ℕ) (at : ℕ) → frame_of_time_code b at ≡ frame_from_bytes
+    (take 4 (drop at b))
+unfolding frame_from_bytes
+time_field_gives_frame b at =
     let here : at + 0 ≡ at = omega arith in
     rw (
       get_or-take 4 (drop at b) 0 0 (omega arith),
@@ -106,107 +125,112 @@ time_eq b at =
       here,
     ) refl
 
-subtitle_eq : (t : SubtitleValue) (g : List (List ℕ)) → AreBlocksOf t g → subtitle_read g ≡ t
-subtitle_eq t g of =
-    let tci_is = time_eq of.first 5 ∙ sym of.begins.tci_is.is in
-    let tco_is = time_eq of.first 9 ∙ sym of.begins.tco_is.is in
-    let text_eq = ap (flat_map text_of) (sym of.blocks) ∙ sym of.text_eq in
-    ap subtitle_read of.blocks
+blocks_give_subtitle : (t : SubtitleValue) (g : List (List ℕ)) → AreBlocksOf t g →
+    subtitle_of_blocks g ≡ t
+blocks_give_subtitle t g of =
+    let has_tci = time_field_gives_frame of.first 5 ∙ sym of.begins.has_tci.is in
+    let has_tco = time_field_gives_frame of.first 9 ∙ sym of.begins.has_tco.is in
+    let text_eq = ap (flat_map text_of_block) (sym of.blocks) ∙ sym of.text_eq in
+    ap subtitle_of_blocks of.blocks
     ∙ rw (
       of.begins.sgn_is,
       of.begins.sn_is,
-      tci_is,
-      tco_is,
+      has_tci,
+      has_tco,
       of.begins.vp_eq,
       of.begins.jc_eq,
       text_eq,
     ) refl
 
 -- All blocks have the same SGN and SN.
-abbrev AreOneSubtitle : List (List ℕ) → Type 0
-AreOneSubtitle g = (sgn_is : ℕ) × (sn_is : ℕ) × AreLinked sgn_is sn_is g
+abbrev AreBlocksOfOneSubtitle : List (List ℕ) → Type 0
+AreBlocksOfOneSubtitle g = (sgn_is : ℕ) × (sn_is : ℕ) × AreLinked sgn_is sn_is g
 
-linked_by : (scope : Scope) (out : Bool) (ts : List SubtitleValue) (g : List (List ℕ))
+group_is_linked_by_test : (scope : Scope) (out : Bool) (ts : List SubtitleValue) (g : List (List ℕ))
     (ins outs : List (List (List ℕ)))
     → is_outside scope g ≡ out
     → AllByRecursion (AreOutside scope) (if out then g ∷ outs else outs)
     → AllZip AreBlocksOf ts (if not out then g ∷ ins else ins)
-    → AreOneSubtitle g
-linked_by scope true ts g ins outs is outside are = (_, _, outside.0.linked)
-linked_by scope false [] g ins outs is outside are = absurd are
-linked_by scope false (t ∷ ts) g ins outs is outside are = (t.sgn, t.sn, are.0.linked)
+    → AreBlocksOfOneSubtitle g
+group_is_linked_by_test scope true ts g ins outs is outside are = (_, _, outside.0.linked)
+group_is_linked_by_test scope false [] g ins outs is outside are = absurd are
+group_is_linked_by_test scope false (t ∷ ts) g ins outs is outside are = (t.sgn, t.sn, are.0.linked)
 
-outside_rest : (scope : Scope) (out : Bool) (g : List (List ℕ)) (outs : List (List (List ℕ)))
+other_groups_are_outside : (scope : Scope) (out : Bool) (g : List (List ℕ))
+    (outs : List (List (List ℕ)))
     → AllByRecursion (AreOutside scope) (if out then g ∷ outs else outs)
     → AllByRecursion (AreOutside scope) outs
-outside_rest scope true g outs outside = outside.1
-outside_rest scope false g outs outside = outside
+other_groups_are_outside scope true g outs outside = outside.1
+other_groups_are_outside scope false g outs outside = outside
 
-abbrev left_by : Bool → List SubtitleValue → List SubtitleValue
-left_by true ts = ts
-left_by false [] = []
-left_by false (t ∷ ts) = ts
+abbrev subtitles_after_group : Bool → List SubtitleValue → List SubtitleValue
+subtitles_after_group true ts = ts
+subtitles_after_group false [] = []
+subtitles_after_group false (t ∷ ts) = ts
 
-are_rest : (out : Bool) (ts : List SubtitleValue) (g : List (List ℕ))
+other_groups_give_subtitles : (out : Bool) (ts : List SubtitleValue) (g : List (List ℕ))
     (ins : List (List (List ℕ)))
     → AllZip AreBlocksOf ts (if not out then g ∷ ins else ins)
-    → AllZip AreBlocksOf (left_by out ts) ins
-are_rest true ts g ins are = are
-are_rest false [] g ins are = absurd are
-are_rest false (t ∷ ts) g ins are = are.1
+    → AllZip AreBlocksOf (subtitles_after_group out ts) ins
+other_groups_give_subtitles true ts g ins are = are
+other_groups_give_subtitles false [] g ins are = absurd are
+other_groups_give_subtitles false (t ∷ ts) g ins are = are.1
 
-all_linked : (scope : Scope) (ts : List SubtitleValue) (groups : List (List (List ℕ)))
+all_groups_are_linked : (scope : Scope) (ts : List SubtitleValue) (groups : List (List (List ℕ)))
     → AllByRecursion (AreOutside scope) (filter (is_outside scope) groups)
     → AllZip AreBlocksOf ts (filter (is_inside scope) groups)
-    → AllByRecursion AreOneSubtitle groups
-all_linked scope ts [] outside are = tt
-all_linked scope ts (g ∷ groups) outside are =
+    → AllByRecursion AreBlocksOfOneSubtitle groups
+all_groups_are_linked scope ts [] outside are = tt
+all_groups_are_linked scope ts (g ∷ groups) outside are =
     let out = is_outside scope g in (
-      linked_by scope out ts g (filter (is_inside scope) groups)
+      group_is_linked_by_test scope out ts g (filter (is_inside scope) groups)
           (filter (is_outside scope) groups) refl outside are,
-      all_linked scope (left_by out ts) groups
-          (outside_rest scope out g (filter (is_outside scope) groups) outside)
-          (are_rest out ts g (filter (is_inside scope) groups) are),
+      all_groups_are_linked scope (subtitles_after_group out ts) groups
+          (other_groups_are_outside scope out g (filter (is_outside scope) groups) outside)
+          (other_groups_give_subtitles out ts g (filter (is_inside scope) groups) are),
     )
 
-none_of_all : (groups : List (List (List ℕ)))
-    → AllByRecursion AreOneSubtitle groups
+groups_have_no_comment : (groups : List (List (List ℕ)))
+    → AllByRecursion AreBlocksOfOneSubtitle groups
     → AllByRecursion IsNoComment (joined groups)
-none_of_all [] each = tt
-none_of_all (g ∷ groups) each =
-    all_joined IsNoComment g (joined groups)
-    (none_of_linked each.0.0 each.0.1 g each.0.2) (none_of_all groups each.1)
+groups_have_no_comment [] each = tt
+groups_have_no_comment (g ∷ groups) each =
+    joined_lists_satisfy IsNoComment g (joined groups)
+    (linked_blocks_have_no_comment each.0.0 each.0.1 g each.0.2) (groups_have_no_comment groups
+    each.1)
 
-groups_cut : (groups : List (List (List ℕ)))
-    → AllByRecursion AreOneSubtitle groups
-    → groups_read (joined groups) ≡ groups
-groups_cut [] each = refl
-groups_cut (g ∷ groups) each =
+groups_are_split : (groups : List (List (List ℕ)))
+    → AllByRecursion AreBlocksOfOneSubtitle groups
+    → groups_of_blocks (joined groups) ≡ groups
+groups_are_split [] each = refl
+groups_are_split (g ∷ groups) each =
     rw (
-      group_cut each.0.0 each.0.1 g (joined groups) each.0.2,
-      groups_cut groups each.1,
+      first_group_is_split_off each.0.0 each.0.1 g (joined groups) each.0.2,
+      groups_are_split groups each.1,
     ) refl
 
-outside_by : (scope : Scope) (b : List ℕ)
+outside_group_fails_scope_test : (scope : Scope) (b : List ℕ)
     → begins_outside scope b ≡ true
-    → (nat_le scope.from (frame_in (tci b)) && nat_lt (frame_in (tci b)) scope.to) ≡ false
+    → (nat_le scope.from (frame_from_bytes (tci b)) && nat_lt (frame_from_bytes (tci b)) scope.to) ≡
+    false
 unfolding begins_outside
-outside_by scope b is = grind (arith, nat_tests)
+outside_group_fails_scope_test scope b is = grind (arith, nat_tests)
 
-inside_by : (scope : Scope) (b : List ℕ)
-    → is_time (tci b) ≡ true
+inside_group_passes_scope_test : (scope : Scope) (b : List ℕ)
+    → is_valid_time_field (tci b) ≡ true
     → begins_outside scope b ≡ false
-    → (nat_le scope.from (frame_in (tci b)) && nat_lt (frame_in (tci b)) scope.to) ≡ true
+    → (nat_le scope.from (frame_from_bytes (tci b)) && nat_lt (frame_from_bytes (tci b)) scope.to) ≡
+    true
 unfolding begins_outside
-inside_by scope b time is = grind (arith, nat_tests)
+inside_group_passes_scope_test scope b time is = grind (arith, nat_tests)
 
-begins_not : (scope : Scope) (g : List (List ℕ))
+outside_subtitle_begins_outside : (scope : Scope) (g : List (List ℕ))
     → AreOutside scope g
-    → begins_in scope (subtitle_read g) ≡ false
-begins_not scope g of =
-    ap (λ (bs : List (List ℕ)). begins_in scope (subtitle_read bs)) of.blocks
-    ∙ ap (λ (n : ℕ). nat_le scope.from n && nat_lt n scope.to) (time_eq of.first 5)
-    ∙ outside_by scope of.first of.outside
+    → begins_in scope (subtitle_of_blocks g) ≡ false
+outside_subtitle_begins_outside scope g of =
+    ap (λ (bs : List (List ℕ)). begins_in scope (subtitle_of_blocks bs)) of.blocks
+    ∙ ap (λ (n : ℕ). nat_le scope.from n && nat_lt n scope.to) (time_field_gives_frame of.first 5)
+    ∙ outside_group_fails_scope_test scope of.first of.outside
 
 begins_inside_scope : (scope : Scope) (t : SubtitleValue) (g : List (List ℕ))
     → AreBlocksOf t g
@@ -215,83 +239,91 @@ begins_inside_scope : (scope : Scope) (t : SubtitleValue) (g : List (List ℕ))
 begins_inside_scope scope t g of is =
     let here : begins_outside scope of.first ≡ false =
     sym (ap (is_outside scope) of.blocks) ∙ is in
-    ap (λ (n : ℕ). nat_le scope.from n && nat_lt n scope.to) of.begins.tci_is.is
-    ∙ inside_by scope of.first of.begins.tci_is.in_range here
+    ap (λ (n : ℕ). nat_le scope.from n && nat_lt n scope.to) of.begins.has_tci.is
+    ∙ inside_group_passes_scope_test scope of.first of.begins.has_tci.in_range here
 
-taken_by : (scope : Scope) (out : Bool) (ts : List SubtitleValue) (g : List (List ℕ))
+group_gives_subtitle_by_test : (scope : Scope) (out : Bool) (ts : List SubtitleValue)
+    (g : List (List ℕ))
     (groups ins outs : List (List (List ℕ)))
     → is_outside scope g ≡ out
     → AllByRecursion (AreOutside scope) (if out then g ∷ outs else outs)
     → AllZip AreBlocksOf ts (if not out then g ∷ ins else ins)
-    → filter (begins_in scope) (map subtitle_read groups) ≡ left_by out ts
-    → filter (begins_in scope) (map subtitle_read (g ∷ groups)) ≡ ts
-taken_by scope true ts g groups ins outs is outside are rest =
-    let others = filter (begins_in scope) (map subtitle_read groups) in
+    → filter (begins_in scope) (map subtitle_of_blocks groups) ≡ subtitles_after_group out ts
+    → filter (begins_in scope) (map subtitle_of_blocks (g ∷ groups)) ≡ ts
+group_gives_subtitle_by_test scope true ts g groups ins outs is outside are rest =
+    let others = filter (begins_in scope) (map subtitle_of_blocks groups) in
     ap
     (λ (b : Bool).
-    let l : List SubtitleValue = if b then subtitle_read g ∷ others else others in l)
-    (begins_not scope g outside.0)
+    let l : List SubtitleValue = if b then subtitle_of_blocks g ∷ others else others in l)
+    (outside_subtitle_begins_outside scope g outside.0)
     ∙ rest
-taken_by scope false [] g groups ins outs is outside are rest = absurd are
-taken_by scope false (t ∷ ts) g groups ins outs is outside are rest =
-    let others = filter (begins_in scope) (map subtitle_read groups) in
-    ap (λ (one : SubtitleValue). filter (begins_in scope) (one ∷ map subtitle_read groups))
-    (subtitle_eq t g are.0)
+group_gives_subtitle_by_test scope false [] g groups ins outs is outside are rest = absurd are
+group_gives_subtitle_by_test scope false (t ∷ ts) g groups ins outs is outside are rest =
+    let others = filter (begins_in scope) (map subtitle_of_blocks groups) in
+    ap (λ (one : SubtitleValue). filter (begins_in scope) (one ∷ map subtitle_of_blocks groups))
+    (blocks_give_subtitle t g are.0)
     ∙ ap (λ (b : Bool). let l : List SubtitleValue = if b then t ∷ others else others in l)
     (begins_inside_scope scope t g are.0 is)
     ∙ ap (λ (l : List SubtitleValue). t ∷ l) rest
 
-taken_are : (scope : Scope) (ts : List SubtitleValue) (groups : List (List (List ℕ)))
+groups_in_scope_give_subtitles : (scope : Scope) (ts : List SubtitleValue)
+    (groups : List (List (List ℕ)))
     → AllByRecursion (AreOutside scope) (filter (is_outside scope) groups)
     → AllZip AreBlocksOf ts (filter (is_inside scope) groups)
-    → filter (begins_in scope) (map subtitle_read groups) ≡ ts
-taken_are scope [] [] outside are = refl
-taken_are scope (t ∷ ts) [] outside are = absurd are
-taken_are scope ts (g ∷ groups) outside are =
+    → filter (begins_in scope) (map subtitle_of_blocks groups) ≡ ts
+groups_in_scope_give_subtitles scope [] [] outside are = refl
+groups_in_scope_give_subtitles scope (t ∷ ts) [] outside are = absurd are
+groups_in_scope_give_subtitles scope ts (g ∷ groups) outside are =
     let out = is_outside scope g in
     let ins = filter (is_inside scope) groups in
     let outs = filter (is_outside scope) groups in
-    taken_by scope out ts g groups ins outs refl outside are
-    (taken_are scope (left_by out ts) groups (outside_rest scope out g outs outside)
-    (are_rest out ts g ins are))
+    group_gives_subtitle_by_test scope out ts g groups ins outs refl outside are
+    (groups_in_scope_give_subtitles scope (subtitles_after_group out ts) groups
+    (other_groups_are_outside scope out g outs outside)
+    (other_groups_give_subtitles out ts g ins are))
 
-each_eq : (ts : List SubtitleValue) (groups : List (List (List ℕ)))
+each_group_gives_subtitle : (ts : List SubtitleValue) (groups : List (List (List ℕ)))
     → AllZip AreBlocksOf ts groups
-    → map subtitle_read groups ≡ ts
-each_eq [] [] each = refl
-each_eq [] (g ∷ groups) each = absurd each
-each_eq (t ∷ ts) [] each = absurd each
-each_eq (t ∷ ts) (g ∷ groups) each = rw (subtitle_eq t g each.0, each_eq ts groups each.1) refl
+    → map subtitle_of_blocks groups ≡ ts
+each_group_gives_subtitle [] [] each = refl
+each_group_gives_subtitle [] (g ∷ groups) each = absurd each
+each_group_gives_subtitle (t ∷ ts) [] each = absurd each
+each_group_gives_subtitle (t ∷ ts) (g ∷ groups) each = rw (
+  blocks_give_subtitle t g each.0,
+  each_group_gives_subtitle ts groups each.1,
+) refl
 
-groups_are : (scope : Scope) (bytes gsi : List ℕ) (ts : List SubtitleValue)
+file_groups_give_subtitles : (scope : Scope) (bytes gsi : List ℕ) (ts : List SubtitleValue)
     (file : IsFileFor scope bytes gsi ts)
-    → subtitles_by_place bytes ≡ map subtitle_read file.rest.groups
-groups_are scope bytes gsi ts file =
-    let each = all_linked scope ts file.rest.groups file.rest.outside file.rest.are_of in
-    let none : AllByRecursion IsNoComment (filter is_kept file.blocks) =
+    → subtitles_by_place bytes ≡ map subtitle_of_blocks file.rest.groups
+file_groups_give_subtitles scope bytes gsi ts file =
+    let each = all_groups_are_linked scope ts file.rest.groups file.rest.outside
+    file.rest.are_subtitle_blocks in
+    let none : AllByRecursion IsNoComment (filter is_subtitle_block file.blocks) =
     subst (λ (bs : List (List ℕ)). AllByRecursion IsNoComment bs) (sym file.rest.kept)
-    (none_of_all file.rest.groups each) in
+    (groups_have_no_comment file.rest.groups each) in
     rw (
       file.bytes,
       drop_at gsi (concat file.blocks) 1024 file.gsi.size,
-      blocks_are file.blocks file.rest.each,
-      kept_blocks_no_comment file.blocks none,
+      chunks_are_blocks file.blocks file.rest.each,
+      filters_agree_without_comments file.blocks none,
       file.rest.kept,
-      groups_cut file.rest.groups each,
+      groups_are_split file.rest.groups each,
     ) refl
 
-pub subtitles_are : (bytes gsi : List ℕ) (ts : List SubtitleValue)
+pub file_bytes_give_subtitles : (bytes gsi : List ℕ) (ts : List SubtitleValue)
     → IsFile bytes gsi ts
     → subtitles_by_place bytes ≡ ts
-subtitles_are bytes gsi ts file =
-    groups_are whole bytes gsi ts file
-    ∙ each_eq ts file.rest.groups
+file_bytes_give_subtitles bytes gsi ts file =
+    file_groups_give_subtitles whole bytes gsi ts file
+    ∙ each_group_gives_subtitle ts file.rest.groups
     (subst (λ (groups : List (List (List ℕ))). AllZip AreBlocksOf ts groups)
-    (all_inside file.rest.groups) file.rest.are_of)
+    (whole_scope_keeps_all_groups file.rest.groups) file.rest.are_subtitle_blocks)
 
-pub taken_subtitles_are : (scope : Scope) (bytes gsi : List ℕ) (ts : List SubtitleValue)
+pub scope_of_file_gives_subtitles : (scope : Scope) (bytes gsi : List ℕ) (ts : List SubtitleValue)
     → IsFileFor scope bytes gsi ts
     → subtitles_within scope bytes ≡ ts
-taken_subtitles_are scope bytes gsi ts file =
-    ap (filter (begins_in scope)) (groups_are scope bytes gsi ts file)
-    ∙ taken_are scope ts file.rest.groups file.rest.outside file.rest.are_of
+scope_of_file_gives_subtitles scope bytes gsi ts file =
+    ap (filter (begins_in scope)) (file_groups_give_subtitles scope bytes gsi ts file)
+    ∙ groups_in_scope_give_subtitles scope ts file.rest.groups file.rest.outside
+    file.rest.are_subtitle_blocks

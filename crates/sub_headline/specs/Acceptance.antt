@@ -6,7 +6,7 @@ use Rattle.stl_rows.specs.declared.layout.Drawing.{Drawing}
 use Rattle.stl_rows.specs.declared.national.National.TheVariants.{English}
 use Rattle.sub_plan.specs.Options.{OptionsValue}
 use Rattle.sub_check.specs.CheckedFiles.{IsAccepted, IsAcceptedBy}
-use Rattle.sub_headline.specs.PlainAcceptance.{IsPlainlyAccepted}
+use Rattle.sub_headline.specs.PlainAcceptance.{IsAcceptedInPlainTerms}
 
 -- If `within` is 0 and each header of the page has to erase the page, files are accepted exactly if
 -- they contain subtitles and a good transmission of these subtitles.
@@ -23,8 +23,8 @@ abbrev pub default_drawing : Drawing
 default_drawing = drawing_by English default_layout
 
 -- For English subtitles in the default layout, files are accepted exactly if they satisfy
--- `IsPlainlyAccepted`.
+-- `IsAcceptedInPlainTerms`.
 abbrev pub LawOfEnglishAcceptance : Type 0
 LawOfEnglishAcceptance =
     (options : OptionsValue) (stl pes : List ℕ)
-    → IsAccepted default_drawing options stl pes ↔ IsPlainlyAccepted options stl pes
+    → IsAccepted default_drawing options stl pes ↔ IsAcceptedInPlainTerms options stl pes

@@ -3,25 +3,25 @@
 use Rattle.std.specs.Prelude.{ℕ, Bool, List}
 use Rattle.ttx_packet.specs.PageId.{PageIdValue}
 use Rattle.ttx_page.specs.DroppedRows.{ExcusedBy}
-use Rattle.ttx_page.specs.LostRows.{IsHitOrLost, arrivals_of}
+use Rattle.ttx_page.specs.LostRows.{IsHitOrLost, arrivals_from_flags}
 use Rattle.ttx_page.specs.Receiver.{HearsBy, ReceiverClass, State}
 use Rattle.stl_file.specs.Subtitle.{SubtitleValue}
 use Rattle.sub_rules.specs.Transmission.{Transmission, first_frame, last_frame, on_air}
 use Rattle.sub_laws.specs.LostRows.{IsReceivedWithLosses}
-use Rattle.sub_headline.specs.EnglishPage.{english_due}
-use Rattle.sub_headline.specs.PlainHeadline.{Gets}
+use Rattle.sub_headline.specs.EnglishPage.{english_due_page}
+use Rattle.sub_headline.specs.PlainHeadline.{ReceivesPage}
 
 -- Every receiver of the class has the expected page, except for excused cells, which may contain a
 -- space. If the receiver drops rows, all cells of a row are excused if the row was lost or any of
 -- its bytes was received wrong.
-abbrev pub EachOfClassGets :
+abbrev pub EachReceiverOfClassGets :
     ReceiverClass → PageIdValue → ℕ → List SubtitleValue → Transmission → Type 0
-EachOfClassGets class page every subtitles transmission =
+EachReceiverOfClassGets class page every subtitles transmission =
     (g j f : ℕ) (arrived : List Bool) (got : List (List ℕ)) (old new : State)
     → IsReceivedWithLosses transmission (first_frame transmission) (last_frame transmission) g j f
     arrived got
     → HearsBy class page old got new
-    → Gets page every (english_due subtitles f) g f (on_air transmission g j f)
+    → ReceivesPage page every (english_due_page subtitles f) g f (on_air transmission g j f)
     (ExcusedBy class
-    (IsHitOrLost page (on_air transmission g j f) (arrivals_of arrived got)))
+    (IsHitOrLost page (on_air transmission g j f) (arrivals_from_flags arrived got)))
     old new

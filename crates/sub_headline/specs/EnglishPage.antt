@@ -6,7 +6,7 @@ use Rattle.std.specs.List.{find, onto_first, range_with_len}
 use Rattle.ttx_page.specs.Page.{Rows, blank}
 use Rattle.stl_file.specs.Subtitle.{SubtitleValue}
 use Rattle.stl_rows.specs.DuePage.{is_due}
-use Rattle.stl_rows.specs.Line.{is_double, prepared, row_of}
+use Rattle.stl_rows.specs.Line.{has_double_height, boxed_line, row_of}
 use Rattle.stl_rows.specs.TextCode.{is_common, is_within, new_line}
 
 -- The Teletext code for a byte of text (EBU Tech 3264, code table 00; EN 300 706, English sub-set):
@@ -42,33 +42,33 @@ IsHandledByte byte =
 -- A line of a subtitle fits on the page. It has at most 40 cells. Row 24 remains free, so the line
 -- is not below row 23 and has no double height in row 23. It is empty if the line above it has
 -- double height.
-pub record LineFits (row : ℕ) (is_under_double : Bool) (line : List ℕ) : Type 0 where
+pub record FitsLine (row : ℕ) (is_below_double_height : Bool) (line : List ℕ) : Type 0 where
   pub short : length line ≤ 40
   pub high : line ≢ [] → row ≤ 23
-  pub double_not_in_row_23 : IsTrue (is_double line) → row ≢ 23
-  pub seen : IsTrue is_under_double → line ≡ []
+  pub double_not_in_row_23 : IsTrue (has_double_height line) → row ≢ 23
+  pub seen : IsTrue is_below_double_height → line ≡ []
 
 -- The lines of a subtitle fit on the page if the first of them is in row `row`.
-abbrev pub LinesFit : ℕ → Bool → List (List ℕ) → Type 0
-LinesFit row is_under_double [] = ⊤
-LinesFit row is_under_double (line ∷ lines) =
-    LineFits row is_under_double line × LinesFit (row + 1) (is_double line) lines
+abbrev pub FitLines : ℕ → Bool → List (List ℕ) → Type 0
+FitLines row is_below_double_height [] = ⊤
+FitLines row is_below_double_height (line ∷ lines) =
+    FitsLine row is_below_double_height line × FitLines (row + 1) (has_double_height line) lines
 
 -- The lines of a subtitle. Each line that is not empty is in a box.
-abbrev pub boxed_lines : SubtitleValue → List (List ℕ)
-boxed_lines t = map prepared (english_lines t.text)
+abbrev pub lines_of_boxed_text : SubtitleValue → List (List ℕ)
+lines_of_boxed_text t = map boxed_line (english_lines t.text)
 
 -- The complete text of a subtitle can be drawn: each byte is valid, and the lines fit on the page
 -- from row VP on.
 pub record IsDrawnCompletely (t : SubtitleValue) : Type 0 where
   pub read : All IsHandledByte t.text
-  pub fit : LinesFit t.vp false (boxed_lines t)
+  pub lines_fit_on_page : FitLines t.vp false (lines_of_boxed_text t)
 
 -- The line in a row of a subtitle's page. Line 0 is in row VP; rows above VP and below the last
 -- line are empty.
 abbrev pub english_line : SubtitleValue → ℕ → List ℕ
 english_line t row =
-    if nat_lt row t.vp then [] else slice_index_or (boxed_lines t) (row - t.vp) []
+    if nat_lt row t.vp then [] else slice_index_or (lines_of_boxed_text t) (row - t.vp) []
 
 -- The page of a subtitle: rows 1 to 24 with their lines, each at the column for JC.
 abbrev pub english_page : SubtitleValue → Rows
@@ -81,5 +81,5 @@ page_or_blank (Some t) = english_page t
 
 -- The expected page at a frame: the page of the subtitle with TCI <= frame < TCO, or a blank page
 -- if there is no such subtitle.
-abbrev pub english_due : List SubtitleValue → ℕ → Rows
-english_due subtitles frame = page_or_blank (find (is_due frame) subtitles)
+abbrev pub english_due_page : List SubtitleValue → ℕ → Rows
+english_due_page subtitles frame = page_or_blank (find (is_due frame) subtitles)

@@ -3,15 +3,15 @@ use Rattle.std.specs.Prelude.{◌≡◌, ◌⊎◌, ℕ, Bool, IsTrue, List, Som
 use Rattle.std.specs.Prelude.{if◌then◌else◌}
 use Rattle.ttx_packet.specs.PageId.{PageIdValue}
 use Rattle.ttx_page.specs.DroppedRows.{ExcusedBy}
-use Rattle.ttx_page.specs.LostRows.{IsHitOrLost, arrivals_of}
+use Rattle.ttx_page.specs.LostRows.{IsHitOrLost, arrivals_from_flags}
 use Rattle.ttx_page.specs.Page.{IsCell, Rows, cell}
 use Rattle.ttx_page.specs.PacketKind.{kind}
 use Rattle.ttx_page.specs.Receiver.{HearsBy, ReceiverClass, State}
-use Rattle.ttx_page.specs.Span.{holds_header}
+use Rattle.ttx_page.specs.Span.{has_page_header}
 use Rattle.stl_file.specs.Subtitle.{SubtitleValue}
 use Rattle.sub_rules.specs.Transmission.{Transmission, first_frame, last_frame, on_air}
 use Rattle.sub_laws.specs.LostRows.{IsReceivedWithLosses}
-use Rattle.sub_headline.specs.EnglishPage.{english_cell, english_due}
+use Rattle.sub_headline.specs.EnglishPage.{english_cell, english_due_page}
 
 -- The character SPACE, U+0020 of ISO/IEC 10646.
 abbrev pub space_character : ℕ
@@ -65,11 +65,11 @@ EachScreenShows page subtitles transmission =
     → IsReceivedWithLosses transmission (first_frame transmission) (last_frame transmission) g j f
     arrived got
     → HearsBy class page old got new
-    → IsTrue (holds_header (kind page) (on_air transmission g j f))
+    → IsTrue (has_page_header (kind page) (on_air transmission g j f))
     → (row column : ℕ)
     → IsCell row column
-    → (seen new.page row column ≡ seen (english_due subtitles f) row column)
+    → (seen new.page row column ≡ seen (english_due_page subtitles f) row column)
     ⊎ ((seen new.page row column ≡ space_character)
     × ExcusedBy class
-    (IsHitOrLost page (on_air transmission g j f) (arrivals_of arrived got))
+    (IsHitOrLost page (on_air transmission g j f) (arrivals_from_flags arrived got))
     row column)

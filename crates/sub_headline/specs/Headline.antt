@@ -15,27 +15,29 @@ use Rattle.sub_plan.specs.Examples.{page_888}
 use Rattle.sub_plan.specs.Options.{OptionsValue}
 use Rattle.sub_rules.specs.Transmission.{Transmission}
 use Rattle.sub_answer.specs.FilesInMemory.{memory_observations}
-use Rattle.sub_headline.specs.BothClasses.{EachOfClassGets}
+use Rattle.sub_headline.specs.BothClasses.{EachReceiverOfClassGets}
 use Rattle.sub_headline.specs.DrawnOptions.{DisplayOption, DisplayOptions, display_options_of}
-use Rattle.sub_headline.specs.DrawnOptions.{arguments_for}
-use Rattle.sub_headline.specs.EnglishPage.{english_due}
+use Rattle.sub_headline.specs.DrawnOptions.{arguments_of_display_option}
+use Rattle.sub_headline.specs.EnglishPage.{english_due_page}
 use Rattle.sub_headline.specs.EnglishScreen.{EachScreenShows}
-use Rattle.sub_headline.specs.PlainAcceptance.{IsPlainlyAccepted}
-use Rattle.sub_headline.specs.PlainFiles.{AreFilesOf}
+use Rattle.sub_headline.specs.PlainAcceptance.{IsAcceptedInPlainTerms}
+use Rattle.sub_headline.specs.PlainFiles.{AreReadFrom}
 use Rattle.sub_headline.specs.PlainHeadline.{Headline}
-use Rattle.sub_headline.specs.PlainOptions.{Choice, options_by, arguments_of_choice}
+use Rattle.sub_headline.specs.PlainOptions.{CheckOption, options_of_check_options}
+use Rattle.sub_headline.specs.PlainOptions.{arguments_of_check_option}
 use Rattle.sub_headline.specs.OnScreens.{EachDisplayShows}
-use Rattle.sub_headline.specs.RecordingOptions.{Portion, Reading, bytes_read, reading_of}
-use Rattle.sub_headline.specs.RecordingOptions.{arguments_in}
+use Rattle.sub_headline.specs.RecordingOptions.{RecordingOption, Reading, bytes_selected}
+use Rattle.sub_headline.specs.RecordingOptions.{reading_of}
+use Rattle.sub_headline.specs.RecordingOptions.{arguments_of_recording_option}
 use Rattle.sub_headline.specs.PlainReading.{frames_by_place, subtitles_by_place, subtitles_within}
 use Rattle.sub_headline.specs.PlainArguments.{IsName}
 use Rattle.sub_headline.specs.Run.{RunsProgram}
 
 -- The statement `IsSo` is true for the contents of two files in a run with the arguments `check STL
 -- PES`, where STL and PES do not begin with `-`.
-abbrev pub OfCheck :
+abbrev pub ForPlainCheck :
     Result (List Text) UsageFault → MemFilesValue → (List ℕ → List ℕ → Type 0) → Type 0
-OfCheck given files IsSo =
+ForPlainCheck given files IsSo =
     (program stl pes : Text) (file bytes : List ℕ)
     → IsName stl
     → IsName pes
@@ -48,131 +50,134 @@ OfCheck given files IsSo =
 -- seconds). Frame 0 has the PTS 0.
 abbrev pub ImpliesHeadline : Result (List Text) UsageFault → MemFilesValue → ℕ → Type 0
 ImpliesHeadline given files code =
-    OfCheck given files
+    ForPlainCheck given files
     (λ file bytes.
     code ≡ 0
-    → Headline page_888 250 english_due (subtitles_by_place file) (frames_by_place 0 bytes))
+    → Headline page_888 250 english_due_page (subtitles_by_place file) (frames_by_place 0 bytes))
 
 -- The statement `IsSo` is true for the options and the contents of two files in a run with the
--- arguments `check STL PES` and any of the options of type `Choice`, in any order.
-abbrev pub OfChosen :
+-- arguments `check STL PES` and any of the options of type `CheckOption`, in any order.
+abbrev pub ForChosenOptions :
     Result (List Text) UsageFault → MemFilesValue
     → (OptionsValue → List ℕ → List ℕ → Type 0) → Type 0
-OfChosen given files IsSo =
-    (program stl pes : Text) (choices : List Choice) (file bytes : List ℕ)
+ForChosenOptions given files IsSo =
+    (program stl pes : Text) (choices : List CheckOption) (file bytes : List ℕ)
     → IsName stl
     → IsName pes
-    → given ≡ Ok (program ∷ codes "check" ∷ stl ∷ pes ∷ flat_map arguments_of_choice choices)
+    → given ≡ Ok (program ∷ codes "check" ∷ stl ∷ pes ∷ flat_map arguments_of_check_option choices)
     → bytes_at stl files ≡ Some file
     → bytes_at pes files ≡ Some bytes
-    → IsSo (options_by choices) file bytes
+    → IsSo (options_of_check_options choices) file bytes
 
 -- If the exit code is 0, `IsSo` is true for the options, the subtitles of the subtitle file and the
 -- frames of the PES file.
-abbrev pub OfAccepted :
+abbrev pub ForAcceptedCheck :
     Result (List Text) UsageFault → MemFilesValue → ℕ
     → (OptionsValue → List SubtitleValue → Transmission → Type 0) → Type 0
-OfAccepted given files code IsSo =
-    OfChosen given files
+ForAcceptedCheck given files code IsSo =
+    ForChosenOptions given files
     (λ o file bytes. code ≡ 0 → IsSo o (subtitles_by_place file) (frames_by_place o.origin bytes))
 
 -- If the exit code is 0, the headline is true for the page and the repeat bound of the options.
-abbrev pub ImpliesChosen : Result (List Text) UsageFault → MemFilesValue → ℕ → Type 0
-ImpliesChosen given files code =
-    OfAccepted given files code (λ o. Headline o.page o.every english_due)
+abbrev pub ImpliesChosenHeadline : Result (List Text) UsageFault → MemFilesValue → ℕ → Type 0
+ImpliesChosenHeadline given files code =
+    ForAcceptedCheck given files code (λ o. Headline o.page o.every english_due_page)
 
 -- If the exit code is 0, receivers that drop each row with a byte of even parity also have the
 -- expected page. All cells of a row are excused if any byte of the row was received wrong.
-abbrev pub ImpliesDropping : Result (List Text) UsageFault → MemFilesValue → ℕ → Type 0
-ImpliesDropping given files code =
-    OfAccepted given files code (λ o. EachOfClassGets Dropping o.page o.every)
+abbrev pub ImpliesDroppingHeadline : Result (List Text) UsageFault → MemFilesValue → ℕ → Type 0
+ImpliesDroppingHeadline given files code =
+    ForAcceptedCheck given files code (λ o. EachReceiverOfClassGets Dropping o.page o.every)
 
 -- If the exit code is 0, the screen of each receiver of either class shows the characters of the
 -- expected page.
-abbrev pub ImpliesScreens : Result (List Text) UsageFault → MemFilesValue → ℕ → Type 0
-ImpliesScreens given files code = OfAccepted given files code (λ o. EachScreenShows o.page)
+abbrev pub ImpliesScreenContents : Result (List Text) UsageFault → MemFilesValue → ℕ → Type 0
+ImpliesScreenContents given files code = ForAcceptedCheck given files code
+    (λ o. EachScreenShows o.page)
 
 -- If the exit code is 0, both files match their formats. The subtitle file contains these
 -- subtitles, the PES file contains these frames, and both contain nothing else.
-abbrev pub ImpliesFiles : Result (List Text) UsageFault → MemFilesValue → ℕ → Type 0
-ImpliesFiles given files code =
-    OfChosen given files
+abbrev pub ImpliesFileReading : Result (List Text) UsageFault → MemFilesValue → ℕ → Type 0
+ImpliesFileReading given files code =
+    ForChosenOptions given files
     (λ o file bytes.
     code ≡ 0
-    → AreFilesOf whole o.origin file bytes (subtitles_by_place file)
+    → AreReadFrom whole o.origin file bytes (subtitles_by_place file)
     (frames_by_place o.origin bytes))
 
 -- If the exit code is 0 and complete pages were required, receivers that show a page only after a
 -- later header has ended it also show the expected page.
-abbrev pub ImpliesComplete : Result (List Text) UsageFault → MemFilesValue → ℕ → Type 0
-ImpliesComplete given files code =
-    OfAccepted given files code
+abbrev pub ImpliesCompletePages : Result (List Text) UsageFault → MemFilesValue → ℕ → Type 0
+ImpliesCompletePages given files code =
+    ForAcceptedCheck given files code
     (λ o subtitles transmission.
     IsTrue o.asks_complete → EachDisplayShows o.page subtitles transmission)
 
 -- The statement `IsSo` is true for the settings and the contents of two files in a run with the
--- arguments `check STL RECORDING` and any of the options of type `Portion`, in any order. RECORDING
--- is a PES file or, with `--pid`, a transport stream.
-abbrev pub OfRecording :
+-- arguments `check STL RECORDING` and any of the options of type `RecordingOption`, in any order.
+-- RECORDING is a PES file or, with `--pid`, a transport stream.
+abbrev pub ForRecordingCheck :
     Result (List Text) UsageFault → MemFilesValue → (Reading → List ℕ → List ℕ → Type 0) → Type 0
-OfRecording given files IsSo =
-    (program stl recording : Text) (parts : List Portion) (file bytes : List ℕ)
+ForRecordingCheck given files IsSo =
+    (program stl recording : Text) (parts : List RecordingOption) (file bytes : List ℕ)
     → IsName stl
     → IsName recording
-    → given ≡ Ok (program ∷ codes "check" ∷ stl ∷ recording ∷ flat_map arguments_in parts)
+    → given ≡ Ok (program ∷ codes "check" ∷ stl ∷ recording ∷ flat_map arguments_of_recording_option
+    parts)
     → bytes_at stl files ≡ Some file
     → bytes_at recording files ≡ Some bytes
     → IsSo (reading_of parts) file bytes
 
 -- If the exit code is 0, the headline is true for the subtitles and frames in the selected parts of
 -- both files.
-abbrev pub ImpliesRecording : Result (List Text) UsageFault → MemFilesValue → ℕ → Type 0
-ImpliesRecording given files code =
-    OfRecording given files
+abbrev pub ImpliesRecordingHeadline : Result (List Text) UsageFault → MemFilesValue → ℕ → Type 0
+ImpliesRecordingHeadline given files code =
+    ForRecordingCheck given files
     (λ r file bytes.
     code ≡ 0
-    → Headline r.options.page r.options.every english_due (subtitles_within r.scope file)
-    (frames_by_place r.options.origin (bytes_read r bytes)))
+    → Headline r.options.page r.options.every english_due_page (subtitles_within r.scope file)
+    (frames_by_place r.options.origin (bytes_selected r bytes)))
 
 -- Further receivers also have the expected page: receivers that drop damaged rows, and receivers
 -- that wait for complete pages; and the screens of all receivers show its characters.
-pub record ServesOthers
+pub record ServesOtherReceivers
     (o : OptionsValue) (subtitles : List SubtitleValue) (transmission : Transmission)
     : Type 0 where
-  pub dropping : EachOfClassGets Dropping o.page o.every subtitles transmission
+  pub dropping : EachReceiverOfClassGets Dropping o.page o.every subtitles transmission
   pub screens : EachScreenShows o.page subtitles transmission
   pub complete : IsTrue o.asks_complete → EachDisplayShows o.page subtitles transmission
 
--- If the exit code is 0, `ServesOthers` is true for the subtitles and frames in the selected parts
--- of both files.
-abbrev pub ImpliesRecordingToo : Result (List Text) UsageFault → MemFilesValue → ℕ → Type 0
-ImpliesRecordingToo given files code =
-    OfRecording given files
+-- If the exit code is 0, `ServesOtherReceivers` is true for the subtitles and frames in the
+-- selected parts of both files.
+abbrev pub ImpliesRecordingReceivers : Result (List Text) UsageFault → MemFilesValue → ℕ → Type 0
+ImpliesRecordingReceivers given files code =
+    ForRecordingCheck given files
     (λ r file bytes.
     code ≡ 0
-    → ServesOthers r.options (subtitles_within r.scope file)
-    (frames_by_place r.options.origin (bytes_read r bytes)))
+    → ServesOtherReceivers r.options (subtitles_within r.scope file)
+    (frames_by_place r.options.origin (bytes_selected r bytes)))
 
 -- If the exit code is 0, the selected bytes are a PES file that contains these frames and nothing
 -- else. The subtitle file contains these subtitles in its selected part.
-abbrev pub ImpliesRecordingFiles : Result (List Text) UsageFault → MemFilesValue → ℕ → Type 0
-ImpliesRecordingFiles given files code =
-    OfRecording given files
+abbrev pub ImpliesRecordingReading : Result (List Text) UsageFault → MemFilesValue → ℕ → Type 0
+ImpliesRecordingReading given files code =
+    ForRecordingCheck given files
     (λ r file bytes.
     code ≡ 0
-    → AreFilesOf r.scope r.options.origin file (bytes_read r bytes) (subtitles_within r.scope file)
-    (frames_by_place r.options.origin (bytes_read r bytes)))
+    → AreReadFrom r.scope r.options.origin file (bytes_selected r bytes) (subtitles_within r.scope
+    file)
+    (frames_by_place r.options.origin (bytes_selected r bytes)))
 
 -- The statement `IsSo` is true for the settings and the contents of two files in a run with the
 -- arguments `check STL RECORDING` and any of the options of type `DisplayOption`, in any order.
-abbrev pub OfDisplay :
+abbrev pub ForDisplayOptions :
     Result (List Text) UsageFault → MemFilesValue → (DisplayOptions → List ℕ → List ℕ → Type 0) →
     Type 0
-OfDisplay given files IsSo =
+ForDisplayOptions given files IsSo =
     (program stl recording : Text) (display_options : List DisplayOption) (file bytes : List ℕ)
     → IsName stl
     → IsName recording
-    → given ≡ Ok (program ∷ codes "check" ∷ stl ∷ recording ∷ flat_map arguments_for
+    → given ≡ Ok (program ∷ codes "check" ∷ stl ∷ recording ∷ flat_map arguments_of_display_option
     display_options)
     → bytes_at stl files ≡ Some file
     → bytes_at recording files ≡ Some bytes
@@ -180,20 +185,22 @@ OfDisplay given files IsSo =
 
 -- If the exit code is 0, the headline is true for subtitles drawn with the national option and the
 -- layout.
-abbrev pub ImpliesDrawn : Result (List Text) UsageFault → MemFilesValue → ℕ → Type 0
-ImpliesDrawn given files code =
-    OfDisplay given files
+abbrev pub ImpliesDrawnHeadline : Result (List Text) UsageFault → MemFilesValue → ℕ → Type 0
+ImpliesDrawnHeadline given files code =
+    ForDisplayOptions given files
     (λ l file bytes.
     let o = l.reading.options in
     code ≡ 0
     → Headline o.page o.every (due (drawing_by l.national l.layout))
-    (subtitles_within l.reading.scope file) (frames_by_place o.origin (bytes_read l.reading bytes)))
+    (subtitles_within l.reading.scope file)
+    (frames_by_place o.origin (bytes_selected l.reading bytes)))
 
 -- Unless the exit code is 2 (a device failed or memory ran out), it is 0 exactly if the files
 -- contain at least one subtitle and a good transmission of their subtitles by the options.
 abbrev pub DecidesAcceptance : Result (List Text) UsageFault → MemFilesValue → ℕ → Type 0
 DecidesAcceptance given files code =
-    OfChosen given files (λ o file bytes. code ≢ 2 → (code ≡ 0) ↔ IsPlainlyAccepted o file bytes)
+    ForChosenOptions given files (λ o file bytes. code ≢ 2 → (code ≡ 0) ↔ IsAcceptedInPlainTerms o
+    file bytes)
 
 -- The exit code of each run of the program implies all these statements. The files are in memory,
 -- and `before` has their contents when the program starts. Standard output is any device, given by
@@ -208,9 +215,9 @@ LawOfHeadline {K} contents failure_count IsPush =
     → RunsProgram (CallsInOrder IsMemoryCall before after) memory_observations (λ was is. is ≡ was)
     given
     contents failure_count IsPush output left code
-    → ImpliesHeadline given before code × ImpliesChosen given before code
-    × ImpliesDropping given before code × ImpliesScreens given before code
-    × ImpliesFiles given before code × ImpliesComplete given before code
-    × ImpliesRecording given before code × ImpliesRecordingToo given before code
-    × ImpliesRecordingFiles given before code × ImpliesDrawn given before code
+    → ImpliesHeadline given before code × ImpliesChosenHeadline given before code
+    × ImpliesDroppingHeadline given before code × ImpliesScreenContents given before code
+    × ImpliesFileReading given before code × ImpliesCompletePages given before code
+    × ImpliesRecordingHeadline given before code × ImpliesRecordingReceivers given before code
+    × ImpliesRecordingReading given before code × ImpliesDrawnHeadline given before code
     × DecidesAcceptance given before code

@@ -13,11 +13,11 @@ use Rattle.stl_rows.specs.Programme.{first_tci, last_tco}
 use Rattle.ttx_packet.specs.PageId.{PageIdValue}
 use Rattle.sub_laws.specs.OnScreen.{Complete}
 use Rattle.sub_plan.specs.Options.{OptionsValue}
-use Rattle.sub_rules.specs.Good.{HasCleanSpans, HoldsHeader, IsInOneMode, KeepsPace, Repeats}
+use Rattle.sub_rules.specs.Good.{HasCleanSpans, HoldsHeader, HaveSameMode, KeepsPace, Repeats}
 use Rattle.sub_rules.specs.Transmission.{EachPacket, IsRising, Transmission, first_frame}
 use Rattle.sub_rules.specs.Transmission.{last_frame, on_air_until}
-use Rattle.sub_headline.specs.EnglishPage.{english_due}
-use Rattle.sub_headline.specs.PlainFiles.{AreFilesOf}
+use Rattle.sub_headline.specs.EnglishPage.{english_due_page}
+use Rattle.sub_headline.specs.PlainFiles.{AreReadFrom}
 
 -- The control bits in the header of an English subtitle page: C4 (erase page), C6 (subtitle) and C7
 -- (suppress header) are set; C5 (newsflash) and C10 (inhibit display) are clear; C12 to C14 are
@@ -47,7 +47,7 @@ ShowsEnglishPages page subtitles transmission =
     → f ≤ last_frame transmission
     → IsCell row column
     → shown page (on_air_until transmission f) row column
-    ≡ cell (english_due subtitles f) row column
+    ≡ cell (english_due_page subtitles f) row column
 
 -- A good transmission of the subtitles on the page of the options, by seven rules.
 pub record IsEnglishGood
@@ -64,7 +64,7 @@ pub record IsEnglishGood
   -- words without a wrong bit.
   pub exact : EachPacket HasExactCodeWords transmission
   -- 3. All page headers, of any page, have the same C11.
-  pub serial : EachPacket (λ one. EachPacket (IsInOneMode one) transmission) transmission
+  pub serial : EachPacket (λ one. EachPacket (HaveSameMode one) transmission) transmission
   -- 4. Each header of the page has the control bits of an English subtitle.
   pub control : EachPacket (IsControlledInEnglish o.page) transmission
   -- 5. While the page is open, each row has odd parity and is repeated unchanged, and there is no
@@ -80,8 +80,8 @@ pub record IsEnglishGood
   pub complete : IsTrue o.asks_complete → Complete transmission o
 
 -- The files are accepted: they contain subtitles and a good transmission of these subtitles.
-pub record IsPlainlyAccepted (o : OptionsValue) (stl pes : List ℕ) : Type 0 where
+pub record IsAcceptedInPlainTerms (o : OptionsValue) (stl pes : List ℕ) : Type 0 where
   pub subtitles : List SubtitleValue
   pub transmission : Transmission
-  pub files : AreFilesOf whole o.origin stl pes subtitles transmission
+  pub files : AreReadFrom whole o.origin stl pes subtitles transmission
   pub good : IsEnglishGood o subtitles transmission

@@ -7,8 +7,8 @@ use Rattle.stl_rows.specs.declared.national.National.TheVariants.{English}
 use Rattle.sub_plan.specs.Examples.{page_888}
 use Rattle.sub_plan.specs.Options.{OptionsValue}
 use Rattle.sub_request.specs.declared.request.Request.{Request}
-use Rattle.sub_words.specs.Arguments.{PesRequested}
-use Rattle.sub_words.specs.Requests.{Requested, IsRequestOf, requested_by}
+use Rattle.sub_words.specs.Arguments.{PesSelectionValue}
+use Rattle.sub_words.specs.Requests.{Requested, IsRequestOf, value_of_request}
 
 -- The default options: page 888, a header of the page every 250 frames (10 seconds), and the PTS 0
 -- for frame 0. Complete pages and a maximum distance of PES packets are not required. The expected
@@ -29,7 +29,7 @@ abbrev pub IsName : Text → Type 0
 IsName word = slice_get word 0 ≢ Some 0x2D
 
 -- The request to read a complete PES file with this name.
-abbrev pub entire_pes_file : Text → PesRequested
+abbrev pub entire_pes_file : Text → PesSelectionValue
 entire_pes_file name = record { name = name; stream = None; range = None }
 
 -- The arguments `check STL PES` request a check of these two files with the default options.
@@ -39,5 +39,5 @@ LawOfPlainArguments =
     → IsName stl
     → IsName pes
     → IsRequestOf (program ∷ codes "check" ∷ stl ∷ pes ∷ []) request
-    → requested_by request
+    → value_of_request request
     ≡ Requested.Check stl (entire_pes_file pes) default_options English default_layout whole false

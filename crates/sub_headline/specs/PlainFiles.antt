@@ -10,7 +10,7 @@ use Rattle.sub_headline.specs.EnglishPage.{IsDrawnCompletely}
 
 -- The two files contain these subtitles and these frames, given the PTS of frame 0 and the selected
 -- part of the subtitle file.
-pub record AreFilesOf
+pub record AreReadFrom
     (scope : Scope) (origin : ℕ) (stl pes : List ℕ) (subtitles : List SubtitleValue)
     (transmission : Transmission)
     : Type 0 where

@@ -1,11 +1,11 @@
 -- The headline: the page that every receiver has if `check` accepts the transmission.
 use Rattle.std.specs.Prelude.{◌≡◌, ◌⊎◌, ◌||◌, ℕ, ◌+◌, ◌≤◌, All, Bool, IsTrue, List}
 use Rattle.ttx_packet.specs.PageId.{PageIdValue}
-use Rattle.ttx_page.specs.LostRows.{IsHitOrLost, arrivals_of}
+use Rattle.ttx_page.specs.LostRows.{IsHitOrLost, arrivals_from_flags}
 use Rattle.ttx_page.specs.Page.{IsCell, Rows, cell, space}
 use Rattle.ttx_page.specs.PacketKind.{kind}
 use Rattle.ttx_page.specs.Receiver.{Hears, State}
-use Rattle.ttx_page.specs.Span.{holds_header}
+use Rattle.ttx_page.specs.Span.{has_page_header}
 use Rattle.stl_file.specs.Subtitle.{SubtitleValue}
 use Rattle.sub_rules.specs.Transmission.{Transmission, first_frame, last_frame, on_air}
 use Rattle.sub_laws.specs.LostRows.{IsReceivedWithLosses}
@@ -18,25 +18,25 @@ use Rattle.sub_laws.specs.LostRows.{IsReceivedWithLosses}
 -- repeat bound). The receiver has received a header of the page exactly if it had one before or if
 -- `sent` contains one. If `sent` contains a header of the page, each cell has the code of the
 -- expected page, or a space if the cell is excused.
-pub record Gets
+pub record ReceivesPage
     (page : PageIdValue) (every : ℕ) (due : Rows) (g f : ℕ)
     (sent : List (List ℕ)) (IsExcused : ℕ → ℕ → Type 0) (old new : State)
     : Type 0 where
-  pub in_time : g + every ≤ f → IsTrue (holds_header (kind page) sent)
-  pub heard : new.heard ≡ (old.heard || holds_header (kind page) sent)
+  pub in_time : g + every ≤ f → IsTrue (has_page_header (kind page) sent)
+  pub heard : new.heard ≡ (old.heard || has_page_header (kind page) sent)
   pub cells :
-      IsTrue (holds_header (kind page) sent)
+      IsTrue (has_page_header (kind page) sent)
       → (row column : ℕ)
       → IsCell row column
       → (cell new.page row column ≡ cell due row column)
       ⊎ ((cell new.page row column ≡ space) × IsExcused row column)
 
--- Every receiver of page `page` has the expected page, as `Gets` specifies. This is true for every
--- time at which the receiver is switched on (before packet j of frame g) and every time at which
--- its page is examined (at the end of frame f); for any loss of packets other than page headers;
--- for at most one wrong bit in each byte received; for any page that the receiver contained before,
--- open or not, with or without a header; and for any code that the receiver stores for a byte of
--- even parity.
+-- Every receiver of page `page` has the expected page, as `ReceivesPage` specifies. This is true
+-- for every time at which the receiver is switched on (before packet j of frame g) and every time
+-- at which its page is examined (at the end of frame f); for any loss of packets other than page
+-- headers; for at most one wrong bit in each byte received; for any page that the receiver
+-- contained before, open or not, with or without a header; and for any code that the receiver
+-- stores for a byte of even parity.
 --
 -- A cell is excused if a packet of its row was lost, or received with a wrong byte in the cell's
 -- column. This concerns only packets of the page that were sent after its last header and before a
@@ -47,8 +47,8 @@ EachReceiverGets page every due transmission =
     → IsReceivedWithLosses transmission (first_frame transmission) (last_frame transmission) g j f
     arrived got
     → Hears page old got new
-    → Gets page every (due f) g f (on_air transmission g j f)
-    (IsHitOrLost page (on_air transmission g j f) (arrivals_of arrived got)) old new
+    → ReceivesPage page every (due f) g f (on_air transmission g j f)
+    (IsHitOrLost page (on_air transmission g j f) (arrivals_from_flags arrived got)) old new
 
 -- The headline for subtitles and a transmission. `every` is the repeat bound of the page's header
 -- in frames, and `due` gives the expected page at each frame.

@@ -12,52 +12,54 @@ use Rattle.stl_rows.specs.declared.national.National.TheVariants.{English}
 use Rattle.sub_plan.specs.Options.{OptionsValue}
 use Rattle.sub_request.specs.declared.request.Request.{Request}
 use Rattle.sub_words.specs.Arguments.{between}
-use Rattle.sub_words.specs.Requests.{Requested, IsRequestOf, requested_by}
+use Rattle.sub_words.specs.Requests.{Requested, IsRequestOf, value_of_request}
 use Rattle.sub_words.specs.Texts.{number_of_text}
 use Rattle.sub_headline.specs.PlainArguments.{IsName, default_options, entire_pes_file}
 
 -- An option with the text of its value and the meaning of that text, or a flag.
-pub data Choice : Type 0 where
-  Page : (text : Text) → (page : PageIdValue) → page_of_text text ≡ Some page → Choice
-  Every : (text : Text) → (frames : ℕ) → number_of_text text ≡ Some frames → Choice
-  Origin : (text : Text) → (pts : ℕ) → number_of_text text ≡ Some pts → Choice
-  Pace : (text : Text) → (frames : ℕ) → between 1 day (number_of_text text) ≡ Some frames → Choice
-  Complete : Choice
-  EveryFault : Choice
+pub data CheckOption : Type 0 where
+  Page : (text : Text) → (page : PageIdValue) → page_of_text text ≡ Some page → CheckOption
+  Every : (text : Text) → (frames : ℕ) → number_of_text text ≡ Some frames → CheckOption
+  Origin : (text : Text) → (pts : ℕ) → number_of_text text ≡ Some pts → CheckOption
+  Pace : (text : Text) → (frames : ℕ) → between 1 day (number_of_text text) ≡ Some frames →
+      CheckOption
+  Complete : CheckOption
+  EveryFault : CheckOption
 
 -- The command-line arguments for an option.
-abbrev pub arguments_of_choice : Choice → List Text
-arguments_of_choice (Page text page is) = codes "--page" ∷ text ∷ []
-arguments_of_choice (Every text frames is) = codes "--every" ∷ text ∷ []
-arguments_of_choice (Origin text pts is) = codes "--origin" ∷ text ∷ []
-arguments_of_choice (Pace text frames is) = codes "--pace" ∷ text ∷ []
-arguments_of_choice Complete = codes "--complete" ∷ []
-arguments_of_choice EveryFault = codes "--all" ∷ []
+abbrev pub arguments_of_check_option : CheckOption → List Text
+arguments_of_check_option (Page text page is) = codes "--page" ∷ text ∷ []
+arguments_of_check_option (Every text frames is) = codes "--every" ∷ text ∷ []
+arguments_of_check_option (Origin text pts is) = codes "--origin" ∷ text ∷ []
+arguments_of_check_option (Pace text frames is) = codes "--pace" ∷ text ∷ []
+arguments_of_check_option Complete = codes "--complete" ∷ []
+arguments_of_check_option EveryFault = codes "--all" ∷ []
 
 -- The options after one more option. `--all` changes only the report.
-abbrev pub with_choice : OptionsValue → Choice → OptionsValue
-with_choice o (Page text page is) = record o { page = page }
-with_choice o (Every text frames is) = record o { every = frames }
-with_choice o (Origin text pts is) = record o { origin = pts }
-with_choice o (Pace text frames is) = record o { pace = Some frames }
-with_choice o Complete = record o { asks_complete = true }
-with_choice o EveryFault = o
+abbrev pub with_check_option : OptionsValue → CheckOption → OptionsValue
+with_check_option o (Page text page is) = record o { page = page }
+with_check_option o (Every text frames is) = record o { every = frames }
+with_check_option o (Origin text pts is) = record o { origin = pts }
+with_check_option o (Pace text frames is) = record o { pace = Some frames }
+with_check_option o Complete = record o { asks_complete = true }
+with_check_option o EveryFault = o
 
 -- The options for a list of options, starting from the default options.
-abbrev pub options_by : List Choice → OptionsValue
-options_by choices = fold with_choice default_options choices
+abbrev pub options_of_check_options : List CheckOption → OptionsValue
+options_of_check_options choices = fold with_check_option default_options choices
 
 -- The arguments `check STL PES` and these options request a check of the two files with the
 -- options, and the PTS of frame 0 is less than 2^33.
 abbrev pub LawOfChosenArguments : Type 0
 LawOfChosenArguments =
-    (program stl pes : Text) (choices : List Choice) (request : Request)
+    (program stl pes : Text) (choices : List CheckOption) (request : Request)
     → IsName stl
     → IsName pes
-    → IsRequestOf (program ∷ codes "check" ∷ stl ∷ pes ∷ flat_map arguments_of_choice choices)
+    → IsRequestOf (program ∷ codes "check" ∷ stl ∷ pes ∷ flat_map arguments_of_check_option choices)
     request
     → (all : Bool)
-    × (requested_by request
-    ≡ Requested.Check stl (entire_pes_file pes) (options_by choices) English default_layout whole
+    × (value_of_request request
+    ≡ Requested.Check stl (entire_pes_file pes) (options_of_check_options choices) English
+    default_layout whole
     all)
-    × ((options_by choices).origin < 2 ^ 33)
+    × ((options_of_check_options choices).origin < 2 ^ 33)

@@ -3,8 +3,8 @@ use Rattle.std.specs.Prelude.{◌≡◌, ◌⊎◌, ℕ, List, [], Option, None,
 use Rattle.clap.specs.Words.{Text}
 use Rattle.sub_io.specs.Buffered.{BufferState}
 use Rattle.sub_files.specs.FileCalls.{FileCall}
-use Rattle.sub_files.specs.Opening.{OpensBy}
-use Rattle.sub_request.specs.Files.{files_of}
+use Rattle.sub_files.specs.Opening.{OpensWithCalls}
+use Rattle.sub_request.specs.Files.{files_of_request}
 use Rattle.sub_request.specs.declared.request.Request.{Request}
 use Rattle.sub_request.specs.declared.request.UsageFault.{UsageFault}
 use Rattle.sub_request.specs.declared.request.UsageFault.TheVariants as usage
@@ -13,16 +13,16 @@ use Rattle.sub_listing.specs.Listing.{exit_code}
 use Rattle.sub_listing.specs.declared.status.Status.{Status}
 use Rattle.sub_answer.specs.Ending.{BufferHoldsOneLineOnly, Ends, FileObservations, Lines}
 use Rattle.sub_answer.specs.Ending.{PrintsFault}
-use Rattle.sub_answer.specs.Ending.{lines_of}
+use Rattle.sub_answer.specs.Ending.{lines_of_buffer}
 
 -- The arguments are a request, which was answered. No other files were opened or released.
-pub record Answered
+pub record RunAnswers
     {I O : Type 0} (AreMade : List (FileCall I O) → Type 0) (known : FileObservations I O)
     (IsClose : O → O → Type 0) (given : Result (List Text) UsageFault) (IsAlone : Lines → Type 0)
     (old new : Lines) (result : Status)
     : Type 0 where
   pub arguments : List Text
-  pub are_given : given ≡ Ok arguments
+  pub arguments_were_given : given ≡ Ok arguments
   pub request : Request
   pub requested : IsRequestOf arguments request
   pub ends : Ends AreMade known IsClose request IsAlone old new result
@@ -33,34 +33,35 @@ abbrev pub IsRefusalReason :
     {I O : Type 0} → (List (FileCall I O) → Type 0) → List Text → UsageFault → Type 0
 IsRefusalReason AreMade arguments usage.Memory = AreMade []
 IsRefusalReason AreMade arguments usage.Open =
-    (request : Request) × IsRequestOf arguments request × OpensBy AreMade (files_of request) None
+    (request : Request) × IsRequestOf arguments request × OpensWithCalls AreMade
+    (files_of_request request) None
 IsRefusalReason AreMade arguments fault = IsFaultOf arguments fault × AreMade []
 
 -- The fault that prevents an answer, including that the system returned no arguments.
-abbrev pub IsCause :
+abbrev pub IsUsageFaultReason :
     {I O : Type 0}
     → (List (FileCall I O) → Type 0) → Result (List Text) UsageFault → UsageFault → Type 0
-IsCause AreMade (Ok arguments) fault = IsRefusalReason AreMade arguments fault
-IsCause AreMade (Err why) fault = (fault ≡ why) × AreMade []
+IsUsageFaultReason AreMade (Ok arguments) fault = IsRefusalReason AreMade arguments fault
+IsUsageFaultReason AreMade (Err why) fault = (fault ≡ why) × AreMade []
 
 -- No request was answered, and the line of the fault was printed.
-pub record IsUnanswered
+pub record RunReportsFault
     {I O : Type 0} (AreMade : List (FileCall I O) → Type 0) (given : Result (List Text) UsageFault)
     (old new : Lines) (result : Status)
     : Type 0 where
   pub fault : UsageFault
-  pub cause : IsCause AreMade given fault
+  pub cause : IsUsageFaultReason AreMade given fault
   pub says : PrintsFault fault old new result
 
 -- The end of a run: the calls that opened and released files, the contents of the files, the
 -- printed lines, and the exit status. Everything except the line of a fault was flushed.
-abbrev pub EndsRun :
+abbrev pub RunEnds :
     {I O : Type 0}
     → (List (FileCall I O) → Type 0) → FileObservations I O → (O → O → Type 0)
     → Result (List Text) UsageFault → (Lines → Type 0) → Lines → Lines → Status → Type 0
-EndsRun AreMade known IsClose given IsAlone old new result =
-    Answered AreMade known IsClose given IsAlone old new result
-    ⊎ IsUnanswered AreMade given old new result
+RunEnds AreMade known IsClose given IsAlone old new result =
+    RunAnswers AreMade known IsClose given IsAlone old new result
+    ⊎ RunReportsFault AreMade given old new result
 
 -- A run of the program: the arguments, the files, standard output before and after, and the exit
 -- code. Standard output is written through an initially empty buffer, and nothing else is printed.
@@ -79,9 +80,10 @@ pub record RunsProgram
   pub ends :
       (let old : BufferState K =
       record { device = output; buffered = []; room = room; failed = false; refused = 0 } in
-      let EndsSo = EndsRun AreMade known IsClose given
-      (BufferHoldsOneLineOnly contents failure_count IsPush) (lines_of contents failure_count old)
-      (lines_of contents failure_count new) status in
-      let SaysMemory = PrintsFault usage.Memory (lines_of contents failure_count old)
-      (lines_of contents failure_count new) status in
+      let EndsSo = RunEnds AreMade known IsClose given
+      (BufferHoldsOneLineOnly contents failure_count IsPush) (lines_of_buffer contents failure_count
+      old)
+      (lines_of_buffer contents failure_count new) status in
+      let SaysMemory = PrintsFault usage.Memory (lines_of_buffer contents failure_count old)
+      (lines_of_buffer contents failure_count new) status in
       EndsSo ⊎ (AreMade [] × SaysMemory))

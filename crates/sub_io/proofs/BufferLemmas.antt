@@ -14,7 +14,7 @@ use lib.Seq.{paste, take-add, take-append_seam}
 use Rattle.sub_io.specs.Buffered.{ReadAhead}
 use Rattle.sub_io.specs.Calls.{ReadsAhead}
 use Rattle.sub_io.specs.Device.{SkipsOver, Pulls}
-use Rattle.sub_io.specs.Reading.{AreNext}
+use Rattle.sub_io.specs.Reading.{AreNextBytes}
 
 slice_range-split : (xs : List ℕ) (a e n : ℕ)
     → a + n ≤ e
@@ -85,57 +85,67 @@ buffered-moved x y old room moved n len some within was now p =
     append_known-moved x y (take n room) (take (len - n) moved) old p
     (buffered-parts old room moved n len some within was now)
 
-pub buffered_length : (xs : List ℕ) (a e : ℕ)
+pub buffered_range_length : (xs : List ℕ) (a e : ℕ)
     → a ≤ e
     → e ≤ length xs
     → length (slice_range xs a e) ≡ e - a
-buffered_length xs a e le within = omega (arith, length-take (e - a) (drop a xs), length-drop a xs)
+buffered_range_length xs a e le within = omega (
+  arith,
+  length-take (e - a) (drop a xs),
+  length-drop
+      a xs,
+)
 
-pub none_buffered : (xs ys : List ℕ) (a e : ℕ)
+pub empty_range_stays_empty : (xs ys : List ℕ) (a e : ℕ)
     → a ≤ e
     → e ≤ length xs
     → slice_range xs a e ≡ []
     → slice_range ys a e ≡ []
-none_buffered xs ys a e le within none =
-    let none_left : e - a ≡ 0 = omega (arith, ap length none, buffered_length xs a e le within) in
+empty_range_stays_empty xs ys a e le within none =
+    let none_left : e - a ≡ 0 = omega (
+      arith,
+      ap length none,
+      buffered_range_length xs a e le
+          within,
+    ) in
     ap (λ k. take k (drop a ys)) none_left
 
-pub buffered_past : (xs : List ℕ) (a e n : ℕ)
+pub later_range_drops_prefix : (xs : List ℕ) (a e n : ℕ)
     → a + n ≤ e
     → slice_range xs (a + n) e ≡ drop n (slice_range xs a e)
-buffered_past xs a e n within =
+later_range_drops_prefix xs a e n within =
     let whole : e - a ≡ n + (e - (a + n)) = omega arith in
     ap (take (e - (a + n))) (sym (drop-drop n a xs))
     ∙ sym (drop-take n (e - (a + n)) (drop a xs))
     ∙ ap (λ k. drop n (take k (drop a xs))) (sym whole)
 
-pub all_are_next : (xs : List ℕ) → AreNext xs (Some xs)
-all_are_next xs bytes e = ap (take (length xs)) (sym (same_Some xs bytes e)) ∙ take-length xs
+pub all_bytes_come_next : (xs : List ℕ) → AreNextBytes xs (Some xs)
+all_bytes_come_next xs bytes e = ap (take (length xs)) (sym (same_Some xs bytes e)) ∙ take-length xs
 
-pub buffered_are_next : (buffered : List ℕ) (x : Option (List ℕ)) → AreNext buffered
+pub buffered_bytes_come_next : (buffered : List ℕ) (x : Option (List ℕ)) → AreNextBytes buffered
     (prepend_known buffered x)
-buffered_are_next buffered None bytes e = absurd cc
-buffered_are_next buffered (Some xs) bytes e =
+buffered_bytes_come_next buffered None bytes e = absurd cc
+buffered_bytes_come_next buffered (Some xs) bytes e =
     ap (take (length buffered)) (sym (same_Some (buffered ++ xs) bytes e)) ∙ take-append_seam
     buffered xs
 
-pub skip_memory_front : (xs rest : List ℕ) (n : ℕ)
+pub skipping_drops_memory_prefix : (xs rest : List ℕ) (n : ℕ)
     → n ≤ length xs
     → rest ≡ drop n xs
     → SkipsOver (Some xs) n (Some rest)
-skip_memory_front xs rest n le e = record {
+skipping_drops_memory_prefix xs rest n le e = record {
   bytes = take n xs;
   number = length-take-le n xs le;
   consumed = sym (take-append-drop n xs) ∙ ap (λ l. take n xs ++ l) (sym e);
 }
 
-pub buffered_skipped : (x : Option (List ℕ)) (buffered left : List ℕ) (n : ℕ)
+pub skipping_drops_buffered_prefix : (x : Option (List ℕ)) (buffered left : List ℕ) (n : ℕ)
     → n ≤ length buffered
     → left ≡ drop n buffered
     → SkipsOver (prepend_known buffered x) n (prepend_known left x)
-buffered_skipped None buffered left n le e =
+skipping_drops_buffered_prefix None buffered left n le e =
     record { bytes = take n buffered; number = length-take-le n buffered le; consumed = tt }
-buffered_skipped (Some xs) buffered left n le e = record {
+skipping_drops_buffered_prefix (Some xs) buffered left n le e = record {
   bytes = take n buffered;
   number = length-take-le n buffered le;
   consumed = ap (λ l. l ++ xs) (sym (take-append-drop n buffered))
@@ -143,14 +153,14 @@ buffered_skipped (Some xs) buffered left n le e = record {
       ∙ ap (λ l. take n buffered ++ (l ++ xs)) (sym e);
 }
 
-pub buffered_read : {D : Type 0} (IsPull : D → ℕ → Option ℕ → D → Type 0)
+pub reading_buffered_keeps_device : {D : Type 0} (IsPull : D → ℕ → Option ℕ → D → Type 0)
     (old new : ReadAhead D) (n : ℕ)
     → 0 < n
     → n ≤ length old.buffered
     → new.device ≡ old.device
     → ReadsAhead IsPull old n (Some n) new
-buffered_read IsPull old new n some le same = record {
+reading_buffered_keeps_device IsPull old new n some le same = record {
   buffered = λ _. same;
-  straight = λ none. absurd (omega (arith, ap length none, some, le));
+  reads_device_directly = λ none. absurd (omega (arith, ap length none, some, le));
   ahead = λ none. absurd (omega (arith, ap length none, some, le));
 }

@@ -12,7 +12,7 @@ use Rattle.std.proofs.Math.Seq.{take-append-add, take-length}
 use Rattle.std.proofs.lemmas.Option.{same_Some}
 use lib.Seq.{take-add, take-append-le, take-append_seam}
 use Rattle.sub_io.specs.Device.{AppendsPrefix, Fills, SkipsOver, Told, Writes}
-use Rattle.sub_io.specs.Reading.{AreNext, IfKnown}
+use Rattle.sub_io.specs.Reading.{AreNextBytes, IfKnown}
 use Rattle.sub_io.specs.declared.source.Failed.{Failed}
 
 take-put_mid : (a k n : ℕ) (xs ys : List ℕ)
@@ -39,7 +39,7 @@ Consumes-more x y z a k n xs ys within fits p q =
     subst (Consumes x z) (sym (take-put_mid a k n xs ys within fits)) (Consumes-trans x y z _ _ p q)
 
 pub Consumes-skipped : (old new : Option (List ℕ)) (prefix : List ℕ) (n : ℕ)
-    → AreNext prefix old
+    → AreNextBytes prefix old
     → n ≤ length prefix
     → SkipsOver old n new
     → Consumes old new (take n prefix)

@@ -3,46 +3,46 @@ use Rattle.std.proofs.Common.{◌≡◌, ◌∙◌, ℕ, Bool, true, false, List
 use Rattle.std.proofs.Common.{not, refl, subst, Result, Ok, Err}
 use Rattle.std.specs.Prelude.{OnOk, is_err, is_ok}
 use Rattle.std.proofs.lemmas.Bool.{true≢false}
-use Rattle.sub_io.specs.Flushing.{FlushesIfPending, BuffersOnlyWhilePending, KeepsReported}
-use Rattle.sub_io.specs.Flushing.{StaysReported}
+use Rattle.sub_io.specs.Flushing.{FlushesIfPending, BuffersOnlyWhilePending, KeepsReports}
+use Rattle.sub_io.specs.Flushing.{FlushKeepsReports}
 use Rattle.sub_io.specs.Reporting.{Reports, ReportsInOrder, ReportsSome}
 
 module _
     {A D : Type 0} (IsReported : D → A → D → Type 0) (has_stopped has_pending_reports : D → Bool)
     (buffered : D → ℕ)
     (IsFlushed : D → Bool → D → Type 0)
-    (stays : StaysReported IsReported has_stopped has_pending_reports buffered IsFlushed) where
+    (stays : FlushKeepsReports IsReported has_stopped has_pending_reports buffered IsFlushed) where
   -- If the report sink is flushed after the last report, all items still count as reported, by
   -- induction over the items.
-  stays_one_by_one : (a b c : D) (x : A) (items : List A) (ok : Bool)
+  flushing_keeps_report_order : (a b c : D) (x : A) (items : List A) (ok : Bool)
       → has_pending_reports b ≡ true
       → IsFlushed b ok c
       → ReportsInOrder IsReported a b (x ∷ items)
       → ReportsInOrder IsReported a c (x ∷ items)
-  stays_one_by_one a b c x [] ok has_pending on (mid, first, same) = (
+  flushing_keeps_report_order a b c x [] ok has_pending on (mid, first, same) = (
     c,
     stays.reported a b c x ok (subst (λ d. IsReported a x d) (sym same) first) has_pending on,
     refl,
   )
-  stays_one_by_one a b c x (y ∷ items) ok has_pending on (mid, first, rest) =
-      (mid, first, stays_one_by_one mid b c y items ok has_pending on rest)
+  flushing_keeps_report_order a b c x (y ∷ items) ok has_pending on (mid, first, rest) =
+      (mid, first, flushing_keeps_report_order mid b c y items ok has_pending on rest)
 
   -- If no report was pending before the first item, all items still count as reported after a
   -- flush.
-  stays_after : (a b c : D) (items : List A) (ok : Bool)
+  flushing_keeps_pending_reports : (a b c : D) (items : List A) (ok : Bool)
       → has_pending_reports a ≡ false
       → has_pending_reports b ≡ true
       → IsFlushed b ok c
       → ReportsInOrder IsReported a b items
       → ReportsInOrder IsReported a c items
-  stays_after a b c [] ok still has_pending on reported =
+  flushing_keeps_pending_reports a b c [] ok still has_pending on reported =
       absurd (true≢false (sym has_pending ∙ ap has_pending_reports reported ∙ still))
-  stays_after a b c (x ∷ items) ok still has_pending on reported =
-      stays_one_by_one a b c x items ok has_pending on reported
+  flushing_keeps_pending_reports a b c (x ∷ items) ok still has_pending on reported =
+      flushing_keeps_report_order a b c x items ok has_pending on reported
 
   pub keeps-reported : (old new : D) (ok : Bool)
       → FlushesIfPending has_pending_reports IsFlushed old ok new
-      → KeepsReported IsReported has_pending_reports old new
+      → KeepsReports IsReported has_pending_reports old new
   keeps-reported old new ok (inl same) = record {
     kept = λ start items still reported.
         subst (λ d. Reports IsReported start d items) (sym same.1) reported;
@@ -50,7 +50,7 @@ module _
   keeps-reported old new ok (inr on) = record {
     kept = λ start items still reported.
         record {
-          one_by_one = stays_after start old new items ok still on.0 on.1
+          one_by_one = flushing_keeps_pending_reports start old new items ok still on.0 on.1
               reported.one_by_one;
         };
   }
@@ -75,17 +75,18 @@ pub ReportsSome-kept : {A D : Type 0} (IsReported : D → A → D → Type 0) (h
     (start old new : D)
     → ReportsSome IsReported start old
     → has_pending_reports start ≡ false
-    → KeepsReported IsReported has_pending_reports old new
+    → KeepsReports IsReported has_pending_reports old new
     → ReportsSome IsReported start new
 ReportsSome-kept IsReported has_pending_reports start old new some still keeps = record {
   items = some.items;
   reported = keeps.kept start some.items still some.reported;
 }
 
-pub not_ok : {X E : Type 0} (r : Result X E) (b : Bool) → is_err r ≡ b → not (is_ok r) ≡ b
-not_ok (Ok x) b is = is
-not_ok (Err e) b is = is
+pub error_is_not_ok : {X E : Type 0} (r : Result X E) (b : Bool) → is_err r ≡ b → not (is_ok r) ≡ b
+error_is_not_ok (Ok x) b is = is
+error_is_not_ok (Err e) b is = is
 
-pub when_ok : {X E : Type 0} {Q : Type 0} (r : Result X E) → is_err r ≡ false → OnOk r Q → Q
-when_ok (Ok x) is holds = holds
-when_ok (Err e) is holds = absurd (true≢false is)
+pub ok_property_applies : {X E : Type 0} {Q : Type 0} (r : Result X E) → is_err r ≡ false → OnOk r Q
+    → Q
+ok_property_applies (Ok x) is holds = holds
+ok_property_applies (Err e) is holds = absurd (true≢false is)

@@ -6,7 +6,7 @@ use Rattle.std.proofs.Math.Seq.{take-append-add, take-length}
 use lib.Seq.{take-append-le}
 use Rattle.sub_io.specs.Reporting.{KeepsFirst, Reports, ReportsInOrder, ReportsPrefix}
 use Rattle.sub_io.specs.Reporting.{ReportsUntilStopped}
-use Rattle.sub_io.specs.Reporting.{ReportsSome, first_alone}
+use Rattle.sub_io.specs.Reporting.{ReportsSome, first_as_list}
 
 one_by_one-trans : {A D : Type 0} (IsReported : D → A → D → Type 0) (a b c : D) (xs ys : List A)
     → ReportsInOrder IsReported a b xs
@@ -83,12 +83,12 @@ module _ {A D : Type 0} {IsReported : D → A → D → Type 0} where
             q.reported;
       }
 
-pub first_is : {A : Type 0} (first : Option A) (xs : List A)
+pub only_first_item_is_reported : {A : Type 0} (first : Option A) (xs : List A)
     → Reports KeepsFirst None first xs
-    → first_alone first ≡ xs
-first_is first [] reported = let same = reported.one_by_one in cc
-first_is first (x ∷ []) reported = let one = reported.one_by_one in cc
-first_is first (x ∷ y ∷ ys) reported = let two = reported.one_by_one in cc
+    → first_as_list first ≡ xs
+only_first_item_is_reported first [] reported = let same = reported.one_by_one in cc
+only_first_item_is_reported first (x ∷ []) reported = let one = reported.one_by_one in cc
+only_first_item_is_reported first (x ∷ y ∷ ys) reported = let two = reported.one_by_one in cc
 
 pub ruleset tellings = (
   Reports-trans,

@@ -13,5 +13,5 @@ PullsBorrowed old new buffer result =
     old ≢ [] → MatchResult result (λ n. old ≡ take n buffer ++ new) (λ _. ⊥)
 
 -- The borrowed bytes begin with `bytes`.
-abbrev pub BeginBorrowed : List ℕ → List ℕ → Type 0
-BeginBorrowed bytes borrowed = take (length bytes) borrowed ≡ bytes
+abbrev pub AreBorrowedPrefix : List ℕ → List ℕ → Type 0
+AreBorrowedPrefix bytes borrowed = take (length bytes) borrowed ≡ bytes

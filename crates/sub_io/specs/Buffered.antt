@@ -19,12 +19,12 @@ pub record BufferState (D : Type 0) : Type 0 where
 
 -- The failure count of a buffered sink: the number of failed calls of the inner sink plus the
 -- number of refused calls, at most 2^64 - 1.
-abbrev pub failures_and_refused : ℕ → ℕ → ℕ
-failures_and_refused failures refused = min (failures + refused) 0xFFFF_FFFF_FFFF_FFFF
+abbrev pub failures_with_refused_writes : ℕ → ℕ → ℕ
+failures_with_refused_writes failures refused = min (failures + refused) 0xFFFF_FFFF_FFFF_FFFF
 
 -- A successful flush: the buffer is written to the inner sink, and no call fails.
 pub record Flushes {D : Type 0} (failure_count : D → ℕ) (old new : BufferState D) : Type 0 where
   pub none : new.buffered ≡ []
   pub count :
-      failures_and_refused (failure_count new.device) new.refused
-      ≡ failures_and_refused (failure_count old.device) old.refused
+      failures_with_refused_writes (failure_count new.device) new.refused
+      ≡ failures_with_refused_writes (failure_count old.device) old.refused

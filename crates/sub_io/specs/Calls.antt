@@ -1,6 +1,6 @@
 -- Specifies the calls that a function makes to a device, with their arguments and results. A device
--- may specify the effect of its calls by `is_pull` or `is_push`; the default, `any_call`, specifies
--- nothing.
+-- may specify the effect of its calls by `is_pull` or `is_push`; the default, `unrestricted_call`,
+-- specifies nothing.
 use Rattle.std.specs.Prelude.{◌≡◌, ◌≢◌, ℕ, ◌-◌, ◌<◌, ◌≤◌, ◌⊎◌, Bool, true, false, min}
 use Rattle.std.specs.Prelude.{List, [], ◌∷◌, ◌++◌, length, take, drop}
 use Rattle.std.specs.Prelude.{Option, Some, None, option_map, Result, Ok, Err}
@@ -8,30 +8,30 @@ use Rattle.sub_io.specs.Buffered.{BufferState, ReadAhead}
 use Rattle.sub_io.specs.Countdown.{CountingDown, fails_next, countdown_after}
 
 -- The number of bytes transferred by a call of a device; `None` if the call failed.
-abbrev pub answered : {E : Type 0} → Result ℕ E → Option ℕ
-answered (Ok n) = Some n
-answered (Err _) = None
+abbrev pub call_answer : {E : Type 0} → Result ℕ E → Option ℕ
+call_answer (Ok n) = Some n
+call_answer (Err _) = None
 
 -- The default of `is_pull` and `is_push`: any effect of a call is allowed.
-abbrev pub any_call : {D L : Type 0} → D → L → Option ℕ → D → Type 0
-any_call old borrowed answer new = Unit {0}
+abbrev pub unrestricted_call : {D L : Type 0} → D → L → Option ℕ → D → Type 0
+unrestricted_call old borrowed answer new = Unit {0}
 
 -- ---- the calls of `fill`
 
 -- How the calls of `fill` end, with `room` bytes of the buffer unfilled. If the buffer is full,
 -- there is no further call; otherwise the last call returned 0 bytes. If `fill` fails, the last
 -- call failed.
-abbrev pub EndsFilling :
+abbrev pub FillingEnds :
     {D : Type 0} → (D → ℕ → Option ℕ → D → Type 0) → D → ℕ → Bool → D → Type 0
-EndsFilling IsPull old room true new =
+FillingEnds IsPull old room true new =
     ((room ≡ 0) × (new ≡ old)) ⊎ ((0 < room) × IsPull old room (Some 0) new)
-EndsFilling IsPull old room false new = (0 < room) × IsPull old room None new
+FillingEnds IsPull old room false new = (0 < room) × IsPull old room None new
 
 -- The calls of `fill`: each call except the last offers the unfilled part of the buffer, and reads
 -- n > 0 bytes.
 abbrev pub PullsInOrder :
     {D : Type 0} → (D → ℕ → Option ℕ → D → Type 0) → D → ℕ → List ℕ → Bool → D → Type 0
-PullsInOrder IsPull old room [] ok new = EndsFilling IsPull old room ok new
+PullsInOrder IsPull old room [] ok new = FillingEnds IsPull old room ok new
 PullsInOrder {D} IsPull old room (n ∷ ns) ok new =
     (mid : D)
     × (0 < n)
@@ -50,17 +50,17 @@ pub record FillsByPulls
 
 -- How the calls of `put_all` end, with `bytes` still to be written. If no bytes remain, there is no
 -- further call. If `put_all` fails, the last call failed.
-abbrev pub EndsPutting :
+abbrev pub PuttingEnds :
     {D : Type 0} → (D → List ℕ → Option ℕ → D → Type 0) → D → List ℕ → Bool → D → Type 0
-EndsPutting IsPush old bytes true new = (bytes ≡ []) × (new ≡ old)
-EndsPutting IsPush old bytes false new = (0 < length bytes) × IsPush old bytes None new
+PuttingEnds IsPush old bytes true new = (bytes ≡ []) × (new ≡ old)
+PuttingEnds IsPush old bytes false new = (0 < length bytes) × IsPush old bytes None new
 
 -- The calls of `put_all`: each call except the last offers all remaining bytes, of which the sink
 -- takes n.
 abbrev pub PushesInOrder :
     {D : Type 0}
     → (D → List ℕ → Option ℕ → D → Type 0) → D → List ℕ → List ℕ → Bool → D → Type 0
-PushesInOrder IsPush old bytes [] ok new = EndsPutting IsPush old bytes ok new
+PushesInOrder IsPush old bytes [] ok new = PuttingEnds IsPush old bytes ok new
 PushesInOrder {D} IsPush old bytes (n ∷ ns) ok new =
     (mid : D)
     × (0 < length bytes)
@@ -96,7 +96,8 @@ pub record ReadsAhead
   pub buffered : old.buffered ≢ [] → new.device ≡ old.device
   -- If no bytes are buffered, a pull of at least the buffer's size is forwarded to the inner
   -- source.
-  pub straight : old.buffered ≡ [] → old.room ≤ borrowed → IsPull old.device borrowed answer
+  pub reads_device_directly : old.buffered ≡ [] → old.room ≤ borrowed → IsPull old.device borrowed
+      answer
       new.device
   -- If no bytes are buffered, a pull shorter than the buffer requests as many bytes as the buffer
   -- holds from the inner source, once.
@@ -112,9 +113,9 @@ abbrev pub AreRemainderOf : List ℕ → List ℕ → Type 0
 AreRemainderOf bytes left = (taken : List ℕ) × (bytes ≡ taken ++ left)
 
 -- The bytes written by a push: a prefix of the offered bytes, or none if the push failed.
-abbrev pub taken_by : List ℕ → Option ℕ → List ℕ
-taken_by bytes None = []
-taken_by bytes (Some n) = take n bytes
+abbrev pub accepted_prefix : List ℕ → Option ℕ → List ℕ
+accepted_prefix bytes None = []
+accepted_prefix bytes (Some n) = take n bytes
 
 -- A push into a buffered sink whose buffer is full. First the buffer is written to the inner sink.
 -- If that fails, the unwritten bytes stay in the buffer. Then a push of at least the buffer's size
@@ -128,14 +129,14 @@ pub record FlushesFull
   pub flushed : PutsByPushes IsPush old.device old.buffered ok mid
   pub failed :
       ok ≡ false → (answer ≡ None) × (new.device ≡ mid) × AreRemainderOf old.buffered new.buffered
-  pub straight :
+  pub reads_device_directly :
       ok ≡ true
       → old.room ≤ length bytes
       → IsPush mid bytes answer new.device × (new.buffered ≡ [])
   pub kept :
       ok ≡ true
       → length bytes < old.room
-      → (new.device ≡ mid) × (new.buffered ≡ taken_by bytes answer)
+      → (new.device ≡ mid) × (new.buffered ≡ accepted_prefix bytes answer)
 
 -- The effect of a push on a buffered sink: its calls of the inner sink, and the bytes buffered
 -- afterwards.
@@ -153,8 +154,8 @@ pub record PushesBuffered
       old.failed ≡ false
       → length old.buffered < old.room
       → (old.buffered ≢ []) ⊎ (length bytes < old.room)
-      → (new.device ≡ old.device) × (new.buffered ≡ old.buffered ++ taken_by bytes answer)
-  pub straight :
+      → (new.device ≡ old.device) × (new.buffered ≡ old.buffered ++ accepted_prefix bytes answer)
+  pub reads_device_directly :
       old.failed ≡ false
       → old.buffered ≡ []
       → old.room ≤ length bytes

@@ -28,8 +28,8 @@ abbrev pub needs_no_store : {D : Type 0} → D → Bool
 needs_no_store device = true
 
 -- The default specification of dropping: a device may be dropped in any state.
-abbrev pub unrestricted_end : {D : Type 0} → D → Type 0
-unrestricted_end device = Unit {0}
+abbrev pub unrestricted_close : {D : Type 0} → D → Type 0
+unrestricted_close device = Unit {0}
 
 -- The effect of closing a device over a writer: the writer is dropped unchanged, unless the device
 -- is closed already. No failure is counted.
@@ -43,7 +43,7 @@ pub record Releases
 
 -- The effect of closing a buffered sink: the inner sink is closed, and buffered bytes are not
 -- written.
-pub record ClosesInside
+pub record ClosesInner
     {D : Type 0} (IsClose : D → D → Type 0) (old new : BufferState D) : Type 0 where
   pub device : IsClose old.device new.device
   pub buffered : new.buffered ≡ old.buffered

@@ -21,6 +21,6 @@ countdown_after (Some (suc k)) = Some k
 
 -- The failure count of a device with one failing call: the failure count of the inner device, plus
 -- 1 after the failing call, at most 2^64 - 1.
-abbrev pub failures_with : Option ℕ → ℕ → ℕ
-failures_with None n = min (n + 1) 0xFFFF_FFFF_FFFF_FFFF
-failures_with (Some k) n = n
+abbrev pub failures_with_injected : Option ℕ → ℕ → ℕ
+failures_with_injected None n = min (n + 1) 0xFFFF_FFFF_FFFF_FFFF
+failures_with_injected (Some k) n = n

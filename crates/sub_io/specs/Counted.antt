@@ -22,6 +22,6 @@ pub record FileValue (D : Type 0) : Type 0 where
   pub failure_count : ℕ
 
 -- The contents of a device if they are known; `None` after the device is closed.
-abbrev pub known_while_open : {D : Type 0} → (D → Option (List ℕ)) → Option D → Option (List ℕ)
-known_while_open known None = None
-known_while_open known (Some device) = known device
+abbrev pub contents_while_open : {D : Type 0} → (D → Option (List ℕ)) → Option D → Option (List ℕ)
+contents_while_open known None = None
+contents_while_open known (Some device) = known device

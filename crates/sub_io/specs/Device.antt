@@ -29,8 +29,8 @@ CountRisesIf old is_so new = new ≡ old + (if is_so then 1 else 0)
 
 -- The failure count of the device rises by one if `has_failed` is true, and stays the same
 -- otherwise.
-abbrev pub CountsIf : {D : Type 0} → (D → ℕ) → D → Bool → D → Type 0
-CountsIf failure_count old has_failed new =
+abbrev pub CountsFailureIf : {D : Type 0} → (D → ℕ) → D → Bool → D → Type 0
+CountsFailureIf failure_count old has_failed new =
     CountRisesIf (failure_count old) has_failed (failure_count new)
 
 -- The effect of a pull. `Ok n`: n bytes of the source were consumed and are at the front of the
@@ -84,5 +84,5 @@ Writes old new bytes result =
     MatchResult result (λ _. Appends old new bytes) (λ _. AppendsPrefix old new bytes)
 
 -- The number of buffered bytes of a sink without a buffer: 0.
-abbrev pub buffers_nothing : {D : Type 0} → D → ℕ
-buffers_nothing device = 0
+abbrev pub zero_buffered_bytes : {D : Type 0} → D → ℕ
+zero_buffered_bytes device = 0

@@ -1,4 +1,4 @@
--- The number and the name of a fault in reports (own).
+-- The number and the name of a fault in reports (not defined by a standard).
 use Rattle.std.specs.Prelude.{ℕ, List}
 
 -- The code of a fault in reports: its number, and the characters of its name.

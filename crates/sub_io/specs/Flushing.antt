@@ -5,7 +5,7 @@ use Rattle.sub_io.specs.Reporting.{Reports}
 -- The law of a report sink that can flush. After a pending report is flushed, its item still counts
 -- as reported. Flushing fails exactly if the sink has stopped. After each report, the sink buffers
 -- bytes only if reports are pending.
-pub record StaysReported
+pub record FlushKeepsReports
     {A D : Type 0} (IsReported : D → A → D → Type 0) (has_stopped has_pending_reports : D → Bool)
     (buffered : D → ℕ)
     (IsFlushed : D → Bool → D → Type 0)
@@ -32,7 +32,7 @@ FlushesIfPending has_pending_reports IsFlushed old ok new =
 
 -- All items that count as reported in the state `old` still count as reported in the state `new`,
 -- if no report was pending before the first item.
-pub record KeepsReported
+pub record KeepsReports
     {A D : Type 0} (IsReported : D → A → D → Type 0) (has_pending_reports : D → Bool) (old new : D)
     : Type 0 where
   pub kept :

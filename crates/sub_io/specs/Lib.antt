@@ -1,4 +1,4 @@
-pub mod Asking
+pub mod Requesting
 pub mod Buffered
 pub mod Calls
 pub mod Closing

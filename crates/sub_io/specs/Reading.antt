@@ -17,5 +17,5 @@ abbrev pub AreBytes : List ℕ → Type 0
 AreBytes bytes = (i : ℕ) → slice_index bytes i < 256
 
 -- If the bytes of the device are known, they begin with `next`.
-abbrev pub AreNext : List ℕ → Option (List ℕ) → Type 0
-AreNext next told = IfKnown told (λ bytes. take (length next) bytes ≡ next)
+abbrev pub AreNextBytes : List ℕ → Option (List ℕ) → Type 0
+AreNextBytes next told = IfKnown told (λ bytes. take (length next) bytes ≡ next)

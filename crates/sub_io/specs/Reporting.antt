@@ -40,6 +40,6 @@ abbrev pub KeepsFirst : {A : Type 0} → Option A → A → Option A → Type 0
 KeepsFirst old item new = (old ≡ None) × (new ≡ Some item)
 
 -- The first item as a list: the items reported to a sink that stops at the first item.
-abbrev pub first_alone : {A : Type 0} → Option A → List A
-first_alone None = []
-first_alone (Some x) = x ∷ []
+abbrev pub first_as_list : {A : Type 0} → Option A → List A
+first_as_list None = []
+first_as_list (Some x) = x ∷ []

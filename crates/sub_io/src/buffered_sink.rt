@@ -3,9 +3,9 @@
 ghost use Rattle.std.specs.Prelude.{◌≡◌, ◌≢◌, ◌+◌, ◌-◌, ◌<◌, ◌≤◌, min, [], ◌++◌, length, take};
 ghost use Rattle.std.specs.Prelude.{Ok, IfErr, IfOk, IsErr, OnOk, false, true, is_ok, ◌↔◌, ◌⊎◌};
 ghost use Rattle.std.specs.Io.KnownBytes.{Appends, Keeps, append_known};
-ghost use Rattle.sub_io.specs.Buffered.{BufferState, failures_and_refused};
-ghost use Rattle.sub_io.specs.Calls.{AreRemainderOf, PushesBuffered, PutsByPushes, answered};
-ghost use Rattle.sub_io.specs.Closing.{ClosesInside};
+ghost use Rattle.sub_io.specs.Buffered.{BufferState, failures_with_refused_writes};
+ghost use Rattle.sub_io.specs.Calls.{AreRemainderOf, PushesBuffered, PutsByPushes, call_answer};
+ghost use Rattle.sub_io.specs.Closing.{ClosesInner};
 ghost use Rattle.sub_io.specs.Device.{CanFail, CountsFailure, Pushes};
 
 use crate::sink::push_all;
@@ -79,7 +79,7 @@ impl<'a, K: Sink> BufferedSink<'a, K> {
         requires nonempty { 0 < length from.now }
         requires count { CanFail (K.failure_count self.old.device) }
         requires failed { self.old.failed ≡ false }
-        ensures call { K.is_push self.old.device from.now (answered result) self.new.device }
+        ensures call { K.is_push self.old.device from.now (call_answer result) self.new.device }
         ensures some { IfOk result (λ n. 0 < n) }
         ensures bound { IfOk result (λ n. n ≤ length from.now) }
         ensures bytes { Pushes
@@ -134,7 +134,7 @@ impl<K: Sink> Sink for BufferedSink<'_, K> {
     ghost contents = { λ k. append_known (K.contents k.device) k.buffered };
 
     ghost failure_count = { λ k.
-        failures_and_refused (K.failure_count k.device) k.refused };
+        failures_with_refused_writes (K.failure_count k.device) k.refused };
 
     ghost is_push = { PushesBuffered K.is_push };
 
@@ -146,7 +146,7 @@ impl<K: Sink> Sink for BufferedSink<'_, K> {
     /// Returns `Failed` if the inner sink fails, and at each later call.
     fn push(&mut self, from: &[u8]) -> Result<usize, Failed>
         requires nonempty { 0 < length from.now }
-        requires count { CanFail (failures_and_refused
+        requires count { CanFail (failures_with_refused_writes
             (K.failure_count self.old.device) self.old.refused) }
 
         // After the inner sink has failed, a call only raises the count of refused calls.
@@ -166,14 +166,14 @@ impl<K: Sink> Sink for BufferedSink<'_, K> {
             × IfOk result (λ n. self.new.buffered ≡ self.old.buffered ++ take n from.now) }
         // A push of at least the buffer's size goes directly to the inner sink if the buffer is
         // empty.
-        ensures straight { self.old.failed ≡ false
+        ensures reads_device_directly { self.old.failed ≡ false
             → self.old.buffered ≡ []
             → self.old.room ≤ length from.now
             → (self.new.buffered ≡ [])
             × Pushes (K.contents self.old.device) (K.contents self.new.device) from.now result }
         ensures room { self.new.room ≡ self.old.room }
 
-        ensures call { PushesBuffered K.is_push self.old from.now (answered result) self.new }
+        ensures call { PushesBuffered K.is_push self.old from.now (call_answer result) self.new }
         ensures some { IfOk result (λ n. 0 < n) }
         ensures bound { IfOk result (λ n. n ≤ length from.now) }
         ensures bytes { Pushes
@@ -181,9 +181,9 @@ impl<K: Sink> Sink for BufferedSink<'_, K> {
             (append_known (K.contents self.new.device) self.new.buffered)
             from.now result }
         ensures count { CountsFailure
-            (failures_and_refused (K.failure_count self.old.device) self.old.refused)
+            (failures_with_refused_writes (K.failure_count self.old.device) self.old.refused)
             result
-            (failures_and_refused (K.failure_count self.new.device) self.new.refused) }
+            (failures_with_refused_writes (K.failure_count self.new.device) self.new.refused) }
     {
         if self.failed {
             self.refused += 1;
@@ -214,7 +214,7 @@ impl<K: Sink> Flush for BufferedSink<'_, K> {
     ///
     /// Returns `Failed` if the inner sink fails, and at each later call.
     fn flush(&mut self) -> Result<(), Failed>
-        requires { CanFail (failures_and_refused
+        requires { CanFail (failures_with_refused_writes
             (K.failure_count self.old.device) self.old.refused) }
 
         // After the inner sink has failed, a call only raises the count of refused calls.
@@ -239,9 +239,9 @@ impl<K: Sink> Flush for BufferedSink<'_, K> {
             (append_known (K.contents self.new.device) self.new.buffered) }
         ensures buffered { OnOk result (length self.new.buffered ≡ 0) }
         ensures count { CountsFailure
-            (failures_and_refused (K.failure_count self.old.device) self.old.refused)
+            (failures_with_refused_writes (K.failure_count self.old.device) self.old.refused)
             result
-            (failures_and_refused (K.failure_count self.new.device) self.new.refused) }
+            (failures_with_refused_writes (K.failure_count self.new.device) self.new.refused) }
     {
         if self.failed {
             self.refused += 1;
@@ -269,7 +269,7 @@ impl<K: Close> Close for BufferedSink<'_, K> {
 
     ghost is_closed = { λ k. K.is_closed k.device };
 
-    ghost is_close = { ClosesInside K.is_close };
+    ghost is_close = { ClosesInner K.is_close };
 
     /// Flushes the buffer, and makes the inner sink store all bytes permanently.
     ///
@@ -277,7 +277,7 @@ impl<K: Close> Close for BufferedSink<'_, K> {
     ///
     /// Returns `Failed` if the inner sink fails, and at each later call.
     fn store(&mut self) -> Result<(), Failed>
-        requires { CanFail (failures_and_refused
+        requires { CanFail (failures_with_refused_writes
             (K.failure_count self.old.device) self.old.refused) }
         ensures failed { IsErr result ↔ (self.new.failed ≡ true) }
         ensures room { self.new.room ≡ self.old.room }
@@ -287,9 +287,9 @@ impl<K: Close> Close for BufferedSink<'_, K> {
         ensures buffered { OnOk result (length self.new.buffered ≡ 0) }
         ensures stored { OnOk result (K.is_stored self.new.device ≡ true) }
         ensures count { CountsFailure
-            (failures_and_refused (K.failure_count self.old.device) self.old.refused)
+            (failures_with_refused_writes (K.failure_count self.old.device) self.old.refused)
             result
-            (failures_and_refused (K.failure_count self.new.device) self.new.refused) }
+            (failures_with_refused_writes (K.failure_count self.new.device) self.new.refused) }
     {
         self.flush()?;
         let answer = self.inner.store();
@@ -299,12 +299,13 @@ impl<K: Close> Close for BufferedSink<'_, K> {
 
     /// Closes the inner sink. Discards buffered bytes.
     fn close(&mut self)
-        ensures call { ClosesInside K.is_close self.old self.new }
+        ensures call { ClosesInner K.is_close self.old self.new }
         ensures closed { K.is_closed self.new.device ≡ true }
         ensures stored { K.is_stored self.new.device ≡ K.is_stored self.old.device }
         ensures device { K.failure_count self.new.device ≡ K.failure_count self.old.device }
-        ensures count { failures_and_refused (K.failure_count self.new.device) self.new.refused
-            ≡ failures_and_refused (K.failure_count self.old.device) self.old.refused }
+        ensures count { failures_with_refused_writes (K.failure_count self.new.device)
+            self.new.refused
+            ≡ failures_with_refused_writes (K.failure_count self.old.device) self.old.refused }
     {
         self.inner.close();
     }

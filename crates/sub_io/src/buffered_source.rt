@@ -6,10 +6,10 @@ ghost use Rattle.std.specs.Prelude.{◌↔◌, drop, false, true};
 ghost use Rattle.std.specs.Io.{ReadsAtMost};
 ghost use Rattle.std.specs.Io.KnownBytes.{Consumes, IsAtEnd, Keeps, prepend_known};
 ghost use Rattle.sub_io.specs.Buffered.{ReadAhead};
-ghost use Rattle.sub_io.specs.Calls.{ReadsAhead, answered};
+ghost use Rattle.sub_io.specs.Calls.{ReadsAhead, call_answer};
 ghost use Rattle.sub_io.specs.Device.{CanFail, CountsFailure, SkipsOver, Pulls};
-ghost use Rattle.sub_io.specs.Borrowed.{BeginBorrowed, PullsBorrowed};
-ghost use Rattle.sub_io.specs.Reading.{AreNext};
+ghost use Rattle.sub_io.specs.Borrowed.{AreBorrowedPrefix, PullsBorrowed};
+ghost use Rattle.sub_io.specs.Reading.{AreNextBytes};
 
 use crate::{Failed, Source};
 use std::marker::Model;
@@ -65,7 +65,7 @@ impl<'a, S: Source> BufferedSource<'a, S> {
     }
 
     // Fills the empty buffer by one call of the inner source.
-    #[tactic(auto, using(crate::proofs::BufferLemmas::none_buffered))]
+    #[tactic(auto, using(crate::proofs::BufferLemmas::empty_range_stays_empty))]
     fn refill(&mut self) -> Result<(), Failed>
         requires empty { self.old.buffered ≡ [] }
         requires count { CanFail (S.failure_count self.old.device) }
@@ -148,12 +148,12 @@ impl<S: Source> Source for BufferedSource<'_, S> {
         ensures err { OnErr result ((self.old.buffered ≡ []) × (self.new.buffered ≡ [])) }
         // A pull of at least the buffer's size bypasses the buffer. After a pull, bytes are left in
         // the buffer only if `to` was filled.
-        ensures straight { self.old.buffered ≡ [] → self.old.room ≤ length to.old →
+        ensures reads_device_directly { self.old.buffered ≡ [] → self.old.room ≤ length to.old →
             self.new.buffered ≡ [] }
         ensures full { IfOk result (λ n. n < length to.old → self.new.buffered ≡ []) }
         ensures room { self.new.room ≡ self.old.room }
 
-        ensures call { ReadsAhead S.is_pull self.old (length to.old) (answered result) self.new }
+        ensures call { ReadsAhead S.is_pull self.old (length to.old) (call_answer result) self.new }
         ensures bound { ReadsAtMost result to.new }
         ensures bytes { Pulls
             (prepend_known self.old.buffered (S.remaining self.old.device))
@@ -181,9 +181,9 @@ impl<S: Source> Source for BufferedSource<'_, S> {
     #[inline(always)]
     fn buffered(&self) -> &[u8]
         ensures all { result.now ≡ self.now.buffered }
-        ensures bytes { AreNext result.now
+        ensures bytes { AreNextBytes result.now
             (prepend_known self.now.buffered (S.remaining self.now.device)) }
-        ensures borrowed { BeginBorrowed result.now self.now.buffered }
+        ensures borrowed { AreBorrowedPrefix result.now self.now.buffered }
     {
         &self.room[self.start..self.end]
     }

@@ -6,7 +6,7 @@
 
 ghost use Rattle.std.specs.Prelude.{◌≡◌, Bool, OnOk, true};
 ghost use Rattle.std.specs.Io.KnownBytes.{Keeps};
-ghost use Rattle.sub_io.specs.Closing.{unrestricted_end, unrestricted_store, loses_nothing};
+ghost use Rattle.sub_io.specs.Closing.{unrestricted_close, unrestricted_store, loses_nothing};
 ghost use Rattle.sub_io.specs.Device.{CanFail, CountsFailure};
 
 use crate::{Failed, Flush};
@@ -31,12 +31,12 @@ impl<T: OpenFile> Store for T {
     ghost is_store = { unrestricted_store };
 
     fn store(&self) -> bool {
-        is_kept(self.sync_all())
+        is_saved(self.sync_all())
     }
 }
 
 // Returns whether the result of `sync_all` guarantees that no byte was lost.
-fn is_kept(answer: io::Result<()>) -> bool
+fn is_saved(answer: io::Result<()>) -> bool
     ensures { result ≡ loses_nothing answer }
 {
     match answer {
@@ -62,7 +62,7 @@ pub trait Release: Drop + Sized {
 }
 
 impl<T: Drop> Release for T {
-    ghost is_released = { unrestricted_end };
+    ghost is_released = { unrestricted_close };
 
     fn release(self) {}
 }

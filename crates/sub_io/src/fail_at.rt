@@ -4,8 +4,9 @@ ghost use Rattle.std.specs.Prelude.{◌≡◌, ◌<◌, ◌≤◌, length, Some,
 ghost use Rattle.std.specs.Prelude.{false, true};
 ghost use Rattle.std.specs.Io.{ReadsAtMost};
 ghost use Rattle.std.specs.Io.KnownBytes.{Keeps};
-ghost use Rattle.sub_io.specs.Calls.{Forwards, answered};
-ghost use Rattle.sub_io.specs.Countdown.{CountingDown, failures_with, fails_next, countdown_after};
+ghost use Rattle.sub_io.specs.Calls.{Forwards, call_answer};
+ghost use Rattle.sub_io.specs.Countdown.{CountingDown, failures_with_injected, fails_next};
+ghost use Rattle.sub_io.specs.Countdown.{countdown_after};
 ghost use Rattle.sub_io.specs.Device.{CanFail, CountsFailure, Pulls, Pushes};
 
 use crate::{Close, Failed, Flush, Sink, Source};
@@ -60,8 +61,8 @@ impl<D> FailAt<D> {
     }
 
     // Returns the failure count `inner`, plus one if the failing call has happened.
-    fn with_own_failure(&self, inner: u64) -> u64
-        ensures { result ≡ failures_with self.now.left inner }
+    fn add_injected_failure(&self, inner: u64) -> u64
+        ensures { result ≡ failures_with_injected self.now.left inner }
     {
         if self.left.is_some() {
             inner
@@ -74,7 +75,7 @@ impl<D> FailAt<D> {
 impl<S: Source> Source for FailAt<S> {
     ghost remaining = { λ d. S.remaining d.device };
 
-    ghost failure_count = { λ d. failures_with d.left (S.failure_count d.device) };
+    ghost failure_count = { λ d. failures_with_injected d.left (S.failure_count d.device) };
 
     ghost is_pull = { Forwards S.is_pull };
 
@@ -84,7 +85,8 @@ impl<S: Source> Source for FailAt<S> {
     ///
     /// Returns `Failed` at the failing call, which does nothing, and if the inner device fails.
     fn pull(&mut self, to: &mut [u8]) -> Result<usize, Failed>
-        requires { CanFail (failures_with self.old.left (S.failure_count self.old.device)) }
+        requires { CanFail (failures_with_injected self.old.left
+            (S.failure_count self.old.device)) }
 
         // The failing call does nothing, every other call is forwarded, and all calls are counted.
         ensures fails { fails_next self.old.left ≡ true →
@@ -93,14 +95,14 @@ impl<S: Source> Source for FailAt<S> {
             (S.failure_count self.old.device) result (S.failure_count self.new.device) }
         ensures left { self.new.left ≡ countdown_after self.old.left }
 
-        ensures call { Forwards S.is_pull self.old (length to.old) (answered result) self.new }
+        ensures call { Forwards S.is_pull self.old (length to.old) (call_answer result) self.new }
         ensures bound { ReadsAtMost result to.new }
         ensures bytes { Pulls
             (S.remaining self.old.device) (S.remaining self.new.device) to.new result }
         ensures count { CountsFailure
-            (failures_with self.old.left (S.failure_count self.old.device))
+            (failures_with_injected self.old.left (S.failure_count self.old.device))
             result
-            (failures_with self.new.left (S.failure_count self.new.device)) }
+            (failures_with_injected self.new.left (S.failure_count self.new.device)) }
     {
         if self.is_failing_call() {
             return Err(Failed);
@@ -110,7 +112,7 @@ impl<S: Source> Source for FailAt<S> {
 
     /// Returns the failure count of the inner device, plus one after the failing call.
     fn failures(&self) -> u64 {
-        self.with_own_failure(self.inner.failures())
+        self.add_injected_failure(self.inner.failures())
     }
 
     /// Returns `false`, since no bytes can be borrowed from this device.
@@ -122,7 +124,7 @@ impl<S: Source> Source for FailAt<S> {
 impl<K: Sink> Sink for FailAt<K> {
     ghost contents = { λ d. K.contents d.device };
 
-    ghost failure_count = { λ d. failures_with d.left (K.failure_count d.device) };
+    ghost failure_count = { λ d. failures_with_injected d.left (K.failure_count d.device) };
 
     ghost is_push = { Forwards K.is_push };
 
@@ -133,7 +135,8 @@ impl<K: Sink> Sink for FailAt<K> {
     /// Returns `Failed` at the failing call, which does nothing, and if the inner device fails.
     fn push(&mut self, from: &[u8]) -> Result<usize, Failed>
         requires nonempty { 0 < length from.now }
-        requires count { CanFail (failures_with self.old.left (K.failure_count self.old.device)) }
+        requires count { CanFail
+            (failures_with_injected self.old.left (K.failure_count self.old.device)) }
 
         // The failing call does nothing, every other call is forwarded, and all calls are counted.
         ensures fails { fails_next self.old.left ≡ true →
@@ -142,15 +145,15 @@ impl<K: Sink> Sink for FailAt<K> {
             (K.failure_count self.old.device) result (K.failure_count self.new.device) }
         ensures left { self.new.left ≡ countdown_after self.old.left }
 
-        ensures call { Forwards K.is_push self.old from.now (answered result) self.new }
+        ensures call { Forwards K.is_push self.old from.now (call_answer result) self.new }
         ensures some { IfOk result (λ n. 0 < n) }
         ensures bound { IfOk result (λ n. n ≤ length from.now) }
         ensures bytes { Pushes
             (K.contents self.old.device) (K.contents self.new.device) from.now result }
         ensures count { CountsFailure
-            (failures_with self.old.left (K.failure_count self.old.device))
+            (failures_with_injected self.old.left (K.failure_count self.old.device))
             result
-            (failures_with self.new.left (K.failure_count self.new.device)) }
+            (failures_with_injected self.new.left (K.failure_count self.new.device)) }
     {
         if self.is_failing_call() {
             return Err(Failed);
@@ -160,7 +163,7 @@ impl<K: Sink> Sink for FailAt<K> {
 
     /// Returns the failure count of the inner device, plus one after the failing call.
     fn failures(&self) -> u64 {
-        self.with_own_failure(self.inner.failures())
+        self.add_injected_failure(self.inner.failures())
     }
 }
 
@@ -173,7 +176,8 @@ impl<K: Flush> Flush for FailAt<K> {
     ///
     /// Returns `Failed` at the failing call, which does nothing, and if the inner device fails.
     fn flush(&mut self) -> Result<(), Failed>
-        requires { CanFail (failures_with self.old.left (K.failure_count self.old.device)) }
+        requires { CanFail (failures_with_injected self.old.left
+            (K.failure_count self.old.device)) }
 
         // The failing call does nothing, every other call is forwarded, and all calls are counted.
         ensures fails { fails_next self.old.left ≡ true →
@@ -185,9 +189,9 @@ impl<K: Flush> Flush for FailAt<K> {
         ensures bytes { Keeps (K.contents self.old.device) (K.contents self.new.device) }
         ensures buffered { OnOk result (K.buffered self.new.device ≡ 0) }
         ensures count { CountsFailure
-            (failures_with self.old.left (K.failure_count self.old.device))
+            (failures_with_injected self.old.left (K.failure_count self.old.device))
             result
-            (failures_with self.new.left (K.failure_count self.new.device)) }
+            (failures_with_injected self.new.left (K.failure_count self.new.device)) }
     {
         if self.is_failing_call() {
             return Err(Failed);
@@ -210,7 +214,8 @@ impl<K: Close> Close for FailAt<K> {
     ///
     /// Returns `Failed` at the failing call, which does nothing, and if the inner device fails.
     fn store(&mut self) -> Result<(), Failed>
-        requires { CanFail (failures_with self.old.left (K.failure_count self.old.device)) }
+        requires { CanFail (failures_with_injected self.old.left
+            (K.failure_count self.old.device)) }
 
         // The failing call does nothing, every other call is forwarded, and all calls are counted.
         ensures fails { fails_next self.old.left ≡ true →
@@ -223,9 +228,9 @@ impl<K: Close> Close for FailAt<K> {
         ensures buffered { OnOk result (K.buffered self.new.device ≡ 0) }
         ensures stored { OnOk result (K.is_stored self.new.device ≡ true) }
         ensures count { CountsFailure
-            (failures_with self.old.left (K.failure_count self.old.device))
+            (failures_with_injected self.old.left (K.failure_count self.old.device))
             result
-            (failures_with self.new.left (K.failure_count self.new.device)) }
+            (failures_with_injected self.new.left (K.failure_count self.new.device)) }
     {
         if self.is_failing_call() {
             return Err(Failed);
@@ -239,8 +244,8 @@ impl<K: Close> Close for FailAt<K> {
             × (self.new.left ≡ self.old.left) }
         ensures closed { K.is_closed self.new.device ≡ true }
         ensures stored { K.is_stored self.new.device ≡ K.is_stored self.old.device }
-        ensures count { failures_with self.new.left (K.failure_count self.new.device)
-            ≡ failures_with self.old.left (K.failure_count self.old.device) }
+        ensures count { failures_with_injected self.new.left (K.failure_count self.new.device)
+            ≡ failures_with_injected self.old.left (K.failure_count self.old.device) }
     {
         self.inner.close();
     }

@@ -4,10 +4,10 @@ ghost use Rattle.std.specs.Prelude.{◌≡◌, ◌+◌, ◌<◌, ◌≤◌, IfOk
 ghost use Rattle.std.specs.Prelude.{Some, [], false, is_none, length, true};
 ghost use Rattle.std.specs.Io.KnownBytes.{Keeps};
 ghost use Rattle.sub_io.specs.Closing.{Releases};
-ghost use Rattle.sub_io.specs.Counted.{FileValue, known_while_open};
-ghost use Rattle.sub_io.specs.Device.{CanFail, CountsFailure, Pushes, buffers_nothing};
+ghost use Rattle.sub_io.specs.Counted.{FileValue, contents_while_open};
+ghost use Rattle.sub_io.specs.Device.{CanFail, CountsFailure, Pushes, zero_buffered_bytes};
 
-use crate::taken::{BorrowedChunk, Taken};
+use crate::taken::{BorrowedChunk, ConsumedBytes};
 use crate::{Close, Failed, Flush, Release, Sink, Store};
 use std::io::Write;
 use std::marker::Model;
@@ -23,7 +23,7 @@ use std::marker::Model;
 #[derive(Drop)]
 pub struct IntoFile<W> {
     inner: Option<W>,
-    taken: Taken,
+    taken: ConsumedBytes,
     is_stored: bool,
     failures: u64,
 }
@@ -51,7 +51,7 @@ impl<W: Write> IntoFile<W> {
     {
         IntoFile {
             inner: Some(inner),
-            taken: Taken::nothing(),
+            taken: ConsumedBytes::nothing(),
             is_stored: false,
             failures: 0,
         }
@@ -73,8 +73,8 @@ impl<W: Write> Sink for IntoFile<W> {
         requires count { CanFail self.old.failure_count }
         ensures closed { self.old.device ≡ None → IsErr result × (self.new.device ≡ None) }
         // If the writer's contents are known, they agree with the reported number of bytes.
-        ensures writer { Pushes (known_while_open W.contents self.old.device)
-            (known_while_open W.contents self.new.device) from.now result }
+        ensures writer { Pushes (contents_while_open W.contents self.old.device)
+            (contents_while_open W.contents self.new.device) from.now result }
         ensures stored { OnOk result (self.new.is_stored ≡ false) }
         ensures some { IfOk result (λ n. 0 < n) }
         ensures bound { IfOk result (λ n. n ≤ length from.now) }
@@ -107,7 +107,7 @@ impl<W: Write> Sink for IntoFile<W> {
 
 impl<W: Write> Flush for IntoFile<W> {
     // Nothing is buffered, since every push calls `write`.
-    ghost buffered = { buffers_nothing };
+    ghost buffered = { zero_buffered_bytes };
 
     /// Flushes the writer.
     ///
@@ -117,12 +117,12 @@ impl<W: Write> Flush for IntoFile<W> {
     fn flush(&mut self) -> Result<(), Failed>
         requires { CanFail self.old.failure_count }
         ensures closed { self.old.device ≡ None → IsErr result × (self.new.device ≡ None) }
-        ensures writer { Keeps (known_while_open W.contents self.old.device)
-            (known_while_open W.contents self.new.device) }
+        ensures writer { Keeps (contents_while_open W.contents self.old.device)
+            (contents_while_open W.contents self.new.device) }
         ensures stored { self.new.is_stored ≡ self.old.is_stored }
         ensures taken { self.new.taken ≡ self.old.taken }
         ensures bytes { Keeps (Some self.old.taken) (Some self.new.taken) }
-        ensures buffered { OnOk result (buffers_nothing self.new ≡ 0) }
+        ensures buffered { OnOk result (zero_buffered_bytes self.new ≡ 0) }
         ensures count { CountsFailure self.old.failure_count result self.new.failure_count }
     {
         let Some(writer) = &mut self.inner else {
@@ -155,16 +155,16 @@ impl<W: Write + Release + Store> Close for IntoFile<W> {
         // If storing succeeds, the writer, in its final state, has reported that no byte was lost.
         ensures call { OnOk result (IfSome self.new.device (λ writer. W.is_store writer true)) }
         ensures bytes { Keeps (Some self.old.taken) (Some self.new.taken) }
-        ensures buffered { OnOk result (buffers_nothing self.new ≡ 0) }
+        ensures buffered { OnOk result (zero_buffered_bytes self.new ≡ 0) }
         ensures stored { OnOk result (self.new.is_stored ≡ true) }
         ensures count { CountsFailure self.old.failure_count result self.new.failure_count }
     {
         self.flush()?;
-        let is_kept = match &self.inner {
+        let is_saved = match &self.inner {
             Some(writer) => writer.store(),
             None => false,
         };
-        if !is_kept {
+        if !is_saved {
             self.failures += 1;
             return Err(Failed);
         }

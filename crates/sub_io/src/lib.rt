@@ -21,13 +21,12 @@
 //! - `BufferedSource` and `BufferedSink` add a buffer to another device, so that fewer calls reach
 //!   that device.
 //! - `FailAt` makes one chosen call of another device fail.
-//! - `Audience` is the trait of consumers of reported items, which may stop the reporting;
+//! - `ReportSink` is the trait of consumers of reported items, which may stop the reporting;
 //!   `FirstReported` stops at the first item.
 //! - `Live` is a consumer that can flush what it buffers before a read that may block.
 //! - `FaultCode` is the number and the name of a fault of any crate.
 #![tactic(auto)]
 
-mod audience;
 mod buffered_sink;
 mod buffered_source;
 mod close;
@@ -36,20 +35,21 @@ mod fault_code;
 mod into_file;
 mod live;
 mod memory;
+mod report_sink;
 mod sink;
 mod source;
 mod std_io;
 mod taken;
 
-pub use audience::{Audience, FirstReported, Stopped};
 pub use buffered_sink::BufferedSink;
 pub use buffered_source::BufferedSource;
 pub use close::{Close, Release, Store};
 pub use fail_at::FailAt;
 pub use fault_code::FaultCode;
 pub use into_file::IntoFile;
-pub use live::{Live, LiveAudience};
+pub use live::{Live, LiveReportSink};
 pub use memory::{MemSink, MemSource};
+pub use report_sink::{FirstReported, ReportSink, Stopped};
 pub use sink::{Flush, Sink, put_all};
 pub use source::{Failed, Source, fill};
 pub use std_io::{FromRead, IntoWrite};

@@ -1,9 +1,9 @@
 //! Flushing of pending reports, for users who read a report while it is written.
 
 ghost use Rattle.std.specs.Prelude.{◌≡◌, ℕ, Bool, OnOk, false, is_ok};
-ghost use Rattle.sub_io.specs.Flushing.{StaysReported};
+ghost use Rattle.sub_io.specs.Flushing.{FlushKeepsReports};
 
-use crate::{Audience, Stopped};
+use crate::{ReportSink, Stopped};
 
 /// A device that may buffer reports or bytes, and can flush them.
 pub trait Live {
@@ -33,8 +33,9 @@ pub trait Live {
 
 /// A report sink that may buffer reports and can flush them. Flushing does not change which items
 /// count as reported.
-pub trait LiveAudience<T>: Audience<T> + Live {
-    ghost stays_reported: { StaysReported Self.is_reported Self.has_stopped Self.has_pending_reports
+pub trait LiveReportSink<T>: ReportSink<T> + Live {
+    ghost flush_keeps_reports: { FlushKeepsReports Self.is_reported Self.has_stopped
+        Self.has_pending_reports
         Self.buffered
         Self.is_flushed };
 }

@@ -6,10 +6,10 @@ ghost use Rattle.std.specs.Io.{ReadsAtMost};
 ghost use Rattle.std.specs.Io.KnownBytes.{Keeps};
 ghost use Rattle.sub_io.specs.Closing.{needs_no_store};
 ghost use Rattle.sub_io.specs.Device.{CanFail, CountsFailure, SkipsOver, Pulls, Pushes};
-ghost use Rattle.sub_io.specs.Device.{buffers_nothing};
-ghost use Rattle.sub_io.specs.Borrowed.{BeginBorrowed, PullsBorrowed};
-ghost use Rattle.sub_io.specs.Reading.{AreNext};
-ghost use Rattle.sub_io.specs.Memory.{Written};
+ghost use Rattle.sub_io.specs.Device.{zero_buffered_bytes};
+ghost use Rattle.sub_io.specs.Borrowed.{AreBorrowedPrefix, PullsBorrowed};
+ghost use Rattle.sub_io.specs.Reading.{AreNextBytes};
+ghost use Rattle.sub_io.specs.Memory.{MemSinkValue};
 
 use crate::{Close, Failed, Flush, Sink, Source};
 use std::marker::Model;
@@ -67,14 +67,14 @@ impl Source for MemSource<'_> {
     /// Returns all remaining bytes.
     fn buffered(&self) -> &[u8]
         ensures all { result.now ≡ self.now }
-        ensures bytes { AreNext result.now (Some self.now) }
-        ensures borrowed { BeginBorrowed result.now self.now }
+        ensures bytes { AreNextBytes result.now (Some self.now) }
+        ensures borrowed { AreBorrowedPrefix result.now self.now }
     {
         self.rest
     }
 
     /// Skips `count` bytes if at least `count` bytes remain in the slice.
-    #[tactic(auto, using(crate::proofs::BufferLemmas::skip_memory_front))]
+    #[tactic(auto, using(crate::proofs::BufferLemmas::skipping_drops_memory_prefix))]
     fn skip_bytes(&mut self, count: usize) -> bool
         ensures buffered { (result ≡ true) ↔ (count ≤ length self.old) }
         ensures skipped { result ≡ true → self.new ≡ drop count self.old }
@@ -101,7 +101,7 @@ pub struct MemSink<'a> {
 }
 
 impl<'a> Model for MemSink<'a> {
-    ghost Value = { Written };
+    ghost Value = { MemSinkValue };
 
     ghost view = { λ k. record {
       bytes = take k.len k.room.now;
@@ -173,14 +173,14 @@ impl Sink for MemSink<'_> {
 }
 
 impl Flush for MemSink<'_> {
-    ghost buffered = { buffers_nothing };
+    ghost buffered = { zero_buffered_bytes };
 
     /// Does nothing, since a sink over memory buffers no byte. Never fails.
     fn flush(&mut self) -> Result<(), Failed>
         ensures ok { result ≡ Ok tt }
         ensures same { self.new ≡ self.old }
         ensures bytes { Keeps (Some self.old.bytes) (Some self.new.bytes) }
-        ensures buffered { OnOk result (buffers_nothing self.new ≡ 0) }
+        ensures buffered { OnOk result (zero_buffered_bytes self.new ≡ 0) }
         ensures count { CountsFailure self.old.failure_count result self.new.failure_count }
     {
         Ok(())
@@ -199,7 +199,7 @@ impl Close for MemSink<'_> {
         ensures ok { result ≡ Ok tt }
         ensures same { self.new ≡ self.old }
         ensures bytes { Keeps (Some self.old.bytes) (Some self.new.bytes) }
-        ensures buffered { OnOk result (buffers_nothing self.new ≡ 0) }
+        ensures buffered { OnOk result (zero_buffered_bytes self.new ≡ 0) }
         ensures stored { OnOk result (needs_no_store self.new ≡ true) }
         ensures count { CountsFailure self.old.failure_count result self.new.failure_count }
     {

@@ -3,7 +3,7 @@
 ghost use Rattle.std.specs.Prelude.{◌≡◌, ℕ, ◌<◌, ◌≤◌, List, length, Option, IfErr, IfOk};
 ghost use Rattle.std.specs.Prelude.{OnOk, take, is_ok};
 ghost use Rattle.std.specs.Io.KnownBytes.{Appends, Keeps};
-ghost use Rattle.sub_io.specs.Calls.{PutsByPushes, answered, any_call};
+ghost use Rattle.sub_io.specs.Calls.{PutsByPushes, call_answer, unrestricted_call};
 ghost use Rattle.sub_io.specs.Device.{CanFail, CountsFailure, Pushes, Writes};
 
 use crate::Failed;
@@ -18,7 +18,7 @@ pub trait Sink {
 
     // How a push changes the sink, if the sink specifies it. Arguments: old state, offered bytes,
     // number of bytes taken (`None` if the push failed), new state.
-    ghost is_push: { Self → List ℕ → Option ℕ → Self → Type 0 } = { any_call };
+    ghost is_push: { Self → List ℕ → Option ℕ → Self → Type 0 } = { unrestricted_call };
 
     /// Takes bytes from the front of `from`, which must not be empty. Returns the number of bytes
     /// taken, from 1 to `from.len()`.
@@ -32,7 +32,7 @@ pub trait Sink {
         requires count { CanFail (failure_count self.old) }
         ensures some { IfOk result (λ n. 0 < n) }
         ensures bound { IfOk result (λ n. n ≤ length from.now) }
-        ensures call { is_push self.old from.now (answered result) self.new }
+        ensures call { is_push self.old from.now (call_answer result) self.new }
         ensures bytes { Pushes (contents self.old) (contents self.new) from.now result }
         ensures count { CountsFailure (failure_count self.old) result (failure_count self.new) };
 

@@ -4,10 +4,10 @@ ghost use Rattle.std.specs.Prelude.{◌≡◌, ◌≢◌, ℕ, ◌+◌, ◌<◌,
 ghost use Rattle.std.specs.Prelude.{IfOk, OnErr, Some, false, is_ok, true};
 ghost use Rattle.std.specs.Io.{ReadsAtMost};
 ghost use Rattle.std.specs.Io.KnownBytes.{Consumes, IsAtEnd, Keeps};
-ghost use Rattle.sub_io.specs.Calls.{FillsByPulls, answered, any_call};
+ghost use Rattle.sub_io.specs.Calls.{FillsByPulls, call_answer, unrestricted_call};
 ghost use Rattle.sub_io.specs.Device.{CanFail, CountsFailure, Fills, SkipsOver, Pulls, Told};
-ghost use Rattle.sub_io.specs.Borrowed.{BeginBorrowed, PullsBorrowed, no_borrowed_bytes};
-ghost use Rattle.sub_io.specs.Reading.{AreBytes, AreNext, IfKnown};
+ghost use Rattle.sub_io.specs.Borrowed.{AreBorrowedPrefix, PullsBorrowed, no_borrowed_bytes};
+ghost use Rattle.sub_io.specs.Reading.{AreBytes, AreNextBytes, IfKnown};
 
 /// The error of a failed call of a source or sink. The failed call has transferred no bytes.
 #[derive(Clone, Copy, Debug, PartialEq, Eq)]
@@ -23,7 +23,7 @@ pub trait Source {
 
     // How a pull changes the source, if the source specifies it. Arguments: old state, size of the
     // buffer, number of bytes read (`None` if the pull failed), new state.
-    ghost is_pull: { Self → ℕ → Option ℕ → Self → Type 0 } = { any_call };
+    ghost is_pull: { Self → ℕ → Option ℕ → Self → Type 0 } = { unrestricted_call };
 
     // The buffered bytes, which the source can return without a call of its underlying device. Such
     // a call may block and may fail.
@@ -39,7 +39,7 @@ pub trait Source {
     fn pull(&mut self, to: &mut [u8]) -> Result<usize, Failed>
         requires { CanFail (failure_count self.old) }
         ensures bound { ReadsAtMost result to.new }
-        ensures call { is_pull self.old (length to.old) (answered result) self.new }
+        ensures call { is_pull self.old (length to.old) (call_answer result) self.new }
         ensures bytes { Pulls (remaining self.old) (remaining self.new) to.new result }
         ensures borrowed { PullsBorrowed (borrowed self.old) (borrowed self.new) to.new result }
         ensures count { CountsFailure (failure_count self.old) result (failure_count self.new) };
@@ -51,8 +51,8 @@ pub trait Source {
     /// Borrows the buffered bytes, which the next pulls return without a call of the underlying
     /// device. Empty if the source has no buffered bytes or cannot lend them.
     fn buffered(&self) -> &[u8]
-        ensures bytes { AreNext result.now (remaining self.now) }
-        ensures borrowed { BeginBorrowed result.now (borrowed self.now) }
+        ensures bytes { AreNextBytes result.now (remaining self.now) }
+        ensures borrowed { AreBorrowedPrefix result.now (borrowed self.now) }
     {
         &[]
     }
@@ -63,7 +63,7 @@ pub trait Source {
     /// # Errors
     ///
     /// Returns `Failed` if the underlying device fails.
-    fn read_on(&mut self) -> Result<(), Failed>
+    fn read_ahead(&mut self) -> Result<(), Failed>
         requires { CanFail (failure_count self.old) }
         ensures bytes { Keeps (remaining self.old) (remaining self.new) }
         ensures ready { borrowed self.old ≢ [] → (self.new ≡ self.old) × (result ≡ Ok tt) }
@@ -114,12 +114,12 @@ pub fn fill<S: Source>(source: &mut S, to: &mut [u8]) -> Result<usize, Failed>
         × Consumes (S.remaining source.old) (S.remaining source.new) bytes) }
     ensures count { CountsFailure (S.failure_count source.old) result (S.failure_count source.new) }
 {
-    fill_up(source, to)
+    fill_until_end(source, to)
 }
 
 // The loop of `fill`, with a shorter contract from which that of `fill` follows.
 #[inline(always)]
-fn fill_up<S: Source>(source: &mut S, to: &mut [u8]) -> Result<usize, Failed>
+fn fill_until_end<S: Source>(source: &mut S, to: &mut [u8]) -> Result<usize, Failed>
     requires { CanFail (S.failure_count source.old) }
     ensures calls { FillsByPulls S.is_pull source.old (length to.old) (is_ok result) source.new }
     ensures fills { IfOk result (λ n.

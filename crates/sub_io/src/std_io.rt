@@ -7,9 +7,9 @@ ghost use Rattle.std.specs.Prelude.{◌≡◌, ◌+◌, ◌<◌, ◌≤◌, [], 
 ghost use Rattle.std.specs.Prelude.{IsErr};
 ghost use Rattle.std.specs.Io.KnownBytes.{Keeps};
 ghost use Rattle.sub_io.specs.Counted.{Counted, WriterValue};
-ghost use Rattle.sub_io.specs.Device.{CanFail, CountsFailure, Pushes, buffers_nothing};
+ghost use Rattle.sub_io.specs.Device.{CanFail, CountsFailure, Pushes, zero_buffered_bytes};
 
-use crate::taken::{BorrowedChunk, Taken};
+use crate::taken::{BorrowedChunk, ConsumedBytes};
 use crate::{Failed, Flush, Sink, Source};
 use std::io::{Read, Write};
 use std::marker::Model;
@@ -80,7 +80,7 @@ impl<R: Read> Source for FromRead<R> {
 #[derive(Drop)]
 pub struct IntoWrite<W> {
     inner: W,
-    taken: Taken,
+    taken: ConsumedBytes,
     failures: u64,
 }
 
@@ -101,7 +101,7 @@ impl<W: Write> IntoWrite<W> {
     {
         IntoWrite {
             inner,
-            taken: Taken::nothing(),
+            taken: ConsumedBytes::nothing(),
             failures: 0,
         }
     }
@@ -151,7 +151,7 @@ impl<W: Write> Sink for IntoWrite<W> {
 impl<W: Write> Flush for IntoWrite<W> {
     // Nothing is buffered, since every push calls `write`. A buffer inside the writer is not
     // counted: a file of the operating system has none, but a buffered writer of std has one.
-    ghost buffered = { buffers_nothing };
+    ghost buffered = { zero_buffered_bytes };
 
     /// Flushes the writer.
     ///
@@ -162,7 +162,7 @@ impl<W: Write> Flush for IntoWrite<W> {
         requires { CanFail self.old.failure_count }
         ensures writer { Keeps (W.contents self.old.device) (W.contents self.new.device) }
         ensures bytes { Keeps (Some self.old.taken) (Some self.new.taken) }
-        ensures buffered { OnOk result (buffers_nothing self.new ≡ 0) }
+        ensures buffered { OnOk result (zero_buffered_bytes self.new ≡ 0) }
         ensures count { CountsFailure self.old.failure_count result self.new.failure_count }
     {
         if self.inner.flush().is_err() {

@@ -8,12 +8,12 @@ use std::marker::Model;
 /// The bytes that a writer has reported as written, for contracts only. The type has no size and
 /// its functions do nothing, so the code must record each write itself.
 #[derive(Drop)]
-pub struct Taken {
+pub struct ConsumedBytes {
     /// The bytes written so far, in order.
     pub ghost bytes: { List ℕ },
 }
 
-impl Model for Taken {
+impl Model for ConsumedBytes {
     ghost also_owns = { λ _. ftrue };
 }
 
@@ -24,18 +24,18 @@ pub struct BorrowedChunk<'a> {
     pub bytes: &'a [u8],
 }
 
-impl Taken {
+impl ConsumedBytes {
     /// Creates an empty record of written bytes.
-    pub fn nothing() -> Taken
+    pub fn nothing() -> ConsumedBytes
         ensures { result.bytes ≡ [] }
     {
-        Taken {}
+        ConsumedBytes {}
     }
 
     /// Appends the bytes of one call to the record.
-    pub fn and(&self, more: &BorrowedChunk<'_>) -> Taken
+    pub fn and(&self, more: &BorrowedChunk<'_>) -> ConsumedBytes
         ensures { result.bytes ≡ self.now.bytes ++ more.now.bytes.now }
     {
-        Taken {}
+        ConsumedBytes {}
     }
 }

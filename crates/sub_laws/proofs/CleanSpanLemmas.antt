@@ -68,10 +68,10 @@ last_clean page packets packet clean =
       plain = subst (λ p. IsEnhancement page p → ⊥) (at []) (clean.plain n [] within);
     }
 
-clean_nil : (page : PageIdValue) → IsCleanSpan page []
-clean_nil page = record { odd = All-nil _; same = All-nil _; plain = All-nil _ }
+empty_span_is_clean : (page : PageIdValue) → IsCleanSpan page []
+empty_span_is_clean page = record { odd = All-nil _; same = All-nil _; plain = All-nil _ }
 
-pushed :
+text_span_after_packet :
     (keeps : Bool) (page : PageIdValue) (packets : List (List ℕ)) (packet : List ℕ)
     → IsCleanSpan page (text_span keeps (kind page) packets)
     → (is_open_after (kind page) packets ≡ true
@@ -79,7 +79,7 @@ pushed :
     → ends_page (kind page packet) ≡ false
     → MayFollow page (text_span keeps (kind page) packets) packet)
     → IsCleanSpan page (text_span keeps (kind page) (packets ++ packet ∷ []))
-pushed keeps page packets packet clean follows =
+text_span_after_packet keeps page packets packet clean follows =
     subst (IsCleanSpan page) (sym (text_span-push (kind page) keeps packets packet))
     (go (begins_text keeps (kind page packet)) (is_open_after (kind page) packets)
     (is_this_page (kind page packet)) (ends_page (kind page packet)) refl refl refl)
@@ -93,7 +93,7 @@ pushed keeps page packets packet clean follows =
         (cond b []
         (cond (o && not t && not e) (text_span keeps (kind page) packets ++ packet ∷ [])
         (text_span keeps (kind page) packets)))
-    go true o t e p q r = clean_nil page
+    go true o t e p q r = empty_span_is_clean page
     go false true false false p q r =
         push_clean page (text_span keeps (kind page) packets) packet clean (follows p q r)
     go false true false true p q r = clean
@@ -107,7 +107,7 @@ pub clean_cuts :
     → EachMayFollow keeps page packets
     → (n : ℕ)
     → IsCleanSpan page (text_span keeps (kind page) (take n packets))
-clean_cuts keeps page packets each zero = clean_nil page
+clean_cuts keeps page packets each zero = empty_span_is_clean page
 clean_cuts keeps page packets each (suc n) =
     let ih = clean_cuts keeps page packets each n in
     elim (cases_lt n (length packets)) [
@@ -115,7 +115,8 @@ clean_cuts keeps page packets each (suc n) =
           let more : take (suc n) packets ≡ take n packets ++ slice_index_or packets n [] ∷ [] =
           ap (λ m. take m packets) (sym (add-one n)) ∙ take_more packets n [] within in
           subst (λ ps. IsCleanSpan page (text_span keeps (kind page) ps)) (sym more)
-          (pushed keeps page (take n packets) (slice_index_or packets n []) ih (each n [] within))
+          (text_span_after_packet keeps page (take n packets) (slice_index_or packets n []) ih
+          (each n [] within))
       | inr past ↦
           grind (arith, nat_tests, take_all)
     ]

@@ -6,7 +6,7 @@ use Rattle.std.specs.List.{AllZip}
 use Rattle.ttx_pes.specs.PesGrammar.{PesValue}
 use Rattle.sub_plan.specs.FrameTime.{clock}
 use Rattle.sub_plan.proofs.ClockLemmas.{law_of_clock, law_of_exact_clock}
-use Rattle.sub_rules.specs.PesFrames.{CarriesBy, IsReadAs}
+use Rattle.sub_rules.specs.PesFrames.{CarriesOnClock, IsReadAs}
 use Rattle.sub_rules.specs.PesPackets.{joined, joined_after, sent_after}
 use Rattle.sub_rules.specs.Transmission.{IsRising, SentFrame, Transmission}
 use Rattle.sub_rules.proofs.JoinedLemmas.{joined-none}
@@ -49,21 +49,25 @@ read_longer within more origin low longer (v ∷ values) (s ∷ frames) each = (
 )
 
 -- The PES packets of one frame are merged for any `within` other than 0.
-some_frames : (n : ℕ) → (suc n == 0) ≡ false
-some_frames n = grind (arith, nat_tests)
+frame_count_is_not_zero : (n : ℕ) → (suc n == 0) ≡ false
+frame_count_is_not_zero n = grind (arith, nat_tests)
 
-sent_equal : (within more : ℕ) (sent : Transmission) (s : SentFrame)
+positive_delays_send_the_same : (within more : ℕ) (sent : Transmission) (s : SentFrame)
     → sent_after (suc within) sent s ≡ sent_after (suc more) sent s
-sent_equal within more [] s = refl
-sent_equal within more (first ∷ sent) s = rw (some_frames within, some_frames more) refl
+positive_delays_send_the_same within more [] s = refl
+positive_delays_send_the_same within more (first ∷ sent) s = rw (
+  frame_count_is_not_zero within,
+  frame_count_is_not_zero more,
+) refl
 
-joined_equal : (within more : ℕ) (sent frames : Transmission)
+positive_delays_join_the_same : (within more : ℕ) (sent frames : Transmission)
     → joined_after (suc within) sent frames ≡ joined_after (suc more) sent frames
 unfolding joined_after
-joined_equal within more sent [] = refl
-joined_equal within more sent (s ∷ frames) =
-    joined_equal within more (sent_after (suc within) sent s) frames
-    ∙ ap (λ (x : Transmission). joined_after (suc more) x frames) (sent_equal within more sent s)
+positive_delays_join_the_same within more sent [] = refl
+positive_delays_join_the_same within more sent (s ∷ frames) =
+    positive_delays_join_the_same within more (sent_after (suc within) sent s) frames
+    ∙ ap (λ (x : Transmission). joined_after (suc more) x frames) (positive_delays_send_the_same
+    within more sent s)
 
 -- Frames in increasing order stay the same with a greater `within`, since no two PES packets have
 -- the same frame.
@@ -79,14 +83,14 @@ joined_longer zero (suc more) sendings frames longer rising are =
     each ∙ sym (joined-rising (suc more) sendings (subst IsRising each rising))
 joined_longer (suc within) zero sendings frames longer rising are = absurd (omega arith)
 joined_longer (suc within) (suc more) sendings frames longer rising are =
-    are ∙ joined_equal within more [] sendings
+    are ∙ positive_delays_join_the_same within more [] sendings
 
 pub carries_longer :
     (within more origin : ℕ) (bytes : List ℕ) (frames : Transmission)
     → origin < 2 ^ 33
     → within ≤ more
-    → CarriesBy (clock within origin) within bytes frames
-    → CarriesBy (clock more origin) more bytes frames
+    → CarriesOnClock (clock within origin) within bytes frames
+    → CarriesOnClock (clock more origin) more bytes frames
 carries_longer within more origin bytes frames low longer is = record {
   values = is.values;
   packets = is.packets;

@@ -10,13 +10,14 @@ use Rattle.std.proofs.lemmas.Option.{none-some, same_Some}
 use Rattle.ttx_packet.specs.PageId.{PageIdValue}
 use Rattle.ttx_page.specs.Page.{IsCell, Rows, cell, space}
 use Rattle.ttx_page.specs.Shown.{kept}
-use Rattle.ttx_page.proofs.SpanLists.{find_eq}
+use Rattle.ttx_page.proofs.SpanListLemmas.{found_item_passes_test}
 use Rattle.stl_file.specs.Subtitle.{IsSubtitle, SubtitleValue}
-use Rattle.stl_rows.specs.DuePage.{ends_at, tci_of_ending}
+use Rattle.stl_rows.specs.DuePage.{ends_at, tci_of_subtitle_ending_at}
 use Rattle.stl_rows.specs.Programme.{IsProgramme}
 use Rattle.stl_rows.specs.declared.layout.Drawing.{Drawing}
-use Rattle.sub_rules.specs.Events.{unexpected_after, was_due}
-use Rattle.sub_laws.proofs.ActiveFaultsLemmas.{cell_found, cell_none, no_cell}
+use Rattle.sub_rules.specs.Events.{first_unexpected_cell_after, was_due}
+use Rattle.sub_laws.proofs.ActiveFaultsLemmas.{found_cell_is_the_first, no_first_cell_fails_all}
+use Rattle.sub_laws.proofs.ActiveFaultsLemmas.{failing_cells_leave_no_first_cell}
 
 module _ (due : ℕ → Rows) (first f row column code : ℕ) where
   -- The code was expected in the cell at frame f or at one of the n frames before f. Frames before
@@ -29,25 +30,31 @@ module _ (due : ℕ → Rows) (first f row column code : ℕ) where
       × (f ≤ e + n)
       × (code ≡ cell (due e) row column)
 
-  at_oldest : (n : ℕ)
+  code_was_due_in_oldest_frame : (n : ℕ)
       → (nat_le (first + n) f && (cell (due (f - n)) row column == code)) ≡ true
       → (first + n ≤ f) × (code ≡ cell (due (f - n)) row column)
-  at_oldest n e = grind (arith, nat_tests)
+  code_was_due_in_oldest_frame n e = grind (arith, nat_tests)
 
-  pub was_due_at : (n : ℕ) → was_due due first f n row column code ≡ true → WasDue n
+  pub was_due_names_a_frame : (n : ℕ) → was_due due first f n row column code ≡ true → WasDue n
   unfolding was_due
-  was_due_at zero e = grind (arith, nat_tests)
-  was_due_at (suc n) e = grind (arith, nat_tests, at_oldest, (was_due_at n))
+  was_due_names_a_frame zero e = grind (arith, nat_tests)
+  was_due_names_a_frame (suc n) e = grind (
+    arith,
+    nat_tests,
+    code_was_due_in_oldest_frame,
+    (was_due_names_a_frame n),
+  )
 
-  pub due_was : (n : ℕ) → WasDue n → was_due due first f n row column code ≡ true
+  pub due_code_passes_was_due : (n : ℕ) → WasDue n → was_due due first f n row column code ≡ true
   unfolding was_due
-  due_was zero (e, from, high, low, same) =
+  due_code_passes_was_due zero (e, from, high, low, same) =
       let at : e ≡ f = omega arith in
       let here : code ≡ cell (due f) row column = same ∙ ap (λ x. cell (due x) row column) at in
       grind (arith, nat_tests)
-  due_was (suc n) (e, from, high, low, same) = elim (cases_lt (e + n) f) [
+  due_code_passes_was_due (suc n) (e, from, high, low, same) = elim (cases_lt (e + n) f) [
     | inr near ↦
-        let so_far = due_was n (e, from, high, near, same) in grind (arith, nat_tests)
+        let so_far = due_code_passes_was_due n (e, from, high, near, same) in grind
+        (arith, nat_tests)
     | inl far ↦
         let at : e ≡ f - suc n = omega arith in
         let here : code ≡ cell (due (f - suc n)) row column =
@@ -76,51 +83,68 @@ module _ (keeps : Bool) (page : PageIdValue) (packets : List (List ℕ)) (due : 
       not (code_at row column == space)
       && not (was_due due first f n row column (code_at row column))
 
-  may_show : (row column : ℕ) → is_unexpected row column ≡ false → MayShow row column
-  may_show row column e = grind (arith, nat_tests, was_due_at)
+  expected_code_may_show : (row column : ℕ) → is_unexpected row column ≡ false → MayShow row column
+  expected_code_may_show row column e = grind (arith, nat_tests, was_due_names_a_frame)
 
-  not_unexpected : (row column : ℕ) → MayShow row column → is_unexpected row column ≡ false
-  not_unexpected row column h1 = grind (arith, nat_tests, due_was)
+  code_that_may_show_is_expected : (row column : ℕ) → MayShow row column → is_unexpected row column
+      ≡ false
+  code_that_may_show_is_expected row column h1 = grind (arith, nat_tests, due_code_passes_was_due)
 
-  pub unexpected_none : unexpected_after keeps page packets due first f n ≡ None
+  pub no_unexpected_cell_shows_expected_codes : first_unexpected_cell_after keeps page packets due
+      first f n ≡ None
       → (row column : ℕ) → IsCell row column → MayShow row column
-  unfolding unexpected_after
-  unexpected_none e row column named = may_show row column (cell_none is_unexpected e row column
+  unfolding first_unexpected_cell_after
+  no_unexpected_cell_shows_expected_codes e row column named = expected_code_may_show row column
+      (no_first_cell_fails_all is_unexpected e row column
       named)
 
-  pub none_unexpected : ((row column : ℕ) → IsCell row column → MayShow row column)
-      → unexpected_after keeps page packets due first f n ≡ None
-  unfolding unexpected_after
-  none_unexpected may =
-      no_cell is_unexpected (λ row column named. not_unexpected row column (may row column named))
+  pub expected_codes_are_not_unexpected : ((row column : ℕ) → IsCell row column → MayShow row
+      column)
+      → first_unexpected_cell_after keeps page packets due first f n ≡ None
+  unfolding first_unexpected_cell_after
+  expected_codes_are_not_unexpected may =
+      failing_cells_leave_no_first_cell is_unexpected
+      (λ row column named. code_that_may_show_is_expected row column (may row column named))
 
-  pub unexpected_found : (x : ℕ × ℕ) → unexpected_after keeps page packets due first f n ≡ Some x
+  pub unexpected_cell_shows_no_expected_code : (x : ℕ × ℕ) → first_unexpected_cell_after keeps page
+      packets due first f n ≡ Some x
       → IsCell x.0 x.1 × (MayShow x.0 x.1 → ⊥)
-  unfolding unexpected_after
-  unexpected_found x e = grind (arith, nat_tests, cell_found, not_unexpected)
+  unfolding first_unexpected_cell_after
+  unexpected_cell_shows_no_expected_code x e = grind (
+    arith,
+    nat_tests,
+    found_cell_is_the_first,
+    code_that_may_show_is_expected,
+  )
 
 module _ (drawing : Drawing) (records : List SubtitleValue) (is : IsProgramme drawing records)
   where
-    other_end : (f : ℕ) (t : SubtitleValue) → t.tco ≢ f → ends_at f t ≡ false
-    other_end f t h = grind (arith, nat_tests)
+    other_tco_does_not_end : (f : ℕ) (t : SubtitleValue) → t.tco ≢ f → ends_at f t ≡ false
+    other_tco_does_not_end f t h = grind (arith, nat_tests)
 
     pub ending_eq : (t : SubtitleValue) → Contains records t
-        → tci_of_ending records t.tco ≡ Some t.tci
-    unfolding tci_of_ending
+        → tci_of_subtitle_ending_at records t.tco ≡ Some t.tci
+    unfolding tci_of_subtitle_ending_at
     ending_eq t member =
         let times : t.tci < t.tco = (All-contains IsSubtitle records t is.each member).times in
         let own : ends_at t.tco t ≡ true = grind (arith, nat_tests) in
         ap (option_map (λ (s : SubtitleValue). s.tci))
         (found_at (find (ends_at t.tco)) (ends_at t.tco) Some None refl (λ x xs. refl) records
         member.0 t member.1
-        (λ k below. other_end t.tco (get_or records k t)
+        (λ k below. other_tco_does_not_end t.tco (get_or records k t)
         (let order : (get_or records k t).tco ≤ t.tci =
         rw member.2 at (is.in_order k member.0 t below member.1) in
         λ same. absurd (omega arith)))
         (rw member.2 own)
         ∙ ap Some member.2)
 
-    pub ending_at : (f tci : ℕ) → tci_of_ending records f ≡ Some tci
+    pub tci_of_ending_has_subtitle : (f tci : ℕ) → tci_of_subtitle_ending_at records f ≡ Some tci
         → (t : SubtitleValue) × Contains records t × (t.tco ≡ f) × (t.tci ≡ tci)
-    unfolding tci_of_ending
-    ending_at f tci e = grind (arith, nat_tests, none-some, find_eq, same_Some)
+    unfolding tci_of_subtitle_ending_at
+    tci_of_ending_has_subtitle f tci e = grind (
+      arith,
+      nat_tests,
+      none-some,
+      found_item_passes_test,
+      same_Some,
+    )

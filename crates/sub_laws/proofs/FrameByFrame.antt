@@ -10,26 +10,26 @@ use Rattle.sub_laws.proofs.PrefixLemmas.{IsInGap, before, packet_at}
 abbrev pub IsFaultFree : Criteria → Transmission → ℕ → ℕ → Type 0
 IsFaultFree g frames n f = active_faults_at g frames n f ≡ no_active_faults
 
-pub record OrderOk (g : Criteria) (frames : Transmission) (i : ℕ) : Type 0 where
+pub record HasOrderAt (g : Criteria) (frames : Transmission) (i : ℕ) : Type 0 where
   pub start : i ≡ 0 → (first : ℕ) → g.first_tci ≡ Some first → frame_at frames 0 ≤ first
   pub rises : 0 < i → frame_at frames (i - 1) < frame_at frames i
 
-abbrev pub PacketsOk : Criteria → Transmission → ℕ → ℕ → Type 0
-PacketsOk g frames i k =
+abbrev pub HasCleanPacketsAt : Criteria → Transmission → ℕ → ℕ → Type 0
+HasCleanPacketsAt g frames i k =
     (j : ℕ) → j < k → KeepsAllRules g.watched (before frames i j) (packet_at frames i j)
 
 -- Frame i of the transmission has no fault: in its number, the frames without packets before it,
 -- its packets, its header, and at its end.
-pub record FrameOk (g : Criteria) (frames : Transmission) (i : ℕ) : Type 0 where
-  pub order : OrderOk g frames i
+pub record IsFrameGood (g : Criteria) (frames : Transmission) (i : ℕ) : Type 0 where
+  pub order : HasOrderAt g frames i
   pub gap : (f : ℕ) → IsInGap frames i f → IsFaultFree g frames i f
-  pub packets : PacketsOk g frames i (length (packets_of_frame frames i))
+  pub packets : HasCleanPacketsAt g frames i (length (packets_of_frame frames i))
   pub header : i ≡ 0 → HasHeader g frames 0
   pub end : IsFaultFree g frames (i + 1) (frame_at frames i)
 
 -- The first n frames of the transmission have no fault.
 abbrev pub MeetRequirements : Criteria → Transmission → ℕ → Type 0
-MeetRequirements g frames n = (j : ℕ) → j < n → FrameOk g frames j
+MeetRequirements g frames n = (j : ℕ) → j < n → IsFrameGood g frames j
 
 -- The transmission has no fault.
 pub record MeetsRequirements (g : Criteria) (frames : Transmission) : Type 0 where
@@ -47,5 +47,5 @@ pub record IsReadTo (g : Criteria) (frames : Transmission) (n f : ℕ) : Type 0 
   pub rises : (i : ℕ) → 0 < i → i < n → frame_at frames (i - 1) < frame_at frames i
   pub up_to : frame_at frames (n - 1) ≤ f
   pub next : n < length frames → (frame_at frames (n - 1) ≡ f) ⊎ (f < frame_at frames n)
-  pub packets : (i : ℕ) → i < n → PacketsOk g frames i (length (packets_of_frame frames i))
+  pub packets : (i : ℕ) → i < n → HasCleanPacketsAt g frames i (length (packets_of_frame frames i))
   pub header : HasHeader g frames 0

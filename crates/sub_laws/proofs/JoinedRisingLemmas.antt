@@ -8,7 +8,7 @@ use Rattle.sub_rules.specs.FrameRules.{end_frame, frame_at}
 use Rattle.sub_rules.specs.PesPackets.{continues_with, joined, joined_after}
 use Rattle.sub_rules.specs.Transmission.{IsRising, SentFrame, Transmission}
 use Rattle.sub_rules.proofs.JoinedLemmas.{sent_after-other}
-use Rattle.sub_laws.proofs.GoodLemmas.{rises_each}
+use Rattle.sub_laws.proofs.GoodLemmas.{rising_frames_rise_at_each_index}
 
 pub frame_at-left : (xs ys : Transmission) (i : ℕ) → i < length xs
     → frame_at (xs ++ ys) i ≡ frame_at xs i
@@ -21,15 +21,16 @@ pub frame_at-next : (xs : Transmission) (s : SentFrame) (ys : Transmission)
 frame_at-next [] s ys = refl
 frame_at-next (x ∷ xs) s ys = frame_at-next xs s ys
 
-another : (within : ℕ) (sent : Transmission) (s : SentFrame) (frames : Transmission)
+later_frame_does_not_continue : (within : ℕ) (sent : Transmission) (s : SentFrame)
+    (frames : Transmission)
     → IsRising (sent ++ s ∷ frames)
     → continues_with within sent s ≡ false
-another within [] s frames rising = refl
-another within (x ∷ sent) s frames rising =
+later_frame_does_not_continue within [] s frames rising = refl
+later_frame_does_not_continue within (x ∷ sent) s frames rising =
     let all : Transmission = x ∷ sent ++ s ∷ frames in
     let n : ℕ = length (x ∷ sent) in
     let size = length-append (x ∷ sent) (s ∷ frames) in
-    let up = rises_each all rising n (omega arith) (omega (arith, size)) in
+    let up = rising_frames_rise_at_each_index all rising n (omega arith) (omega (arith, size)) in
     let before = frame_at-left (x ∷ sent) (s ∷ frames) (n - 1) (omega arith) in
     let own = frame_at-next (x ∷ sent) s frames in
     go (not (within == 0)) (end_frame (x ∷ sent)) s.frame (omega (arith, up, before, own))
@@ -45,7 +46,7 @@ joined_after-rising within sent (s ∷ frames) rising =
     let more : sent ++ s ∷ frames ≡ sent ++ s ∷ [] ++ frames =
     sym (append_assoc sent (s ∷ []) frames) in
     ap (λ (x : Transmission). joined_after within x frames)
-    (sent_after-other within sent s (another within sent s frames rising))
+    (sent_after-other within sent s (later_frame_does_not_continue within sent s frames rising))
     ∙ joined_after-rising within (sent ++ s ∷ []) frames (subst IsRising more rising)
     ∙ sym more
 

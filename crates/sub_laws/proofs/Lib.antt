@@ -1,4 +1,4 @@
-pub mod AtOnceLemmas
+pub mod WithoutDelayLemmas
 pub mod BrokenRuleLemmas
 pub mod CleanSpanLemmas
 pub mod ContentLemmas
@@ -11,17 +11,17 @@ pub mod FirstContentLemmas
 pub mod FirstFoundLemmas
 pub mod FollowedStretchLemmas
 pub mod FrameByFrame
-pub mod GoodByLemmas
+pub mod GoodWithRepeatsLemmas
 pub mod GoodLemmas
 pub mod GrowingFrameLemmas
 pub mod JoinedRisingLemmas
 pub mod JudgedFileLemmas
-pub mod NoneKeepsLemmas
-pub mod NothingReportedLemmas
+pub mod ErasingHeaderLemmas
+pub mod EmptyReportLemmas
 pub mod OldTextLemmas
 pub mod PesFileLemmas
 pub mod PesPacketWalkLemmas
-pub mod PlaceLemmas
+pub mod BrokenPlaceLemmas
 pub mod PlanLemmas
 pub mod PrefixLemmas
 pub mod ReadFileLemmas

@@ -6,12 +6,12 @@ use Rattle.std.proofs.Common.{◌∷◌, ◌++◌, ◌↔◌, length, None}
 use Rattle.std.proofs.Common.{refl, sym, subst, arith}
 use Rattle.std.specs.List.{AllZip, concat}
 use Rattle.ttx_pes.specs.PesGrammar.{IsValidPesPacket, PesValue}
-use Rattle.ttx_pes.specs.Reading.{most_packets}
-use Rattle.ttx_pes.proofs.ReadingLemmas.{answer_of_packet, packet_is_read}
+use Rattle.ttx_pes.specs.Reading.{max_pes_packets}
+use Rattle.ttx_pes.proofs.ReadingLemmas.{decoded_packet_is_answer, valid_packet_is_read}
 use Rattle.ttx_pes.proofs.ReadingLemmas.{rest_after-packet}
 use Rattle.sub_plan.specs.FrameTime.{Clock, clock}
 use Rattle.sub_plan.proofs.ClockLemmas.{law_of_exact_clock}
-use Rattle.sub_rules.specs.PesFrames.{Carries, CarriesBy, IsReadAs, IsSentAs}
+use Rattle.sub_rules.specs.PesFrames.{Carries, CarriesOnClock, IsReadAs, IsSentAs}
 use Rattle.sub_rules.specs.PesReading.{LawOfExactFrames, ReadsAs}
 use Rattle.sub_rules.proofs.JoinedLemmas.{joined-none}
 use Rattle.sub_rules.specs.Transmission.{Transmission}
@@ -22,7 +22,7 @@ reads_of :
     (clock : Clock) (given : ℕ) (values : List PesValue) (packets : List (List ℕ))
     (frames : Transmission)
     → AllZip IsValidPesPacket values packets
-    → given + length packets ≤ most_packets
+    → given + length packets ≤ max_pes_packets
     → AllZip (IsReadAs clock) values frames
     → ReadsAs clock given (concat packets) frames None
 reads_of clock given [] [] [] each few sent =
@@ -33,16 +33,16 @@ reads_of clock given (v ∷ values) [] frames each few sent = elim each [ ]
 reads_of clock given (v ∷ values) (p ∷ packets) [] each few sent = elim sent [ ]
 reads_of clock given (v ∷ values) (p ∷ packets) (s ∷ frames) each few sent =
     let rest = concat packets in
-    let read = packet_is_read v p rest each.0 in
+    let read = valid_packet_is_read v p rest each.0 in
     reads_more clock given (p ++ rest) v s frames None (omega arith)
-    (answer_of_packet given (p ++ rest) v rest (λ e. omega arith) read) sent.0
+    (decoded_packet_is_answer given (p ++ rest) v rest (λ e. omega arith) read) sent.0
     (subst (λ b. ReadsAs clock (given + 1) b frames None)
     (sym (rest_after-packet v (p ++ rest) rest read))
     (reads_of clock (given + 1) values packets frames each.1 (omega arith) sent.1))
 
 pub carried_is_read :
     (clock : Clock) (within : ℕ) (bytes : List ℕ) (frames : Transmission)
-    → (is : CarriesBy clock within bytes frames)
+    → (is : CarriesOnClock clock within bytes frames)
     → ReadsAs clock 0 bytes is.sendings None
 carried_is_read clock within bytes frames is = grind (arith, nat_tests, reads_of)
 
@@ -59,29 +59,35 @@ sent_exactly origin (v ∷ values) (s ∷ frames) each =
       sent_exactly origin values frames each.1,
     )
 
-read_exactly :
+exact_reading_holds_with_memory :
     (origin : ℕ) (values : List PesValue) (frames : Transmission)
     → AllZip (IsSentAs origin) values frames
     → AllZip (IsReadAs (clock 0 origin)) values frames
-read_exactly origin [] [] each = tt
-read_exactly origin [] (s ∷ frames) each = elim each [ ]
-read_exactly origin (v ∷ values) [] each = elim each [ ]
-read_exactly origin (v ∷ values) (s ∷ frames) each = (
+exact_reading_holds_with_memory origin [] [] each = tt
+exact_reading_holds_with_memory origin [] (s ∷ frames) each = elim each [ ]
+exact_reading_holds_with_memory origin (v ∷ values) [] each = elim each [ ]
+exact_reading_holds_with_memory origin (v ∷ values) (s ∷ frames) each = (
   record {
     frame = (law_of_exact_clock origin v.pts s.frame).1 (each.0.in_day, sym each.0.pts);
     packets = each.0.packets;
   },
-  read_exactly origin values frames each.1,
+  exact_reading_holds_with_memory origin values frames each.1,
 )
 
 exact_frames :
     (origin : ℕ) (bytes : List ℕ) (frames : Transmission)
-    → CarriesBy (clock 0 origin) 0 bytes frames ↔ Carries origin bytes frames
-exact_frames origin bytes frames = grind (arith, nat_tests, joined-none, sent_exactly, read_exactly)
+    → CarriesOnClock (clock 0 origin) 0 bytes frames ↔ Carries origin bytes frames
+exact_frames origin bytes frames = grind (
+  arith,
+  nat_tests,
+  joined-none,
+  sent_exactly,
+  exact_reading_holds_with_memory,
+)
 
 pub law_of_exact_frames : LawOfExactFrames
 law_of_exact_frames options bytes frames none =
     subst
-    (λ (n : ℕ). CarriesBy (clock n options.origin) n bytes frames
+    (λ (n : ℕ). CarriesOnClock (clock n options.origin) n bytes frames
     ↔ Carries options.origin bytes frames)
     (sym none) (exact_frames options.origin bytes frames)

@@ -6,8 +6,8 @@ use Rattle.std.proofs.Common.{List, [], ◌∷◌, ◌++◌, length, map, Some, 
 use Rattle.std.proofs.Common.{arith, append-nil, cond, length-append, if◌then◌else◌}
 use Rattle.std.proofs.lemmas.Bool.{true≢false}
 use Rattle.std.specs.Prelude.{⊤}
-use Rattle.sub_rules.specs.Events.{packets_reported, unread_fault}
-use Rattle.sub_rules.specs.FrameRules.{Criteria, Unread, end_frame, frame_at, packets_before}
+use Rattle.sub_rules.specs.Events.{numbered_packet_events, unread_fault}
+use Rattle.sub_rules.specs.FrameRules.{Criteria, UnreadReason, end_frame, frame_at, packets_before}
 use Rattle.sub_rules.specs.FrameRules.{packets_of_frame}
 use Rattle.sub_rules.specs.PesPacketEvents.{steps_of_arrival, steps_of_each, steps_of_ending}
 use Rattle.sub_rules.specs.PesPacketEvents.{steps_of_more, steps_of_next, steps_of_sent}
@@ -22,41 +22,44 @@ use Rattle.sub_rules.specs.declared.event.Event.{Event}
 use Rattle.sub_rules.specs.declared.event.Event.TheVariants.{Reported}
 use Rattle.sub_rules.proofs.JoinedLemmas.{with_packets-last, with_packets-length}
 use Rattle.sub_rules.proofs.PrefixEventLemmas.{packets_of_frame-prefix}
-use Rattle.sub_laws.proofs.GrowingFrameLemmas.{Grows, arrival_eq, before_eq, end_eq, ending_eq}
-use Rattle.sub_laws.proofs.GrowingFrameLemmas.{frame_eq, continues_some, grown, grows, grows_before}
+use Rattle.sub_laws.proofs.GrowingFrameLemmas.{GrowsTo, arrival_eq, before_eq, end_eq, ending_eq}
+use Rattle.sub_laws.proofs.GrowingFrameLemmas.{frame_eq, continued_frame_is_delayed, grown, grows}
+use Rattle.sub_laws.proofs.GrowingFrameLemmas.{growing_starts_before_sent_frame}
 use Rattle.sub_laws.proofs.GrowingFrameLemmas.{long, packets_are, so_far, same_at_once}
 use Rattle.sub_rules.specs.Trusted.{CheckStep}
 
-packets_grow : (g : Criteria) (sent frames : Transmission) (is : Grows sent frames) (n : ℕ)
+growing_frame_keeps_its_packets : (g : Criteria) (sent frames : Transmission)
+    (is : GrowsTo sent frames) (n : ℕ)
     → length sent ≡ suc n
     → packets_of_frame frames n ≡ packets_of_frame sent n ++ is.rest
-packets_grow g sent frames is n size =
+growing_frame_keeps_its_packets g sent frames is n size =
     grind (arith, nat_tests, long, with_packets-length, packets_of_frame-prefix, with_packets-last)
 
 -- Each skipped PES packet comes after frames with the property Q.
-abbrev pub EachSkipped : ℕ → (Transmission → Type 0) → Transmission → List PesPacket → Type 0
-EachSkipped within Q sent [] = ⊤
-EachSkipped within Q sent (Sent s ∷ ahead) = EachSkipped within Q (sent_after within sent s) ahead
-EachSkipped within Q sent (Skipped u ∷ ahead) = Q sent × EachSkipped within Q sent ahead
+abbrev pub EachSkippedPacket : ℕ → (Transmission → Type 0) → Transmission → List PesPacket → Type 0
+EachSkippedPacket within Q sent [] = ⊤
+EachSkippedPacket within Q sent (Sent s ∷ ahead) = EachSkippedPacket within Q
+    (sent_after within sent s) ahead
+EachSkippedPacket within Q sent (Skipped u ∷ ahead) = Q sent × EachSkippedPacket within Q sent ahead
 
-module _ (X : Type 0) (reported_of : ℕ → X → X) (g : Criteria) (frames : Transmission)
+module _ (X : Type 0) (steps_with_packet_number : ℕ → X → X) (g : Criteria) (frames : Transmission)
     (T : (X → Type 0) → X → List CheckStep → Type 0)
     (C : ℕ → X → Type 0)
     (O : ℕ → List (List ℕ) → X → Type 0)
     (Q : Transmission → Type 0)
   where
-    abbrev pub skipped_steps : ℕ → Unread → List CheckStep
+    abbrev pub skipped_steps : ℕ → UnreadReason → List CheckStep
     skipped_steps pes u = map Emits (Reported (unread_fault pes (Some u)) ∷ [])
 
     -- T relates the states before and after a list of steps. In a state C, all frames so far have
     -- ended; in a state O, the last frame may get more packets. Skipped PES packets come after
     -- frames with the property Q.
     pub record Steps : Type 0 where
-      pub at_ended : (n pes : ℕ) (t : X) → C n t → C n (reported_of pes t)
+      pub at_ended : (n pes : ℕ) (t : X) → C n t → C n (steps_with_packet_number pes t)
       pub at_open :
           (n pes : ℕ) (packets : List (List ℕ)) (t : X)
           → O n packets t
-          → O n packets (reported_of pes t)
+          → O n packets (steps_with_packet_number pes t)
       pub arrival :
           (n : ℕ) (t : X)
           → n < length frames
@@ -69,22 +72,22 @@ module _ (X : Type 0) (reported_of : ℕ → X → X) (g : Criteria) (frames : T
           → O n packets t
           → T (O n (packets ++ more)) t
           (map Emits
-          (packets_reported g.watched (frame_at frames n) (length packets)
+          (numbered_packet_events g.watched (frame_at frames n) (length packets)
           (packets_before frames n ++ packets) more (length more)))
       pub ending :
           (n : ℕ) (t : X)
           → n < length frames
           → O n (packets_of_frame frames n) t
           → T (C (suc n)) t (steps_of_ending g frames n)
-      pub skipped_ended :
-          (sent : Transmission) (pes : ℕ) (u : Unread) (t : X)
-          → Grows sent frames
+      pub skipped_packet_reports_good_stretches :
+          (sent : Transmission) (pes : ℕ) (u : UnreadReason) (t : X)
+          → GrowsTo sent frames
           → Q sent
           → C (length sent) t
           → T (C (length sent)) t (skipped_steps pes u)
       pub skipped_open :
-          (sent : Transmission) (n pes : ℕ) (u : Unread) (t : X)
-          → Grows sent frames
+          (sent : Transmission) (n pes : ℕ) (u : UnreadReason) (t : X)
+          → GrowsTo sent frames
           → length sent ≡ suc n
           → Q sent
           → O n (packets_of_frame sent n) t
@@ -100,8 +103,8 @@ module _ (X : Type 0) (reported_of : ℕ → X → X) (g : Criteria) (frames : T
         × O n (packets_of_frame sent n) t)
 
     module _ (nil : (S : X → Type 0) (t : X) → S t → T S t [])
-        (at_pes : (S : X → Type 0) (t : X) (pes : ℕ) (ms : List CheckStep)
-        → T S (reported_of pes t) ms
+        (with_pes_number : (S : X → Type 0) (t : X) (pes : ℕ) (ms : List CheckStep)
+        → T S (steps_with_packet_number pes t) ms
         → T S t (AtPes pes ∷ ms))
         (append : (S U : X → Type 0) (t : X) (xs ys : List CheckStep)
         → T S t xs
@@ -109,19 +112,20 @@ module _ (X : Type 0) (reported_of : ℕ → X → X) (g : Criteria) (frames : T
         → T U t (xs ++ ys))
         (steps : Steps)
       where
-        implies_after : (S U : X → Type 0) (t : X) (ms : List CheckStep) → T S t ms
+        weaker_state_holds_after_steps : (S U : X → Type 0) (t : X) (ms : List CheckStep) → T S t ms
             → ((u : X) → S u → U u)
             → T U t ms
-        implies_after S U t ms is so =
+        weaker_state_holds_after_steps S U t ms is so =
             subst (T U t) (append-nil ms) (append S U t ms [] is (λ u s. nil U u (so u s)))
 
-        on_more : (sent : Transmission) (s : SentFrame) (t : X) (n : ℕ) → length sent ≡ suc n
-            → Grows sent frames
-            → Grows (with_packets s.packets sent) frames
+        added_packets_keep_open_state : (sent : Transmission) (s : SentFrame) (t : X) (n : ℕ) →
+            length sent ≡ suc n
+            → GrowsTo sent frames
+            → GrowsTo (with_packets s.packets sent) frames
             → O n (packets_of_frame sent n) t
             → T (O n (packets_of_frame (with_packets s.packets sent) n)) t
             (steps_of_more g sent s.packets)
-        on_more sent s t n size is after open_here =
+        added_packets_keep_open_state sent s t n size is after open_here =
             let packets : List (List ℕ) = packets_of_frame sent n in
             let all : Transmission = with_packets s.packets sent in
             let last : length sent - 1 ≡ n = omega (arith, size) in
@@ -129,16 +133,17 @@ module _ (X : Type 0) (reported_of : ℕ → X → X) (g : Criteria) (frames : T
             let before : packets_before sent (length sent) ≡ packets_before frames n ++ packets =
             so_far g sent frames is n size in
             let reported :
-            packets_reported g.watched (frame_at frames n) (length packets)
+            numbered_packet_events g.watched (frame_at frames n) (length packets)
             (packets_before frames n ++ packets) s.packets (length s.packets)
-            ≡ packets_reported g.watched (end_frame sent)
+            ≡ numbered_packet_events g.watched (end_frame sent)
             (length (packets_of_frame sent (length sent - 1))) (packets_before sent (length sent))
             s.packets (length s.packets) =
             rw (at, before, last) refl in
             let now : packets_of_frame all n ≡ packets ++ s.packets =
             with_packets-last s.packets sent n (sym size) in
             let whole : packets_of_frame frames n ≡ packets ++ s.packets ++ after.rest =
-            packets_grow g all frames after n (with_packets-length s.packets sent ∙ size)
+            growing_frame_keeps_its_packets g all frames after n (with_packets-length s.packets sent
+            ∙ size)
             ∙ ap (λ (ps : List (List ℕ)). ps ++ after.rest) now in
             subst (λ (ps : List (List ℕ)). T (O n ps) t (steps_of_more g sent s.packets)) (sym now)
             (subst (λ (es : List Event). T (O n (packets ++ s.packets)) t (map Emits es)) reported
@@ -159,18 +164,21 @@ module _ (X : Type 0) (reported_of : ℕ → X → X) (g : Criteria) (frames : T
             (subst (λ (ps : List (List ℕ)). O n ps t)
             (packets_are g sent more frames whole n (omega arith)) open_here)))
 
-        pub waits : (sent more : Transmission) (t : X) → frames ≡ sent ++ more → Sends sent t
+        pub pending_end_reaches_closed_state : (sent more : Transmission) (t : X) → frames ≡ sent ++
+            more → Sends sent t
             → T (C (length sent)) t (steps_of_pending_end g sent)
         unfolding steps_of_pending_end
-        waits [] more t whole (inl (ended, closed)) = nil (C 0) t closed
-        waits [] more t whole (inr (later, n, size, open_here)) = absurd (omega arith)
-        waits (s ∷ sent) more t whole (inl (inl at_once, closed)) =
+        pending_end_reaches_closed_state [] more t whole (inl (ended, closed)) = nil (C 0) t closed
+        pending_end_reaches_closed_state [] more t whole (inr (later, n, size, open_here)) = absurd
+            (omega arith)
+        pending_end_reaches_closed_state (s ∷ sent) more t whole (inl (inl at_once, closed)) =
             subst
             (λ (c : Bool). T (C (suc (length sent))) t
             (if c then [] else steps_of_ending g (s ∷ sent) (length sent))) (sym at_once)
             (nil (C (suc (length sent))) t closed)
-        waits (s ∷ sent) more t whole (inl (inr none, closed)) = absurd (omega arith)
-        waits (s ∷ sent) more t whole (inr (later, n, size, open_here)) =
+        pending_end_reaches_closed_state (s ∷ sent) more t whole (inl (inr none, closed)) = absurd
+            (omega arith)
+        pending_end_reaches_closed_state (s ∷ sent) more t whole (inr (later, n, size, open_here)) =
             let last : n ≡ length sent = omega arith in
             subst
             (λ (c : Bool). T (C (suc (length sent))) t
@@ -178,22 +186,23 @@ module _ (X : Type 0) (reported_of : ℕ → X → X) (g : Criteria) (frames : T
             (subst (λ (k : ℕ). T (C (suc (length sent))) t (steps_of_ending g (s ∷ sent) k)) last
             (ends (s ∷ sent) more t whole n size open_here))
 
-        on_next : (sent more : Transmission) (s : SentFrame) (t : X)
-            → Grows (sent ++ s ∷ []) frames
+        next_frame_reaches_sending_state : (sent more : Transmission) (s : SentFrame) (t : X)
+            → GrowsTo (sent ++ s ∷ []) frames
             → ((g.within == 0) ≡ true → frames ≡ (sent ++ s ∷ []) ++ more)
             → C (length sent) t
             → T (Sends (sent ++ s ∷ [])) t (steps_of_next g sent s)
-        on_next sent more s t is whole closed =
+        next_frame_reaches_sending_state sent more s t is whole closed =
             let n : ℕ = length sent in
             let all : Transmission = sent ++ s ∷ [] in
             let size : length all ≡ suc n = omega (arith, length-append sent (s ∷ [])) in
             let packets : List (List ℕ) = packets_of_frame all n in
             let there = long g all frames is n size in
             let es : List Event =
-            packets_reported g.watched (frame_at all n) 0 (packets_before all n) packets
+            numbered_packet_events g.watched (frame_at all n) 0 (packets_before all n) packets
             (length packets) in
             let reported :
-            packets_reported g.watched (frame_at frames n) 0 (packets_before frames n ++ []) packets
+            numbered_packet_events g.watched (frame_at frames n) 0 (packets_before frames n ++ [])
+            packets
             (length packets)
             ≡ es =
             rw (
@@ -209,7 +218,8 @@ module _ (X : Type 0) (reported_of : ℕ → X → X) (g : Criteria) (frames : T
             (append (O n []) (O n packets) t (steps_of_arrival g all n) (map Emits es) first
             (λ u so.
             subst (λ (l : List Event). T (O n packets) u (map Emits l)) reported
-            (steps.more n [] packets is.rest u there (packets_grow g all frames is n size) so)))
+            (steps.more n [] packets is.rest u there (growing_frame_keeps_its_packets g all frames
+            is n size) so)))
             (λ u so. go (g.within == 0) refl u size so)
           where
             go : (at_once : Bool) → (g.within == 0) ≡ at_once → (u : X)
@@ -218,28 +228,30 @@ module _ (X : Type 0) (reported_of : ℕ → X → X) (g : Criteria) (frames : T
                 → T (Sends (sent ++ s ∷ [])) u
                 (if at_once then steps_of_ending g (sent ++ s ∷ []) (length sent) else [])
             go true at_once u size so =
-                implies_after (C (length (sent ++ s ∷ []))) (Sends (sent ++ s ∷ [])) u
+                weaker_state_holds_after_steps (C (length (sent ++ s ∷ [])))
+                (Sends (sent ++ s ∷ [])) u
                 (steps_of_ending g (sent ++ s ∷ []) (length sent))
                 (ends (sent ++ s ∷ []) more u (whole at_once) (length sent) size so)
                 (λ v closed. inl (inl at_once, closed))
             go false later u size so =
                 nil (Sends (sent ++ s ∷ [])) u (inr (later, length sent, size, so))
 
-        sent_step : (sent more : Transmission) (pes : ℕ) (s : SentFrame) (t : X)
+        sent_packet_keeps_sending_state : (sent more : Transmission) (pes : ℕ) (s : SentFrame)
+            (t : X)
             → joined_after g.within (sent_after g.within sent s) more ≡ frames
             → Sends sent t
             → T (Sends (sent_after g.within sent s)) t (steps_of_sent g sent pes s)
         unfolding steps_of_sent
-        sent_step sent more pes s t all sends =
+        sent_packet_keeps_sending_state sent more pes s t all sends =
             go (continues_with g.within sent s) refl
-            (subst (Grows (sent_after g.within sent s)) all
+            (subst (GrowsTo (sent_after g.within sent s)) all
             (grows g.within (sent_after g.within sent s) more))
             (λ at_once.
             same_at_once g.within (sent_after g.within sent s) more frames at_once all) sends
           where
             go : (same : Bool)
                 → continues_with g.within sent s ≡ same
-                → Grows (cond same (with_packets s.packets sent) (sent ++ s ∷ [])) frames
+                → GrowsTo (cond same (with_packets s.packets sent) (sent ++ s ∷ [])) frames
                 → ((g.within == 0) ≡ true
                 → frames ≡ (cond same (with_packets s.packets sent) (sent ++ s ∷ [])) ++ more)
                 → Sends sent t
@@ -247,53 +259,63 @@ module _ (X : Type 0) (reported_of : ℕ → X → X) (g : Criteria) (frames : T
                 (cond same (AtPes pes ∷ steps_of_more g sent s.packets)
                 (steps_of_pending_end g sent ++ AtPes pes ∷ steps_of_next g sent s))
             go true e is whole (inl (inl at_once, closed)) =
-                let later = (continues_some g.within sent s e).0 in
+                let later = (continued_frame_is_delayed g.within sent s e).0 in
                 absurd (true≢false (sym at_once ∙ later))
             go true e is whole (inl (inr none, closed)) =
-                let some = (continues_some g.within sent s e).1 in absurd (omega arith)
+                let some = (continued_frame_is_delayed g.within sent s e).1 in absurd (omega arith)
             go true e is whole (inr (later, n, size, open_here)) =
-                let before : Grows sent frames =
-                grows_before g.within sent s frames
+                let before : GrowsTo sent frames =
+                growing_starts_before_sent_frame g.within sent s frames
                 (subst
-                (λ (b : Bool). Grows (cond b (with_packets s.packets sent) (sent ++ s ∷ [])) frames)
+                (λ (b : Bool). GrowsTo (cond b (with_packets s.packets sent) (sent ++ s ∷ []))
+                frames)
                 (sym e) is) in
                 let all : Transmission = with_packets s.packets sent in
-                at_pes (Sends all) t pes (steps_of_more g sent s.packets)
-                (implies_after (O n (packets_of_frame all n)) (Sends all) (reported_of pes t)
+                with_pes_number (Sends all) t pes (steps_of_more g sent s.packets)
+                (weaker_state_holds_after_steps (O n (packets_of_frame all n)) (Sends all)
+                (steps_with_packet_number pes t)
                 (steps_of_more g sent s.packets)
-                (on_more sent s (reported_of pes t) n size before is
+                (added_packets_keep_open_state sent s (steps_with_packet_number pes t) n size before
+                is
                 (steps.at_open n pes (packets_of_frame sent n) t open_here))
                 (λ u so. inr (later, n, with_packets-length s.packets sent ∙ size, so)))
             go false e is whole sends =
                 let all = grown sent s frames is in
                 append (C (length sent)) (Sends (sent ++ s ∷ [])) t (steps_of_pending_end g sent)
-                (AtPes pes ∷ steps_of_next g sent s) (waits sent all.0 t all.1 sends)
+                (AtPes pes ∷ steps_of_next g sent s) (pending_end_reaches_closed_state sent all.0 t
+                all.1 sends)
                 (λ u closed.
-                at_pes (Sends (sent ++ s ∷ [])) u pes (steps_of_next g sent s)
-                (on_next sent more s (reported_of pes u) is whole
+                with_pes_number (Sends (sent ++ s ∷ [])) u pes (steps_of_next g sent s)
+                (next_frame_reaches_sending_state sent more s (steps_with_packet_number pes u) is
+                whole
                 (steps.at_ended (length sent) pes u closed)))
 
-        skipped_step : (sent : Transmission) (pes : ℕ) (u : Unread) (t : X) → Grows sent frames
+        skipped_packet_keeps_sending_state : (sent : Transmission) (pes : ℕ) (u : UnreadReason)
+            (t : X) → GrowsTo sent frames
             → Q sent
             → Sends sent t
             → T (Sends sent) t (AtPes pes ∷ skipped_steps pes u)
-        skipped_step sent pes u t is requested (inl (ended, closed)) =
-            at_pes (Sends sent) t pes (skipped_steps pes u)
-            (implies_after (C (length sent)) (Sends sent) (reported_of pes t) (skipped_steps pes u)
-            (steps.skipped_ended sent pes u (reported_of pes t) is requested
+        skipped_packet_keeps_sending_state sent pes u t is requested (inl (ended, closed)) =
+            with_pes_number (Sends sent) t pes (skipped_steps pes u)
+            (weaker_state_holds_after_steps (C (length sent)) (Sends sent) (steps_with_packet_number
+            pes t) (skipped_steps pes u)
+            (steps.skipped_packet_reports_good_stretches sent pes u (steps_with_packet_number pes t)
+            is requested
             (steps.at_ended (length sent) pes t closed))
             (λ v so. inl (ended, so)))
-        skipped_step sent pes u t is requested (inr (later, n, size, open_here)) =
-            at_pes (Sends sent) t pes (skipped_steps pes u)
-            (implies_after (O n (packets_of_frame sent n)) (Sends sent) (reported_of pes t)
+        skipped_packet_keeps_sending_state sent pes u t is requested
+            (inr (later, n, size, open_here)) =
+            with_pes_number (Sends sent) t pes (skipped_steps pes u)
+            (weaker_state_holds_after_steps (O n (packets_of_frame sent n)) (Sends sent)
+            (steps_with_packet_number pes t)
             (skipped_steps pes u)
-            (steps.skipped_open sent n pes u (reported_of pes t) is size requested
+            (steps.skipped_open sent n pes u (steps_with_packet_number pes t) is size requested
             (steps.at_open n pes (packets_of_frame sent n) t open_here))
             (λ v so. inr (later, n, size, so)))
 
         pub each_pes_packet : (sent : Transmission) (pes : ℕ) (t : X) (pes_packets : List PesPacket)
             → joined_after g.within sent (frames_of pes_packets) ≡ frames
-            → EachSkipped g.within Q sent pes_packets
+            → EachSkippedPacket g.within Q sent pes_packets
             → Sends sent t
             → T (Sends frames) t (steps_of_each g sent pes pes_packets)
         unfolding steps_of_each frames_of joined_after
@@ -303,12 +325,13 @@ module _ (X : Type 0) (reported_of : ℕ → X → X) (g : Criteria) (frames : T
             let next : Transmission = sent_after g.within sent s in
             append (Sends next) (Sends frames) t (steps_of_sent g sent pes s)
             (steps_of_each g next (suc pes) pes_packets)
-            (sent_step sent (frames_of pes_packets) pes s t all sends)
+            (sent_packet_keeps_sending_state sent (frames_of pes_packets) pes s t all sends)
             (λ u so. each_pes_packet next (suc pes) u pes_packets all requested so)
         each_pes_packet sent pes t (Skipped u ∷ pes_packets) all requested sends =
-            let is : Grows sent frames =
-            subst (Grows sent) all (grows g.within sent (frames_of pes_packets)) in
+            let is : GrowsTo sent frames =
+            subst (GrowsTo sent) all (grows g.within sent (frames_of pes_packets)) in
             append (Sends sent) (Sends frames) t (AtPes pes ∷ skipped_steps pes u)
-            (steps_of_each g sent (suc pes) pes_packets) (skipped_step sent pes u t is requested.0
+            (steps_of_each g sent (suc pes) pes_packets) (skipped_packet_keeps_sending_state sent
+            pes u t is requested.0
             sends)
             (λ v so. each_pes_packet sent (suc pes) v pes_packets all requested.1 so)

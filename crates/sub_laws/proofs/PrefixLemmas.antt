@@ -12,8 +12,8 @@ use Rattle.sub_rules.specs.Transmission.{EachPacket, IsRising, SentFrame, Transm
 use Rattle.sub_rules.specs.Transmission.{last_frame, on_air_until, packets_between}
 use Rattle.sub_rules.specs.FrameRules.{end_frame, frame_at, packets_of_frame, packets_before}
 use Rattle.sub_laws.specs.CleanStretch.{IsEnd}
-use Rattle.sub_rules.proofs.FrameLists.{joined_more}
-use Rattle.sub_laws.proofs.GoodLemmas.{number_at}
+use Rattle.sub_rules.proofs.FrameLists.{packets_before_appends_next_frame}
+use Rattle.sub_laws.proofs.GoodLemmas.{entry_has_its_frame_number}
 
 abbrev pub IsInGap : Transmission → ℕ → ℕ → Type 0
 IsInGap frames i f =
@@ -25,16 +25,16 @@ before t i k = packets_before t i ++ take k (packets_of_frame t i)
 abbrev pub packet_at : Transmission → ℕ → ℕ → List ℕ
 packet_at t i k = get_or (packets_of_frame t i) k []
 
-pub before_more : (t : Transmission) (i k : ℕ) → k < length (packets_of_frame t i)
+pub packet_is_appended_to_earlier : (t : Transmission) (i k : ℕ) → k < length (packets_of_frame t i)
     → before t i (k + 1) ≡ before t i k ++ packet_at t i k ∷ []
-before_more t i k l = grind (arith, nat_tests, take_more, append_assoc)
+packet_is_appended_to_earlier t i k l = grind (arith, nat_tests, take_more, append_assoc)
 
-before_no_packets : (t : Transmission) (i : ℕ) → before t i 0 ≡ packets_before t i
-before_no_packets t i = append-nil (packets_before t i)
+first_packet_follows_earlier_frames : (t : Transmission) (i : ℕ) → before t i 0 ≡ packets_before t i
+first_packet_follows_earlier_frames t i = append-nil (packets_before t i)
 
-before_all : (t : Transmission) (i : ℕ) → i < length t
+last_packet_completes_frame : (t : Transmission) (i : ℕ) → i < length t
     → before t i (length (packets_of_frame t i)) ≡ packets_before t (i + 1)
-before_all t i l = grind (arith, take_all, joined_more)
+last_packet_completes_frame t i l = grind (arith, take_all, packets_before_appends_next_frame)
 
 -- A property of lists of packets that holds for the empty list and is preserved by each packet of
 -- the first m frames holds for each prefix of their packets.
@@ -43,30 +43,34 @@ module _ (t : Transmission) (m : ℕ) (fits : m ≤ length t) (Q : List (List �
     → Q (before t i k ++ packet_at t i k ∷ [])) where
   within : (i : ℕ) → i < m → Q (packets_before t i) → (k : ℕ) → k ≤ length (packets_of_frame t i)
       → Q (before t i k)
-  within i l base zero h = grind (arith, nat_tests, before_no_packets)
+  within i l base zero h = grind (arith, nat_tests, first_packet_follows_earlier_frames)
   within i l base (suc k) h =
-      grind (arith, nat_tests, before_more, (within i l base k (omega arith)))
+      grind (arith, nat_tests, packet_is_appended_to_earlier, (within i l base k (omega arith)))
 
-  pub at_start : (n : ℕ) → n ≤ m → Q (packets_before t n)
-  at_start zero h = none
-  at_start (suc n) h =
+  pub condition_holds_at_frame_start : (n : ℕ) → n ≤ m → Q (packets_before t n)
+  condition_holds_at_frame_start zero h = none
+  condition_holds_at_frame_start (suc n) h =
       let e : n + 1 ≡ suc n = omega arith in
       subst (λ c. Q (packets_before t c)) e
-      (subst Q (before_all t n (omega arith))
-      (within n (omega arith) (at_start n (omega arith)) (length (packets_of_frame t n))
+      (subst Q (last_packet_completes_frame t n (omega arith))
+      (within n (omega arith) (condition_holds_at_frame_start n (omega arith))
+      (length (packets_of_frame t n))
       (omega arith)))
 
-  pub at_packet : (i k : ℕ) → i < m → k ≤ length (packets_of_frame t i) → Q (before t i k)
-  at_packet i k l h = within i l (at_start i (omega arith)) k h
+  pub condition_holds_at_packet : (i k : ℕ) → i < m → k ≤ length (packets_of_frame t i) → Q
+      (before t i k)
+  condition_holds_at_packet i k l h = within i l (condition_holds_at_frame_start i (omega arith)) k
+      h
 
 -- A property of each packet of a list, given the packets before it.
-abbrev pub EachAfter : (List (List ℕ) → List ℕ → Type 0) → List (List ℕ) → Type 0
-EachAfter Holds packets =
+abbrev pub EachPacketAfterEarlier : (List (List ℕ) → List ℕ → Type 0) → List (List ℕ) → Type 0
+EachPacketAfterEarlier Holds packets =
     (k : ℕ) → k < length packets → Holds (take k packets) (get_or packets k [])
 
-pub EachAfter-push : (Holds : List (List ℕ) → List ℕ → Type 0) (xs : List (List ℕ)) (p : List ℕ)
-    → EachAfter Holds xs → Holds xs p → EachAfter Holds (xs ++ p ∷ [])
-EachAfter-push Holds xs p each more k l = elim (cases_lt k (length xs)) [
+pub EachPacketAfterEarlier-push : (Holds : List (List ℕ) → List ℕ → Type 0) (xs : List (List ℕ))
+    (p : List ℕ)
+    → EachPacketAfterEarlier Holds xs → Holds xs p → EachPacketAfterEarlier Holds (xs ++ p ∷ [])
+EachPacketAfterEarlier-push Holds xs p each more k l = elim (cases_lt k (length xs)) [
   | inl within ↦
       grind (arith, nat_tests, get_or_append_left, within, take-append-le)
   | inr past ↦
@@ -74,56 +78,64 @@ EachAfter-push Holds xs p each more k l = elim (cases_lt k (length xs)) [
       grind (arith, nat_tests, get_or-append-add, take-append-add, append-nil)
 ]
 
-pub each_after : (Holds : List (List ℕ) → List ℕ → Type 0) (t : Transmission) (m : ℕ)
+pub indexed_packets_hold_after_earlier : (Holds : List (List ℕ) → List ℕ → Type 0)
+    (t : Transmission) (m : ℕ)
     → m ≤ length t
     → ((i k : ℕ) → i < m → k < length (packets_of_frame t i)
     → Holds (before t i k) (packet_at t i k))
-    → EachAfter Holds (packets_before t m)
-each_after Holds t m fits each =
-    grind (arith, nat_tests, at_start t m fits (EachAfter Holds), EachAfter-push Holds)
+    → EachPacketAfterEarlier Holds (packets_before t m)
+indexed_packets_hold_after_earlier Holds t m fits each =
+    grind (
+      arith,
+      nat_tests,
+      condition_holds_at_frame_start t m fits (EachPacketAfterEarlier Holds),
+      EachPacketAfterEarlier-push Holds,
+    )
 
-pub each_at : (P : List ℕ → Type 0) (t : Transmission) (i k : ℕ) → EachPacket P t → i < length t
+pub indexed_packet_holds : (P : List ℕ → Type 0) (t : Transmission) (i k : ℕ) → EachPacket P t → i <
+    length t
     → k < length (packets_of_frame t i) → P (packet_at t i k)
-each_at P t i k each l m =
+indexed_packet_holds P t i k each l m =
     let d : SentFrame = record { frame = 0; packets = [] } in
     let at = get_or-map (λ (s : SentFrame). s.packets) t i d [] l in
     subst (λ ps. P (get_or ps k [])) (sym at) (each i d l k [] (subst (λ ps. k < length ps) at m))
 
-pub each_from : (P : List ℕ → Type 0) (t : Transmission)
+pub indexed_packets_hold_for_each : (P : List ℕ → Type 0) (t : Transmission)
     → ((i k : ℕ) → i < length t → k < length (packets_of_frame t i) → P (packet_at t i k))
     → EachPacket P t
-each_from P t every i d l k e m =
+indexed_packets_hold_for_each P t every i d l k e m =
     grind (arith, nat_tests, get_or-map, get_or_default (packets_of_frame t i) k)
 
 -- The frame numbers of the first n frames increase.
 abbrev pub RiseTo : Transmission → ℕ → Type 0
 RiseTo t n = (i : ℕ) → 0 < i → i < n → frame_at t (i - 1) < frame_at t i
 
-pub rises_to : (t : Transmission) (n : ℕ) → RiseTo t n → (i j : ℕ) → i ≤ j → j < n
+pub rising_frames_are_ordered : (t : Transmission) (n : ℕ) → RiseTo t n → (i j : ℕ) → i ≤ j → j < n
     → frame_at t i ≤ frame_at t j
-rises_to t n rises i zero l m = grind (arith, nat_tests)
-rises_to t n rises i (suc j) l m = elim (cases_eq i (suc j)) [
+rising_frames_are_ordered t n rises i zero l m = grind (arith, nat_tests)
+rising_frames_are_ordered t n rises i (suc j) l m = elim (cases_eq i (suc j)) [
   | inl same ↦ let e = ap (frame_at t) same in omega arith
   | inr other ↦
       let e : frame_at t (suc j - 1) ≡ frame_at t j = ap (frame_at t) (omega arith) in
       let one = rises (suc j) (omega arith) m in
-      let rest = rises_to t n rises i j (omega arith) (omega arith) in
+      let rest = rising_frames_are_ordered t n rises i j (omega arith) (omega arith) in
       omega arith
 ]
 
 module _ (t : Transmission) (rising : RiseTo t (length t)) where
-  pub rises_strictly : (i j : ℕ) → i < j → j < length t → frame_at t i < frame_at t j
-  rises_strictly i j h l =
-      grind (arith, nat_tests, rises_to t (length t) rising i (j - 1))
+  pub rising_frames_are_strictly_ordered : (i j : ℕ) → i < j → j < length t → frame_at t i <
+      frame_at t j
+  rising_frames_are_strictly_ordered i j h l =
+      grind (arith, nat_tests, rising_frames_are_ordered t (length t) rising i (j - 1))
 
-  pub locate : (n f : ℕ) → n < length t → frame_at t 0 ≤ f → f ≤ frame_at t n
+  pub frame_is_sent_or_skipped : (n f : ℕ) → n < length t → frame_at t 0 ≤ f → f ≤ frame_at t n
       → ((i : ℕ) × (i < length t) × (frame_at t i ≡ f)) ⊎ ((i : ℕ) × IsInGap t i f)
-  locate zero f l a b = inl (0, l, omega arith)
-  locate (suc n) f l a b = elim (cases_eq f (frame_at t (suc n))) [
+  frame_is_sent_or_skipped zero f l a b = inl (0, l, omega arith)
+  frame_is_sent_or_skipped (suc n) f l a b = elim (cases_eq f (frame_at t (suc n))) [
     | inl e ↦ inl (suc n, l, sym e)
     | inr other ↦ elim (cases_lt (frame_at t n) f) [
       | inl after ↦ grind (arith, nat_tests)
-      | inr before ↦ locate n f (omega arith) a before
+      | inr before ↦ frame_is_sent_or_skipped n f (omega arith) a before
     ]
   ]
 
@@ -135,77 +147,92 @@ last-same [] = refl
 last-same (s ∷ []) = refl
 last-same (s ∷ u ∷ us) = grind (arith, nat_tests, last-same (u ∷ us))
 
-between_take : (t : Transmission) (n a b : ℕ)
+packets_between_are_a_prefix : (t : Transmission) (n a b : ℕ)
     → ((j : ℕ) → j < length t → j < n → (a ≤ frame_at t j) × (frame_at t j < b))
     → ((j : ℕ) → n ≤ j → j < length t → b ≤ frame_at t j)
     → packets_between t a b ≡ packets_before t n
-between_take [] zero a b inside after = refl
-between_take [] (suc n) a b inside after = refl
-between_take (s ∷ ss) zero a b inside after =
+packets_between_are_a_prefix [] zero a b inside after = refl
+packets_between_are_a_prefix [] (suc n) a b inside after = refl
+packets_between_are_a_prefix (s ∷ ss) zero a b inside after =
     let l = after 0 (omega arith) (omega arith) in
     ap₂ ◌++◌ (ap (λ x. cond x s.packets []) (and_right (nat_le a s.frame) _ (le-ltb s.frame b l)))
-    (between_take ss zero a b (λ j l m. absurd (omega arith))
+    (packets_between_are_a_prefix ss zero a b (λ j l m. absurd (omega arith))
     (λ j l m. after (suc j) (omega arith) (omega arith)))
-between_take (s ∷ ss) (suc n) a b inside after =
+packets_between_are_a_prefix (s ∷ ss) (suc n) a b inside after =
     let l = inside 0 (omega arith) (omega arith) in
     ap₂ ◌++◌
     (ap₂ (λ x y. cond (x && y) s.packets []) (le-leb a s.frame l.0) (lt-ltb s.frame b l.1))
-    (between_take ss n a b (λ j l m. inside (suc j) (omega arith) (omega arith))
+    (packets_between_are_a_prefix ss n a b (λ j l m. inside (suc j) (omega arith) (omega arith))
     (λ j l m. after (suc j) (omega arith) (omega arith)))
 
 module _ (t : Transmission) (rising : RiseTo t (length t)) where
-  pub on_air_eq : (n f : ℕ) → n ≤ length t → (0 < n → frame_at t (n - 1) ≤ f)
+  pub packets_on_air_are_a_prefix : (n f : ℕ) → n ≤ length t → (0 < n → frame_at t (n - 1) ≤ f)
       → (n < length t → f < frame_at t n) → on_air_until t f ≡ packets_before t n
-  on_air_eq n f le low high =
+  packets_on_air_are_a_prefix n f le low high =
       let first = first-same t in
-      between_take t n (first_frame t) (f + 1)
-      (grind (arith, nat_tests, rises_to t (length t) rising 0, rises_to t (length t) rising))
-      (grind (arith, nat_tests, rises_to t (length t) rising n))
+      packets_between_are_a_prefix t n (first_frame t) (f + 1)
+      (grind (
+        arith,
+        nat_tests,
+        rising_frames_are_ordered t (length t) rising 0,
+        rising_frames_are_ordered t (length t) rising,
+      ))
+      (grind (arith, nat_tests, rising_frames_are_ordered t (length t) rising n))
 
-  pub on_air_at : (i : ℕ) → i < length t → on_air_until t (frame_at t i) ≡ packets_before t (i + 1)
-  on_air_at i l = grind (arith, nat_tests, on_air_eq)
+  pub packets_on_air_at_sent_frame : (i : ℕ) → i < length t → on_air_until t (frame_at t i) ≡
+      packets_before t (i + 1)
+  packets_on_air_at_sent_frame i l = grind (arith, nat_tests, packets_on_air_are_a_prefix)
 
-  pub end_at : (f : ℕ) → 0 < length t → frame_at t 0 ≤ f → f ≤ end_frame t
+  pub frame_has_its_end : (f : ℕ) → 0 < length t → frame_at t 0 ≤ f → f ≤ end_frame t
       → (n : ℕ) × IsEnd t n f × (on_air_until t f ≡ packets_before t n) × (frame_at t (n - 1) ≤ f)
-  end_at f some low high =
-      elim (locate t rising (length t - 1) f (omega arith) low high) [
+  frame_has_its_end f some low high =
+      elim (frame_is_sent_or_skipped t rising (length t - 1) f (omega arith) low high) [
         | inl (i, l, is) ↦
-            grind (arith, nat_tests, on_air_at i l)
+            grind (arith, nat_tests, packets_on_air_at_sent_frame i l)
         | inr (i, gap) ↦
-            grind (arith, nat_tests, rises_to t (length t) rising, on_air_eq i f)
+            grind (
+              arith,
+              nat_tests,
+              rising_frames_are_ordered t (length t) rising,
+              packets_on_air_are_a_prefix i f,
+            )
       ]
 
-  end_from : (n f : ℕ) → IsEnd t n f → frame_at t (n - 1) ≤ f
-  end_from n f h1 = grind (arith, nat_tests)
+  end_is_after_last_packet : (n f : ℕ) → IsEnd t n f → frame_at t (n - 1) ≤ f
+  end_is_after_last_packet n f h1 = grind (arith, nat_tests)
 
-  pub end_before_rest : (n f : ℕ) → IsEnd t n f
+  pub end_is_before_later_frames : (n f : ℕ) → IsEnd t n f
       → (j : ℕ)
       → n ≤ j
       → j < length t
       → f < frame_at t j
-  end_before_rest n f (some, le, inl own) j l m =
-      let after = rises_strictly t rising (n - 1) j (omega arith) m in omega arith
-  end_before_rest n f (some, le, inr (there, later, earlier)) j l m =
-      let after = rises_to t (length t) rising n j l m in omega arith
+  end_is_before_later_frames n f (some, le, inl own) j l m =
+      let after = rising_frames_are_strictly_ordered t rising (n - 1) j (omega arith) m in omega
+      arith
+  end_is_before_later_frames n f (some, le, inr (there, later, earlier)) j l m =
+      let after = rising_frames_are_ordered t (length t) rising n j l m in omega arith
 
   pub end_is_on_air : (n f : ℕ) → IsEnd t n f → on_air_until t f ≡ packets_before t n
   end_is_on_air n f end =
-      on_air_eq n f end.1 (λ some. end_from n f end)
-      (λ more. end_before_rest n f end n (omega arith) more)
+      packets_on_air_are_a_prefix n f end.1 (λ some. end_is_after_last_packet n f end)
+      (λ more. end_is_before_later_frames n f end n (omega arith) more)
 
-  pub end_high : (n f : ℕ) → IsEnd t n f → frame_at t 0 ≤ f
-  end_high n f end =
-      let from = end_from n f end in
+  pub end_is_at_least_first : (n f : ℕ) → IsEnd t n f → frame_at t 0 ≤ f
+  end_is_at_least_first n f end =
+      let from = end_is_after_last_packet n f end in
       let first =
-      rises_to t (length t) rising 0 (n - 1) (omega arith) (omega (arith, end.0, end.1)) in
+      rising_frames_are_ordered t (length t) rising 0 (n - 1) (omega arith)
+      (omega (arith, end.0, end.1)) in
       omega arith
 
-  pub end_low : (n f : ℕ) → IsEnd t n f → f ≤ end_frame t
-  end_low n f (some, le, inl own) =
-      let last = rises_to t (length t) rising (n - 1) (length t - 1) (omega arith) (omega arith) in
+  pub end_is_at_most_last : (n f : ℕ) → IsEnd t n f → f ≤ end_frame t
+  end_is_at_most_last n f (some, le, inl own) =
+      let last = rising_frames_are_ordered t (length t) rising (n - 1) (length t - 1) (omega arith)
+      (omega arith) in
       omega arith
-  end_low n f (some, le, inr (there, later, earlier)) =
-      let last = rises_to t (length t) rising n (length t - 1) (omega arith) (omega arith) in
+  end_is_at_most_last n f (some, le, inr (there, later, earlier)) =
+      let last = rising_frames_are_ordered t (length t) rising n (length t - 1) (omega arith)
+      (omega arith) in
       omega arith
 
 pub frame_at-take : (t : Transmission) (n i : ℕ) → i < n → frame_at (take n t) i ≡ frame_at t i
@@ -220,11 +247,23 @@ packets-take t n i l =
     ∙ get_or-take n (map (λ (s : SentFrame). s.packets) t) i [] l
 
 module _ (t : Transmission) (n : ℕ) (fits : n ≤ length t) where
-  pub take_rises : RiseTo t n → RiseTo (take n t) (length (take n t))
-  take_rises rises i a l = grind (arith, nat_tests, length-take-le, frame_at-take)
+  pub prefix_rises : RiseTo t n → RiseTo (take n t) (length (take n t))
+  prefix_rises rises i a l = grind (arith, nat_tests, length-take-le, frame_at-take)
 
-  pub take_rising : RiseTo t n → IsRising (take n t)
-  take_rising rises i k d l high = grind (arith, nat_tests, number_at, rises_strictly, take_rises)
+  pub prefix_is_rising : RiseTo t n → IsRising (take n t)
+  prefix_is_rising rises i k d l high = grind (
+    arith,
+    nat_tests,
+    entry_has_its_frame_number,
+    rising_frames_are_strictly_ordered,
+    prefix_rises,
+  )
 
-  pub take_last : 0 < n → last_frame (take n t) ≡ frame_at t (n - 1)
-  take_last some = grind (arith, nat_tests, last-same, length-take-le, frame_at-take)
+  pub prefix_ends_with_its_last_frame : 0 < n → last_frame (take n t) ≡ frame_at t (n - 1)
+  prefix_ends_with_its_last_frame some = grind (
+    arith,
+    nat_tests,
+    last-same,
+    length-take-le,
+    frame_at-take,
+  )

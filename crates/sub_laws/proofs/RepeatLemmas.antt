@@ -9,7 +9,7 @@ use Rattle.std.proofs.lemmas.List.{get_or_default, take_all}
 use Rattle.std.proofs.lemmas.List.Elements.{recursion_from_All}
 use Rattle.ttx_packet.specs.PageHeader.{HasExactCodeWords}
 use Rattle.ttx_packet.specs.PageId.{PageIdValue}
-use Rattle.ttx_packet.specs.Parity.{code_of}
+use Rattle.ttx_packet.specs.Parity.{character_code}
 use Rattle.ttx_packet.specs.RowPacket.{text_byte}
 use Rattle.ttx_page.specs.Noise.{ErasesPage}
 use Rattle.ttx_page.specs.Page.{space}
@@ -17,33 +17,35 @@ use Rattle.ttx_page.specs.PacketKind.{begins_text, is_row, is_this_page, kind}
 use Rattle.ttx_page.specs.Repeats.{HasCodes}
 use Rattle.ttx_page.specs.Shown.{kept}
 use Rattle.ttx_page.specs.Span.{text_span}
-use Rattle.ttx_page.proofs.LateStart.{codes_of_same}
-use Rattle.ttx_page.proofs.NoiseLaws.{first_code}
-use Rattle.ttx_page.proofs.FaultFreeLaws.{law_of_kept}
-use Rattle.ttx_page.proofs.TextSpan.{EachBegins, text_span-none_keeps, text_span-same}
+use Rattle.ttx_page.proofs.LateStart.{same_rows_have_same_codes}
+use Rattle.ttx_page.proofs.NoiseLaws.{first_row_has_code}
+use Rattle.ttx_page.proofs.FaultFreeLaws.{law_of_kept_text}
+use Rattle.ttx_page.proofs.TextSpan.{EachHeaderBegins, text_span-none_keeps, text_span-same}
 use Rattle.stl_rows.specs.Programme.{ProgrammeValue}
 use Rattle.sub_plan.specs.Options.{OptionsValue}
 use Rattle.sub_rules.specs.Good.{IsCleanSpan, KeepsRules}
-use Rattle.sub_rules.specs.Repeats.{GoodBy, IsDueWithin, IsFinishedBy, KeepsRulesBy, LawOfMayKeep}
-use Rattle.sub_rules.specs.Repeats.{LawOfNoRepeats, LawOfNoneKeeps, SomeFinishedBy}
+use Rattle.sub_rules.specs.Repeats.{GoodWithRepeats, IsDueWithin, IsFinishedFrame}
+use Rattle.sub_rules.specs.Repeats.{KeepsRulesWithRepeats, LawOfMayKeep}
+use Rattle.sub_rules.specs.Repeats.{LawOfNoRepeats, LawOfErasingHeaders, HasFinishedFrame}
 use Rattle.sub_rules.specs.Transmission.{EachPacket, Transmission, first_frame, last_frame}
 use Rattle.sub_rules.specs.Transmission.{on_air_until}
-use Rattle.sub_laws.specs.Repeats.{IsRepeatedStretch, LawOfKeptOnAir, LawOfLongerRepeats}
+use Rattle.sub_laws.specs.Repeats.{IsRepeatedStretch, LawOfKeptCodes, LawOfLongerRepeats}
 use Rattle.sub_laws.proofs.TransmissionLemmas.{packets_between-each}
 
 -- If the packets since the page was erased are clean, they have the codes that the page shows.
-pub codes_of_clean : (keeps : Bool) (page : PageIdValue) (packets : List (List ℕ))
+pub clean_packets_have_shown_codes : (keeps : Bool) (page : PageIdValue) (packets : List (List ℕ))
     → IsCleanSpan page (text_span keeps (kind page) packets)
     → All (HasCodes page (kept keeps page packets)) (text_span keeps (kind page) packets)
-codes_of_clean keeps page packets clean k d l row column is below =
-    let spanned : List (List ℕ) = text_span keeps (kind page) packets in
-    first_code page spanned row column _ (codes_of_same page spanned clean.same)
-    (k, l, get_or_default spanned k _ d l) is below
+clean_packets_have_shown_codes keeps page packets clean k d l row column is below =
+    let packets_of_page_text : List (List ℕ) = text_span keeps (kind page) packets in
+    first_row_has_code page packets_of_page_text row column _ (same_rows_have_same_codes page
+    packets_of_page_text clean.same)
+    (k, l, get_or_default packets_of_page_text k _ d l) is below
 
 pub repeated_stretch :
     (keeps : Bool) (programme : ProgrammeValue) (transmission : Transmission)
     (options : OptionsValue)
-    → KeepsRulesBy keeps programme transmission options
+    → KeepsRulesWithRepeats keeps programme transmission options
     → IsRepeatedStretch keeps transmission options (first_frame transmission)
     (last_frame transmission)
 repeated_stretch keeps programme transmission options rules = record {
@@ -64,32 +66,35 @@ repeated_stretch keeps programme transmission options rules = record {
             packets_between-each (ErasesPage options.page) transmission (first_frame transmission)
             (f + 1) (rules.erases none);
         odd = clean.odd;
-        codes = codes_of_clean keeps options.page whole clean;
+        codes = clean_packets_have_shown_codes keeps options.page whole clean;
       };
   repeats = rules.repeats;
 }
 
-pub law_of_kept_on_air : LawOfKeptOnAir
-law_of_kept_on_air keeps programme transmission options f old new rules low high hears fresh row
+pub law_of_kept_codes : LawOfKeptCodes
+law_of_kept_codes keeps programme transmission options f old new rules low high hears fresh row
     column named =
-    law_of_kept keeps options.page (on_air_until transmission f) old new
+    law_of_kept_text keeps options.page (on_air_until transmission f) old new
     ((repeated_stretch keeps programme transmission options rules).sends f low high) hears fresh row
     column named
 
 -- A header with C4 (erase page) set erases the page.
-erasing_header_begins : (keeps : Bool) (w : PageIdValue) (packet : List ℕ)
+erasing_header_begins_text : (keeps : Bool) (w : PageIdValue) (packet : List ℕ)
     → ErasesPage w packet
     → is_this_page (kind w packet) ≡ true
     → begins_text keeps (kind w packet) ≡ true
-erasing_header_begins keeps w packet erases this = grind (arith, nat_tests)
+erasing_header_begins_text keeps w packet erases this = grind (arith, nat_tests)
 
-each_erasing_header_begins : (keeps : Bool) (w : PageIdValue) (packets : List (List ℕ)) (n : ℕ)
+each_erasing_header_begins_text : (keeps : Bool) (w : PageIdValue) (packets : List (List ℕ)) (n : ℕ)
     → AllByRecursion (ErasesPage w) packets
-    → EachBegins (kind w) keeps (take n packets)
-each_erasing_header_begins keeps w packets zero each = tt
-each_erasing_header_begins keeps w [] (suc n) each = tt
-each_erasing_header_begins keeps w (p ∷ ps) (suc n) each =
-    (erasing_header_begins keeps w p each.0, each_erasing_header_begins keeps w ps n each.1)
+    → EachHeaderBegins (kind w) keeps (take n packets)
+each_erasing_header_begins_text keeps w packets zero each = tt
+each_erasing_header_begins_text keeps w [] (suc n) each = tt
+each_erasing_header_begins_text keeps w (p ∷ ps) (suc n) each = (
+  erasing_header_begins_text keeps w p each.0,
+  each_erasing_header_begins_text keeps w ps n
+      each.1,
+)
 
 module _ (one other : Bool) (w : PageIdValue) (packets : List (List ℕ))
     (erases : All (ErasesPage w) packets) where
@@ -97,8 +102,9 @@ module _ (one other : Bool) (w : PageIdValue) (packets : List (List ℕ))
       → text_span one (kind w) (take n packets) ≡ text_span other (kind w) (take n packets)
   text_span-of_erasing n =
       let each = recursion_from_All (ErasesPage w) packets erases in
-      text_span-same (kind w) one (take n packets) (each_erasing_header_begins one w packets n each)
-      ∙ sym (text_span-same (kind w) other (take n packets) (each_erasing_header_begins other w
+      text_span-same (kind w) one (take n packets) (each_erasing_header_begins_text one w packets n
+      each)
+      ∙ sym (text_span-same (kind w) other (take n packets) (each_erasing_header_begins_text other w
       packets n each))
 
   kept-of_erasing : (row column : ℕ)
@@ -106,7 +112,8 @@ module _ (one other : Bool) (w : PageIdValue) (packets : List (List ℕ))
   kept-of_erasing row column =
       ap (λ (ps : List (List ℕ)).
       unwrap_or
-      (option_map (λ p. code_of (text_byte p column)) (find (λ p. is_row row (kind w p)) ps)) space)
+      (option_map (λ p. character_code (text_byte p column)) (find (λ p. is_row row (kind w p)) ps))
+      space)
       (subst
       (λ (ps : List (List ℕ)). text_span one (kind w) ps ≡ text_span other (kind w) ps)
       (take_all (length packets) packets (le_refl (length packets)))
@@ -114,23 +121,31 @@ module _ (one other : Bool) (w : PageIdValue) (packets : List (List ℕ))
 
 module _ (one other : Bool) (programme : ProgrammeValue) (transmission : Transmission)
     (options : OptionsValue) (each : EachPacket (ErasesPage options.page) transmission) where
-  erasing : (f : ℕ) → All (ErasesPage options.page) (on_air_until transmission f)
-  erasing f =
+  every_header_erases : (f : ℕ) → All (ErasesPage options.page) (on_air_until transmission f)
+  every_header_erases f =
       packets_between-each (ErasesPage options.page) transmission (first_frame transmission)
       (f + 1) each
 
-  finished_same : (f : ℕ)
-      → IsFinishedBy one programme transmission options f
-      → IsFinishedBy other programme transmission options f
-  finished_same f finished = grind (arith, nat_tests, kept-of_erasing, erasing)
+  finishing_ignores_keeping : (f : ℕ)
+      → IsFinishedFrame one programme transmission options f
+      → IsFinishedFrame other programme transmission options f
+  finishing_ignores_keeping f finished = grind
+      (arith, nat_tests, kept-of_erasing, every_header_erases)
 
-  some_same : (a b : ℕ)
-      → SomeFinishedBy one programme transmission options a b
-      → SomeFinishedBy other programme transmission options a b
-  some_same a b some = (some.0, some.1, some.2, finished_same some.0 some.3)
+  some_finishing_ignores_keeping : (a b : ℕ)
+      → HasFinishedFrame one programme transmission options a b
+      → HasFinishedFrame other programme transmission options a b
+  some_finishing_ignores_keeping a b some = (
+    some.0,
+    some.1,
+    some.2,
+    finishing_ignores_keeping
+        some.0 some.3,
+  )
 
   good_same :
-      GoodBy one programme transmission options → GoodBy other programme transmission options
+      GoodWithRepeats one programme transmission options → GoodWithRepeats other programme
+      transmission options
   good_same good = record {
     rules =
         let spans : (f n : ℕ)
@@ -139,30 +154,32 @@ module _ (one other : Bool) (programme : ProgrammeValue) (transmission : Transmi
         (text_span other (kind options.page) (take n (on_air_until transmission f))) =
         λ f n high.
         subst (IsCleanSpan options.page)
-        (text_span-of_erasing one other options.page (on_air_until transmission f) (erasing f) n)
+        (text_span-of_erasing one other options.page (on_air_until transmission f)
+        (every_header_erases f) n)
         (good.rules.spans f n high) in
         assumption (spans, each, good.rules);
     codes = λ f row column low high named.
         subst (IsDueWithin programme transmission options f row column)
-        (kept-of_erasing one other options.page (on_air_until transmission f) (erasing f) row
+        (kept-of_erasing one other options.page (on_air_until transmission f)
+        (every_header_erases f) row
         column)
         (good.codes f row column low high named);
-    again = λ start low high. some_same _ _ (good.again start low high);
-    subtitles = λ k d l. some_same _ _ (good.subtitles k d l);
-    ends = finished_same _ good.ends;
+    again = λ start low high. some_finishing_ignores_keeping _ _ (good.again start low high);
+    subtitles = λ k d l. some_finishing_ignores_keeping _ _ (good.subtitles k d l);
+    ends = finishing_ignores_keeping _ good.ends;
   }
 
 pub law_of_may_keep : LawOfMayKeep
 law_of_may_keep programme transmission options good =
     good_same false true programme transmission options (good.rules.erases refl) good
 
-pub law_of_none_keeps : LawOfNoneKeeps
-law_of_none_keeps programme transmission options each good =
+pub law_of_erasing_headers : LawOfErasingHeaders
+law_of_erasing_headers programme transmission options each good =
     good_same true false programme transmission options each good
 
 module _ (programme : ProgrammeValue) (transmission : Transmission) (options : OptionsValue) where
   pub rules_of :
-      KeepsRulesBy false programme transmission options
+      KeepsRulesWithRepeats false programme transmission options
       → KeepsRules programme transmission options
   rules_of rules = record {
     not_empty = rules.not_empty;
@@ -185,7 +202,7 @@ module _ (programme : ProgrammeValue) (transmission : Transmission) (options : O
 
   pub rules_by :
       KeepsRules programme transmission options
-      → KeepsRulesBy false programme transmission options
+      → KeepsRulesWithRepeats false programme transmission options
   rules_by rules = record {
     not_empty = rules.not_empty;
     rising = rules.rising;
@@ -221,19 +238,20 @@ module _ (keeps : Bool) (programme : ProgrammeValue) (transmission : Transmissio
   -- A frame that is finished stays finished with a greater `within`.
   finished_longer :
       (f : ℕ)
-      → IsFinishedBy keeps programme transmission options f
-      → IsFinishedBy keeps programme transmission options_with_more_within f
+      → IsFinishedFrame keeps programme transmission options f
+      → IsFinishedFrame keeps programme transmission options_with_more_within f
   finished_longer f is = record { whole = is.whole; ended = is.ended }
 
   some_longer :
       (a b c : ℕ)
       → b ≤ c
-      → SomeFinishedBy keeps programme transmission options a b
-      → SomeFinishedBy keeps programme transmission options_with_more_within a c
+      → HasFinishedFrame keeps programme transmission options a b
+      → HasFinishedFrame keeps programme transmission options_with_more_within a c
   some_longer a b c order (f, from, to, is) = (f, from, omega arith, finished_longer f is)
 
   good_longer :
-      GoodBy keeps programme transmission options → GoodBy keeps programme transmission
+      GoodWithRepeats keeps programme transmission options → GoodWithRepeats keeps programme
+      transmission
       options_with_more_within
   good_longer good = record {
     rules = assumption good.rules;

@@ -1,7 +1,7 @@
 -- If frame numbers increase, the greatest of the first n frame numbers is the last one.
 use Rattle.std.proofs.lemmas.Bool.Decides.{nat_tests}
 use Rattle.std.proofs.Common.{◌≡◌, ℕ, zero, suc, ◌-◌, ◌<◌, arith}
-use Rattle.sub_rules.specs.Events.{latest}
+use Rattle.sub_rules.specs.Events.{latest_frame}
 use Rattle.sub_rules.specs.FrameRules.{frame_at}
 use Rattle.sub_rules.specs.Transmission.{Transmission}
 use Rattle.sub_laws.proofs.PrefixLemmas.{RiseTo}
@@ -10,8 +10,8 @@ pub latest_at :
     (frames : Transmission) (n : ℕ)
     → RiseTo frames n
     → 0 < n
-    → latest frames n ≡ frame_at frames (n - 1)
-unfolding latest
+    → latest_frame frames n ≡ frame_at frames (n - 1)
+unfolding latest_frame
 latest_at frames zero rises some = grind (arith, nat_tests)
 latest_at frames (suc zero) rises some = grind (arith, nat_tests)
 latest_at frames (suc (suc m)) rises some = grind (arith, nat_tests, (latest_at frames (suc m)))

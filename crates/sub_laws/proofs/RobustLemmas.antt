@@ -6,15 +6,15 @@ use Rattle.ttx_packet.specs.PageHeader.{HasExactCodeWords}
 use Rattle.ttx_page.specs.Noise.{ErasesPage}
 use Rattle.ttx_page.specs.PacketKind.{kind}
 use Rattle.ttx_page.specs.Span.{span}
-use Rattle.ttx_page.proofs.LateStart.{codes_of_same}
+use Rattle.ttx_page.proofs.LateStart.{same_rows_have_same_codes}
 use Rattle.stl_rows.specs.Programme.{ProgrammeValue}
 use Rattle.sub_plan.specs.Options.{OptionsValue}
 use Rattle.sub_rules.specs.Transmission.{Transmission, first_frame, last_frame, on_air_until}
 use Rattle.sub_rules.specs.Good.{IsCleanSpan, KeepsRules}
 use Rattle.sub_laws.specs.Laws.{LawOfGood, LawOfWindow}
 use Rattle.sub_laws.specs.Sufficient.{IsSoundStretch, LawOfSufficientParts}
-use Rattle.sub_laws.proofs.SoundStretchLemmas.{repeated, window}
-use Rattle.sub_laws.proofs.StretchLemmas.{law_of_stretch, law_of_whole_stretch}
+use Rattle.sub_laws.proofs.SoundStretchLemmas.{sound_stretch_is_repeated, window_has_header}
+use Rattle.sub_laws.proofs.StretchLemmas.{law_of_stretch, law_of_full_stretch}
 use Rattle.sub_laws.proofs.TransmissionLemmas.{packets_between-each}
 
 pub sound_stretch :
@@ -39,7 +39,7 @@ sound_stretch programme transmission options keeps = record {
             (f + 1)
             (λ k d l m e n h is. (keeps.control k d l m e n h is).erases);
         odd = clean.odd;
-        same = codes_of_same options.page _ clean.same;
+        same = same_rows_have_same_codes options.page _ clean.same;
       };
   repeats = keeps.repeats;
 }
@@ -49,11 +49,12 @@ suffices = grind (arith, nat_tests, sound_stretch)
 
 pub law_of_good : LawOfGood
 law_of_good programme transmission options good =
-    law_of_whole_stretch programme transmission options
+    law_of_full_stretch programme transmission options
     (grind (arith, nat_tests, law_of_stretch, suffices))
 
 pub law_of_window : LawOfWindow
 law_of_window programme transmission options g j f good listening =
-    window false transmission options _ _
-    (repeated transmission options _ _ (sound_stretch programme transmission options good.rules)) g
+    window_has_header false transmission options _ _
+    (sound_stretch_is_repeated transmission options _ _ (sound_stretch programme transmission
+    options good.rules)) g
     j f listening

@@ -13,17 +13,17 @@ use Rattle.ttx_packet.specs.PageHeader.{HasExactCodeWords}
 use Rattle.ttx_packet.specs.PageId.{PageIdValue}
 use Rattle.ttx_page.specs.declared.packet_kind.PacketKind.{PacketKind}
 use Rattle.ttx_page.specs.DroppedRows.{ExcusedBy}
-use Rattle.ttx_page.specs.LostRows.{IsHitOrLost, LosesNoHeader, arrivals_of}
+use Rattle.ttx_page.specs.LostRows.{IsHitOrLost, LosesNoHeader, arrivals_from_flags}
 use Rattle.ttx_page.specs.PacketKind.{kind}
 use Rattle.ttx_page.specs.Receiver.{ReceiverClass, State}
-use Rattle.ttx_page.specs.Repeats.{EndsForgetting, HearsForgetting, SendsText}
+use Rattle.ttx_page.specs.Repeats.{EndsAfterRepeats, HearsRepeats, SendsText}
 use Rattle.ttx_page.specs.Shown.{kept}
-use Rattle.ttx_page.specs.Span.{holds_header, is_open_after, is_unended, span}
+use Rattle.ttx_page.specs.Span.{has_page_header, is_open_after, has_no_page_end, span}
 use Rattle.ttx_page.proofs.LateStart.{sends-later, span-later, unended-later}
 use Rattle.ttx_page.proofs.RepeatLaws.{law_of_repeats}
-use Rattle.ttx_page.proofs.NoiseSteps.{kind-near, lost_is_no_header}
-use Rattle.ttx_page.proofs.SpanLists.{holds-append_left, holds-append_right}
-use Rattle.ttx_page.proofs.TextStart.{sends_of_sound, sound_of_sends}
+use Rattle.ttx_page.proofs.NoiseStepLemmas.{kind-near, lost_packet_is_no_header}
+use Rattle.ttx_page.proofs.SpanListLemmas.{holds-append_left, holds-append_right}
+use Rattle.ttx_page.proofs.TextStart.{sound_packets_send_text, sending_text_is_sound}
 use Rattle.sub_plan.specs.Options.{OptionsValue}
 use Rattle.sub_rules.specs.Repeats.{HasEndedPage}
 use Rattle.sub_rules.specs.Transmission.{Transmission, first_frame, packets_between}
@@ -34,8 +34,8 @@ use Rattle.sub_laws.specs.Robust.{IsListening}
 use Rattle.sub_laws.specs.Sufficient.{IsSoundStretch}
 use Rattle.sub_laws.proofs.TransmissionLemmas.{packets_between-split}
 
-pub last_of_two : (x y : Bool) → (x && y) ≡ false → x ≡ true → y ≡ false
-last_of_two x y h1 h2 = grind (arith, nat_tests)
+pub first_true_makes_second_false : (x y : Bool) → (x && y) ≡ false → x ≡ true → y ≡ false
+first_true_makes_second_false x y h1 h2 = grind (arith, nat_tests)
 
 module _ (transmission : Transmission) (options : OptionsValue) (a b : ℕ)
     (stretch : IsSoundStretch transmission options a b) where
@@ -55,11 +55,12 @@ module _ (transmission : Transmission) (options : OptionsValue) (a b : ℕ)
       (sym
       (packets_between-split transmission (first_frame transmission) a (f + 1) stretch.rising
       stretch.first (omega arith)))
-      (sends_of_sound options.page (packets_between transmission (first_frame transmission) a)
+      (sound_packets_send_text options.page (packets_between transmission (first_frame transmission)
+      a)
       (on_air_from_a f) (stretch.sound f low high))
 
-  pub repeated : IsRepeatedStretch false transmission options a b
-  repeated = assumption (sends_from, stretch)
+  pub sound_stretch_is_repeated : IsRepeatedStretch false transmission options a b
+  sound_stretch_is_repeated = assumption (sends_from, stretch)
 
 pub sound_of_repeated :
     (transmission : Transmission) (options : OptionsValue) (a b : ℕ)
@@ -69,7 +70,7 @@ sound_of_repeated transmission options a b stretch = record {
   first = stretch.first;
   rising = stretch.rising;
   sound = λ f low high.
-      sound_of_sends options.page (on_air transmission a 0 f) _ (stretch.sends f low high);
+      sending_text_is_sound options.page (on_air transmission a 0 f) _ (stretch.sends f low high);
   repeats = stretch.repeats;
 }
 
@@ -96,8 +97,8 @@ module _ (keeps : Bool) (transmission : Transmission) (options : OptionsValue) (
       (n : ℕ)
       → g + 1 ≤ n
       → n ≤ f
-      → holds_header K (packets_of transmission n) ≡ true
-      → holds_header K later ≡ true
+      → has_page_header K (packets_of transmission n) ≡ true
+      → has_page_header K later ≡ true
   later_holds n above below holds =
       let here : packets_between transmission n (f + 1)
       ≡ packets_of transmission n ++ packets_between transmission (n + 1) (f + 1) =
@@ -108,8 +109,8 @@ module _ (keeps : Bool) (transmission : Transmission) (options : OptionsValue) (
       packets_between-split transmission (g + 1) n (f + 1) stretch.rising above (omega arith) in
       grind (arith, nat_tests, K, true, holds-append_right, holds-append_left)
 
-  pub window : g + options.every ≤ f → holds_header K sent ≡ true
-  window far =
+  pub window_has_header : g + options.every ≤ f → has_page_header K sent ≡ true
+  window_has_header far =
       let found =
       stretch.repeats (g + 1) (omega (arith, listening.from)) (omega (arith, listening.to)) in
       grind (arith, nat_tests, on_air-cut, holds-append_right, later_holds)
@@ -135,18 +136,18 @@ module _ (keeps : Bool) (transmission : Transmission) (options : OptionsValue) (
       (stretch.sends f (le_trans listening.from listening.in_order) listening.to))
 
   pub span_so_far :
-      holds_header K sent ≡ true
+      has_page_header K sent ≡ true
       → span K (on_air_until transmission f) ≡ span K sent
   span_so_far holds =
       ap (span K) so_far ∙ span-later options.page (before (first_frame transmission)) sent holds
 
   pub ended :
       HasEndedPage options.page transmission f
-      → holds_header K sent ≡ true
-      → is_unended K sent ≡ false
+      → has_page_header K sent ≡ true
+      → has_no_page_end K sent ≡ false
   ended shut holds =
       sym (unended-later options.page (before (first_frame transmission)) sent holds)
-      ∙ last_of_two _ _ (ap (is_open_after K) (sym so_far) ∙ shut)
+      ∙ first_true_makes_second_false _ _ (ap (is_open_after K) (sym so_far) ∙ shut)
       (holds-append_right K (before (first_frame transmission)) sent holds)
 
 holds-got :
@@ -154,20 +155,20 @@ holds-got :
     → AllByRecursion HasExactCodeWords sent
     → AllZip LosesNoHeader sent arrived
     → AllZip AreNear (items_where_true arrived sent) got
-    → holds_header (kind w) got ≡ holds_header (kind w) sent
+    → has_page_header (kind w) got ≡ has_page_header (kind w) sent
 holds-got w [] [] [] exact may near = refl
 holds-got w [] [] (g ∷ got) exact may near = grind arith
 holds-got w [] (m ∷ arrived) got exact may near = grind arith
 holds-got w (p ∷ ps) arrived got exact may near =
-    grind (arith, nat_tests, lost_is_no_header, kind-near, holds-got w ps)
+    grind (arith, nat_tests, lost_packet_is_no_header, kind-near, holds-got w ps)
 
 module _ (keeps : Bool) (transmission : Transmission) (options : OptionsValue) (a b : ℕ)
     (stretch : IsRepeatedStretch keeps transmission options a b)
     (g j f : ℕ) (arrived : List Bool) (got : List (List ℕ))
     (is : IsReceivedWithLosses transmission a b g j f arrived got) where
   pub got_as :
-      holds_header (kind options.page) got
-      ≡ holds_header (kind options.page) (on_air transmission g j f)
+      has_page_header (kind options.page) got
+      ≡ has_page_header (kind options.page) (on_air transmission g j f)
   got_as =
       holds-got options.page (on_air transmission g j f) arrived got
       (recursion_from_All HasExactCodeWords (on_air transmission g j f)
@@ -176,11 +177,11 @@ module _ (keeps : Bool) (transmission : Transmission) (options : OptionsValue) (
 
   pub forgetting :
       (anew : Bool) (class : ReceiverClass) (old new : State)
-      → HearsForgetting class anew options.page old got new
-      → EndsForgetting keeps anew options.page (on_air transmission g j f)
+      → HearsRepeats class anew options.page old got new
+      → EndsAfterRepeats keeps anew options.page (on_air transmission g j f)
       (kept keeps options.page (on_air_until transmission f))
       (ExcusedBy class
-      (IsHitOrLost options.page (on_air transmission g j f) (arrivals_of arrived got)))
+      (IsHitOrLost options.page (on_air transmission g j f) (arrivals_from_flags arrived got)))
       old new
   forgetting anew class old new hears =
       law_of_repeats keeps anew class options.page (on_air transmission g j f) arrived got _ old new

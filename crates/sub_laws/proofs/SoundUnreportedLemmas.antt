@@ -12,7 +12,7 @@ use Rattle.ttx_page.specs.Repeats.{MayFollow}
 use Rattle.stl_rows.specs.Programme.{ProgrammeValue}
 use Rattle.sub_plan.specs.Options.{OptionsValue}
 use Rattle.sub_rules.specs.Events.{is_gap, active_faults_at}
-use Rattle.sub_rules.specs.FrameRules.{Criteria, HasHeader, Unread, frame_at}
+use Rattle.sub_rules.specs.FrameRules.{Criteria, HasHeader, UnreadReason, frame_at}
 use Rattle.sub_rules.specs.FrameRules.{packets_of_frame, watched_of}
 use Rattle.sub_rules.specs.Good.{HoldsHeader}
 use Rattle.sub_rules.specs.PacketRules.{KeepsRule, codes_of}
@@ -20,35 +20,41 @@ use Rattle.sub_rules.specs.PacketTests.{breaks}
 use Rattle.sub_rules.specs.Transmission.{Transmission, first_frame}
 use Rattle.sub_rules.specs.declared.packet_rule.PacketRule.{PacketRule}
 use Rattle.sub_rules.specs.declared.packet_rule.PacketRule.TheVariants as rule
-use Rattle.sub_laws.specs.CleanStretch.{AtPackets, IsEnd, IsUnreported, criteria_unsure, is_needed}
+use Rattle.sub_laws.specs.CleanStretch.{HoldsAtPackets, IsEnd, IsUnreported, criteria_with_refusals}
+use Rattle.sub_laws.specs.CleanStretch.{is_needed_by_receivers}
 use Rattle.sub_laws.specs.Repeats.{IsRepeatedStretch}
 use Rattle.sub_rules.proofs.CodesLemmas.{code_of_column}
-use Rattle.ttx_page.proofs.DifferingLemmas.{columns_zero}
-use Rattle.sub_laws.proofs.BrokenRuleLemmas.{refuted, rule_decided}
-use Rattle.sub_laws.proofs.GoodLemmas.{any_sent, rises_each}
-use Rattle.sub_laws.proofs.PrefixLemmas.{before, first-same, packet_at, rises_to}
+use Rattle.ttx_page.proofs.DifferingLemmas.{zero_difference_equal_columns}
+use Rattle.sub_laws.proofs.BrokenRuleLemmas.{failed_test_refutes_property, rule_test_is_exact}
+use Rattle.sub_laws.proofs.GoodLemmas.{header_at_index_is_in_frame}
+use Rattle.sub_laws.proofs.GoodLemmas.{rising_frames_rise_at_each_index}
+use Rattle.sub_laws.proofs.PrefixLemmas.{before, first-same, packet_at, rising_frames_are_ordered}
 use Rattle.sub_laws.proofs.FollowedStretchLemmas as stretches
-use Rattle.sub_laws.proofs.SoundStretchLemmas.{last_of_two}
-use Rattle.sub_laws.proofs.ActiveFaultsLemmas.{gap_decided}
+use Rattle.sub_laws.proofs.SoundStretchLemmas.{first_true_makes_second_false}
+use Rattle.sub_laws.proofs.ActiveFaultsLemmas.{gap_test_is_exact}
 
-not_false : (b : Bool) → not b ≡ false → b ≡ true
-not_false b h1 = grind (arith, nat_tests)
+not_false_is_true : (b : Bool) → not b ≡ false → b ≡ true
+not_false_is_true b h1 = grind (arith, nat_tests)
 
 module _ (programme : ProgrammeValue) (transmission : Transmission) (options : OptionsValue)
-    (unread : Option Unread) (any_refused : Bool) (undecided : ℕ → Bool) (a b : ℕ) (unreported :
-    IsUnreported (criteria_unsure programme options unread any_refused undecided) transmission a
+    (unread : Option UnreadReason) (any_refused : Bool) (undecided : ℕ → Bool) (a b : ℕ)
+    (unreported :
+    IsUnreported (criteria_with_refusals programme options unread any_refused undecided)
+    transmission a
     b) where
   abbrev g : Criteria
-  g = criteria_unsure programme options unread any_refused undecided
+  g = criteria_with_refusals programme options unread any_refused undecided
 
-  kept : (r : PacketRule) → IsTrue (is_needed r) → (r ≡ rule.RowChanged → ⊥)
-      → AtPackets (KeepsRule r g.watched) transmission a b
+  kept : (r : PacketRule) → IsTrue (is_needed_by_receivers r) → (r ≡ rule.RowChanged → ⊥)
+      → HoldsAtPackets (KeepsRule r g.watched) transmission a b
   kept r needed other i k l m low high =
-      (refuted _ (rule_decided g.watched _ _ r (λ e. absurd (other e)))).0
+      (failed_test_refutes_property
+      _ (rule_test_is_exact g.watched _ _ r (λ e. absurd (other e)))).0
       (unreported.packets r needed i k l m low high)
 
   -- While the page is open, a row has the codes of its first packet since the page was erased.
-  same_codes : AtPackets (λ heard p. IsTrue (is_open_after (kind options.page) heard)
+  rows_have_equal_codes : HoldsAtPackets
+      (λ heard p. IsTrue (is_open_after (kind options.page) heard)
       → (row : ℕ) (first : List ℕ)
       → kind options.page p ≡ Row row
       → find (λ q. is_row row (kind options.page q))
@@ -58,9 +64,15 @@ module _ (programme : ProgrammeValue) (transmission : Transmission) (options : O
       → column < 40
       → slice_index (codes_of first) column ≡ slice_index (codes_of p) column) transmission a b
   unfolding breaks
-  same_codes i k l m low high up row first is found column below =
+  rows_have_equal_codes i k l m low high up row first is found column below =
       let equal = unreported.packets rule.RowChanged refl i k l m low high in
-      grind (arith, nat_tests, last_of_two, columns_zero, not_false)
+      grind (
+        arith,
+        nat_tests,
+        first_true_makes_second_false,
+        zero_difference_equal_columns,
+        not_false_is_true,
+      )
 
   fit :
       (i k : ℕ)
@@ -79,13 +91,14 @@ module _ (programme : ProgrammeValue) (transmission : Transmission) (options : O
     odd = λ up row is. kept rule.Parity refl (λ is. cc) i k l m low high up row is;
     same = λ up row column first is found below.
         sym (code_of_column first column)
-        ∙ same_codes i k l m low high up row first is found column below
+        ∙ rows_have_equal_codes i k l m low high up row first is found column below
         ∙ code_of_column (slice_index_or (packets_of_frame transmission i) k []) column;
   }
 
-  gap_eq : (n f : ℕ) → IsEnd transmission n f → a ≤ f → f ≤ b → is_gap g transmission n f ≡ false
+  unreported_end_is_no_gap : (n f : ℕ) → IsEnd transmission n f → a ≤ f → f ≤ b → is_gap g
+      transmission n f ≡ false
   unfolding active_faults_at
-  gap_eq n f end low high = unreported.gap n f end low high
+  unreported_end_is_no_gap n f end low high = unreported.gap n f end low high
 
   covered :
       (f : ℕ)
@@ -100,20 +113,22 @@ module _ (programme : ProgrammeValue) (transmission : Transmission) (options : O
   covered f low high =
       let first = first-same transmission in
       let (n, end, on, before) =
-      stretches.end_of transmission a b unreported.stretch unreported.rising f low high in
-      elim ((gap_decided g transmission n f end.1).0 (ap not (gap_eq n f end low high))) [
-        | inl early ↦ inl (omega arith)
+      stretches.frame_has_an_end transmission a b unreported.stretch unreported.rising f low high in
+      elim ((gap_test_is_exact g transmission n f end.1).0
+      (ap not (unreported_end_is_no_gap n f end low high))) [
+        | inl run_is_within_delay_and_unmissed ↦ inl (omega arith)
         | inr (j, l, late, has) ↦
             let rises =
-            rises_to transmission (length transmission) (rises_each transmission unreported.rising)
+            rising_frames_are_ordered transmission (length transmission)
+            (rising_frames_rise_at_each_index transmission unreported.rising)
             j
             (n - 1) (omega arith)
             (omega (arith, end.0, end.1)) in
             inr (j, omega (arith, end.1), omega arith, late, has)
       ]
 
-  pub repeated_unreported : IsRepeatedStretch options.keeps transmission options a b
-  repeated_unreported =
+  pub unreported_stretch_is_repeated : IsRepeatedStretch options.keeps transmission options a b
+  unreported_stretch_is_repeated =
       stretches.law_of_followed_stretch options.keeps transmission options a b (record {
         stretch = unreported.stretch;
         rising = unreported.rising;
@@ -142,12 +157,12 @@ module _ (programme : ProgrammeValue) (transmission : Transmission) (options : O
                 )
             | inr every ↦
                 elim (covered (start + options.every - 1) (omega arith) (omega arith)) [
-                  | inl early ↦ absurd (omega arith)
+                  | inl run_is_within_delay_and_unmissed ↦ absurd (omega arith)
                   | inr (j, l, before, late, has) ↦ (
                     frame_at transmission j,
                     omega arith,
                     omega arith,
-                    any_sent (watched_of programme options) transmission j
+                    header_at_index_is_in_frame (watched_of programme options) transmission j
                         (frame_at transmission j) l refl has,
                   )
                 ]

@@ -6,27 +6,28 @@ use Rattle.std.specs.Prelude.{All, IsTrue}
 use Rattle.std.specs.List.{AllZip}
 use Rattle.ttx_packet.specs.OneBit.{AreNear}
 use Rattle.ttx_packet.specs.PageId.{PageIdValue}
-use Rattle.ttx_page.proofs.NoiseLaws.{all_kept, all_true, law_of_nothing_lost, may_all}
-use Rattle.ttx_page.specs.LostRows.{IsHitOrLost, arrivals_of}
+use Rattle.ttx_page.proofs.NoiseLaws.{all_arrive, all_arrive_is_true, law_of_nothing_lost}
+use Rattle.ttx_page.proofs.NoiseLaws.{full_arrival_loses_no_header}
+use Rattle.ttx_page.specs.LostRows.{IsHitOrLost, arrivals_from_flags}
 use Rattle.ttx_page.specs.Receiver.{ReceiverClass, State}
 use Rattle.ttx_page.specs.Receiver.ReceiverClass.{Storing}
 use Rattle.ttx_page.specs.Shown.{IsHit}
 use Rattle.stl_rows.specs.Programme.{ProgrammeValue}
 use Rattle.sub_plan.specs.Options.{OptionsValue}
-use Rattle.sub_plan.specs.Schedule.{due_in}
+use Rattle.sub_plan.specs.Schedule.{due_page_in}
 use Rattle.sub_rules.specs.Repeats.{IsCorrectPage, KeepsDueCodes}
 use Rattle.sub_rules.specs.Transmission.{Transmission, first_frame, last_frame, on_air}
 use Rattle.sub_rules.specs.Transmission.{on_air_until}
-use Rattle.sub_laws.specs.Laws.{LawOfAllKept}
+use Rattle.sub_laws.specs.Laws.{LawOfLosslessReception}
 use Rattle.sub_laws.specs.LostRows.{IsReceivedWithLosses, IsRobustWithLosses, RobustToAnyLoss}
 use Rattle.sub_laws.specs.Recovery.{RecoversWithin}
-use Rattle.sub_laws.specs.Repeats.{RecoversForgetting, ShownForgetting}
+use Rattle.sub_laws.specs.Repeats.{RecoversIfForgetful, ShownIfForgetful}
 use Rattle.sub_laws.specs.Robust.{IsListening, IsServed, Robust}
-use Rattle.sub_laws.specs.Stretch.{LawOfWholeRecovery, LawOfWholeStretch}
+use Rattle.sub_laws.specs.Stretch.{LawOfFullRecovery, LawOfFullStretch}
 use Rattle.sub_laws.specs.Sufficient.{LawOfStretch}
 use Rattle.sub_laws.proofs.DelayLemmas.{law_of_repeated_stretch, law_of_right_cells}
 use Rattle.sub_laws.proofs.DelayLemmas.{recovers_at_once, shown_at_once}
-use Rattle.sub_laws.proofs.SoundStretchLemmas.{repeated}
+use Rattle.sub_laws.proofs.SoundStretchLemmas.{sound_stretch_is_repeated}
 
 pub law_of_stretch : LawOfStretch
 law_of_stretch programme transmission options a b enough = record {
@@ -39,7 +40,7 @@ law_of_stretch programme transmission options a b enough = record {
     whole :
         (f : ℕ) → a ≤ f → f ≤ b → IsCorrectPage false programme options.page transmission f
     whole f low high row column named =
-        (law_of_right_cells options.page (on_air_until transmission f) (due_in programme f) row
+        (law_of_right_cells options.page (on_air_until transmission f) (due_page_in programme f) row
         column).1
         (enough.content f row column low high named)
 
@@ -54,11 +55,11 @@ law_of_stretch programme transmission options a b enough = record {
         )
 
     both : (class : ReceiverClass)
-        → RecoversForgetting false false class programme transmission options a b
-        × ShownForgetting false false class programme transmission options a b
+        → RecoversIfForgetful false false class programme transmission options a b
+        × ShownIfForgetful false false class programme transmission options a b
     both =
         (law_of_repeated_stretch false programme transmission options a b
-        (repeated transmission options a b enough.stretch) codes).0 false
+        (sound_stretch_is_repeated transmission options a b enough.stretch) codes).0 false
 
 served_with_weaker_excuse :
     {programme : ProgrammeValue} {options : OptionsValue} {g f : ℕ} {sent : List (List ℕ)}
@@ -72,25 +73,26 @@ received_all :
     (w : PageIdValue) (transmission : Transmission) (a b g j f : ℕ) (got : List (List ℕ))
     → IsListening transmission a b g j f
     → AllZip AreNear (on_air transmission g j f) got
-    → IsReceivedWithLosses transmission a b g j f (all_kept (on_air transmission g j f)) got
+    → IsReceivedWithLosses transmission a b g j f (all_arrive (on_air transmission g j f)) got
     × ((row column : ℕ)
     → IsHitOrLost w (on_air transmission g j f)
-    (arrivals_of (all_kept (on_air transmission g j f)) got) row column
+    (arrivals_from_flags (all_arrive (on_air transmission g j f)) got) row column
     → IsHit w (on_air transmission g j f) got row column)
 received_all w transmission a b g j f got listening near =
     let sent : List (List ℕ) = on_air transmission g j f in
     let nothing =
-    law_of_nothing_lost w sent (all_kept sent) (all_true sent) (may_all sent) in (
+    law_of_nothing_lost w sent (all_arrive sent) (all_arrive_is_true sent)
+    (full_arrival_loses_no_header sent) in (
       record {
         listening = listening;
-        headers = may_all sent;
+        headers = full_arrival_loses_no_header sent;
         near = subst (λ ps. AllZip AreNear ps got) (sym nothing.kept) near;
       },
       λ row column hit. (nothing.hits got near row column).0 hit,
     )
 
-pub law_of_all_kept : LawOfAllKept
-law_of_all_kept programme transmission options = (robust, kept)
+pub law_of_lossless_reception : LawOfLosslessReception
+law_of_lossless_reception programme transmission options = (robust, kept)
   where
     robust :
         ((arrived : List Bool)
@@ -101,7 +103,8 @@ law_of_all_kept programme transmission options = (robust, kept)
         let sent : List (List ℕ) = on_air transmission g j f in
         let whole = received_all options.page transmission _ _ g j f got listening near in
         served_with_weaker_excuse whole.1
-        (with_all (all_kept sent) (all_true sent) g j f got old new whole.0 unheard shut hears)
+        (with_all (all_arrive sent) (all_arrive_is_true sent) g j f got old new whole.0 unheard shut
+        hears)
 
     kept :
         Robust programme transmission options
@@ -120,23 +123,26 @@ module _ (programme : ProgrammeValue) (transmission : Transmission) (options : O
     (recovers :
     RecoversWithin Storing programme transmission options (first_frame transmission)
     (last_frame transmission)) where
-  to_loss : RobustToAnyLoss programme transmission options
-  to_loss arrived g j f got old new is unheard shut hears =
+  transmission_survives_any_loss : RobustToAnyLoss programme transmission options
+  transmission_survives_any_loss arrived g j f got old new is unheard shut hears =
       recovers g j f arrived got old new is hears
 
-  pub robust_of_recovers : Robust programme transmission options
-  robust_of_recovers =
-      (law_of_all_kept programme transmission options).0 (λ arrived all. to_loss arrived)
+  pub recovering_transmission_is_robust : Robust programme transmission options
+  recovering_transmission_is_robust =
+      (law_of_lossless_reception programme transmission options).0
+      (λ arrived all. transmission_survives_any_loss arrived)
 
-pub law_of_whole_recovery : LawOfWholeRecovery
-law_of_whole_recovery programme transmission options recovers = (
-  robust_of_recovers programme transmission options recovers,
-  to_loss programme transmission options recovers,
+pub law_of_full_recovery : LawOfFullRecovery
+law_of_full_recovery programme transmission options recovers = (
+  recovering_transmission_is_robust programme transmission options recovers,
+  transmission_survives_any_loss programme transmission options recovers,
 )
 
-pub law_of_whole_stretch : LawOfWholeStretch
-law_of_whole_stretch programme transmission options trusted = record {
-  robust = robust_of_recovers programme transmission options (trusted.recovers Storing);
-  to_loss = to_loss programme transmission options (trusted.recovers Storing);
+pub law_of_full_stretch : LawOfFullStretch
+law_of_full_stretch programme transmission options trusted = record {
+  robust = recovering_transmission_is_robust programme transmission options
+      (trusted.recovers Storing);
+  transmission_survives_any_loss = transmission_survives_any_loss programme transmission options
+      (trusted.recovers Storing);
   trusted = trusted;
 }

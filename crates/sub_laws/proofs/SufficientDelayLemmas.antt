@@ -11,30 +11,35 @@ use Rattle.ttx_page.specs.Shown.{kept}
 use Rattle.stl_file.specs.Subtitle.{SubtitleValue}
 use Rattle.stl_rows.specs.Programme.{IsProgramme, ProgrammeValue}
 use Rattle.sub_plan.specs.Options.{OptionsValue}
-use Rattle.sub_plan.specs.Schedule.{due_in}
+use Rattle.sub_plan.specs.Schedule.{due_page_in}
 use Rattle.sub_rules.specs.Events.{broken_cell, is_incomplete, is_late, is_missed, is_overdue}
 use Rattle.sub_rules.specs.Events.{is_unfinished, active_faults_at, unfinished_run_start}
-use Rattle.sub_rules.specs.Events.{undecided_within}
-use Rattle.sub_rules.specs.FrameRules.{Criteria, Unread, end_frame, frame_at, packets_before}
+use Rattle.sub_rules.specs.Events.{is_undecided_within}
+use Rattle.sub_rules.specs.FrameRules.{Criteria, UnreadReason, end_frame, frame_at, packets_before}
 use Rattle.sub_rules.specs.Kept.{IsRight}
-use Rattle.sub_rules.specs.Repeats.{FinishesAgainBy, IsDueWithin, IsFinishedBy, IsCorrectPage}
-use Rattle.sub_rules.specs.Repeats.{KeepsDueCodes, SomeFinishedBy}
+use Rattle.sub_rules.specs.Repeats.{FinishesRegularly, IsDueWithin, IsFinishedFrame, IsCorrectPage}
+use Rattle.sub_rules.specs.Repeats.{KeepsDueCodes, HasFinishedFrame}
 use Rattle.sub_rules.specs.Transmission.{Transmission, on_air_until}
-use Rattle.sub_laws.specs.CleanStretch.{IsEnd, IsUnreported, NoneOpen, criteria_unsure}
-use Rattle.sub_laws.specs.Repeats.{FinishesInTimeBy}
+use Rattle.sub_laws.specs.CleanStretch.{IsEnd, IsUnreported, HasNoOpenEnd, criteria_with_refusals}
+use Rattle.sub_laws.specs.Repeats.{FinishesInTime}
 use Rattle.sub_laws.specs.ReportedRepeats.{IsSufficientRepeats, LawOfUnreportedRepeats}
-use Rattle.sub_laws.proofs.DueCodeLemmas.{ending_eq, unexpected_none}
-use Rattle.sub_laws.proofs.FinishedLemmas.{finished_at, frame_end, no_first_unfinished}
+use Rattle.sub_laws.proofs.DueCodeLemmas.{ending_eq, no_unexpected_cell_shows_expected_codes}
+use Rattle.sub_laws.proofs.FinishedLemmas.{finished_frame_has_finished_page, frame_end}
+use Rattle.sub_laws.proofs.FinishedLemmas.{finished_end_starts_no_run}
 use Rattle.sub_laws.proofs.FinishedLemmas.{first_unfinished_eq}
-use Rattle.sub_laws.proofs.GoodLemmas.{rises_each}
+use Rattle.sub_laws.proofs.GoodLemmas.{rising_frames_rise_at_each_index}
 use Rattle.sub_laws.proofs.PrefixLemmas.{RiseTo, end_is_on_air, first-same, last-same}
-use Rattle.sub_laws.proofs.SoundUnreportedLemmas.{repeated_unreported}
-use Rattle.sub_laws.proofs.ActiveFaultsLemmas.{always_late, due_known_at, none_wrong, unexpected_eq}
-use Rattle.sub_laws.proofs.UnfinishedLemmas.{finished_from, first_unfinished_some, unfinished_at}
+use Rattle.sub_laws.proofs.SoundUnreportedLemmas.{unreported_stretch_is_repeated}
+use Rattle.sub_laws.proofs.ActiveFaultsLemmas.{undelayed_fault_is_always_late}
+use Rattle.sub_laws.proofs.ActiveFaultsLemmas.{decided_range_includes_frame}
+use Rattle.sub_laws.proofs.ActiveFaultsLemmas.{no_wrong_cell_shows_due_page}
+use Rattle.sub_laws.proofs.ActiveFaultsLemmas.{unexpected_cell_of_decided_page}
+use Rattle.sub_laws.proofs.UnfinishedLemmas.{later_run_start_leaves_finished_frame}
+use Rattle.sub_laws.proofs.UnfinishedLemmas.{run_start_is_first_unfinished, unfinished_at}
 
 -- In the frames from a to b, no cell is wrong at a frame end, and the expected page is known. Frame
 -- numbers increase.
-pub record IsStill (g : Criteria) (t : Transmission) (a b : ℕ) : Type 0 where
+pub record IsFaultFreeBetween (g : Criteria) (t : Transmission) (a b : ℕ) : Type 0 where
   pub up : RiseTo t (length t)
   pub some : 0 < length t
   pub from : frame_at t 0 ≤ a
@@ -44,12 +49,12 @@ pub record IsStill (g : Criteria) (t : Transmission) (a b : ℕ) : Type 0 where
       → IsEnd t n f
       → a ≤ f
       → f ≤ b
-      → (broken_cell g t n f ≡ None) × (undecided_within g t f ≡ false)
+      → (broken_cell g t n f ≡ None) × (is_undecided_within g t f ≡ false)
 
 -- In the frames from a to b, no cell is wrong at a frame end, and complete pages have ended if they
 -- are required.
-pub record HoldsAtEnds (g : Criteria) (t : Transmission) (a b : ℕ) : Type 0 where
-  pub still : IsStill g t a b
+pub record MeetsRequirementsAtEnds (g : Criteria) (t : Transmission) (a b : ℕ) : Type 0 where
+  pub still : IsFaultFreeBetween g t a b
   pub shut :
       (n f : ℕ)
       → IsEnd t n f
@@ -57,15 +62,17 @@ pub record HoldsAtEnds (g : Criteria) (t : Transmission) (a b : ℕ) : Type 0 wh
       → f ≤ b
       → (is_late g t n f && is_incomplete g t n) ≡ false
 
-module _ (programme : ProgrammeValue) (options : OptionsValue) (unread : Option Unread)
+module _ (programme : ProgrammeValue) (options : OptionsValue) (unread : Option UnreadReason)
     (any_refused : Bool) (undecided : ℕ → Bool) (t : Transmission) (a b : ℕ)
-    (still : IsStill (criteria_unsure programme options unread any_refused undecided) t a b)
+    (still : IsFaultFreeBetween (criteria_with_refusals programme options unread any_refused
+    undecided) t a b)
   where
     abbrev requested : Criteria
-    requested = criteria_unsure programme options unread any_refused undecided
+    requested = criteria_with_refusals programme options unread any_refused undecided
 
     pub known : (n f : ℕ) → IsEnd t n f → a ≤ f → f ≤ b → undecided f ≡ false
-    known n f end low high = due_known_at requested t n f (still.parts n f end low high).1
+    known n f end low high = decided_range_includes_frame requested t n f (still.parts n f end low
+        high).1
 
     each_frame_has_end : (f : ℕ) → a ≤ f → f ≤ b
         → (n : ℕ) × IsEnd t n f × (on_air_until t f ≡ packets_before t n)
@@ -78,21 +85,31 @@ module _ (programme : ProgrammeValue) (options : OptionsValue) (unread : Option 
         (omega arith) in
         (n, end, end_is_on_air t still.up n f end)
 
-    right_late : (n f : ℕ) → IsEnd t n f → a ≤ f → f ≤ b → is_late requested t n f ≡ true
+    late_end_has_right_cells : (n f : ℕ) → IsEnd t n f → a ≤ f → f ≤ b → is_late requested t n f ≡
+        true
         → (row column : ℕ)
         → IsCell row column
-        → IsRight options.keeps options.page (packets_before t n) (due_in programme f) row column
-    right_late n f end low high late row column named =
-        none_wrong requested t n f (rw late at (still.parts n f end low high).0)
+        → IsRight options.keeps options.page (packets_before t n) (due_page_in programme f) row
+        column
+    late_end_has_right_cells n f end low high late row column named =
+        no_wrong_cell_shows_due_page requested t n f (rw late at (still.parts n f end low high).0)
         (known n f end low high) row column named
 
-    codes_early : (n f : ℕ) → IsEnd t n f → a ≤ f → f ≤ b → is_late requested t n f ≡ false
+    early_end_has_expected_codes : (n f : ℕ) → IsEnd t n f → a ≤ f → f ≤ b → is_late requested t n f
+        ≡ false
         → (row column : ℕ)
         → IsCell row column
         → IsDueWithin programme t options f row column
         (kept options.keeps options.page (packets_before t n) row column)
-    codes_early n f end low high early row column named =
-        grind (arith, nat_tests, unexpected_none, unexpected_eq, first-same)
+    early_end_has_expected_codes n f end low high run_is_within_delay_and_unmissed row column
+        named =
+        grind (
+          arith,
+          nat_tests,
+          no_unexpected_cell_shows_expected_codes,
+          unexpected_cell_of_decided_page,
+          first-same,
+        )
 
     -- At the end of each frame, each cell has a space, or a code that was expected within the last
     -- `within` frames.
@@ -113,24 +130,27 @@ module _ (programme : ProgrammeValue) (options : OptionsValue) (unread : Option 
               omega (arith, low, still.from, first-same t),
               le_refl f,
               omega arith,
-              (right_late n f end low high late row column named).kept_eq,
+              (late_end_has_right_cells n f end low high late row column named).kept_eq,
             )
-        go n end false early = codes_early n f end low high early row column named
+        go n end false run_is_within_delay_and_unmissed = early_end_has_expected_codes n f end low
+            high run_is_within_delay_and_unmissed row column named
 
     pub same_at_once : options.within ≡ 0 → (f : ℕ) → a ≤ f → f ≤ b
         → IsCorrectPage options.keeps programme options.page t f
     same_at_once none f low high row column named =
         let (n, end, on) = each_frame_has_end f low high in
-        subst (λ ps. IsRight options.keeps options.page ps (due_in programme f) row column)
+        subst (λ ps. IsRight options.keeps options.page ps (due_page_in programme f) row column)
         (sym on)
-        (right_late n f end low high (always_late requested t n f none) row column named)
+        (late_end_has_right_cells n f end low high (undelayed_fault_is_always_late requested t n f
+        none) row column named)
 
-module _ (programme : ProgrammeValue) (options : OptionsValue) (unread : Option Unread)
+module _ (programme : ProgrammeValue) (options : OptionsValue) (unread : Option UnreadReason)
     (any_refused : Bool) (undecided : ℕ → Bool) (t : Transmission) (a b : ℕ)
-    (holds : HoldsAtEnds (criteria_unsure programme options unread any_refused undecided) t a b)
+    (holds : MeetsRequirementsAtEnds (criteria_with_refusals programme options unread any_refused
+    undecided) t a b)
   where
     abbrev criteria : Criteria
-    criteria = criteria_unsure programme options unread any_refused undecided
+    criteria = criteria_with_refusals programme options unread any_refused undecided
 
     abbrev start : ℕ
     start = frame_at t 0
@@ -145,24 +165,25 @@ module _ (programme : ProgrammeValue) (options : OptionsValue) (unread : Option 
         → is_unfinished criteria t n f ≡ false
     calm n f end low high late = grind (arith, nat_tests)
 
-    not_overdue : (n f : ℕ) → IsEnd t n f → a ≤ f → f ≤ b
+    end_is_not_overdue : (n f : ℕ) → IsEnd t n f → a ≤ f → f ≤ b
         → is_overdue criteria start (unfinished_run_start criteria t n f) f ≡ false
     unfolding is_late
-    not_overdue n f end low high = grind (arith, nat_tests, no_first_unfinished, calm)
+    end_is_not_overdue n f end low high = grind (arith, nat_tests, finished_end_starts_no_run, calm)
 
-    early : (n f r : ℕ) → IsEnd t n f → a ≤ f → f ≤ b → unfinished_run_start criteria t n f ≡ Some r
+    run_is_within_delay_and_unmissed : (n f r : ℕ) → IsEnd t n f → a ≤ f → f ≤ b →
+        unfinished_run_start criteria t n f ≡ Some r
         → (f < r + options.within) × (is_missed (criteria.ending (f + 1)) start r ≡ false)
-    early n f r end low high e =
+    run_is_within_delay_and_unmissed n f r end low high e =
         let both =
         or_parts (nat_le (r + options.within) f) (is_missed (criteria.ending (f + 1)) start r)
-        (rw e at (not_overdue n f end low high)) in
+        (rw e at (end_is_not_overdue n f end low high)) in
         (before both.0, both.1)
       where
         before : nat_le (r + options.within) f ≡ false → f < r + options.within
         before e = grind (arith, nat_tests)
 
     ended : (e : ℕ) → a ≤ e → e ≤ b → unfinished_at criteria t up e ≡ false
-        → IsFinishedBy options.keeps programme t options e
+        → IsFinishedFrame options.keeps programme t options e
     ended e low high finished =
         let first = holds.still.from in
         let last = holds.still.to in
@@ -170,19 +191,20 @@ module _ (programme : ProgrammeValue) (options : OptionsValue) (unread : Option 
         frame_end programme options unread any_refused undecided t up e holds.still.some
         (omega arith)
         (omega arith) in
-        finished_at programme options unread any_refused undecided t up e holds.still.some
+        finished_frame_has_finished_page programme options unread any_refused undecided t up e
+        holds.still.some
         (omega arith)
         (omega arith) (due_known_at_end n e end low high) finished
 
-    some_finished : (from f : ℕ) → a ≤ from → from ≤ f → f ≤ b
+    some_frame_is_finished : (from f : ℕ) → a ≤ from → from ≤ f → f ≤ b
         → ((n r : ℕ)
         → IsEnd t n f
         → unfinished_run_start criteria t n f ≡ Some r
         → start ≤ r
         → r ≤ from
         → ⊥)
-        → SomeFinishedBy options.keeps programme t options from f
-    some_finished from f low below high late =
+        → HasFinishedFrame options.keeps programme t options from f
+    some_frame_is_finished from f low below high late =
         let first = holds.still.from in
         let last = holds.still.to in
         let (n, end) =
@@ -194,21 +216,23 @@ module _ (programme : ProgrammeValue) (options : OptionsValue) (unread : Option 
         let first_unfinished = first_unfinished_eq programme options unread any_refused undecided t
         up n f end in
         let (e, after, before, finished) =
-        finished_from (unfinished_at criteria t up) start from k (omega arith) (omega arith)
+        later_run_start_leaves_finished_frame (unfinished_at criteria t up) start from k
+        (omega arith) (omega arith)
         (λ r is l.
         late n r end (first_unfinished ∙ is)
-        (first_unfinished_some (unfinished_at criteria t up) start k r is).low l) in (
+        (run_start_is_first_unfinished (unfinished_at criteria t up) start k r is).low l) in (
           e,
           after,
           omega arith,
           ended e (omega arith) (omega arith) finished,
         )
 
-    pub again : FinishesAgainBy options.keeps programme t options a b
+    pub again : FinishesRegularly options.keeps programme t options a b
     again from low high =
-        some_finished from (from + options.within) low (omega arith) high
+        some_frame_is_finished from (from + options.within) low (omega arith) high
         (λ n r end is begins l.
-        let not_overdue_yet = (early n (from + options.within) r end (omega arith) high is).0 in
+        let run_is_within_delay = (run_is_within_delay_and_unmissed n (from + options.within) r end
+        (omega arith) high is).0 in
         omega arith)
 
     module _ (is : IsProgramme programme.drawing programme.records) where
@@ -232,19 +256,20 @@ module _ (programme : ProgrammeValue) (options : OptionsValue) (unread : Option 
           → s ≡ get_or programme.records k d
           → a ≤ s.tci
           → s.tco ≤ b + 1
-          → SomeFinishedBy options.keeps programme t options s.tci (s.tco - 1)
+          → HasFinishedFrame options.keeps programme t options s.tci (s.tco - 1)
       subtitle k d l s same low high =
           let (times, found) = ends_at k d l s same in
-          some_finished s.tci (s.tco - 1) low (omega arith) (omega arith)
+          some_frame_is_finished s.tci (s.tco - 1) low (omega arith) (omega arith)
           (λ n r end first_unfinished begins l.
-          let not_missed = (early n (s.tco - 1) r end (omega arith) (omega arith)
+          let not_missed = (run_is_within_delay_and_unmissed n (s.tco - 1) r end (omega arith)
+          (omega arith)
           first_unfinished).1 in
-          not_late r s.tci l (rw found at not_missed))
+          start_is_not_late r s.tci l (rw found at not_missed))
         where
-          not_late : (r tci : ℕ) → r ≤ tci
+          start_is_not_late : (r tci : ℕ) → r ≤ tci
               → (nat_le r tci || ((r == start) && nat_lt tci start)) ≡ false
               → ⊥
-          not_late r tci l e = grind (arith, nat_tests)
+          start_is_not_late r tci l e = grind (arith, nat_tests)
 
       begun : (k : ℕ) (d : SubtitleValue) → k < length programme.records
           → (s : SubtitleValue)
@@ -253,38 +278,41 @@ module _ (programme : ProgrammeValue) (options : OptionsValue) (unread : Option 
           → s.tci < a
           → a < s.tco
           → s.tco ≤ b + 1
-          → SomeFinishedBy options.keeps programme t options a (s.tco - 1)
+          → HasFinishedFrame options.keeps programme t options a (s.tco - 1)
       begun k d l s same at before after high =
           let (times, found) = ends_at k d l s same in
-          some_finished a (s.tco - 1) (omega arith) (omega arith) (omega arith)
+          some_frame_is_finished a (s.tco - 1) (omega arith) (omega arith) (omega arith)
           (λ n r end first_unfinished begins l.
-          let not_missed = (early n (s.tco - 1) r end (omega arith) (omega arith)
+          let not_missed = (run_is_within_delay_and_unmissed n (s.tco - 1) r end (omega arith)
+          (omega arith)
           first_unfinished).1 in
-          not_late r s.tci (omega arith) (omega arith) (rw found at not_missed))
+          start_is_not_late r s.tci (omega arith) (omega arith) (rw found at not_missed))
         where
-          not_late : (r tci : ℕ) → r ≡ start → tci < start
+          start_is_not_late : (r tci : ℕ) → r ≡ start → tci < start
               → (nat_le r tci || ((r == start) && nat_lt tci start)) ≡ false
               → ⊥
-          not_late r tci same l e = grind (arith, nat_tests)
+          start_is_not_late r tci same l e = grind (arith, nat_tests)
 
-      pub finishes : FinishesInTimeBy options.keeps programme t options a b
-      finishes = record {
+      pub stretch_finishes_in_time : FinishesInTime options.keeps programme t options a b
+      stretch_finishes_in_time = record {
         again = again;
         subtitles = λ k d l. subtitle k d l (get_or programme.records k d) refl;
         begun = λ at k d l.
             begun k d l (get_or programme.records k d) refl (at ∙ first-same t);
       }
 
-module _ (programme : ProgrammeValue) (options : OptionsValue) (unread : Option Unread)
+module _ (programme : ProgrammeValue) (options : OptionsValue) (unread : Option UnreadReason)
     (any_refused : Bool) (undecided : ℕ → Bool) (t : Transmission) (a b : ℕ)
-    (unreported : IsUnreported (criteria_unsure programme options unread any_refused undecided) t a
+    (unreported : IsUnreported (criteria_with_refusals programme options unread any_refused
+    undecided) t a
     b)
   where
-    still_unreported : IsStill (criteria_unsure programme options unread any_refused undecided) t a
+    unreported_stretch_is_fault_free : IsFaultFreeBetween (criteria_with_refusals programme options
+        unread any_refused undecided) t a
         b
     unfolding active_faults_at
-    still_unreported = record {
-      up = rises_each t unreported.rising;
+    unreported_stretch_is_fault_free = record {
+      up = rising_frames_rise_at_each_index t unreported.rising;
       some = unreported.stretch.not_empty;
       from = let first = first-same t in omega (arith, unreported.stretch.from);
       to = let last = last-same t in omega (arith, unreported.stretch.to);
@@ -292,33 +320,45 @@ module _ (programme : ProgrammeValue) (options : OptionsValue) (unread : Option 
           (unreported.content n f end low high, unreported.undecided n f end low high);
     }
 
-    pub enough_repeats : IsSufficientRepeats options.keeps programme t options a b
-    enough_repeats = record {
-      stretch = repeated_unreported programme t options unread any_refused undecided a b unreported;
-      codes = codes programme options unread any_refused undecided t a b still_unreported;
-      whole = same_at_once programme options unread any_refused undecided t a b still_unreported;
+    pub unreported_repeats_are_sufficient : IsSufficientRepeats options.keeps programme t options a
+        b
+    unreported_repeats_are_sufficient = record {
+      stretch = unreported_stretch_is_repeated programme t options unread any_refused undecided a b
+          unreported;
+      codes = codes programme options unread any_refused undecided t a b
+          unreported_stretch_is_fault_free;
+      whole = same_at_once programme options unread any_refused undecided t a b
+          unreported_stretch_is_fault_free;
     }
 
-    module _ (closed : NoneOpen (criteria_unsure programme options unread any_refused undecided) t a
+    module _ (closed : HasNoOpenEnd (criteria_with_refusals programme options unread any_refused
+        undecided) t a
         b)
       where
-        holds_unreported : HoldsAtEnds (criteria_unsure programme options unread any_refused
+        unreported_stretch_meets_requirements : MeetsRequirementsAtEnds
+            (criteria_with_refusals programme options unread any_refused
             undecided)
             t a b
         unfolding active_faults_at
-        holds_unreported = record { still = still_unreported; shut = closed }
+        unreported_stretch_meets_requirements = record {
+          still = unreported_stretch_is_fault_free;
+          shut = closed;
+        }
 
-        pub finishes_unreported : IsProgramme programme.drawing programme.records
-            → FinishesInTimeBy options.keeps programme t options a b
-        finishes_unreported is =
-            finishes programme options unread any_refused undecided t a b holds_unreported is
+        pub unreported_stretch_finishes_in_time : IsProgramme programme.drawing programme.records
+            → FinishesInTime options.keeps programme t options a b
+        unreported_stretch_finishes_in_time is =
+            stretch_finishes_in_time programme options unread any_refused undecided t a b
+            unreported_stretch_meets_requirements is
 
 pub law_of_unreported_repeats : LawOfUnreportedRepeats
 law_of_unreported_repeats programme transmission options unread any_refused undecided a b
     unreported = (
-      enough_repeats programme options unread any_refused undecided transmission a b unreported,
+      unreported_repeats_are_sufficient programme options unread any_refused undecided transmission
+          a b unreported,
       λ is closed.
-          finishes_unreported programme options unread any_refused undecided transmission a
+          unreported_stretch_finishes_in_time programme options unread any_refused undecided
+          transmission a
           b unreported
           closed
           is,

@@ -73,16 +73,16 @@ packets_between-each P (s ∷ frames) a b h =
     (packets_between-each P frames a b
     (All-tail (λ (f : SentFrame). All P f.packets) s frames h))
   where
-    of_pes_packet : (t : Bool) → All P s.packets → All P (cond t s.packets [])
-    of_pes_packet true all = all
-    of_pes_packet false all = All-nil P
+    packets_of_frame_hold : (t : Bool) → All P s.packets → All P (cond t s.packets [])
+    packets_of_frame_hold true all = all
+    packets_of_frame_hold false all = All-nil P
 
 module _ (made : ℕ → SentFrame) (numbered : (f : ℕ) → (made f).frame ≡ f) (p : ℕ → Bool) where
   abbrev pub frames : ℕ → ℕ → Transmission
   frames a n = map made (filter p (range_with_len a n))
 
-  abbrev passing : Bool → ℕ → ℕ → Transmission
-  passing t a n = map made
+  abbrev frames_if_selected : Bool → ℕ → ℕ → Transmission
+  frames_if_selected t a n = map made
       (cond t (a ∷ filter p (range_with_len (a + 1) n)) (filter p (range_with_len (a + 1) n)))
 
   later : (a n b : ℕ) → b ≤ a → AllByRecursion (λ (frame : SentFrame). b ≤ frame.frame) (frames a n)
@@ -93,27 +93,29 @@ module _ (made : ℕ → SentFrame) (numbered : (f : ℕ) → (made f).frame ≡
   rises a zero = λ i j d l m. absurd (omega arith)
   rises a (suc n) = go (p a) (rises (a + 1) n)
     where
-      go : (t : Bool) → IsRising (frames (a + 1) n) → IsRising (passing t a n)
+      go : (t : Bool) → IsRising (frames (a + 1) n) → IsRising (frames_if_selected t a n)
       go t ih = grind (arith, nat_tests, All-from_recursion, later)
 
-  pub sent_none : (from end a n : ℕ) → ((j : ℕ) → from ≤ j → j < end → p j ≡ false)
+  pub no_selected_frame_sends_nothing : (from end a n : ℕ) → ((j : ℕ) → from ≤ j → j < end → p j ≡
+      false)
       → packets_between (frames a n) from end ≡ []
-  sent_none from end a zero none = refl
-  sent_none from end a (suc n) none = grind (arith, nat_tests, sent_none from end (a + 1) n none)
+  no_selected_frame_sends_nothing from end a zero none = refl
+  no_selected_frame_sends_nothing from end a (suc n) none = grind
+      (arith, nat_tests, no_selected_frame_sends_nothing from end (a + 1) n none)
 
-  pub sent_at : (g a n : ℕ) → p g ≡ true → a ≤ g → g < a + n
+  pub selected_frame_sends_its_packets : (g a n : ℕ) → p g ≡ true → a ≤ g → g < a + n
       → packets_between (frames a n) g (g + 1) ≡ (made g).packets
-  sent_at g a zero h low high = absurd (omega arith)
-  sent_at g a (suc n) h low high =
+  selected_frame_sends_its_packets g a zero h low high = absurd (omega arith)
+  selected_frame_sends_its_packets g a (suc n) h low high =
       elim (cases_lt a g) [
         | inl before ↦
-            let ih = sent_at g (a + 1) n h (omega arith) (omega arith) in
+            let ih = selected_frame_sends_its_packets g (a + 1) n h (omega arith) (omega arith) in
             grind (arith, nat_tests)
         | inr here ↦ let e : a ≡ g = omega arith in at (p a) (ap p e ∙ h) e
       ]
     where
       at : (t : Bool) → t ≡ true → a ≡ g
-          → packets_between (passing t a n) g (g + 1) ≡ (made g).packets
+          → packets_between (frames_if_selected t a n) g (g + 1) ≡ (made g).packets
       at t h e = grind (arith, nat_tests, later, packets_between-none, append-nil)
 
   pub sent_some : (from end : ℕ) (fs : List ℕ) → (gs : List ℕ)
@@ -129,16 +131,17 @@ module _ (made : ℕ → SentFrame) (numbered : (f : ℕ) → (made f).frame ≡
       go true ih = (f ∷ ih.0, ap (λ ps. (made f).packets ++ ps) ih.1)
       go false ih = ih
 
-  pub each_frame : (P : List ℕ → Type 0) (fs : List ℕ) → ((f : ℕ) → All P (made f).packets)
+  pub each_made_frame_holds : (P : List ℕ → Type 0) (fs : List ℕ) →
+      ((f : ℕ) → All P (made f).packets)
       → EachPacket P (map made fs)
-  each_frame P fs h = All-map (λ (frame : SentFrame). All P frame.packets) made fs
+  each_made_frame_holds P fs h = All-map (λ (frame : SentFrame). All P frame.packets) made fs
       (λ k d l. h (slice_index_or fs k d))
 
   pub starts_with : (a n : ℕ) → p a ≡ true → frames a (suc n) ≡ made a ∷ frames (a + 1) n
   starts_with a n h = grind arith
 
-pub last_push : (frames : Transmission) (frame : SentFrame)
+pub appended_frame_is_the_last : (frames : Transmission) (frame : SentFrame)
     → last_frame (frames ++ frame ∷ []) ≡ frame.frame
-last_push [] frame = refl
-last_push (f ∷ []) frame = refl
-last_push (f ∷ g ∷ frames) frame = last_push (g ∷ frames) frame
+appended_frame_is_the_last [] frame = refl
+appended_frame_is_the_last (f ∷ []) frame = refl
+appended_frame_is_the_last (f ∷ g ∷ frames) frame = appended_frame_is_the_last (g ∷ frames) frame

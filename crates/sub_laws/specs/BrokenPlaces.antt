@@ -6,13 +6,15 @@ use Rattle.ttx_packet.specs.PacketAddress.{IsPacket}
 use Rattle.ttx_page.specs.Page.{IsCell}
 use Rattle.stl_rows.specs.Programme.{IsProgramme, ProgrammeValue}
 use Rattle.sub_plan.specs.Options.{OptionsValue}
-use Rattle.sub_rules.specs.Events.{broken_at, first_header_events, first_reported, late_events}
+use Rattle.sub_rules.specs.Events.{place_of_broken_rule, first_header_events, first_reported_fault}
+use Rattle.sub_rules.specs.Events.{late_events}
 use Rattle.sub_rules.specs.Events.{order_events, active_faults_at}
-use Rattle.sub_rules.specs.FrameRules.{Criteria, HasHeader, IsCovered, IsEnded, IsPaced, ShowsDue}
-use Rattle.sub_rules.specs.FrameRules.{Unread, criteria_of, end_frame, frame_at}
+use Rattle.sub_rules.specs.FrameRules.{Criteria, HasHeader, HasRecentPageHeader, HasNoOpenPage}
+use Rattle.sub_rules.specs.FrameRules.{HasRecentPesPacket, ShowsDue}
+use Rattle.sub_rules.specs.FrameRules.{UnreadReason, criteria_of, end_frame, frame_at}
 use Rattle.sub_rules.specs.Good.{Good}
-use Rattle.sub_rules.specs.Repeats.{GoodBy}
-use Rattle.sub_rules.specs.PesPacketEvents.{all_of_pes_packets}
+use Rattle.sub_rules.specs.Repeats.{GoodWithRepeats}
+use Rattle.sub_rules.specs.PesPacketEvents.{all_events_of_pes_packets}
 use Rattle.sub_rules.specs.PesPackets.{PesPacket, frames_of, joined}
 use Rattle.sub_rules.specs.PesPackets.PesPacket.{Sent}
 use Rattle.sub_rules.specs.PacketRules.{AreClean, KeepsRule}
@@ -26,11 +28,12 @@ use Rattle.sub_rules.specs.declared.packet_rule.Watched.{Watched}
 use Rattle.sub_laws.specs.OnScreen.{Complete}
 
 -- The first wrong cell at the end of frame f, after n frames of the transmission.
-pub record WrongFirst (g : Criteria) (frames : Transmission) (n f row column : ℕ) : Type 0 where
-  pub is_cell : IsCell row column
-  pub broken : ShowsDue g frames n f row column → ⊥
-  pub above : (r k : ℕ) → IsCell r k → r < row → ShowsDue g frames n f r k
-  pub before : (k : ℕ) → k < column → ShowsDue g frames n f row k
+pub record IsFirstWrongCell (g : Criteria) (frames : Transmission) (n f row column : ℕ) : Type 0
+  where
+    pub is_cell : IsCell row column
+    pub broken : ShowsDue g frames n f row column → ⊥
+    pub above : (r k : ℕ) → IsCell r k → r < row → ShowsDue g frames n f r k
+    pub before : (k : ℕ) → k < column → ShowsDue g frames n f row k
 
 -- The requirement of each rule that is checked at the end of frame f, after n frames of the
 -- transmission. If the expected page is unknown, any code may be in any cell.
@@ -40,21 +43,22 @@ IsKept end.Content g frames n f =
     → (row column : ℕ)
     → IsCell row column
     → ShowsDue g frames n f row column
-IsKept end.Gap g frames n f = IsCovered g frames n f
-IsKept end.Incomplete g frames n f = IsEnded g frames n
+IsKept end.Gap g frames n f = HasRecentPageHeader g frames n f
+IsKept end.Incomplete g frames n f = HasNoOpenPage g frames n
 IsKept end.Undecided g frames n f = IsFalse (g.undecided f)
-IsKept end.Silent g frames n f = IsPaced g frames n f
+IsKept end.Silent g frames n f = HasRecentPesPacket g frames n f
 
 -- A fault is active at the end of frame f if and only if its rule is broken. For wrong text, the
 -- fault gives the first wrong cell.
 pub record AreActiveFaults (g : Criteria) (frames : Transmission) (n f : ℕ) : Type 0 where
   pub rules :
       (rule : EndRule)
-      → (broken_at rule (active_faults_at g frames n f) ≡ None) ↔ IsKept rule g frames n f
+      → (place_of_broken_rule rule (active_faults_at g frames n f) ≡ None) ↔ IsKept rule g frames n
+      f
   pub cell :
       (x : ℕ × ℕ)
       → (active_faults_at g frames n f).content ≡ Some x
-      → WrongFirst g frames n f x.0 x.1
+      → IsFirstWrongCell g frames n f x.0 x.1
 
 -- A packet of 42 bytes that has correct address bytes, follows packets without faults and, if it is
 -- a row of the open page, has odd parity. Such rows are equal if they have the same codes.
@@ -65,7 +69,7 @@ pub record IsComparable (w : Watched) (before : List (List ℕ)) (p : List ℕ) 
   pub odd : KeepsRule rule.Parity w before p
 
 -- At each place of a transmission, a fault is reported if and only if a rule is broken there.
-pub record ReportsBroken (g : Criteria) (frames : Transmission) : Type 0 where
+pub record ReportsBrokenPlaces (g : Criteria) (frames : Transmission) : Type 0 where
   -- The first frame is not after the first TCI, and each later frame is after the frame before it.
   pub start :
       (order_events g frames 0 ≡ [])
@@ -92,41 +96,43 @@ pub record ReportsBroken (g : Criteria) (frames : Transmission) : Type 0 where
   pub first :
       IsFalse g.any_refused
       → EachPacket IsPacket frames
-      → first_reported (all_of_pes_packets g (map Sent frames)) ≡ None
-      → all_of_pes_packets g (map Sent frames) ≡ []
+      → first_reported_fault (all_events_of_pes_packets g (map Sent frames)) ≡ None
+      → all_events_of_pes_packets g (map Sent frames) ≡ []
 
 -- If `within` is 0, the events of a transmission report each broken rule at its place, in order,
 -- and nothing else. So the first fault is at the first broken place.
 abbrev pub LawOfBrokenPlaces : Type 0
-LawOfBrokenPlaces = (g : Criteria) (frames : Transmission) → g.within ≡ 0 → ReportsBroken g frames
+LawOfBrokenPlaces = (g : Criteria) (frames : Transmission) → g.within ≡ 0 → ReportsBrokenPlaces g
+    frames
 
 -- A PES file has no event if and only if no PES packet is skipped, its frames are good under the
 -- options, and the entire file was read. If `within` is not 0, consecutive PES packets of one frame
 -- are merged.
-abbrev pub LawOfNothingReportedRepeats : Type 0
-LawOfNothingReportedRepeats =
-    (programme : ProgrammeValue) (options : OptionsValue) (unread : Option Unread)
+abbrev pub LawOfEmptyReportRepeats : Type 0
+LawOfEmptyReportRepeats =
+    (programme : ProgrammeValue) (options : OptionsValue) (unread : Option UnreadReason)
     (pes_packets : List PesPacket)
     → IsProgramme programme.drawing programme.records
     → 0 < options.every
     → EachPacket IsPacket (joined options.within (frames_of pes_packets))
-    → (all_of_pes_packets (criteria_of programme options unread) pes_packets ≡ [])
+    → (all_events_of_pes_packets (criteria_of programme options unread) pes_packets ≡ [])
     ↔ ((length (frames_of pes_packets) ≡ length pes_packets)
-    × GoodBy options.keeps programme (joined options.within (frames_of pes_packets)) options
+    × GoodWithRepeats options.keeps programme (joined options.within (frames_of pes_packets))
+    options
     × (unread ≡ None))
 
 -- If each header must have C4 (erase page) set and `within` is 0, a PES file has no event if and
 -- only if no PES packet is skipped, its frames are good, with complete pages if these are required,
 -- and the entire file was read.
-abbrev pub LawOfNothingReported : Type 0
-LawOfNothingReported =
-    (programme : ProgrammeValue) (options : OptionsValue) (unread : Option Unread)
+abbrev pub LawOfEmptyReport : Type 0
+LawOfEmptyReport =
+    (programme : ProgrammeValue) (options : OptionsValue) (unread : Option UnreadReason)
     (pes_packets : List PesPacket)
     → IsFalse options.keeps
     → options.within ≡ 0
     → 0 < options.every
     → EachPacket IsPacket (frames_of pes_packets)
-    → (all_of_pes_packets (criteria_of programme options unread) pes_packets ≡ [])
+    → (all_events_of_pes_packets (criteria_of programme options unread) pes_packets ≡ [])
     ↔ ((length (frames_of pes_packets) ≡ length pes_packets)
     × Good programme (frames_of pes_packets) options
     × (IsTrue options.asks_complete → Complete (frames_of pes_packets) options)

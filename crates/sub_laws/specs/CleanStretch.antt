@@ -6,7 +6,8 @@ use Rattle.stl_rows.specs.Programme.{ProgrammeValue}
 use Rattle.sub_plan.specs.Options.{OptionsValue}
 use Rattle.sub_rules.specs.Events.{packet_fault, active_faults_at}
 use Rattle.sub_rules.specs.Fault.{fault_row}
-use Rattle.sub_rules.specs.FrameRules.{Criteria, Unread, criteria_of, frame_at, packets_before}
+use Rattle.sub_rules.specs.FrameRules.{Criteria, UnreadReason, criteria_of, frame_at}
+use Rattle.sub_rules.specs.FrameRules.{packets_before}
 use Rattle.sub_rules.specs.FrameRules.{packets_of_frame}
 use Rattle.sub_rules.specs.PacketTests.{breaks}
 use Rattle.sub_rules.specs.Transmission.{IsRising, Transmission, first_frame, last_frame}
@@ -18,9 +19,9 @@ use Rattle.sub_laws.specs.Sufficient.{IsSufficient}
 
 -- A property holds for each packet of the frames from a to b, given all packets that were sent
 -- before it.
-abbrev pub AtPackets :
+abbrev pub HoldsAtPackets :
     (List (List ℕ) → List ℕ → Type 0) → Transmission → ℕ → ℕ → Type 0
-AtPackets Holds frames a b =
+HoldsAtPackets Holds frames a b =
     (i k : ℕ)
     → i < length frames
     → k < length (packets_of_frame frames i)
@@ -42,11 +43,11 @@ IsEnd frames n f =
 
 -- A property holds at the end of each frame from a to b, given the number of transmission frames up
 -- to it.
-abbrev pub AtEnds : (ℕ → ℕ → Type 0) → Transmission → ℕ → ℕ → Type 0
-AtEnds Holds frames a b = (n f : ℕ) → IsEnd frames n f → a ≤ f → f ≤ b → Holds n f
+abbrev pub HoldsAtFrameEnds : (ℕ → ℕ → Type 0) → Transmission → ℕ → ℕ → Type 0
+HoldsAtFrameEnds Holds frames a b = (n f : ℕ) → IsEnd frames n f → a ≤ f → f ≤ b → Holds n f
 
 -- The frames from a to b lie within the transmission.
-pub record IsStretch (frames : Transmission) (a b : ℕ) : Type 0 where
+pub record IsIntervalOfOnePage (frames : Transmission) (a b : ℕ) : Type 0 where
   pub not_empty : 0 < length frames
   pub from : first_frame frames ≤ a
   pub in_order : a ≤ b
@@ -55,34 +56,35 @@ pub record IsStretch (frames : Transmission) (a b : ℕ) : Type 0 where
 -- ---- faults in a range of frames
 
 -- A packet that breaks this rule affects receivers.
-abbrev pub is_needed : PacketRule → Bool
-is_needed r = (fault_row (packet_fault r 0 0)).invalidates
+abbrev pub is_needed_by_receivers : PacketRule → Bool
+is_needed_by_receivers r = (fault_row (packet_fault r 0 0)).invalidates
 
 -- The range of frames has no fault that affects receivers: frame numbers increase in the entire
 -- transmission; no packet of the range breaks a rule that affects receivers; no wrong cell or
 -- missing header is active at the end of any of its frames; and the expected page of each frame,
 -- and of the `within` frames before it, is known.
 pub record IsUnreported (g : Criteria) (frames : Transmission) (a b : ℕ) : Type 0 where
-  pub stretch : IsStretch frames a b
+  pub stretch : IsIntervalOfOnePage frames a b
   pub rising : IsRising frames
   pub packets :
       (r : PacketRule)
-      → IsTrue (is_needed r)
-      → AtPackets (λ before p. IsFalse (breaks r g.watched before p)) frames a b
-  pub content : AtEnds (λ n f. (active_faults_at g frames n f).content ≡ None) frames a b
-  pub gap : AtEnds (λ n f. IsFalse (active_faults_at g frames n f).gap) frames a b
-  pub undecided : AtEnds (λ n f. IsFalse (active_faults_at g frames n f).undecided) frames a b
+      → IsTrue (is_needed_by_receivers r)
+      → HoldsAtPackets (λ before p. IsFalse (breaks r g.watched before p)) frames a b
+  pub content : HoldsAtFrameEnds (λ n f. (active_faults_at g frames n f).content ≡ None) frames a b
+  pub gap : HoldsAtFrameEnds (λ n f. IsFalse (active_faults_at g frames n f).gap) frames a b
+  pub undecided : HoldsAtFrameEnds (λ n f. IsFalse (active_faults_at g frames n f).undecided) frames
+      a b
 
 -- The fault `Incomplete` is not active at the end of any frame from a to b.
-abbrev pub NoneOpen : Criteria → Transmission → ℕ → ℕ → Type 0
-NoneOpen g frames a b =
-    AtEnds (λ n f. IsFalse (active_faults_at g frames n f).incomplete) frames a b
+abbrev pub HasNoOpenEnd : Criteria → Transmission → ℕ → ℕ → Type 0
+HasNoOpenEnd g frames a b =
+    HoldsAtFrameEnds (λ n f. IsFalse (active_faults_at g frames n f).incomplete) frames a b
 
 -- The criteria for these subtitles and options, if other subtitles may have been rejected.
 -- `undecided` are the frames with an unknown expected page.
-abbrev pub criteria_unsure :
-    ProgrammeValue → OptionsValue → Option Unread → Bool → (ℕ → Bool) → Criteria
-criteria_unsure programme options unread any_refused undecided =
+abbrev pub criteria_with_refusals :
+    ProgrammeValue → OptionsValue → Option UnreadReason → Bool → (ℕ → Bool) → Criteria
+criteria_with_refusals programme options unread any_refused undecided =
     record (criteria_of programme options unread)
     { any_refused = any_refused; undecided = undecided }
 
@@ -93,11 +95,13 @@ criteria_unsure programme options unread any_refused undecided =
 abbrev pub LawOfUnreportedStretch : Type 0
 LawOfUnreportedStretch =
     (programme : ProgrammeValue) (transmission : Transmission) (options : OptionsValue)
-    → (unread : Option Unread) (any_refused : Bool) (undecided : ℕ → Bool) (a b : ℕ)
+    → (unread : Option UnreadReason) (any_refused : Bool) (undecided : ℕ → Bool) (a b : ℕ)
     → IsFalse options.keeps
     → options.within ≡ 0
-    → IsUnreported (criteria_unsure programme options unread any_refused undecided) transmission a b
+    → IsUnreported (criteria_with_refusals programme options unread any_refused undecided)
+    transmission a b
     → IsSufficient programme transmission options a b
     × (IsTrue options.asks_complete
-    → NoneOpen (criteria_unsure programme options unread any_refused undecided) transmission a b
+    → HasNoOpenEnd (criteria_with_refusals programme options unread any_refused undecided)
+    transmission a b
     → CompleteWithin transmission options a b)

@@ -3,13 +3,13 @@ use Rattle.std.specs.Prelude.{ℕ, ◌^◌, ◌<◌, ◌≤◌, Bool, List}
 use Rattle.stl_rows.specs.Programme.{ProgrammeValue}
 use Rattle.sub_plan.specs.FrameTime.{clock_of}
 use Rattle.sub_plan.specs.Options.{OptionsValue}
-use Rattle.sub_rules.specs.PesFrames.{CarriesBy}
-use Rattle.sub_rules.specs.Repeats.{GoodBy}
+use Rattle.sub_rules.specs.PesFrames.{CarriesOnClock}
+use Rattle.sub_rules.specs.Repeats.{GoodWithRepeats}
 use Rattle.sub_rules.specs.Transmission.{Transmission}
 
 -- The options with another value of `within`.
-abbrev pub within_frames : ℕ → OptionsValue → OptionsValue
-within_frames more options = record options { within = more }
+abbrev pub options_with_delay : ℕ → OptionsValue → OptionsValue
+options_with_delay more options = record options { within = more }
 
 -- If the bytes of a PES file carry a transmission with some `within`, they carry it with any
 -- greater `within`: each PTS stays within its tolerance, and no two PES packets have the same
@@ -21,7 +21,7 @@ LawOfLongerDelayOfFiles =
     (bytes : List ℕ) (transmission : Transmission)
     → options.origin < 2 ^ 33
     → options.within ≤ more
-    → CarriesBy (clock_of options) options.within bytes transmission
-    → GoodBy keeps programme transmission options
-    → CarriesBy (clock_of (within_frames more options)) more bytes transmission
-    × GoodBy keeps programme transmission (within_frames more options)
+    → CarriesOnClock (clock_of options) options.within bytes transmission
+    → GoodWithRepeats keeps programme transmission options
+    → CarriesOnClock (clock_of (options_with_delay more options)) more bytes transmission
+    × GoodWithRepeats keeps programme transmission (options_with_delay more options)

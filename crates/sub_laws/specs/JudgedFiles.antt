@@ -2,15 +2,15 @@
 use Rattle.std.specs.Prelude.{◌≡◌, ℕ, true, List, ◌++◌, length, None, Option}
 use Rattle.std.specs.List.{AllByRecursion, concat}
 use Rattle.stl_file.specs.Gsi.{gsi_size}
-use Rattle.stl_file.specs.Reader.{findings_for}
+use Rattle.stl_file.specs.Reader.{findings_within_scope}
 use Rattle.stl_file.specs.SubtitleBlocks.{IsBlock}
-use Rattle.stl_file.specs.KeptBlocks.{is_read_to_the_end, kept_blocks}
+use Rattle.stl_file.specs.KeptBlocks.{is_read_to_the_end, scope_blocks}
 use Rattle.stl_rows.specs.declared.layout.Drawing.{Drawing}
-use Rattle.stl_rows.specs.Judged.{JudgedValue, has_refused, judged_of, can_judge}
-use Rattle.stl_rows.specs.Loading.{of_day}
+use Rattle.stl_rows.specs.Judged.{JudgedValue, has_unreliable_subtitle, judged_of, can_judge}
+use Rattle.stl_rows.specs.Loading.{full_day_drawing}
 use Rattle.sub_plan.specs.Options.{OptionsValue}
-use Rattle.sub_rules.specs.FrameRules.{Unread, criteria_of_judged, is_due_undecided}
-use Rattle.sub_rules.specs.PesPacketEvents.{all_of_pes_packets}
+use Rattle.sub_rules.specs.FrameRules.{UnreadReason, criteria_of_judged, is_due_undecided}
+use Rattle.sub_rules.specs.PesPacketEvents.{all_events_of_pes_packets}
 use Rattle.sub_rules.specs.PesPackets.{PesPacket}
 
 -- A range of a subtitle file has the same reliable subtitles as the file without the blocks of all
@@ -21,21 +21,22 @@ LawOfJudgedParts =
     (drawing : Drawing) (gsi : List ℕ) (blocks : List (List ℕ))
     → length gsi ≡ gsi_size
     → AllByRecursion IsBlock blocks
-    → is_read_to_the_end (findings_for drawing.scope (gsi ++ concat blocks)) ≡ true
+    → is_read_to_the_end (findings_within_scope drawing.scope (gsi ++ concat blocks)) ≡ true
     → (judged_of drawing (gsi ++ concat blocks)
-    ≡ judged_of (of_day drawing) (gsi ++ concat (kept_blocks drawing.scope None blocks)))
+    ≡ judged_of (full_day_drawing drawing) (gsi ++ concat (scope_blocks drawing.scope None blocks)))
     × (can_judge drawing (gsi ++ concat blocks)
-    ≡ can_judge (of_day drawing) (gsi ++ concat (kept_blocks drawing.scope None blocks)))
+    ≡ can_judge (full_day_drawing drawing)
+    (gsi ++ concat (scope_blocks drawing.scope None blocks)))
 
 -- If two subtitle files have the same reliable subtitles, the same frames with an unknown expected
 -- page, and rejected subtitles both or neither, a PES file has the same events for both. So neither
 -- the text nor the times of rejected subtitles matter otherwise.
 abbrev pub LawOfEqualReports : Type 0
 LawOfEqualReports =
-    (one other : JudgedValue) (options : OptionsValue) (unread : Option Unread)
+    (one other : JudgedValue) (options : OptionsValue) (unread : Option UnreadReason)
     → (pes_packets : List PesPacket)
     → one.programme ≡ other.programme
-    → has_refused one ≡ has_refused other
+    → has_unreliable_subtitle one ≡ has_unreliable_subtitle other
     → ((frame : ℕ) → is_due_undecided one frame ≡ is_due_undecided other frame)
-    → all_of_pes_packets (criteria_of_judged one options unread) pes_packets
-    ≡ all_of_pes_packets (criteria_of_judged other options unread) pes_packets
+    → all_events_of_pes_packets (criteria_of_judged one options unread) pes_packets
+    ≡ all_events_of_pes_packets (criteria_of_judged other options unread) pes_packets

@@ -1,7 +1,7 @@
 -- The laws of the main theorem: a good transmission meets its guarantees.
 use Rattle.std.specs.Prelude.{◌↔◌, ℕ, ◌+◌, ◌≤◌, All, Bool, IsTrue, List}
 use Rattle.ttx_page.specs.PacketKind.{kind}
-use Rattle.ttx_page.specs.Span.{holds_header}
+use Rattle.ttx_page.specs.Span.{has_page_header}
 use Rattle.stl_rows.specs.Programme.{ProgrammeValue}
 use Rattle.sub_plan.specs.Options.{OptionsValue}
 use Rattle.sub_rules.specs.Transmission.{Transmission, first_frame, last_frame, on_air}
@@ -19,7 +19,7 @@ LawOfWindow =
     → Good programme transmission options
     → IsListening transmission (first_frame transmission) (last_frame transmission) g j f
     → g + options.every ≤ f
-    → IsTrue (holds_header (kind options.page) (on_air transmission g j f))
+    → IsTrue (has_page_header (kind options.page) (on_air transmission g j f))
 
 -- A good transmission is robust, even if rows are lost. Receivers of both classes recover whatever
 -- they received before, so earlier errors no longer matter after the next header. If pages are
@@ -31,8 +31,8 @@ LawOfGood =
     → HasPromises programme transmission options
 
 -- A transmission is robust without lost packets if and only if it is robust.
-abbrev pub LawOfAllKept : Type 0
-LawOfAllKept =
+abbrev pub LawOfLosslessReception : Type 0
+LawOfLosslessReception =
     (programme : ProgrammeValue) (transmission : Transmission) (options : OptionsValue)
     → ((arrived : List Bool)
     → All IsTrue arrived

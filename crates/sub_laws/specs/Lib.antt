@@ -1,4 +1,4 @@
-pub mod AtOnce
+pub mod WithoutDelay
 pub mod BrokenPlaces
 pub mod CleanStretch
 pub mod DelayOfFiles

@@ -2,7 +2,7 @@
 use Rattle.std.specs.Prelude.{ℕ, Bool, List, IsFalse}
 use Rattle.std.specs.List.{AllZip, items_where_true}
 use Rattle.ttx_packet.specs.OneBit.{AreNear}
-use Rattle.ttx_page.specs.LostRows.{IsHitOrLost, LosesNoHeader, arrivals_of}
+use Rattle.ttx_page.specs.LostRows.{IsHitOrLost, LosesNoHeader, arrivals_from_flags}
 use Rattle.ttx_page.specs.Receiver.{State, Hears}
 use Rattle.stl_rows.specs.Programme.{ProgrammeValue}
 use Rattle.sub_plan.specs.Options.{OptionsValue}
@@ -30,7 +30,7 @@ IsRobustWithLosses programme transmission options arrived =
     → IsFalse old.is_open
     → Hears options.page old got new
     → IsServed programme options g f (on_air transmission g j f)
-    (IsHitOrLost options.page (on_air transmission g j f) (arrivals_of arrived got)) old new
+    (IsHitOrLost options.page (on_air transmission g j f) (arrivals_from_flags arrived got)) old new
 
 -- The transmission is robust whichever rows are lost.
 abbrev pub RobustToAnyLoss : ProgrammeValue → Transmission → OptionsValue → Type 0

@@ -2,16 +2,16 @@
 -- The text is gone at the latest when text ends or changes.
 use Rattle.std.specs.Prelude.{◌≡◌, ◌≢◌, ℕ, ◌+◌, ◌-◌, ◌<◌, ◌≤◌, Bool, List, IsTrue}
 use Rattle.ttx_page.specs.DroppedRows.{ExcusedBy}
-use Rattle.ttx_page.specs.LostRows.{IsHitOrLost, arrivals_of}
+use Rattle.ttx_page.specs.LostRows.{IsHitOrLost, arrivals_from_flags}
 use Rattle.ttx_page.specs.Page.{IsCell, cell, space}
 use Rattle.ttx_page.specs.PacketKind.{kind}
 use Rattle.ttx_page.specs.Receiver.{ReceiverClass, State}
-use Rattle.ttx_page.specs.Repeats.{HearsForgetting}
-use Rattle.ttx_page.specs.Span.{holds_beginning}
+use Rattle.ttx_page.specs.Repeats.{HearsRepeats}
+use Rattle.ttx_page.specs.Span.{has_text_beginning}
 use Rattle.stl_rows.specs.Programme.{ProgrammeValue}
 use Rattle.sub_plan.specs.Options.{OptionsValue}
-use Rattle.sub_plan.specs.Schedule.{due_in}
-use Rattle.sub_rules.specs.Repeats.{GoodBy, IsDueWithin, IsCorrectPage}
+use Rattle.sub_plan.specs.Schedule.{due_page_in}
+use Rattle.sub_rules.specs.Repeats.{GoodWithRepeats, IsDueWithin, IsCorrectPage}
 use Rattle.sub_rules.specs.Transmission.{Transmission, first_frame, last_frame, on_air}
 use Rattle.sub_rules.specs.Transmission.{packets_between}
 use Rattle.sub_laws.specs.LostRows.{IsReceivedWithLosses}
@@ -19,17 +19,17 @@ use Rattle.sub_laws.specs.Robust.{HoldsDuePage}
 
 -- Text ends or changes in a cell at frame e: the same code, not a space, is expected in the cell in
 -- each of the `within` + 1 frames before e, and in none of the `within` + 1 frames from e on.
-pub record TextEnds (programme : ProgrammeValue) (within e row column code : ℕ) : Type 0 where
+pub record HasTextEnding (programme : ProgrammeValue) (within e row column code : ℕ) : Type 0 where
   pub is_cell : IsCell row column
   pub is_text : code ≢ space
   pub was :
-      (f : ℕ) → f < e → e ≤ f + within + 1 → cell (due_in programme f) row column ≡ code
-  pub gone : (f : ℕ) → e ≤ f → f ≤ e + within → cell (due_in programme f) row column ≢ code
+      (f : ℕ) → f < e → e ≤ f + within + 1 → cell (due_page_in programme f) row column ≡ code
+  pub gone : (f : ℕ) → e ≤ f → f ≤ e + within → cell (due_page_in programme f) row column ≢ code
 
 -- The page of a receiver at the end of frame f: each cell has a space, or a code that was expected
 -- in it within the last `within` frames. If the page is correct or `within` is 0, each cell has the
 -- expected code, or a space that is allowed because of an error.
-pub record HoldsWhatIsDue
+pub record HoldsExpectedCodes
     (keeps : Bool) (programme : ProgrammeValue) (transmission : Transmission)
     (options : OptionsValue) (f : ℕ) (IsExcused : ℕ → ℕ → Type 0) (new : State)
     : Type 0 where
@@ -49,21 +49,21 @@ abbrev pub LawOfOldText : Type 0
 LawOfOldText =
     (keeps : Bool) (programme : ProgrammeValue) (transmission : Transmission)
     → (options : OptionsValue) (e row column code : ℕ)
-    → GoodBy keeps programme transmission options
-    → TextEnds programme options.within e row column code
+    → GoodWithRepeats keeps programme transmission options
+    → HasTextEnding programme options.within e row column code
     → first_frame transmission + options.within < e
     → e + options.within ≤ last_frame transmission
     → IsTrue
-    (holds_beginning keeps (kind options.page)
+    (has_text_beginning keeps (kind options.page)
     (packets_between transmission (e - options.within) (e + options.within + 1)))
     × ((class : ReceiverClass) (anew : Bool) (g j f : ℕ) (arrived : List Bool)
     → (got : List (List ℕ)) (old new : State)
     → IsReceivedWithLosses transmission (first_frame transmission) (last_frame transmission) g j f
     arrived got
-    → HearsForgetting class anew options.page old got new
+    → HearsRepeats class anew options.page old got new
     → g + options.within < e
     → e + options.within ≤ f
-    → HoldsWhatIsDue keeps programme transmission options f
+    → HoldsExpectedCodes keeps programme transmission options f
     (ExcusedBy class
-    (IsHitOrLost options.page (on_air transmission g j f) (arrivals_of arrived got)))
+    (IsHitOrLost options.page (on_air transmission g j f) (arrivals_from_flags arrived got)))
     new)

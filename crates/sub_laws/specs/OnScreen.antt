@@ -1,12 +1,12 @@
 -- The screen of a receiver that shows a page only after a later header has ended it.
 use Rattle.std.specs.Prelude.{◌≡◌, ℕ, ◌≤◌, Bool, List, [], Some, IsTrue, IsFalse}
 use Rattle.ttx_page.specs.DroppedRows.{ExcusedBy}
-use Rattle.ttx_page.specs.LostRows.{IsHitOrLost, arrivals_of}
+use Rattle.ttx_page.specs.LostRows.{IsHitOrLost, arrivals_from_flags}
 use Rattle.ttx_page.specs.Page.{Rows}
 use Rattle.ttx_page.specs.PacketKind.{kind}
 use Rattle.ttx_page.specs.Receiver.{ReceiverClass}
 use Rattle.ttx_page.specs.Screen.{Display, ShowsBy}
-use Rattle.ttx_page.specs.Span.{holds_header, is_unended}
+use Rattle.ttx_page.specs.Span.{has_page_header, has_no_page_end}
 use Rattle.stl_rows.specs.Programme.{IsProgramme, ProgrammeValue}
 use Rattle.sub_plan.specs.Options.{IsOptions, OptionsValue}
 use Rattle.sub_laws.specs.LostRows.{IsReceivedWithLosses}
@@ -22,8 +22,8 @@ CompleteWithin transmission options a b =
     (f : ℕ)
     → a ≤ f
     → f ≤ b
-    → IsTrue (holds_header (kind options.page) (on_air_until transmission f))
-    → IsFalse (is_unended (kind options.page) (on_air_until transmission f))
+    → IsTrue (has_page_header (kind options.page) (on_air_until transmission f))
+    → IsFalse (has_no_page_end (kind options.page) (on_air_until transmission f))
 
 -- Pages are complete in all frames of the transmission.
 abbrev pub Complete : Transmission → OptionsValue → Type 0
@@ -39,12 +39,12 @@ ShownWithin class programme transmission options a b =
     (g j f : ℕ) (arrived : List Bool) (got : List (List ℕ)) (old new : Display)
     → IsReceivedWithLosses transmission a b g j f arrived got
     → ShowsBy class options.page old got new
-    → IsTrue (holds_header (kind options.page) (on_air transmission g j f))
+    → IsTrue (has_page_header (kind options.page) (on_air transmission g j f))
     → (page : Rows)
     × (new.screen ≡ Some page)
     × HoldsDuePage programme f
     (ExcusedBy class
-    (IsHitOrLost options.page (on_air transmission g j f) (arrivals_of arrived got)))
+    (IsHitOrLost options.page (on_air transmission g j f) (arrivals_from_flags arrived got)))
     page
 
 -- The schedule of a subtitle file with at least one subtitle has complete pages, in serial and

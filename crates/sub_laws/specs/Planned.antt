@@ -6,7 +6,7 @@ use Rattle.stl_rows.specs.declared.national.National.{National}
 use Rattle.stl_rows.specs.Programme.{IsProgramme, ProgrammeValue}
 use Rattle.sub_plan.specs.FrameTime.{clock_of}
 use Rattle.sub_plan.specs.Options.{IsOptions, OptionsValue}
-use Rattle.sub_plan.specs.Schedule.{due_in, plan, plan_frames}
+use Rattle.sub_plan.specs.Schedule.{due_page_in, plan, plan_frames}
 use Rattle.sub_plan.specs.Sending.{sending}
 use Rattle.sub_rules.specs.Transmission.{SentFrame, Transmission}
 use Rattle.sub_rules.specs.Good.{Good}
@@ -20,7 +20,7 @@ planned_at due o national serial f =
 -- The schedule of a subtitle file as a transmission.
 abbrev pub planned : ProgrammeValue → OptionsValue → Bool → Transmission
 planned programme o serial =
-    map (planned_at (due_in programme) o programme.drawing.national serial)
+    map (planned_at (due_page_in programme) o programme.drawing.national serial)
     (plan_frames programme o.every)
 
 -- The schedule of a subtitle file with at least one subtitle is a good transmission, in serial and

@@ -2,7 +2,7 @@
 -- before.
 use Rattle.std.specs.Prelude.{ℕ, Bool, List}
 use Rattle.ttx_page.specs.DroppedRows.{ExcusedBy}
-use Rattle.ttx_page.specs.LostRows.{IsHitOrLost, arrivals_of}
+use Rattle.ttx_page.specs.LostRows.{IsHitOrLost, arrivals_from_flags}
 use Rattle.ttx_page.specs.Receiver.{HearsBy, ReceiverClass, State}
 use Rattle.stl_rows.specs.Programme.{ProgrammeValue}
 use Rattle.sub_plan.specs.Options.{OptionsValue}
@@ -22,5 +22,5 @@ RecoversWithin class programme transmission options a b =
     → HearsBy class options.page old got new
     → IsServed programme options g f (on_air transmission g j f)
     (ExcusedBy class
-    (IsHitOrLost options.page (on_air transmission g j f) (arrivals_of arrived got)))
+    (IsHitOrLost options.page (on_air transmission g j f) (arrivals_from_flags arrived got)))
     old new

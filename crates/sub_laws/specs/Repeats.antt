@@ -4,23 +4,24 @@
 use Rattle.std.specs.Prelude.{◌≡◌, ℕ, ◌+◌, ◌-◌, ◌<◌, ◌≤◌, ◌||◌, All, Bool, false, List, [], Some}
 use Rattle.std.specs.Prelude.{not, IfSome, IsTrue}
 use Rattle.ttx_page.specs.DroppedRows.{ExcusedBy}
-use Rattle.ttx_page.specs.LostRows.{IsHitOrLost, arrivals_of}
+use Rattle.ttx_page.specs.LostRows.{IsHitOrLost, arrivals_from_flags}
 use Rattle.ttx_page.specs.Page.{IsCell, Rows, cell}
 use Rattle.ttx_page.specs.PacketKind.{kind}
 use Rattle.ttx_page.specs.Receiver.{Hears, ReceiverClass, State}
-use Rattle.ttx_page.specs.Repeats.{HearsForgetting, IsFresh, MayFollow, SendsText}
-use Rattle.ttx_page.specs.Repeats.{ShowsForgetting}
+use Rattle.ttx_page.specs.Repeats.{HearsRepeats, IsFresh, MayFollow, SendsText}
+use Rattle.ttx_page.specs.Repeats.{ShowsRepeats}
 use Rattle.ttx_page.specs.Screen.{Display}
 use Rattle.ttx_page.specs.Shown.{kept}
-use Rattle.ttx_page.specs.Span.{holds_header, is_open_after}
+use Rattle.ttx_page.specs.Span.{has_page_header, is_open_after}
 use Rattle.stl_rows.specs.Programme.{IsProgramme, ProgrammeValue}
 use Rattle.sub_plan.specs.Options.{IsOptions, OptionsValue}
 use Rattle.sub_rules.specs.Good.{HoldsHeader}
-use Rattle.sub_rules.specs.Repeats.{FinishesAgainBy, GoodBy, HasEndedPage, IsDueWithin}
-use Rattle.sub_rules.specs.Repeats.{IsCorrectPage, KeepsDueCodes, KeepsRulesBy, SomeFinishedBy}
+use Rattle.sub_rules.specs.Repeats.{FinishesRegularly, GoodWithRepeats, HasEndedPage, IsDueWithin}
+use Rattle.sub_rules.specs.Repeats.{IsCorrectPage, KeepsDueCodes, KeepsRulesWithRepeats}
+use Rattle.sub_rules.specs.Repeats.{HasFinishedFrame}
 use Rattle.sub_rules.specs.Transmission.{IsRising, Transmission, first_frame, last_frame, on_air}
 use Rattle.sub_rules.specs.Transmission.{on_air_until}
-use Rattle.sub_laws.specs.CleanStretch.{AtPackets, IsStretch}
+use Rattle.sub_laws.specs.CleanStretch.{HoldsAtPackets, IsIntervalOfOnePage}
 use Rattle.sub_laws.specs.LostRows.{IsReceivedWithLosses}
 use Rattle.sub_laws.specs.Planned.{planned}
 use Rattle.sub_laws.specs.Robust.{HoldsDuePage}
@@ -30,24 +31,24 @@ use Rattle.sub_laws.specs.Robust.{HoldsDuePage}
 -- The guarantee to a receiver that may erase its page at any header of the page (`anew`: it always
 -- does). It listened from frame g to the end of frame f, the packets `sent` were sent, and its
 -- state changed from `old` to `new`.
-pub record IsServedForgetting
+pub record IsServedIfForgetful
     (keeps anew : Bool) (programme : ProgrammeValue) (transmission : Transmission)
     (options : OptionsValue) (g f : ℕ) (sent : List (List ℕ)) (IsExcused : ℕ → ℕ → Type 0)
     (old new : State)
     : Type 0 where
   -- A header of the page was sent by the end of frame g + `every`.
-  pub in_time : g + options.every ≤ f → IsTrue (holds_header (kind options.page) sent)
+  pub in_time : g + options.every ≤ f → IsTrue (has_page_header (kind options.page) sent)
   -- The receiver has received a header of the page if and only if it had before or a header was
   -- sent.
-  pub heard : new.heard ≡ (old.heard || holds_header (kind options.page) sent)
+  pub heard : new.heard ≡ (old.heard || has_page_header (kind options.page) sent)
   -- The receiver's page is open if and only if no page header has ended it since its last header.
   pub is_open :
-      IsTrue (holds_header (kind options.page) sent || not old.is_open)
+      IsTrue (has_page_header (kind options.page) sent || not old.is_open)
       → new.is_open ≡ is_open_after (kind options.page) sent
   -- Once a header was sent and the receiver's old page is erased, each cell has a space, or a code
   -- that was expected in it within the last `within` frames.
   pub codes :
-      IsTrue (holds_header (kind options.page) sent)
+      IsTrue (has_page_header (kind options.page) sent)
       → IsFresh keeps anew options.page sent old
       → (row column : ℕ)
       → IsCell row column
@@ -55,81 +56,81 @@ pub record IsServedForgetting
   -- If the page is correct at the end of frame f, each cell of the receiver has the expected code,
   -- or a space that is allowed because of an error.
   pub cells :
-      IsTrue (holds_header (kind options.page) sent)
+      IsTrue (has_page_header (kind options.page) sent)
       → IsFresh keeps anew options.page sent old
       → IsCorrectPage keeps programme options.page transmission f
       → HoldsDuePage programme f IsExcused new.page
 
 -- Receivers of this class that may erase the page at any header recover in the frames from a to b:
--- the guarantee `IsServedForgetting` holds wherever a receiver starts and stops in these frames,
+-- the guarantee `IsServedIfForgetful` holds wherever a receiver starts and stops in these frames,
 -- and whatever it receives. A cell may have a space only if its byte had a wrong bit or its row was
 -- lost since the last header; for receivers that drop a row with an error, if any byte of its row
 -- had a wrong bit or the row was lost.
 --
 -- A receiver with old text recovers from the next header with C4 (erase page) set; a receiver with
 -- a blank page, or one that erases it at each header, recovers from any header.
-abbrev pub RecoversForgetting :
+abbrev pub RecoversIfForgetful :
     Bool → Bool → ReceiverClass → ProgrammeValue → Transmission → OptionsValue → ℕ → ℕ → Type 0
-RecoversForgetting keeps anew class programme transmission options a b =
+RecoversIfForgetful keeps anew class programme transmission options a b =
     (g j f : ℕ) (arrived : List Bool) (got : List (List ℕ)) (old new : State)
     → IsReceivedWithLosses transmission a b g j f arrived got
-    → HearsForgetting class anew options.page old got new
-    → IsServedForgetting keeps anew programme transmission options g f (on_air transmission g j f)
+    → HearsRepeats class anew options.page old got new
+    → IsServedIfForgetful keeps anew programme transmission options g f (on_air transmission g j f)
     (ExcusedBy class
-    (IsHitOrLost options.page (on_air transmission g j f) (arrivals_of arrived got)))
+    (IsHitOrLost options.page (on_air transmission g j f) (arrivals_from_flags arrived got)))
     old new
 
 -- At the end of each frame from a to b, receivers that may erase the page at any header have the
 -- expected page, once a header was sent and their old page is erased. A cell may have a space
--- because of an error, as in `RecoversForgetting`.
-abbrev pub HoldsForgetting :
+-- because of an error, as in `RecoversIfForgetful`.
+abbrev pub HoldsIfForgetful :
     Bool → Bool → ReceiverClass → ProgrammeValue → Transmission → OptionsValue → ℕ → ℕ → Type 0
-HoldsForgetting keeps anew class programme transmission options a b =
+HoldsIfForgetful keeps anew class programme transmission options a b =
     (g j f : ℕ) (arrived : List Bool) (got : List (List ℕ)) (old new : State)
     → IsReceivedWithLosses transmission a b g j f arrived got
-    → HearsForgetting class anew options.page old got new
-    → IsTrue (holds_header (kind options.page) (on_air transmission g j f))
+    → HearsRepeats class anew options.page old got new
+    → IsTrue (has_page_header (kind options.page) (on_air transmission g j f))
     → IsFresh keeps anew options.page (on_air transmission g j f) old
     → HoldsDuePage programme f
     (ExcusedBy class
-    (IsHitOrLost options.page (on_air transmission g j f) (arrivals_of arrived got)))
+    (IsHitOrLost options.page (on_air transmission g j f) (arrivals_from_flags arrived got)))
     new.page
 
 -- At the end of each frame from a to b with a correct page that has ended, the expected page is on
 -- the screens of receivers that may erase the page at any header.
-abbrev pub ShownForgetting :
+abbrev pub ShownIfForgetful :
     Bool → Bool → ReceiverClass → ProgrammeValue → Transmission → OptionsValue → ℕ → ℕ → Type 0
-ShownForgetting keeps anew class programme transmission options a b =
+ShownIfForgetful keeps anew class programme transmission options a b =
     (g j f : ℕ) (arrived : List Bool) (got : List (List ℕ)) (old new : Display)
     → IsReceivedWithLosses transmission a b g j f arrived got
-    → ShowsForgetting class anew options.page old got new
-    → IsTrue (holds_header (kind options.page) (on_air transmission g j f))
-    → IsFresh keeps anew options.page (on_air transmission g j f) old.held
+    → ShowsRepeats class anew options.page old got new
+    → IsTrue (has_page_header (kind options.page) (on_air transmission g j f))
+    → IsFresh keeps anew options.page (on_air transmission g j f) old.receiver_state
     → IsCorrectPage keeps programme options.page transmission f
     → HasEndedPage options.page transmission f
     → (page : Rows)
     × (new.screen ≡ Some page)
     × HoldsDuePage programme f
     (ExcusedBy class
-    (IsHitOrLost options.page (on_air transmission g j f) (arrivals_of arrived got)))
+    (IsHitOrLost options.page (on_air transmission g j f) (arrivals_from_flags arrived got)))
     page
 
 -- ---- guarantees for a range of frames
 
 -- The frames from a to b are finished in time, if only packets in these frames count.
-pub record FinishesInTimeBy
+pub record FinishesInTime
     (keeps : Bool) (programme : ProgrammeValue) (transmission : Transmission)
     (options : OptionsValue) (a b : ℕ)
     : Type 0 where
   -- At least one of any `within` + 1 consecutive frames is finished.
-  pub again : FinishesAgainBy keeps programme transmission options a b
+  pub again : FinishesRegularly keeps programme transmission options a b
   -- At least one frame is finished of each subtitle that begins in the frames from a to b and does
   -- not end after them.
   pub subtitles :
       All
       (λ t. a ≤ t.tci
       → t.tco ≤ b + 1
-      → SomeFinishedBy keeps programme transmission options t.tci (t.tco - 1))
+      → HasFinishedFrame keeps programme transmission options t.tci (t.tco - 1))
       programme.records
   -- If the transmission begins with frame a, at least one frame is finished of each subtitle that
   -- began before a and does not end after frame b.
@@ -139,12 +140,12 @@ pub record FinishesInTimeBy
       (λ t. t.tci < a
       → a < t.tco
       → t.tco ≤ b + 1
-      → SomeFinishedBy keeps programme transmission options a (t.tco - 1))
+      → HasFinishedFrame keeps programme transmission options a (t.tco - 1))
       programme.records
 
 -- The guarantees for the frames from a to b, for receivers of both classes, including receivers
 -- that may erase the page at any header.
-pub record MayBeTrustedBy
+pub record MayBeTrustedWithRepeats
     (keeps : Bool) (programme : ProgrammeValue) (transmission : Transmission)
     (options : OptionsValue) (a b : ℕ)
     : Type 0 where
@@ -152,24 +153,24 @@ pub record MayBeTrustedBy
   -- (erase page) set.
   pub recovers :
       (anew : Bool) (class : ReceiverClass)
-      → RecoversForgetting keeps anew class programme transmission options a b
+      → RecoversIfForgetful keeps anew class programme transmission options a b
   -- Receivers have the expected page on their screens at the end of each frame with a correct page
   -- that has ended.
   pub shown :
       (anew : Bool) (class : ReceiverClass)
-      → ShownForgetting keeps anew class programme transmission options a b
+      → ShownIfForgetful keeps anew class programme transmission options a b
   -- Each page becomes correct within the permitted number of frames.
-  pub finishes : FinishesInTimeBy keeps programme transmission options a b
+  pub stretch_finishes_in_time : FinishesInTime keeps programme transmission options a b
   -- If `within` is 0, receivers have the expected page at the end of each frame.
   pub at_once :
       options.within ≡ 0
       → (anew : Bool) (class : ReceiverClass)
-      → HoldsForgetting keeps anew class programme transmission options a b
+      → HoldsIfForgetful keeps anew class programme transmission options a b
 
--- The guarantees of `MayBeTrustedBy` for all frames of a transmission.
-abbrev pub HasPromisesBy : Bool → ProgrammeValue → Transmission → OptionsValue → Type 0
-HasPromisesBy keeps programme transmission options =
-    MayBeTrustedBy keeps programme transmission options (first_frame transmission)
+-- The guarantees of `MayBeTrustedWithRepeats` for all frames of a transmission.
+abbrev pub HasPromisesWithRepeats : Bool → ProgrammeValue → Transmission → OptionsValue → Type 0
+HasPromisesWithRepeats keeps programme transmission options =
+    MayBeTrustedWithRepeats keeps programme transmission options (first_frame transmission)
     (last_frame transmission)
 
 -- ---- sufficient conditions for the guarantees
@@ -204,9 +205,9 @@ pub record IsRepeatedStretch
 pub record IsFollowedStretch
     (keeps : Bool) (transmission : Transmission) (options : OptionsValue) (a b : ℕ)
     : Type 0 where
-  pub stretch : IsStretch transmission a b
+  pub stretch : IsIntervalOfOnePage transmission a b
   pub rising : IsRising transmission
-  pub packets : AtPackets (MayFollow keeps options.page) transmission a b
+  pub packets : HoldsAtPackets (MayFollow keeps options.page) transmission a b
   pub repeats :
       (start : ℕ)
       → a ≤ start
@@ -234,25 +235,25 @@ LawOfRepeatedStretch =
     → IsRepeatedStretch keeps transmission options a b
     → KeepsDueCodes keeps programme transmission options a b
     → ((anew : Bool) (class : ReceiverClass)
-    → RecoversForgetting keeps anew class programme transmission options a b
-    × ShownForgetting keeps anew class programme transmission options a b)
-    × (FinishesInTimeBy keeps programme transmission options a b
-    → MayBeTrustedBy keeps programme transmission options a b)
+    → RecoversIfForgetful keeps anew class programme transmission options a b
+    × ShownIfForgetful keeps anew class programme transmission options a b)
+    × (FinishesInTime keeps programme transmission options a b
+    → MayBeTrustedWithRepeats keeps programme transmission options a b)
 
 -- In all frames of a transmission that is good under the options, receivers recover, and the
 -- expected page is on their screens. A transmission of valid subtitles meets all guarantees.
-abbrev pub LawOfGoodRepeats : Type 0
-LawOfGoodRepeats =
+abbrev pub LawOfGoodWithRepeats : Type 0
+LawOfGoodWithRepeats =
     (keeps : Bool) (programme : ProgrammeValue) (transmission : Transmission)
     → (options : OptionsValue)
-    → GoodBy keeps programme transmission options
+    → GoodWithRepeats keeps programme transmission options
     → ((anew : Bool) (class : ReceiverClass)
-    → RecoversForgetting keeps anew class programme transmission options
+    → RecoversIfForgetful keeps anew class programme transmission options
     (first_frame transmission) (last_frame transmission)
-    × ShownForgetting keeps anew class programme transmission options (first_frame transmission)
+    × ShownIfForgetful keeps anew class programme transmission options (first_frame transmission)
     (last_frame transmission))
     × (IsProgramme programme.drawing programme.records
-    → HasPromisesBy keeps programme transmission options)
+    → HasPromisesWithRepeats keeps programme transmission options)
 
 -- A transmission that is good with some `within` is good with any greater `within`.
 abbrev pub LawOfLongerRepeats : Type 0
@@ -260,8 +261,8 @@ LawOfLongerRepeats =
     (keeps : Bool) (programme : ProgrammeValue) (transmission : Transmission)
     → (options : OptionsValue) (more : ℕ)
     → options.within ≤ more
-    → GoodBy keeps programme transmission options
-    → GoodBy keeps programme transmission (record options { within = more })
+    → GoodWithRepeats keeps programme transmission options
+    → GoodWithRepeats keeps programme transmission (record options { within = more })
 
 -- The schedule of a subtitle file with at least one subtitle is good for any `within`, in serial
 -- and parallel mode, whether or not repeats may have C4 (erase page) clear, unless the pace is less
@@ -273,17 +274,17 @@ LawOfPlanRepeats =
     → (programme.records ≡ [] → ⊥)
     → IsOptions options
     → IfSome options.pace (λ frames. options.every ≤ frames)
-    → GoodBy keeps programme (planned programme options serial) options
+    → GoodWithRepeats keeps programme (planned programme options serial) options
 
 -- If a transmission keeps rules 1 to 6 and no bit is wrong, a receiver that keeps its page at
 -- headers with C4 (erase page) clear, and started with a blank page or has erased it since, has the
 -- code `kept` in each cell at the end of each frame. So if that is not the expected code, the
 -- receiver shows a wrong code.
-abbrev pub LawOfKeptOnAir : Type 0
-LawOfKeptOnAir =
+abbrev pub LawOfKeptCodes : Type 0
+LawOfKeptCodes =
     (keeps : Bool) (programme : ProgrammeValue) (transmission : Transmission)
     → (options : OptionsValue) (f : ℕ) (old new : State)
-    → KeepsRulesBy keeps programme transmission options
+    → KeepsRulesWithRepeats keeps programme transmission options
     → first_frame transmission ≤ f
     → f ≤ last_frame transmission
     → Hears options.page old (on_air_until transmission f) new

@@ -3,11 +3,11 @@
 use Rattle.std.specs.Prelude.{◌≡◌, ℕ, ◌≤◌, Bool, Option}
 use Rattle.stl_rows.specs.Programme.{IsProgramme, ProgrammeValue}
 use Rattle.sub_plan.specs.Options.{OptionsValue}
-use Rattle.sub_rules.specs.FrameRules.{Unread}
+use Rattle.sub_rules.specs.FrameRules.{UnreadReason}
 use Rattle.sub_rules.specs.Repeats.{IsCorrectPage, KeepsDueCodes}
 use Rattle.sub_rules.specs.Transmission.{Transmission}
-use Rattle.sub_laws.specs.CleanStretch.{IsUnreported, NoneOpen, criteria_unsure}
-use Rattle.sub_laws.specs.Repeats.{FinishesInTimeBy, IsRepeatedStretch}
+use Rattle.sub_laws.specs.CleanStretch.{IsUnreported, HasNoOpenEnd, criteria_with_refusals}
+use Rattle.sub_laws.specs.Repeats.{FinishesInTime, IsRepeatedStretch}
 
 -- The conditions that suffice for the guarantees in the frames from a to b.
 pub record IsSufficientRepeats
@@ -34,9 +34,11 @@ pub record IsSufficientRepeats
 abbrev pub LawOfUnreportedRepeats : Type 0
 LawOfUnreportedRepeats =
     (programme : ProgrammeValue) (transmission : Transmission) (options : OptionsValue)
-    → (unread : Option Unread) (any_refused : Bool) (undecided : ℕ → Bool) (a b : ℕ)
-    → IsUnreported (criteria_unsure programme options unread any_refused undecided) transmission a b
+    → (unread : Option UnreadReason) (any_refused : Bool) (undecided : ℕ → Bool) (a b : ℕ)
+    → IsUnreported (criteria_with_refusals programme options unread any_refused undecided)
+    transmission a b
     → IsSufficientRepeats options.keeps programme transmission options a b
     × (IsProgramme programme.drawing programme.records
-    → NoneOpen (criteria_unsure programme options unread any_refused undecided) transmission a b
-    → FinishesInTimeBy options.keeps programme transmission options a b)
+    → HasNoOpenEnd (criteria_with_refusals programme options unread any_refused undecided)
+    transmission a b
+    → FinishesInTime options.keeps programme transmission options a b)

@@ -7,11 +7,11 @@ use Rattle.ttx_page.specs.Page.{Rows, space, cell, IsCell}
 use Rattle.ttx_page.specs.PacketKind.{kind}
 use Rattle.ttx_page.specs.Receiver.{State, Hears}
 use Rattle.ttx_page.specs.Shown.{IsHit}
-use Rattle.ttx_page.specs.Span.{holds_header, is_unended}
+use Rattle.ttx_page.specs.Span.{has_page_header, has_no_page_end}
 use Rattle.stl_rows.specs.Programme.{ProgrammeValue}
 use Rattle.sub_plan.specs.Options.{OptionsValue}
 use Rattle.sub_rules.specs.Transmission.{Transmission, first_frame, last_frame, packets_of, on_air}
-use Rattle.sub_plan.specs.Schedule.{due_in}
+use Rattle.sub_plan.specs.Schedule.{due_page_in}
 
 -- A receiver starts at packet j of frame g, or after its last packet, and stops at the end of frame
 -- f. Both frames are in the range from a to b.
@@ -27,7 +27,7 @@ abbrev pub HoldsDuePage : ProgrammeValue → ℕ → (ℕ → ℕ → Type 0) �
 HoldsDuePage programme f IsExcused page =
     (row column : ℕ)
     → IsCell row column
-    → (cell page row column ≡ cell (due_in programme f) row column)
+    → (cell page row column ≡ cell (due_page_in programme f) row column)
     ⊎ ((cell page row column ≡ space) × IsExcused row column)
 
 -- The guarantee to a receiver that listened from frame g to the end of frame f. The packets `sent`
@@ -37,20 +37,20 @@ pub record IsServed
     (sent : List (List ℕ)) (IsExcused : ℕ → ℕ → Type 0) (old new : State)
     : Type 0 where
   -- A header of the page was sent by the end of frame g + `every`.
-  pub in_time : g + options.every ≤ f → IsTrue (holds_header (kind options.page) sent)
+  pub in_time : g + options.every ≤ f → IsTrue (has_page_header (kind options.page) sent)
   -- The receiver has received a header of the page if and only if it had before or a header was
   -- sent.
-  pub heard : new.heard ≡ (old.heard || holds_header (kind options.page) sent)
+  pub heard : new.heard ≡ (old.heard || has_page_header (kind options.page) sent)
   -- Once a header was sent, each cell has the expected code, or a space that is allowed because of
   -- an error.
   pub cells :
-      IsTrue (holds_header (kind options.page) sent)
+      IsTrue (has_page_header (kind options.page) sent)
       → HoldsDuePage programme f IsExcused new.page
   -- Once a header was sent, the receiver's page is open if and only if no page header has ended it
   -- since its last header.
   pub is_open :
-      IsTrue (holds_header (kind options.page) sent)
-      → new.is_open ≡ is_unended (kind options.page) sent
+      IsTrue (has_page_header (kind options.page) sent)
+      → new.is_open ≡ has_no_page_end (kind options.page) sent
 
 -- A robust transmission: the guarantee `IsServed` holds wherever a receiver starts and stops, with
 -- at most one wrong bit in each byte, and whatever page it had before its first header. A cell may

@@ -29,7 +29,7 @@ pub record HasPromises
   -- The main theorem: the transmission is robust.
   pub robust : Robust programme transmission options
   -- The transmission is robust even if rows are lost.
-  pub to_loss : RobustToAnyLoss programme transmission options
+  pub transmission_survives_any_loss : RobustToAnyLoss programme transmission options
   -- Receivers recover in all frames, whatever they received before. If pages are complete, the
   -- expected page is on their screens.
   pub trusted :
@@ -38,8 +38,8 @@ pub record HasPromises
 
 -- If receivers recover in all frames of a transmission, it is robust, even if rows are lost. So it
 -- is enough to prove recovery.
-abbrev pub LawOfWholeRecovery : Type 0
-LawOfWholeRecovery =
+abbrev pub LawOfFullRecovery : Type 0
+LawOfFullRecovery =
     (programme : ProgrammeValue) (transmission : Transmission) (options : OptionsValue)
     → RecoversWithin Storing programme transmission options (first_frame transmission)
     (last_frame transmission)
@@ -48,8 +48,8 @@ LawOfWholeRecovery =
 
 -- If the guarantees hold for the range of all frames of a transmission, they hold for the
 -- transmission.
-abbrev pub LawOfWholeStretch : Type 0
-LawOfWholeStretch =
+abbrev pub LawOfFullStretch : Type 0
+LawOfFullStretch =
     (programme : ProgrammeValue) (transmission : Transmission) (options : OptionsValue)
     → MayBeTrusted programme transmission options (first_frame transmission)
     (last_frame transmission)

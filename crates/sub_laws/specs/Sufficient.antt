@@ -6,7 +6,7 @@ use Rattle.ttx_page.specs.Page.{cell, IsCell}
 use Rattle.ttx_page.specs.Shown.{shown}
 use Rattle.stl_rows.specs.Programme.{ProgrammeValue}
 use Rattle.sub_plan.specs.Options.{OptionsValue}
-use Rattle.sub_plan.specs.Schedule.{due_in}
+use Rattle.sub_plan.specs.Schedule.{due_page_in}
 use Rattle.sub_rules.specs.Transmission.{Transmission, IsRising, first_frame, last_frame, on_air}
 use Rattle.sub_rules.specs.Transmission.{on_air_until}
 use Rattle.sub_rules.specs.Good.{Good, HoldsHeader}
@@ -44,7 +44,7 @@ pub record IsSufficient
       → f ≤ b
       → IsCell row column
       → shown options.page (on_air_until transmission f) row column
-      ≡ cell (due_in programme f) row column
+      ≡ cell (due_page_in programme f) row column
 
 -- If a range of frames meets the sufficient conditions, the guarantees hold for it, whatever was on
 -- air before.

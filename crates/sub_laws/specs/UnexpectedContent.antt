@@ -5,10 +5,10 @@ use Rattle.ttx_page.specs.PacketKind.{kind}
 use Rattle.ttx_page.specs.Receiver.{Hears, State}
 use Rattle.ttx_page.specs.Repeats.{IsFresh}
 use Rattle.ttx_page.specs.Shown.{kept}
-use Rattle.ttx_page.specs.Span.{holds_header}
+use Rattle.ttx_page.specs.Span.{has_page_header}
 use Rattle.stl_rows.specs.Programme.{ProgrammeValue}
 use Rattle.sub_plan.specs.Options.{OptionsValue}
-use Rattle.sub_plan.specs.Schedule.{due_in}
+use Rattle.sub_plan.specs.Schedule.{due_page_in}
 use Rattle.sub_rules.specs.Events.{is_late}
 use Rattle.sub_rules.specs.FrameRules.{criteria_of}
 use Rattle.sub_rules.specs.Kept.{IsRight}
@@ -27,9 +27,10 @@ pub record IsDifferentEverywhere
   pub read : Transmission
   pub are_read : AreReadUpTo frames f read
   -- A header of the page was sent.
-  pub header : IsTrue (holds_header (kind options.page) (on_air_until read f))
+  pub header : IsTrue (has_page_header (kind options.page) (on_air_until read f))
   pub differs :
-      IsRight options.keeps options.page (on_air_until read f) (due_in programme f) row column → ⊥
+      IsRight options.keeps options.page (on_air_until read f) (due_page_in programme f) row column
+      → ⊥
   pub holds :
       (old new : State)
       → Hears options.page old (on_air_until read f) new

@@ -2,24 +2,25 @@
 //! the rules.
 //!
 //! The functions have no body: the contract of each states a law.
-ghost use Rattle.sub_laws.specs.AtOnce.{LawOfNoDelay, LawOfTrustWithoutDelay};
-ghost use Rattle.sub_laws.specs.BrokenPlaces.{LawOfBrokenPlaces, LawOfNothingReported};
-ghost use Rattle.sub_laws.specs.BrokenPlaces.{LawOfNothingReportedRepeats};
+ghost use Rattle.sub_laws.specs.WithoutDelay.{LawOfNoDelay, LawOfTrustWithoutDelay};
+ghost use Rattle.sub_laws.specs.BrokenPlaces.{LawOfBrokenPlaces, LawOfEmptyReport};
+ghost use Rattle.sub_laws.specs.BrokenPlaces.{LawOfEmptyReportRepeats};
 ghost use Rattle.sub_laws.specs.CleanStretch.{LawOfUnreportedStretch};
 ghost use Rattle.sub_laws.specs.DelayOfFiles.{LawOfLongerDelayOfFiles};
 ghost use Rattle.sub_laws.specs.JudgedFiles.{LawOfEqualReports, LawOfJudgedParts};
-ghost use Rattle.sub_laws.specs.Laws.{LawOfAllKept, LawOfGood, LawOfWindow};
+ghost use Rattle.sub_laws.specs.Laws.{LawOfLosslessReception, LawOfGood, LawOfWindow};
 ghost use Rattle.sub_laws.specs.OldText.{LawOfOldText};
 ghost use Rattle.sub_laws.specs.OnScreen.{LawOfCompletePlan};
 ghost use Rattle.sub_rules.specs.Kept.{LawOfRightCells};
 ghost use Rattle.sub_rules.specs.PesReading.{LawOfExactFrames};
 ghost use Rattle.sub_rules.specs.PesPacketEvents.{LawOfFirstReported};
 ghost use Rattle.sub_laws.specs.Planned.{LawOfPlan, LawOfPlanRead};
-ghost use Rattle.sub_laws.specs.Repeats.{LawOfFollowedStretch, LawOfGoodRepeats, LawOfKeptOnAir};
+ghost use Rattle.sub_laws.specs.Repeats.{LawOfFollowedStretch, LawOfGoodWithRepeats};
+ghost use Rattle.sub_laws.specs.Repeats.{LawOfKeptCodes};
 ghost use Rattle.sub_laws.specs.Repeats.{LawOfLongerRepeats};
 ghost use Rattle.sub_laws.specs.Repeats.{LawOfPlanRepeats, LawOfRepeatedStretch};
-ghost use Rattle.sub_rules.specs.Repeats.{LawOfMayKeep, LawOfNoRepeats, LawOfNoneKeeps};
-ghost use Rattle.sub_laws.specs.Stretch.{LawOfWholeRecovery, LawOfWholeStretch};
+ghost use Rattle.sub_rules.specs.Repeats.{LawOfMayKeep, LawOfNoRepeats, LawOfErasingHeaders};
+ghost use Rattle.sub_laws.specs.Stretch.{LawOfFullRecovery, LawOfFullStretch};
 ghost use Rattle.sub_laws.specs.Sufficient.{LawOfStretch, LawOfSufficientParts};
 ghost use Rattle.sub_laws.specs.ReportedRepeats.{LawOfUnreportedRepeats};
 
@@ -91,20 +92,20 @@ pub fn law_of_unreported_stretch()
 {}
 
 /// If receivers recover in all frames of a transmission, it is robust, even if rows are lost.
-pub fn law_of_whole_recovery()
-    ensures { LawOfWholeRecovery }
+pub fn law_of_full_recovery()
+    ensures { LawOfFullRecovery }
 {}
 
 /// If the guarantees hold for the range of all frames of a transmission, they hold for the
 /// transmission.
-#[tactic(auto, using(crate::proofs::StretchLemmas::law_of_whole_stretch))]
-pub fn law_of_whole_stretch()
-    ensures { LawOfWholeStretch }
+#[tactic(auto, using(crate::proofs::StretchLemmas::law_of_full_stretch))]
+pub fn law_of_full_stretch()
+    ensures { LawOfFullStretch }
 {}
 
 /// A transmission is robust without lost packets if and only if it is robust.
-pub fn law_of_all_kept()
-    ensures { LawOfAllKept }
+pub fn law_of_lossless_reception()
+    ensures { LawOfLosslessReception }
 {}
 
 /// The schedule of a subtitle file with at least one subtitle is a good transmission, in serial and
@@ -140,23 +141,23 @@ pub fn law_of_broken_places()
 
 /// The first fault is the same whether reading stops at the first skipped PES packet or continues
 /// after it.
-#[tactic(auto, using(sub_rules::proofs::PesPacketEventLemmas::first_reported_is))]
+#[tactic(auto, using(sub_rules::proofs::PesPacketEventLemmas::first_reported_fault_is_exact))]
 pub fn law_of_first_reported()
     ensures { LawOfFirstReported }
 {}
 
 /// A PES file has no event if and only if no PES packet is skipped, its frames are good under the
 /// options, and the entire file was read.
-#[tactic(auto, using(crate::proofs::NothingReportedLemmas::law_of_nothing_reported_repeats))]
-pub fn law_of_nothing_reported_repeats()
-    ensures { LawOfNothingReportedRepeats }
+#[tactic(auto, using(crate::proofs::EmptyReportLemmas::law_of_empty_report_repeats))]
+pub fn law_of_empty_report_repeats()
+    ensures { LawOfEmptyReportRepeats }
 {}
 
 /// If each header must have C4 (erase page) set and `within` is 0, a PES file has no event if and
 /// only if it carries a good transmission, with complete pages if these are required.
-#[tactic(auto, using(crate::proofs::NothingReportedLemmas::law_of_nothing_reported))]
-pub fn law_of_nothing_reported()
-    ensures { LawOfNothingReported }
+#[tactic(auto, using(crate::proofs::EmptyReportLemmas::law_of_empty_report))]
+pub fn law_of_empty_report()
+    ensures { LawOfEmptyReport }
 {}
 
 /// If each repeat in a range of frames sends the same text as before, receivers recover, whatever
@@ -170,8 +171,8 @@ pub fn law_of_repeated_stretch()
 /// A transmission that is good under the options meets its guarantees. Once a receiver has erased
 /// its old page, each cell has a space or a code that was expected within the last `within` frames.
 /// At least once in any `within` + 1 frames, and in each subtitle, it has the expected page.
-pub fn law_of_good_repeats()
-    ensures { LawOfGoodRepeats }
+pub fn law_of_good_with_repeats()
+    ensures { LawOfGoodWithRepeats }
 {}
 
 /// If each header must have C4 (erase page) set, a cell is correct if and only if it shows the
@@ -194,8 +195,8 @@ pub fn law_of_may_keep()
 /// A transmission that is good if repeats may have C4 (erase page) clear, and in which every header
 /// has C4 set, is good if each header must have C4 set. So all guarantees of a good transmission
 /// hold for it.
-pub fn law_of_none_keeps()
-    ensures { LawOfNoneKeeps }
+pub fn law_of_erasing_headers()
+    ensures { LawOfErasingHeaders }
 {}
 
 /// A transmission that is good with some `within` is good with any greater `within`.
@@ -217,8 +218,8 @@ pub fn law_of_followed_stretch()
 
 /// Without bit errors, a receiver that keeps its page at headers with C4 (erase page) clear has the
 /// codes that the rules define for such repeats, at the end of each frame.
-pub fn law_of_kept_on_air()
-    ensures { LawOfKeptOnAir }
+pub fn law_of_kept_codes()
+    ensures { LawOfKeptCodes }
 {}
 
 /// If text ends or changes at a frame, a header that erases the page is sent at most `within`

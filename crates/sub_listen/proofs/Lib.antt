@@ -1,3 +1,3 @@
 pub mod ReceptionLemmas
 pub mod RunningLemmas
-pub mod WaysOutLemmas
+pub mod ListenResultLemmas

@@ -9,7 +9,7 @@ use Rattle.std.proofs.lemmas.List.{drop_more}
 use Rattle.std.proofs.lemmas.List.Elements.{filter-append}
 use Rattle.ttx_packet.specs.PacketAddress.{address}
 use Rattle.sub_listen.specs.Reception.{Reception, packets_used_by, arriving_packets}
-use Rattle.sub_listen.specs.Reception.{first_lost_header, is_lost}
+use Rattle.sub_listen.specs.Reception.{first_lost_header, is_lost_packet}
 use Rattle.sub_listen.specs.Reception.{may_be_lost_at}
 use Rattle.sub_request.specs.declared.listening.Listening.{Listening}
 
@@ -34,11 +34,12 @@ pub packets_used_by-append : (l : Listening) (number : ℕ) (first more : List (
 packets_used_by-append l number first more =
     grind (arith, arriving_packets-append, filter-append)
 
-pub next_packet : (ps : List (List ℕ)) (k : ℕ) (p : List ℕ)
+pub packets_from_index_unfold : (ps : List (List ℕ)) (k : ℕ) (p : List ℕ)
     → k < length ps
     → p ≡ get_or ps k []
     → drop k ps ≡ p ∷ drop (k + 1) ps
-next_packet ps k p l is = drop_more ps k [] l ∙ ap (λ (x : List ℕ). x ∷ drop (k + 1) ps) (sym is)
+packets_from_index_unfold ps k p l is = drop_more ps k [] l ∙ ap (λ (x : List ℕ). x ∷ drop (k + 1)
+    ps) (sym is)
 
 -- ---- the first packet that is listed as lost but must not be lost
 
@@ -58,28 +59,31 @@ first_lost_header-none r number (packet ∷ packets) e =
       first_lost_header-none r (number + 1) packets e,
     )
 
-place_on : (k : ℕ) (found : Option ℕ)
+later_place_is_shifted : (k : ℕ) (found : Option ℕ)
     → option_map (λ place. place + k) (option_map (λ place. place + 1) found)
     ≡ option_map (λ place. place + (k + 1)) found
-place_on k None = refl
-place_on k (Some place) = let e : place + 1 + k ≡ place + (k + 1) = omega arith in ap Some e
+later_place_is_shifted k None = refl
+later_place_is_shifted k (Some place) = let e : place + 1 + k ≡ place + (k + 1) = omega arith in ap
+    Some e
 
 module _ (r : Reception) (number : ℕ) (ps : List (List ℕ)) (k : ℕ) (p : List ℕ)
     (l : k < length ps) (is : p ≡ get_or ps k [])
     (left : first_lost_header r number ps
     ≡ option_map (λ place. place + k) (first_lost_header r (number + k) (drop k ps))) where
-  pub is_first_lost_header : (is_lost r (number + k) && not (may_be_lost_at (address p))) ≡ true
+  pub lost_header_is_first : (is_lost_packet r (number + k) && not (may_be_lost_at (address p))) ≡
+      true
       → Some k ≡ first_lost_header r number ps
-  is_first_lost_header lost =
+  lost_header_is_first lost =
       let on : 0 + k ≡ k = omega arith in
-      sym (left ∙ rw (next_packet ps k p l is, lost) (ap Some on))
+      sym (left ∙ rw (packets_from_index_unfold ps k p l is, lost) (ap Some on))
 
-  pub lost_later : (is_lost r (number + k) && not (may_be_lost_at (address p))) ≡ false
+  pub lost_header_is_later : (is_lost_packet r (number + k) && not (may_be_lost_at (address p))) ≡
+      false
       → first_lost_header r number ps
       ≡ option_map (λ place. place + (k + 1)) (first_lost_header r (number + (k + 1))
       (drop (k + 1) ps))
-  lost_later kept =
+  lost_header_is_later kept =
       let on : number + (k + 1) ≡ number + k + 1 = omega arith in
       left
-      ∙ rw (next_packet ps k p l is, kept, on)
-      (place_on k (first_lost_header r (number + k + 1) (drop (k + 1) ps)))
+      ∙ rw (packets_from_index_unfold ps k p l is, kept, on)
+      (later_place_is_shifted k (first_lost_header r (number + k + 1) (drop (k + 1) ps)))

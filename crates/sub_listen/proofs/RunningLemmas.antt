@@ -4,9 +4,9 @@ use Rattle.std.proofs.Common.{◌≡◌, ◌∙◌, ℕ, Bool, true, false, List
 use Rattle.ttx_packet.specs.PageId.{PageIdValue}
 use Rattle.ttx_page.specs.Receiver.{RunsBy, Step}
 use Rattle.ttx_page.specs.Receiver.ReceiverClass.{Storing}
-use Rattle.ttx_page.specs.Repeats.{StepForgetting}
+use Rattle.ttx_page.specs.Repeats.{StepWithRepeats}
 use Rattle.ttx_page.specs.Screen.{Display, ShowsAt}
-use Rattle.ttx_page.proofs.NoiseSteps.{cell-blank}
+use Rattle.ttx_page.proofs.NoiseStepLemmas.{cell-blank}
 use Rattle.ttx_page.proofs.RunLemmas.{RunsBy-as}
 use Rattle.sub_listen.specs.Reception.{LawOfListening, TakesPacket, restarts_at_header}
 
@@ -15,13 +15,13 @@ module _ (asks_complete anew : Bool) (leaves : ℕ → ℕ) (w : PageIdValue) wh
       anew ≡ false
       → (old : Display) (packet : List ℕ) (new : Display)
       → TakesPacket asks_complete anew leaves w old packet new
-      → Step w old.held packet new.held
+      → Step w old.receiver_state packet new.receiver_state
   steps keeps old packet new takes = let step = takes.step in grind (arith, nat_tests)
 
   forgets :
       (old : Display) (packet : List ℕ) (new : Display)
       → TakesPacket asks_complete anew leaves w old packet new
-      → StepForgetting Storing anew w old.held packet new.held
+      → StepWithRepeats Storing anew w old.receiver_state packet new.receiver_state
   forgets old packet new takes =
       let step = takes.step in grind (arith, nat_tests, cell-blank)
 
@@ -52,10 +52,11 @@ pub law_of_listening : LawOfListening
 law_of_listening l leaves w packets old new run =
     let asks_complete = l.options.asks_complete in
     let anew = restarts_at_header l.receiver in (
-      RunsBy-as _ (StepForgetting Storing anew w) (λ (d : Display). d.held) packets old new
+      RunsBy-as _ (StepWithRepeats Storing anew w) (λ (d : Display). d.receiver_state) packets old
+          new
           (forgets asks_complete anew leaves w) run,
       λ keeps.
-          RunsBy-as _ (Step w) (λ (d : Display). d.held) packets old new
+          RunsBy-as _ (Step w) (λ (d : Display). d.receiver_state) packets old new
           (steps asks_complete anew leaves w keeps) run,
       λ asks. (
         RunsBy-as _ _ (λ (d : Display). d) packets old new

@@ -1,6 +1,6 @@
 -- The Teletext packets of a file that arrive at the receiver, and those that it uses. Some packets
--- are skipped or lost, and some bits are flipped (own). Packets are numbered from 0 over the whole
--- file.
+-- are skipped or lost, and some bits are flipped (not defined by a standard). Packets are numbered
+-- from 0 over the whole file.
 use Rattle.std.specs.Prelude.{◌≡◌, ℕ, ◌+◌, Bool, true, false, not, ◌&&◌, List, [], ◌∷◌}
 use Rattle.std.specs.Prelude.{MatchBool, Option, Some, None, option_map}
 use Rattle.std.specs.Prelude.{if◌then◌else◌, ◌==◌, nat_le}
@@ -11,13 +11,13 @@ use Rattle.ttx_page.specs.Page.{blank, space}
 use Rattle.ttx_page.specs.PacketKind.{is_this_page, kind}
 use Rattle.ttx_page.specs.Receiver.{Hears, LeavesCells, RunsBy, Step, is_dropped}
 use Rattle.ttx_page.specs.Receiver.ReceiverClass.{Storing}
-use Rattle.ttx_page.specs.Repeats.{HearsForgetting, ShowsForgetting}
+use Rattle.ttx_page.specs.Repeats.{HearsRepeats, ShowsRepeats}
 use Rattle.ttx_page.specs.Screen.{Display, Shows, screen_after}
 use Rattle.sub_request.specs.Flips.{with_flips}
 use Rattle.sub_request.specs.declared.listening.Flip.{Flip}
 use Rattle.sub_request.specs.declared.listening.Listening.{Listening}
 use Rattle.sub_request.specs.declared.listening.ReceiverKind.{ReceiverKind}
-use Rattle.sub_request.specs.declared.listening.ReceiverKind.TheVariants.{Anew, Blank}
+use Rattle.sub_request.specs.declared.listening.ReceiverKind.TheVariants.{BlankEachHeader, Blank}
 use Rattle.sub_request.specs.declared.listening.ReceiverKind.TheVariants.{DropRow, Keep}
 
 -- The requested bit errors and losses: how many packets are skipped at the start, which packets are
@@ -32,45 +32,46 @@ abbrev pub reception_of : Listening → Reception
 reception_of l = record { skip = l.skip; lost = l.lost.items; flips = l.flips.items }
 
 -- Packet `number` is lost: it is listed as lost, and not skipped.
-abbrev pub is_lost : Reception → ℕ → Bool
-is_lost r number = nat_le r.skip number && list_any (λ n. n == number) r.lost
+abbrev pub is_lost_packet : Reception → ℕ → Bool
+is_lost_packet r number = nat_le r.skip number && list_any (λ n. n == number) r.lost
 
 -- Packet `number` arrives: it is neither skipped nor lost.
-abbrev pub is_heard : Reception → ℕ → Bool
-is_heard r number = nat_le r.skip number && not (list_any (λ n. n == number) r.lost)
+abbrev pub is_received_packet : Reception → ℕ → Bool
+is_received_packet r number = nat_le r.skip number && not (list_any (λ n. n == number) r.lost)
 
 -- The packets of a list that arrive at the receiver, with their bit errors. The first packet of the
 -- list is packet `number` of the file.
 abbrev pub arriving_packets : Reception → ℕ → List (List ℕ) → List (List ℕ)
 arriving_packets r number [] = []
 arriving_packets r number (packet ∷ packets) =
-    if is_heard r number
+    if is_received_packet r number
     then with_flips r.flips number packet ∷ arriving_packets r (number + 1) packets
     else arriving_packets r (number + 1) packets
 
 -- A receiver of page w uses an arriving packet. A receiver that drops rows does not use a row of
 -- its page with a byte of even parity.
-abbrev pub is_taken : ReceiverKind → PageIdValue → List ℕ → Bool
-is_taken DropRow w packet = not (is_dropped w packet)
-is_taken _ w packet = true
+abbrev pub is_packet_used : ReceiverKind → PageIdValue → List ℕ → Bool
+is_packet_used DropRow w packet = not (is_dropped w packet)
+is_packet_used _ w packet = true
 
 -- The packets of a list that the receiver uses: those that arrive, without the rows that it drops.
 -- The first packet of the list is packet `number` of the file.
 abbrev pub packets_used_by : Listening → ℕ → List (List ℕ) → List (List ℕ)
 packets_used_by l number packets =
-    filter (is_taken l.receiver l.options.page) (arriving_packets (reception_of l) number packets)
+    filter (is_packet_used l.receiver l.options.page) (arriving_packets (reception_of l) number
+    packets)
 
 -- The code that a receiver stores in a cell for a byte of even parity, given the old code. A
 -- receiver that drops rows stores no row with such a byte.
-abbrev pub left_by : ReceiverKind → ℕ → ℕ
-left_by Keep = λ was. was
-left_by Blank = λ was. space
-left_by DropRow = λ was. was
-left_by Anew = λ was. space
+abbrev pub code_left_by_receiver : ReceiverKind → ℕ → ℕ
+code_left_by_receiver Keep = λ was. was
+code_left_by_receiver Blank = λ was. space
+code_left_by_receiver DropRow = λ was. was
+code_left_by_receiver BlankEachHeader = λ was. space
 
 -- The receiver starts again from a blank page at each header of its page.
 abbrev pub restarts_at_header : ReceiverKind → Bool
-restarts_at_header Anew = true
+restarts_at_header BlankEachHeader = true
 restarts_at_header _ = false
 
 -- How a packet changes a receiver of page w that uses it.
@@ -82,17 +83,18 @@ pub record TakesPacket
   -- parity. But a receiver that starts again has an open blank page after each header of its page.
   pub step :
       MatchBool (anew && is_this_page (kind w packet))
-      (new.held ≡ record { heard = true; is_open = true; page = blank })
-      (Step w old.held packet new.held)
-  pub cells : LeavesCells leaves w old.held packet new.held
+      (new.receiver_state ≡ record { heard = true; is_open = true; page = blank })
+      (Step w old.receiver_state packet new.receiver_state)
+  pub cells : LeavesCells leaves w old.receiver_state packet new.receiver_state
   -- If complete pages are required, the receiver's screen displays a page when the page ends;
   -- otherwise the screen does not change.
-  pub screen : new.screen ≡ (if asks_complete then screen_after old new.held else old.screen)
+  pub screen : new.screen ≡ (if asks_complete then screen_after old new.receiver_state
+      else old.screen)
 
 -- How a list of packets changes a receiver of page w that uses them, in order.
-abbrev pub RunsThrough :
+abbrev pub ReceivesPackets :
     Listening → (ℕ → ℕ) → PageIdValue → Display → List (List ℕ) → Display → Type 0
-RunsThrough l leaves w old packets new =
+ReceivesPackets l leaves w old packets new =
     RunsBy (TakesPacket l.options.asks_complete (restarts_at_header l.receiver) leaves w) old
     packets new
 
@@ -106,7 +108,7 @@ may_be_lost_at (Some a) = not (a.packet_number == 0)
 abbrev pub first_lost_header : Reception → ℕ → List (List ℕ) → Option ℕ
 first_lost_header r number [] = None
 first_lost_header r number (packet ∷ packets) =
-    if is_lost r number && not (may_be_lost_at (address packet))
+    if is_lost_packet r number && not (may_be_lost_at (address packet))
     then Some 0
     else option_map (λ place. place + 1) (first_lost_header r (number + 1) packets)
 
@@ -118,10 +120,12 @@ abbrev pub LawOfListening : Type 0
 LawOfListening =
     (l : Listening) (leaves : ℕ → ℕ) (w : PageIdValue) (packets : List (List ℕ))
     (old new : Display)
-    → RunsThrough l leaves w old packets new
-    → HearsForgetting Storing (restarts_at_header l.receiver) w old.held packets new.held
-    × (restarts_at_header l.receiver ≡ false → Hears w old.held packets new.held)
+    → ReceivesPackets l leaves w old packets new
+    → HearsRepeats Storing (restarts_at_header l.receiver) w old.receiver_state packets
+    new.receiver_state
+    × (restarts_at_header l.receiver ≡ false → Hears w old.receiver_state packets
+    new.receiver_state)
     × (l.options.asks_complete ≡ true
-    → ShowsForgetting Storing (restarts_at_header l.receiver) w old packets new
+    → ShowsRepeats Storing (restarts_at_header l.receiver) w old packets new
     × (restarts_at_header l.receiver ≡ false → Shows w old packets new))
     × (l.options.asks_complete ≡ false → new.screen ≡ old.screen)

@@ -14,11 +14,11 @@ use Rattle.ttx_pes.specs.declared.fault.PesFault.TheVariants.{Read}
 use Rattle.sub_plan.specs.FrameTime.{clock_of}
 use Rattle.sub_rules.specs.Fault.{is_pes_read, is_subtitle_fault}
 use Rattle.sub_rules.specs.Events.{unread_fault}
-use Rattle.sub_rules.specs.FrameRules.{Unread, frame_at, packets_before, packets_of_frame}
+use Rattle.sub_rules.specs.FrameRules.{UnreadReason, frame_at, packets_before, packets_of_frame}
 use Rattle.sub_rules.specs.PesReading.{ReadsAs}
 use Rattle.sub_rules.specs.Transmission.{Transmission}
 use Rattle.sub_rules.specs.declared.fault.CheckFault.TheVariants as check
-use Rattle.sub_listen.specs.Reception.{RunsThrough, packets_used_by, first_lost_header}
+use Rattle.sub_listen.specs.Reception.{ReceivesPackets, packets_used_by, first_lost_header}
 use Rattle.sub_listen.specs.Reception.{reception_of}
 use Rattle.sub_listen.specs.declared.listening.ListenFault.{ListenFault}
 use Rattle.sub_listen.specs.declared.listening.ListenFault.TheVariants as fault
@@ -40,19 +40,19 @@ is_stl_fault (fault.LostHeader frame packet) = false
 
 -- The earliest frame to which the PES packet after one of frame `frame` may belong: the next frame
 -- if `within` is 0, otherwise the same frame.
-abbrev pub least_after : ℕ → ℕ → ℕ
-least_after within frame = if within == 0 then frame + 1 else frame
+abbrev pub least_frame_after : ℕ → ℕ → ℕ
+least_frame_after within frame = if within == 0 then frame + 1 else frame
 
 -- The earliest frame to which PES packet i of the list may belong.
 abbrev pub least_frame : ℕ → Transmission → ℕ → ℕ
 least_frame within frames zero = 0
-least_frame within frames (suc i) = least_after within (frame_at frames i)
+least_frame within frames (suc i) = least_frame_after within (frame_at frames i)
 
 -- PES packet i of the list belongs to the same frame as the PES packet before it, and `within` is
 -- not 0.
-abbrev pub is_of_same_frame : ℕ → Transmission → ℕ → Bool
-is_of_same_frame within frames zero = false
-is_of_same_frame within frames (suc i) =
+abbrev pub is_in_same_frame : ℕ → Transmission → ℕ → Bool
+is_in_same_frame within frames zero = false
+is_in_same_frame within frames (suc i) =
     not (within == 0) && (frame_at frames (suc i) == frame_at frames i)
 
 -- The number of Teletext packets, in the first n PES packets, that belong to the same frame as PES
@@ -60,13 +60,13 @@ is_of_same_frame within frames (suc i) =
 abbrev pub sent_in_frame : ℕ → Transmission → ℕ → ℕ
 sent_in_frame within frames zero = 0
 sent_in_frame within frames (suc i) =
-    (if is_of_same_frame within frames i then sent_in_frame within frames i else 0)
+    (if is_in_same_frame within frames i then sent_in_frame within frames i else 0)
     + length (packets_of_frame frames i)
 
 -- The index, within its frame, of the first Teletext packet of PES packet i.
 abbrev pub first_in_frame : ℕ → Transmission → ℕ → ℕ
 first_in_frame within frames i =
-    if is_of_same_frame within frames i then sent_in_frame within frames i else 0
+    if is_in_same_frame within frames i then sent_in_frame within frames i else 0
 
 -- The index, within the whole file, of the first Teletext packet of PES packet i.
 abbrev pub first_packet_number : Transmission → ℕ → ℕ
@@ -81,7 +81,7 @@ lost_header l frames i =
 
 -- PES packet i is received: its frame is after the frame of the PES packet before it (or the same
 -- frame, if `within` is not 0) and not after TIME, and none of its page headers is listed as lost.
-pub record IsHeard (l : Listening) (frames : Transmission) (i : ℕ) : Type 0 where
+pub record IsReceivedPesPacket (l : Listening) (frames : Transmission) (i : ℕ) : Type 0 where
   pub there : i < length frames
   pub rises : least_frame l.options.within frames i ≤ frame_at frames i
   pub in_time : frame_at frames i ≤ l.at
@@ -90,13 +90,13 @@ pub record IsHeard (l : Listening) (frames : Transmission) (i : ℕ) : Type 0 wh
       ≡ None
 
 -- The first n PES packets of the list are received.
-abbrev pub AreReceived : Listening → Transmission → ℕ → Type 0
-AreReceived l frames n = (i : ℕ) → i < n → IsHeard l frames i
+abbrev pub AreReceivedPesPackets : Listening → Transmission → ℕ → Type 0
+AreReceivedPesPackets l frames n = (i : ℕ) → i < n → IsReceivedPesPacket l frames i
 
 -- Reception ends after n PES packets: the file ends, or the frame of the next PES packet is after
 -- TIME.
-abbrev pub EndsAfter : Listening → Transmission → Option Unread → ℕ → Type 0
-EndsAfter l frames unread n =
+abbrev pub EndsAfterPesPacket : Listening → Transmission → Option UnreadReason → ℕ → Type 0
+EndsAfterPesPacket l frames unread n =
     ((n ≡ length frames) × (unread ≡ None))
     ⊎ ((n < length frames) × (least_frame l.options.within frames n ≤ frame_at frames n)
     × (l.at < frame_at frames n))
@@ -104,18 +104,19 @@ EndsAfter l frames unread n =
 -- Reception fails after n PES packets: the next PES packet can't be read, its frame is not after
 -- the frame before (or is before it, if `within` is not 0), or one of its page headers is listed as
 -- lost.
-abbrev pub RefusesAfter : Listening → Transmission → Option Unread → ℕ → ListenFault → Type 0
-RefusesAfter l frames unread n (fault.File (check.Order index)) =
+abbrev pub RefusesAfterPesPacket : Listening → Transmission → Option UnreadReason → ℕ → ListenFault
+    → Type 0
+RefusesAfterPesPacket l frames unread n (fault.File (check.Order index)) =
     (index ≡ n) × (n < length frames)
     × (frame_at frames n < least_frame l.options.within frames n)
-RefusesAfter l frames unread n (fault.LostHeader frame packet) =
+RefusesAfterPesPacket l frames unread n (fault.LostHeader frame packet) =
     (n < length frames)
     × (frame_at frames n ≡ frame)
     × (least_frame l.options.within frames n ≤ frame)
     × (frame ≤ l.at)
     × (lost_header l frames n ≡ Some packet)
-RefusesAfter l frames unread n f =
-    (u : Unread) × (n ≡ length frames) × (unread ≡ Some u)
+RefusesAfterPesPacket l frames unread n f =
+    (u : UnreadReason) × (n ≡ length frames) × (unread ≡ Some u)
     × (f ≡ fault.File (unread_fault n (Some u)))
 
 -- The source failed while a PES packet was read. The PES packets before it were consumed and
@@ -126,33 +127,34 @@ pub record FailsListening (l : Listening) (known left : Option (List ℕ)) (f : 
     pub is : f ≡ fault.File (check.Pes index Read)
     pub place : FailsAtPacket index known left
     pub heard :
-        (frames : Transmission) (unread : Option Unread)
+        (frames : Transmission) (unread : Option UnreadReason)
         → IfKnown known (λ bytes.
-        ReadsAs (clock_of l.options) 0 bytes frames unread → AreReceived l frames index)
+        ReadsAs (clock_of l.options) 0 bytes frames unread → AreReceivedPesPackets l frames index)
 
 -- ---- the run of a receiver
 
 -- The effect of reception on the receiver: the receiver uses the packets up to TIME that arrive, or
 -- the file is refused. For a byte of even parity it stores `leaves` of the old code.
-pub record Runs
-    (leaves : ℕ → ℕ) (l : Listening) (frames : Transmission) (unread : Option Unread)
+pub record RunsPesPackets
+    (leaves : ℕ → ℕ) (l : Listening) (frames : Transmission) (unread : Option UnreadReason)
     (w : PageIdValue) (old new : Display) (result : Result (Unit {0}) ListenFault)
     : Type 0 where
   pub n : ℕ
-  pub heard : AreReceived l frames n
+  pub heard : AreReceivedPesPackets l frames n
   pub run :
-      RunsThrough l leaves w old
+      ReceivesPackets l leaves w old
       (packets_used_by l 0 (packets_before frames n)) new
   pub ends :
-      MatchResult result (λ _. EndsAfter l frames unread n) (RefusesAfter l frames unread n)
+      MatchResult result (λ _. EndsAfterPesPacket l frames unread n) (RefusesAfterPesPacket l frames
+      unread n)
 
 -- The effect of reception on the receiver and on the source, which has the bytes `known` before and
 -- `left` afterwards.
-pub record HearsFile
-    (leaves : ℕ → ℕ) (l : Listening) (frames : Transmission) (unread : Option Unread)
+pub record ReceivesFile
+    (leaves : ℕ → ℕ) (l : Listening) (frames : Transmission) (unread : Option UnreadReason)
     (known left : Option (List ℕ)) (w : PageIdValue) (old new : Display)
     (result : Result (Unit {0}) ListenFault)
     : Type 0 where
-  pub runs : Runs leaves l frames unread w old new result
+  pub runs : RunsPesPackets leaves l frames unread w old new result
   -- If a PES packet follows the received ones, nothing was read after it.
   pub stops : runs.n < length frames → TakesPackets (runs.n + 1) known left

@@ -2,13 +2,13 @@
 
 ghost use Rattle.std.specs.Prelude.{◌≡◌, ◌+◌, ◌<◌, ◌≤◌, ◌&&◌, ◌==◌, IfErr, Option, false, true};
 ghost use Rattle.std.specs.Prelude.{if◌then◌else◌, not};
-ghost use Rattle.sub_io.specs.Device.{CanFail, CountsIf, failed};
+ghost use Rattle.sub_io.specs.Device.{CanFail, CountsFailureIf, failed};
 ghost use Rattle.sub_io.specs.Reading.{IfKnown};
 ghost use Rattle.ttx_page.specs.Screen.{display};
 ghost use Rattle.sub_plan.specs.FrameTime.{clock_of};
-ghost use Rattle.sub_rules.specs.FrameRules.{Unread};
-ghost use Rattle.sub_listen.specs.Run.{FailsListening, HearsFile, is_failed_read, is_stl_fault};
-ghost use Rattle.sub_listen.specs.Run.{least_after};
+ghost use Rattle.sub_rules.specs.FrameRules.{UnreadReason};
+ghost use Rattle.sub_listen.specs.Run.{FailsListening, ReceivesFile, is_failed_read, is_stl_fault};
+ghost use Rattle.sub_listen.specs.Run.{least_frame_after};
 ghost use Rattle.sub_rules.specs.PesReading.{ReadsAs};
 ghost use Rattle.sub_rules.specs.Transmission.{Transmission};
 ghost use Rattle.sub_listen.specs.declared.listening.ListenFault.TheVariants.{File};
@@ -80,18 +80,18 @@ pub fn listen<R: Receiver + Drop, S: Source>(
 ) -> Result<(), ListenFault>
     requires count { CanFail (S.failure_count pes.old) }
     requires tuned { R.tuned_to receiver.old ≡ listening.now.options.page }
-    ensures exact { (frames : Transmission) (unread : Option Unread)
+    ensures exact { (frames : Transmission) (unread : Option UnreadReason)
         → IfKnown (S.remaining pes.old) (λ bytes.
         ReadsAs (clock_of listening.now.options) 0 bytes frames unread
         → failed is_failed_read result ≡ false
-        → HearsFile R.leaves listening.now frames unread (S.remaining pes.old)
+        → ReceivesFile R.leaves listening.now frames unread (S.remaining pes.old)
         (S.remaining pes.new) (R.tuned_to receiver.old)
         (display (R.state receiver.old) screen.old)
         (display (R.state receiver.new) screen.new) result) }
     ensures failed { IfErr result (λ f. is_failed_read f ≡ true
         → FailsListening listening.now (S.remaining pes.old) (S.remaining pes.new) f) }
     ensures own { IfErr result (λ f. is_stl_fault f ≡ false) }
-    ensures count { CountsIf S.failure_count pes.old (failed is_failed_read result) pes.new }
+    ensures count { CountsFailureIf S.failure_count pes.old (failed is_failed_read result) pes.new }
 {
     let mut pes_packets = FilePesPackets::new(pes);
     listen_pes_packets(receiver, screen, &mut pes_packets, listening)
@@ -111,11 +111,11 @@ pub fn listen_pes_packets<R: Receiver + Drop, P: PesPackets>(
 ) -> Result<(), ListenFault>
     requires count { CanFail (P.failure_count pes.old) }
     requires tuned { R.tuned_to receiver.old ≡ listening.now.options.page }
-    ensures exact { (frames : Transmission) (unread : Option Unread)
+    ensures exact { (frames : Transmission) (unread : Option UnreadReason)
         → IfKnown (P.remaining pes.old) (λ bytes.
         ReadsAs (clock_of listening.now.options) 0 bytes frames unread
         → failed is_failed_read result ≡ false
-        → HearsFile R.leaves listening.now frames unread (P.remaining pes.old)
+        → ReceivesFile R.leaves listening.now frames unread (P.remaining pes.old)
         (P.left pes.new) (R.tuned_to receiver.old)
         (display (R.state receiver.old) screen.old)
         (display (R.state receiver.new) screen.new) result) }
@@ -123,7 +123,7 @@ pub fn listen_pes_packets<R: Receiver + Drop, P: PesPackets>(
         → FailsListening listening.now (P.remaining pes.old) (P.left pes.new) f) }
     ensures own { IfErr result (λ f. is_stl_fault f ≡ false) }
     ensures device { P.device pes.new ≡ P.device pes.old }
-    ensures count { CountsIf P.failure_count pes.old (failed is_failed_read result) pes.new }
+    ensures count { CountsFailureIf P.failure_count pes.old (failed is_failed_read result) pes.new }
 {
     let mut reader = ComparingReader::new();
     let mut least = 0;
@@ -157,7 +157,7 @@ pub fn listen_pes_packets<R: Receiver + Drop, P: PesPackets>(
         let count = units.len();
         number += count as u64;
         sent = before + count as u32;
-        least = least_after(within, frame);
+        least = least_frame_after(within, frame);
         index += 1;
     }
 }
@@ -177,9 +177,9 @@ fn first_in_frame(within: u64, frame: u32, least: u32, sent: u32) -> u32
 }
 
 // Returns the earliest frame to which the PES packet after one of frame `frame` may belong.
-fn least_after(within: u64, frame: u32) -> u32
+fn least_frame_after(within: u64, frame: u32) -> u32
     requires { frame < u32.MAX }
-    ensures value { result ≡ least_after within frame }
+    ensures value { result ≡ least_frame_after within frame }
     ensures most { result ≤ frame + 1 }
 {
     if within == 0 { frame + 1 } else { frame }

@@ -7,10 +7,11 @@ ghost use Rattle.ttx_packet.specs.PacketAddress.{address};
 ghost use Rattle.ttx_page.specs.Page.{blank};
 ghost use Rattle.ttx_page.specs.PacketKind.{is_this_page, kind};
 ghost use Rattle.ttx_page.specs.Screen.{Display, display};
-ghost use Rattle.ttx_pes.specs.PesGrammar.{most_units};
+ghost use Rattle.ttx_pes.specs.PesGrammar.{max_units};
 ghost use Rattle.sub_rules.specs.PacketRules.{packets_of_units};
-ghost use Rattle.sub_listen.specs.Reception.{RunsThrough, packets_used_by, restarts_at_header};
-ghost use Rattle.sub_listen.specs.Reception.{first_lost_header, is_heard, is_lost, is_taken};
+ghost use Rattle.sub_listen.specs.Reception.{ReceivesPackets, packets_used_by, restarts_at_header};
+ghost use Rattle.sub_listen.specs.Reception.{first_lost_header, is_received_packet, is_lost_packet};
+ghost use Rattle.sub_listen.specs.Reception.{is_packet_used};
 ghost use Rattle.sub_listen.specs.Reception.{may_be_lost_at, reception_of};
 ghost use Rattle.sub_request.specs.Flips.{with_flip, with_flips};
 
@@ -23,11 +24,11 @@ use ttx_pes::SentUnits;
 /// lost, since it is a page header or its address can't be decoded. `number` is the index of the
 /// PES packet's first packet within the file.
 pub fn first_lost_header(listening: &Listening, number: u64, units: &SentUnits<'_>) -> Option<u32>
-    requires few { length units.now ≤ most_units }
-    requires number { number + most_units < u64.MAX }
+    requires few { length units.now ≤ max_units }
+    requires number { number + max_units < u64.MAX }
     ensures value { result ≡ first_lost_header (reception_of listening.now) number
         (packets_of_units units.now) }
-    ensures place { IfSome result (λ place. place < most_units) }
+    ensures place { IfSome result (λ place. place < max_units) }
 {
     if listening.lost.as_slice().is_empty() {
         return None;
@@ -49,9 +50,9 @@ pub fn hear_units<R: Receiver + Drop>(
     number: u64,
     units: &SentUnits<'_>,
 )
-    requires few { length units.now ≤ most_units }
-    requires number { number + most_units < u64.MAX }
-    ensures run { RunsThrough listening.now R.leaves
+    requires few { length units.now ≤ max_units }
+    requires number { number + max_units < u64.MAX }
+    ensures run { ReceivesPackets listening.now R.leaves
         (R.tuned_to receiver.old) (display (R.state receiver.old) screen.old)
         (packets_used_by listening.now number (packets_of_units units.now))
         (display (R.state receiver.new) screen.new) }
@@ -72,16 +73,16 @@ fn hear_packet<R: Receiver + Drop>(
     packet: &Packet,
 )
     ensures run { (packets : List (List ℕ)) (end : Display)
-        → RunsThrough listening.now R.leaves
+        → ReceivesPackets listening.now R.leaves
         (R.tuned_to receiver.old) (display (R.state receiver.new) screen.new)
         (packets_used_by listening.now (number + 1) packets) end
-        → RunsThrough listening.now R.leaves
+        → ReceivesPackets listening.now R.leaves
         (R.tuned_to receiver.old) (display (R.state receiver.old) screen.old)
         (packets_used_by listening.now number (packet.now ∷ packets)) end }
     ensures tuned { R.tuned_to receiver.new ≡ R.tuned_to receiver.old }
 {
-    if is_heard(listening, number) {
-        let got = flipped(&listening.flips, number, packet);
+    if is_received_packet(listening, number) {
+        let got = flip_bits(&listening.flips, number, packet);
         take(receiver, screen, listening, &got);
     }
 }
@@ -95,19 +96,19 @@ fn take<R: Receiver + Drop>(
     packet: &Packet,
 )
     ensures run { (packets : List (List ℕ)) (end : Display)
-        → RunsThrough listening.now R.leaves
+        → ReceivesPackets listening.now R.leaves
         (R.tuned_to receiver.old) (display (R.state receiver.new) screen.new)
-        (filter (is_taken listening.now.receiver listening.now.options.page) packets) end
-        → RunsThrough listening.now R.leaves
+        (filter (is_packet_used listening.now.receiver listening.now.options.page) packets) end
+        → ReceivesPackets listening.now R.leaves
         (R.tuned_to receiver.old) (display (R.state receiver.old) screen.old)
-        (filter (is_taken listening.now.receiver listening.now.options.page)
+        (filter (is_packet_used listening.now.receiver listening.now.options.page)
         (packet.now ∷ packets)) end }
     ensures tuned { R.tuned_to receiver.new ≡ R.tuned_to receiver.old }
 {
-    if !is_taken(listening, packet) {
+    if !is_packet_used(listening, packet) {
         return;
     }
-    if is_beginning(listening.receiver, receiver.watched(), packet) {
+    if is_text_beginning(listening.receiver, receiver.watched(), packet) {
         // The header ends no page, so the screen does not change.
         restart_at_header(receiver, packet);
     } else if listening.options.asks_complete() {
@@ -120,22 +121,22 @@ fn take<R: Receiver + Drop>(
 
 // Returns whether the receiver uses an arriving packet. A receiver that drops rows does not use a
 // row with a byte of even parity.
-fn is_taken(listening: &Listening, packet: &Packet) -> bool
-    ensures { result ≡ is_taken listening.now.receiver listening.now.options.page packet.now }
+fn is_packet_used(listening: &Listening, packet: &Packet) -> bool
+    ensures { result ≡ is_packet_used listening.now.receiver listening.now.options.page packet.now }
 {
     match listening.receiver {
         ReceiverKind::DropRow => !is_dropped(listening.options.page(), packet),
-        ReceiverKind::Keep | ReceiverKind::Blank | ReceiverKind::Anew => true,
+        ReceiverKind::Keep | ReceiverKind::Blank | ReceiverKind::BlankEachHeader => true,
     }
 }
 
 // Returns whether a receiver starts again at the packet: the user requests this kind of receiver,
 // and the packet is a header of its page.
-fn is_beginning(receiver: ReceiverKind, page_id: PageId, packet: &Packet) -> bool
+fn is_text_beginning(receiver: ReceiverKind, page_id: PageId, packet: &Packet) -> bool
     ensures { result ≡ (restarts_at_header receiver && is_this_page (kind page_id packet.now)) }
 {
     match receiver {
-        ReceiverKind::Anew => is_header(page_id, packet),
+        ReceiverKind::BlankEachHeader => is_header(page_id, packet),
         ReceiverKind::Keep | ReceiverKind::Blank | ReceiverKind::DropRow => false,
     }
 }
@@ -165,22 +166,22 @@ fn restart_at_header<R: Receiver + Drop>(receiver: &mut R, header: &Packet)
 // Returns whether a packet is listed as lost but must not be lost.
 fn is_lost_header(listening: &Listening, number: u64, packet: &SentPacket<'_>) -> bool
     ensures { result
-        ≡ (is_lost (reception_of listening.now) number
+        ≡ (is_lost_packet (reception_of listening.now) number
         && not (may_be_lost_at (address packet.now))) }
 {
-    is_lost(listening, number) && !may_be_lost(&packet.packet())
+    is_lost_packet(listening, number) && !may_be_lost(&packet.packet())
 }
 
 // Returns whether packet `number` of the file is lost: it is listed as lost, and not skipped.
-fn is_lost(listening: &Listening, number: u64) -> bool
-    ensures { result ≡ is_lost (reception_of listening.now) number }
+fn is_lost_packet(listening: &Listening, number: u64) -> bool
+    ensures { result ≡ is_lost_packet (reception_of listening.now) number }
 {
     listening.skip <= number && listening.lost.contains(&number)
 }
 
 // Returns whether packet `number` of the file arrives: it is neither skipped nor lost.
-fn is_heard(listening: &Listening, number: u64) -> bool
-    ensures { result ≡ is_heard (reception_of listening.now) number }
+fn is_received_packet(listening: &Listening, number: u64) -> bool
+    ensures { result ≡ is_received_packet (reception_of listening.now) number }
 {
     listening.skip <= number && !listening.lost.contains(&number)
 }
@@ -196,7 +197,7 @@ fn may_be_lost(packet: &Packet) -> bool
 }
 
 // Returns packet `number` of the file with the requested bit errors.
-fn flipped(flips: &[Flip], number: u64, packet: &Packet) -> Packet
+fn flip_bits(flips: &[Flip], number: u64, packet: &Packet) -> Packet
     ensures { result ≡ with_flips flips.now number packet.now }
 {
     let mut bytes = *packet.bytes();
@@ -211,12 +212,12 @@ fn flip_bit(flip: &Flip, number: u64, bytes: &mut [u8; 42])
     ensures { bytes.new ≡ with_flip flip.now number bytes.old }
 {
     if flip.packet == number && flip.byte <= 41 && flip.bit >= 1 && flip.bit <= 8 {
-        bytes[flip.byte as usize] ^= bit_value(flip.bit);
+        bytes[flip.byte as usize] ^= bit_mask(flip.bit);
     }
 }
 
 // Returns the value of bit 1 to 8 in a byte; bit 1 is the lowest.
-fn bit_value(bit: u8) -> u8
+fn bit_mask(bit: u8) -> u8
     requires { (1 ≤ bit) × (bit ≤ 8) }
     ensures { result ≡ 2 ^ (bit - 1) }
 {

@@ -12,23 +12,25 @@ use Rattle.ttx_pes.specs.declared.fault.PesFault.{PesFault}
 use Rattle.std.proofs.lemmas.List.{append-nil, length-drop}
 use Rattle.ttx_pes.specs.PesPacketRange.{rest_after_pes_packets, count_pes_packets}
 use Rattle.ttx_pes.specs.PesPacketRange.{first_pes_packets, pes_packet_size}
-use Rattle.ttx_pes.proofs.PesPacketRangeLemmas.{rest_after_none, rest_after_pes_packets_suc}
-use Rattle.ttx_pes.proofs.PesPacketRangeLemmas.{count_none}
+use Rattle.ttx_pes.proofs.PesPacketRangeLemmas.{no_packet_leaves_all_bytes}
+use Rattle.ttx_pes.proofs.PesPacketRangeLemmas.{rest_after_pes_packets_suc}
+use Rattle.ttx_pes.proofs.PesPacketRangeLemmas.{no_packet_counts_zero}
 use Rattle.ttx_pes.proofs.PesPacketRangeLemmas.{count_pes_packets_suc}
-use Rattle.ttx_pes.proofs.PesPacketRangeLemmas.{first_pes_packets_suc, pes_packet_stated}
+use Rattle.ttx_pes.proofs.PesPacketRangeLemmas.{first_pes_packets_suc, pes_packet_size_is_decoded}
 use Rattle.sub_listing.specs.Copying.{CopiesRest, HasCopied, HasCopiedPesPackets}
-use Rattle.sub_listing.specs.Extracting.{AreCut, AreExtracted, AreRefused, Extracts}
+use Rattle.sub_listing.specs.Extracting.{IsExtractedUntilFailure, IsExtractedCompletely}
+use Rattle.sub_listing.specs.Extracting.{IsExtractedUntilFault, Extracts}
 use Rattle.sub_listing.specs.Extracting.{begins_with_gap_marker}
 use Rattle.sub_listing.specs.Extracting.{count_gap_markers}
-use Rattle.sub_listing.specs.Extracting.{most_pes_packets, refusal_at}
+use Rattle.sub_listing.specs.Extracting.{max_pes_packet_count, fault_at_start}
 use Rattle.sub_listing.specs.declared.extract.ExtractFault.TheVariants.{Write}
 use Rattle.sub_listing.specs.declared.extract.Extracted.{Extracted}
 
-count_gap_markers_suc : (n : ℕ) (b : List ℕ) (size : ℕ) → pes_packet_size b ≡ Some size
+gap_marker_count_of_successor : (n : ℕ) (b : List ℕ) (size : ℕ) → pes_packet_size b ≡ Some size
     → count_gap_markers (suc n) b
     ≡ (if begins_with_gap_marker size b then 1 else 0) + count_gap_markers n (drop size b)
 unfolding count_gap_markers
-count_gap_markers_suc n b size e = rw e refl
+gap_marker_count_of_successor n b size e = rw e refl
 
 pub record HasOneMorePesPacket (k : ℕ) (b : List ℕ) (size : ℕ) : Type 0 where
   pub following : rest_after_pes_packets (suc k) b ≡ drop size (rest_after_pes_packets k b)
@@ -40,25 +42,25 @@ pub record HasOneMorePesPacket (k : ℕ) (b : List ℕ) (size : ℕ) : Type 0 wh
       ≡ count_gap_markers k b + (if begins_with_gap_marker size (rest_after_pes_packets k b) then 1
       else 0)
 
-pub one_more : (k : ℕ) (b : List ℕ) (size : ℕ)
+pub next_pes_packet_is_counted : (k : ℕ) (b : List ℕ) (size : ℕ)
     → pes_packet_size (rest_after_pes_packets k b) ≡ Some size
     → HasOneMorePesPacket k b size
 unfolding rest_after_pes_packets first_pes_packets count_pes_packets count_gap_markers
-one_more zero b size e = record {
+next_pes_packet_is_counted zero b size e = record {
   following = rw e refl;
   first = rw e (append-nil (take size b));
   count = λ all. rw e refl;
   gap_markers = rw e (omega arith);
 }
-one_more (suc k) b size e =
+next_pes_packet_is_counted (suc k) b size e =
     go (pes_packet_size b) refl
-    (λ s is. one_more k (drop s b) size
+    (λ s is. next_pes_packet_is_counted k (drop s b) size
     (ap pes_packet_size (sym (rest_after_pes_packets_suc k b s is)) ∙ e))
   where
     go : (o : Option ℕ) → pes_packet_size b ≡ o
         → ((s : ℕ) → pes_packet_size b ≡ Some s → HasOneMorePesPacket k (drop s b) size)
         → HasOneMorePesPacket (suc k) b size
-    go None is others = let same = rest_after_none (suc k) b is in absurd cc
+    go None is others = let same = no_packet_leaves_all_bytes (suc k) b is in absurd cc
     go (Some s) is others =
         let more = others s is in
         record {
@@ -79,27 +81,28 @@ one_more (suc k) b size e =
               let there = more.count (omega (arith, here, all)) in
               count_pes_packets_suc (suc k) b s is ∙ ap suc there;
           gap_markers =
-              let one = count_gap_markers_suc (suc k) b s is in
-              let before = count_gap_markers_suc k b s is in
+              let one = gap_marker_count_of_successor (suc k) b s is in
+              let before = gap_marker_count_of_successor k b s is in
               let others = more.gap_markers in
               let same = rest_after_pes_packets_suc k b s is in
               rw same (omega (arith, one, before, others));
         }
 
 -- The PES packets at the start of some bytes, followed by the remaining bytes, are all these bytes.
-pub split_pes_packets : (k : ℕ) (b : List ℕ)
+pub packets_and_rest_make_bytes : (k : ℕ) (b : List ℕ)
     → count_pes_packets k b ≡ k
     → first_pes_packets k b ++ rest_after_pes_packets k b ≡ b
 unfolding rest_after_pes_packets first_pes_packets count_pes_packets
-split_pes_packets zero b all = refl
-split_pes_packets (suc k) b all =
-    go (pes_packet_size b) refl (λ s. split_pes_packets k (drop s b))
+packets_and_rest_make_bytes zero b all = refl
+packets_and_rest_make_bytes (suc k) b all =
+    go (pes_packet_size b) refl (λ s. packets_and_rest_make_bytes k (drop s b))
   where
     go : (o : Option ℕ) → pes_packet_size b ≡ o
         → ((s : ℕ) → count_pes_packets k (drop s b) ≡ k
         → first_pes_packets k (drop s b) ++ rest_after_pes_packets k (drop s b) ≡ drop s b)
         → first_pes_packets (suc k) b ++ rest_after_pes_packets (suc k) b ≡ b
-    go None is others = let none = count_none (suc k) b is in absurd (omega (arith, none, all))
+    go None is others = let none = no_packet_counts_zero (suc k) b is in absurd
+        (omega (arith, none, all))
     go (Some s) is others =
         let here = count_pes_packets_suc k b s is in
         let rest = others s (omega (arith, here, all)) in
@@ -110,43 +113,45 @@ split_pes_packets (suc k) b all =
         ∙ take-append-drop s b)
 
 -- There are at most as many PES packets as bytes, so counting them does not overflow.
-pub few_pes_packets : (k : ℕ) (b : List ℕ) → count_pes_packets k b ≤ length b
+pub pes_packet_count_is_bounded : (k : ℕ) (b : List ℕ) → count_pes_packets k b ≤ length b
 unfolding count_pes_packets
-few_pes_packets zero b = omega arith
-few_pes_packets (suc k) b = go (pes_packet_size b) refl (λ s. few_pes_packets k (drop s b))
+pes_packet_count_is_bounded zero b = omega arith
+pes_packet_count_is_bounded (suc k) b = go (pes_packet_size b) refl
+    (λ s. pes_packet_count_is_bounded k (drop s b))
   where
     go : (o : Option ℕ) → pes_packet_size b ≡ o
         → ((s : ℕ) → count_pes_packets k (drop s b) ≤ length (drop s b))
         → count_pes_packets (suc k) b ≤ length b
-    go None is others = let none = count_none (suc k) b is in omega (arith, none)
+    go None is others = let none = no_packet_counts_zero (suc k) b is in omega (arith, none)
     go (Some s) is others =
         let here = count_pes_packets_suc k b s is in
-        let reported = pes_packet_stated b s is in
+        let reported = pes_packet_size_is_decoded b s is in
         let large = reported.0 in
         let within = reported.2 in
         let less = length-drop s b in
         let rest = others s in
         omega (arith, here, large, within, less, rest)
 
-pub no_pes_packets : (bytes : List ℕ) (reported old : Option (List ℕ))
+pub zero_pes_packets_are_copied : (bytes : List ℕ) (reported old : Option (List ℕ))
     → reported ≡ Some bytes
     → HasCopiedPesPackets bytes reported old old 0 0
 unfolding rest_after_pes_packets first_pes_packets count_pes_packets count_gap_markers
-no_pes_packets bytes reported old is = record {
+zero_pes_packets_are_copied bytes reported old is = record {
   left_eq = is;
   written = Appends-nil old;
   number = refl;
   gap_markers = refl;
 }
 
-pub next_copied : (bytes : List ℕ) (left next old mid new : Option (List ℕ)) (k gaps more size : ℕ)
+pub copying_next_adds_packet : (bytes : List ℕ) (left next old mid new : Option (List ℕ))
+    (k gaps more size : ℕ)
     → HasCopiedPesPackets bytes left old mid k gaps
     → pes_packet_size (rest_after_pes_packets k bytes) ≡ Some size
     → HasCopied (rest_after_pes_packets k bytes) next mid new size
     → more ≡ gaps + (if begins_with_gap_marker size (rest_after_pes_packets k bytes) then 1 else 0)
     → HasCopiedPesPackets bytes next old new (k + 1) more
-next_copied bytes left next old mid new k gaps more size so_far is copied counted =
-    let one = one_more k bytes size is in
+copying_next_adds_packet bytes left next old mid new k gaps more size so_far is copied counted =
+    let one = next_pes_packet_is_counted k bytes size is in
     let rises : k + 1 ≡ suc k = omega arith in
     rw rises (record {
       left_eq = copied.left_eq ∙ ap Some (sym one.following);
@@ -164,97 +169,103 @@ next_copied bytes left next old mid new k gaps more size so_far is copied counte
           ∙ sym one.gap_markers;
     })
 
-pub part_copied : (bytes : List ℕ) (left old mid new : Option (List ℕ)) (k gaps : ℕ)
+pub partial_rest_gives_prefix : (bytes : List ℕ) (left old mid new : Option (List ℕ)) (k gaps : ℕ)
     → HasCopiedPesPackets bytes left old mid k gaps
     → AppendsPrefix mid new (rest_after_pes_packets k bytes)
     → AppendsPrefix old new bytes
-part_copied bytes left old mid new k gaps so_far part =
-    subst (AppendsPrefix old new) (split_pes_packets k bytes so_far.number)
+partial_rest_gives_prefix bytes left old mid new k gaps so_far part =
+    subst (AppendsPrefix old new) (packets_and_rest_make_bytes k bytes so_far.number)
     (AppendsPrefix-second old mid new (first_pes_packets k bytes) (rest_after_pes_packets k bytes)
     so_far.written part)
 
-pub entire_copied : (bytes : List ℕ) (left old mid new : Option (List ℕ)) (k gaps : ℕ)
+pub complete_rest_gives_all : (bytes : List ℕ) (left old mid new : Option (List ℕ)) (k gaps : ℕ)
     → HasCopiedPesPackets bytes left old mid k gaps
     → Appends mid new (rest_after_pes_packets k bytes)
     → Appends old new bytes
-entire_copied bytes left old mid new k gaps so_far rest =
-    subst (Appends old new) (split_pes_packets k bytes so_far.number)
+complete_rest_gives_all bytes left old mid new k gaps so_far rest =
+    subst (Appends old new) (packets_and_rest_make_bytes k bytes so_far.number)
     (Appends-trans old mid new (first_pes_packets k bytes) (rest_after_pes_packets k bytes)
     so_far.written rest)
 
-appends_nothing : (mid new : Option (List ℕ)) → Keeps mid new → Appends mid new []
-appends_nothing mid new kept = Appends-kept mid mid new [] (Appends-nil mid) kept
+keeping_appends_nothing : (mid new : Option (List ℕ)) → Keeps mid new → Appends mid new []
+keeping_appends_nothing mid new kept = Appends-kept mid mid new [] (Appends-nil mid) kept
 
-pub pes_packets_given : (bytes : List ℕ) (left old mid new : Option (List ℕ)) (k gaps : ℕ)
+pub empty_rest_completes_extraction : (bytes : List ℕ) (left old mid new : Option (List ℕ))
+    (k gaps : ℕ)
     → HasCopiedPesPackets bytes left old mid k gaps
     → rest_after_pes_packets k bytes ≡ []
     → Keeps mid new
     → 0 < k
-    → AreExtracted bytes old new k gaps
-pes_packets_given bytes left old mid new k gaps so_far none kept some = record {
+    → IsExtractedCompletely bytes old new k gaps
+empty_rest_completes_extraction bytes left old mid new k gaps so_far none kept some = record {
   pes_packets = so_far.number;
   whole = none;
   gap_markers = so_far.gap_markers;
   some = some;
   written =
-      entire_copied bytes left old mid new k gaps so_far (rw none (appends_nothing mid new kept));
+      complete_rest_gives_all bytes left old mid new k gaps so_far
+      (rw none (keeping_appends_nothing mid new kept));
 }
 
-pub none_given : (bytes : List ℕ) (left old mid new : Option (List ℕ)) (k gaps : ℕ)
+pub zero_packets_mean_no_bytes : (bytes : List ℕ) (left old mid new : Option (List ℕ)) (k gaps : ℕ)
     → HasCopiedPesPackets bytes left old mid k gaps
     → rest_after_pes_packets k bytes ≡ []
     → Keeps mid new
     → k ≡ 0
     → (bytes ≡ []) × Keeps old new
 unfolding rest_after_pes_packets first_pes_packets
-none_given bytes left old mid new k gaps so_far none kept is = grind (arith, nat_tests, append-nil)
+zero_packets_mean_no_bytes bytes left old mid new k gaps so_far none kept is = grind
+    (arith, nat_tests, append-nil)
 
-pub rest_refused : (bytes : List ℕ) (left old mid new : Option (List ℕ)) (k gaps : ℕ) (f : PesFault)
+pub rejected_rest_ends_extraction : (bytes : List ℕ) (left old mid new : Option (List ℕ))
+    (k gaps : ℕ) (f : PesFault)
     → HasCopiedPesPackets bytes left old mid k gaps
-    → refusal_at (rest_after_pes_packets k bytes) ≡ Some f
+    → fault_at_start (rest_after_pes_packets k bytes) ≡ Some f
     → CopiesRest (rest_after_pes_packets k bytes) mid new (Ok tt)
-    → AreRefused bytes old new f k
-rest_refused bytes left old mid new k gaps f so_far is rest =
-    let all = ap length (split_pes_packets k bytes so_far.number) in
+    → IsExtractedUntilFault bytes old new f k
+rejected_rest_ends_extraction bytes left old mid new k gaps f so_far is rest =
+    let all = ap length (packets_and_rest_make_bytes k bytes so_far.number) in
     let joined = length-append (first_pes_packets k bytes) (rest_after_pes_packets k bytes) in
     record {
       pes_packets = so_far.number;
-      taken = part_copied bytes left old mid new k gaps so_far rest.0;
+      taken = partial_rest_gives_prefix bytes left old mid new k gaps so_far rest.0;
       written = λ few.
-          entire_copied bytes left old mid new k gaps so_far
+          complete_rest_gives_all bytes left old mid new k gaps so_far
           (rest.1 (omega (arith, few, all, joined)));
       refused = λ few. is;
     }
 
-pub too_many : (bytes : List ℕ) (left old mid : Option (List ℕ)) (k gaps : ℕ) (f : PesFault)
+pub pes_packet_count_is_exceeded : (bytes : List ℕ) (left old mid : Option (List ℕ)) (k gaps : ℕ)
+    (f : PesFault)
     → HasCopiedPesPackets bytes left old mid k gaps
-    → k ≡ most_pes_packets
-    → AreRefused bytes old mid f most_pes_packets
-too_many bytes left old mid k gaps f so_far is =
-    let few = few_pes_packets k bytes in
+    → k ≡ max_pes_packet_count
+    → IsExtractedUntilFault bytes old mid f max_pes_packet_count
+pes_packet_count_is_exceeded bytes left old mid k gaps f so_far is =
+    let few = pes_packet_count_is_bounded k bytes in
     let number = so_far.number in
-    let large : most_pes_packets ≤ length bytes = omega (arith, few, number, is) in
+    let large : max_pes_packet_count ≤ length bytes = omega (arith, few, number, is) in
     record {
       pes_packets = rw (sym is) number;
       taken =
-          part_copied bytes left old mid mid k gaps so_far
+          partial_rest_gives_prefix bytes left old mid mid k gaps so_far
           (0, omega arith, Appends-nil mid);
       written = λ less. absurd (omega (arith, large, less));
       refused = λ less. absurd (omega (arith, large, less));
     }
 
-pub cut_behind : (bytes : List ℕ) (left old mid new : Option (List ℕ)) (k gaps : ℕ)
+pub source_failed_after_packets : (bytes : List ℕ) (left old mid new : Option (List ℕ)) (k gaps : ℕ)
     → HasCopiedPesPackets bytes left old mid k gaps
     → Keeps mid new
-    → AreCut bytes old new k
-cut_behind bytes left old mid new k gaps so_far kept = grind (arith, nat_tests)
+    → IsExtractedUntilFailure bytes old new k
+source_failed_after_packets bytes left old mid new k gaps so_far kept = grind (arith, nat_tests)
 
-pub cut_in_rest : (bytes : List ℕ) (left old mid new : Option (List ℕ)) (k gaps : ℕ) (f : PesFault)
+pub source_failed_in_rest : (bytes : List ℕ) (left old mid new : Option (List ℕ)) (k gaps : ℕ)
+    (f : PesFault)
     → HasCopiedPesPackets bytes left old mid k gaps
-    → refusal_at (rest_after_pes_packets k bytes) ≡ Some f
+    → fault_at_start (rest_after_pes_packets k bytes) ≡ Some f
     → AppendsPrefix mid new (rest_after_pes_packets k bytes)
-    → AreCut bytes old new k
-cut_in_rest bytes left old mid new k gaps f so_far is part = record {
+    → IsExtractedUntilFailure bytes old new k
+source_failed_in_rest bytes left old mid new k gaps f so_far is part = record {
   pes_packets = so_far.number;
   following = mid;
   given = so_far.written;

@@ -6,114 +6,134 @@ use Rattle.std.proofs.Common.{Option, Some, None}
 use Rattle.std.specs.Io.KnownBytes.{Consumes, Keeps}
 use Rattle.ttx_pes.specs.Outcome.{PesOutcome, ReadsPackets, ends, fails, gives}
 use Rattle.ttx_pes.specs.PesGrammar.{PesValue}
-use Rattle.ttx_pes.specs.Reader.{FailsAtPacket, FailsWithin, TakesPackets, TakesValidPesPacket}
-use Rattle.ttx_pes.specs.Reader.{TakesRefused}
+use Rattle.ttx_pes.specs.Reader.{FailsAtPacket, FailsWithinPacket, TakesPackets}
+use Rattle.ttx_pes.specs.Reader.{TakesValidPesPacket}
+use Rattle.ttx_pes.specs.Reader.{ConsumesRefusedPacket}
 use Rattle.ttx_pes.specs.declared.fault.PesFault.{PesFault}
 use Rattle.ttx_pes.specs.declared.fault.PesFault.TheVariants.{Read}
 use Rattle.sub_rules.specs.PesPackets.{FailsAtPesPacket}
 use Rattle.sub_rules.specs.declared.fault.CheckFault.TheVariants.{Pes}
 use Rattle.sub_listing.specs.DeviceCall.{SinkCall, SourceCall}
 use Rattle.sub_listing.specs.Faults.{check_line}
-use Rattle.sub_listing.specs.FirstPacket.{FirstNumber, PrintsFrom}
+use Rattle.sub_listing.specs.FirstPacket.{FirstNumber, PrintsCountedFrom}
 use Rattle.sub_listing.specs.Listing.{PrintsListing, PrintsOrFails, fault_listing}
 use Rattle.sub_listing.specs.PacketsListing.{ListsPackets, pes_listing}
 use Rattle.sub_listing.specs.FaultLine.{counted_from}
 use Rattle.sub_listing.specs.declared.status.Status.{Status}
 use Rattle.sub_listing.specs.declared.status.Status.TheVariants.{Fault}
 
-pub known_bytes_kept : (old mid : Option (List ℕ)) (bytes : List ℕ)
+pub keeping_preserves_known_bytes : (old mid : Option (List ℕ)) (bytes : List ℕ)
     → Keeps old mid
     → old ≡ Some bytes
     → mid ≡ Some bytes
-known_bytes_kept None mid bytes kept reported = cc
-known_bytes_kept (Some x) None bytes kept reported = absurd kept
-known_bytes_kept (Some x) (Some y) bytes kept reported = cc
+keeping_preserves_known_bytes None mid bytes kept reported = cc
+keeping_preserves_known_bytes (Some x) None bytes kept reported = absurd kept
+keeping_preserves_known_bytes (Some x) (Some y) bytes kept reported = cc
 
-pub consumed_kept : (old mid new : Option (List ℕ)) (bytes : List ℕ)
+pub keeping_then_consuming_consumes : (old mid new : Option (List ℕ)) (bytes : List ℕ)
     → Keeps old mid
     → Consumes mid new bytes
     → Consumes old new bytes
-consumed_kept None mid new bytes kept taken = tt
-consumed_kept (Some x) None new bytes kept taken = absurd kept
-consumed_kept (Some x) (Some y) new bytes kept taken = rw (sym kept) taken
+keeping_then_consuming_consumes None mid new bytes kept taken = tt
+keeping_then_consuming_consumes (Some x) None new bytes kept taken = absurd kept
+keeping_then_consuming_consumes (Some x) (Some y) new bytes kept taken = rw (sym kept) taken
 
-pub consumed_none : (old new : Option (List ℕ)) → Keeps old new → Consumes old new []
-consumed_none None new kept = tt
-consumed_none (Some x) None kept = absurd kept
-consumed_none (Some x) (Some y) kept = sym kept
+pub keeping_consumes_nothing : (old new : Option (List ℕ)) → Keeps old new → Consumes old new []
+keeping_consumes_nothing None new kept = tt
+keeping_consumes_nothing (Some x) None kept = absurd kept
+keeping_consumes_nothing (Some x) (Some y) kept = sym kept
 
-within_kept : (old mid new : Option (List ℕ))
+keeping_preserves_failure_within : (old mid new : Option (List ℕ))
     → Keeps old mid
-    → FailsWithin mid new
-    → FailsWithin old new
-within_kept old mid new kept f = grind (arith, nat_tests, consumed_kept)
+    → FailsWithinPacket mid new
+    → FailsWithinPacket old new
+keeping_preserves_failure_within old mid new kept f = grind
+    (arith, nat_tests, keeping_then_consuming_consumes)
 
-packet_kept : (old mid new : Option (List ℕ)) (v : PesValue)
+keeping_preserves_valid_packet : (old mid new : Option (List ℕ)) (v : PesValue)
     → Keeps old mid
     → TakesValidPesPacket mid new v
     → TakesValidPesPacket old new v
-packet_kept old mid new v kept t = grind (arith, nat_tests, consumed_kept)
+keeping_preserves_valid_packet old mid new v kept t = grind
+    (arith, nat_tests, keeping_then_consuming_consumes)
 
-refused_kept : (old mid new : Option (List ℕ)) (f : PesFault)
+keeping_preserves_refusal : (old mid new : Option (List ℕ)) (f : PesFault)
     → Keeps old mid
-    → TakesRefused mid new f
-    → TakesRefused old new f
-refused_kept old mid new f kept t = grind (arith, nat_tests, consumed_kept)
+    → ConsumesRefusedPacket mid new f
+    → ConsumesRefusedPacket old new f
+keeping_preserves_refusal old mid new f kept t = grind
+    (arith, nat_tests, keeping_then_consuming_consumes)
 
-pub packets_kept : (n : ℕ) (old mid new : Option (List ℕ))
+pub keeping_preserves_packets : (n : ℕ) (old mid new : Option (List ℕ))
     → Keeps old mid
     → TakesPackets n mid new
     → TakesPackets n old new
-packets_kept n old mid new kept t = grind (arith, nat_tests, consumed_kept)
+keeping_preserves_packets n old mid new kept t = grind
+    (arith, nat_tests, keeping_then_consuming_consumes)
 
-pub fails_packet_kept : (n : ℕ) (old mid new : Option (List ℕ))
+pub keeping_preserves_packet_failure : (n : ℕ) (old mid new : Option (List ℕ))
     → Keeps old mid
     → FailsAtPacket n mid new
     → FailsAtPacket n old new
-fails_packet_kept n old mid new kept f = grind (arith, nat_tests, packets_kept)
+keeping_preserves_packet_failure n old mid new kept f = grind
+    (arith, nat_tests, keeping_preserves_packets)
 
-pub fails_pes_packet_kept : (n : ℕ) (old mid new : Option (List ℕ))
+pub keeping_preserves_pes_failure : (n : ℕ) (old mid new : Option (List ℕ))
     → Keeps old mid
     → FailsAtPesPacket n mid new
     → FailsAtPesPacket n old new
-fails_pes_packet_kept n old mid new kept f = grind (arith, nat_tests, consumed_kept)
+keeping_preserves_pes_failure n old mid new kept f = grind
+    (arith, nat_tests, keeping_then_consuming_consumes)
 
-pub fails_within_first : (old new : Option (List ℕ)) → Keeps old new → FailsWithin old new
-fails_within_first old new kept = grind (arith, nat_tests, consumed_none)
+pub unchanged_bytes_allow_failure : (old new : Option (List ℕ)) → Keeps old new → FailsWithinPacket
+    old new
+unchanged_bytes_allow_failure old new kept = grind (arith, nat_tests, keeping_consumes_nothing)
 
-pub fails_first_packet : (old new : Option (List ℕ)) → Keeps old new → FailsAtPacket 0 old new
-fails_first_packet old new kept = grind (arith, nat_tests, consumed_none, fails_within_first)
+pub unchanged_bytes_allow_packet_failure : (old new : Option (List ℕ)) → Keeps old new →
+    FailsAtPacket 0 old new
+unchanged_bytes_allow_packet_failure old new kept = grind
+    (arith, nat_tests, keeping_consumes_nothing, unchanged_bytes_allow_failure)
 
-pub fails_first_pes_packet : (old new : Option (List ℕ)) → Keeps old new → FailsAtPesPacket 0 old
+pub unchanged_bytes_allow_pes_failure : (old new : Option (List ℕ)) → Keeps old new →
+    FailsAtPesPacket 0 old
     new
-fails_first_pes_packet old new kept = grind (arith, nat_tests, consumed_none, fails_within_first)
+unchanged_bytes_allow_pes_failure old new kept = grind (
+  arith,
+  nat_tests,
+  keeping_consumes_nothing,
+  unchanged_bytes_allow_failure,
+)
 
-reads_kept : (failed : Bool) (old mid : Option (List ℕ)) (o : PesOutcome) (left : Option (List ℕ))
+keeping_preserves_reading : (failed : Bool) (old mid : Option (List ℕ)) (o : PesOutcome)
+    (left : Option (List ℕ))
     → Keeps old mid
     → ReadsPackets failed mid o left
     → ReadsPackets failed old o left
-reads_kept failed old mid ends left kept reads = grind (arith, nat_tests)
-reads_kept failed old mid (fails f) left kept reads =
-    grind (arith, nat_tests, within_kept, refused_kept)
-reads_kept failed old mid (gives v more) left kept reads = grind (arith, nat_tests, packet_kept)
+keeping_preserves_reading failed old mid ends left kept reads = grind (arith, nat_tests)
+keeping_preserves_reading failed old mid (fails f) left kept reads =
+    grind (arith, nat_tests, keeping_preserves_failure_within, keeping_preserves_refusal)
+keeping_preserves_reading failed old mid (gives v more) left kept reads = grind
+    (arith, nat_tests, keeping_preserves_valid_packet)
 
 -- If the first PES packet was found, PES packets are counted from its number in the file.
-pub prints_found : (first : FirstNumber) (number : ℕ) (old mid left : Option (List ℕ))
+pub listing_counts_from_found_packet : (first : FirstNumber) (number : ℕ)
+    (old mid left : Option (List ℕ))
     (old_count mid_count new_count : ℕ) (out : SinkCall) (status : Status)
     → ((n : ℕ) → first.known ≡ Some n → number ≡ n)
     → Keeps old mid
     → mid_count ≡ old_count
     → PrintsListing (ListsPackets number)
     (record { known = mid; left = left; old_count = mid_count; new_count = new_count }) out status
-    → PrintsFrom ListsPackets first
+    → PrintsCountedFrom ListsPackets first
     (record { known = old; left = left; old_count = old_count; new_count = new_count }) out status
-prints_found
+listing_counts_from_found_packet
     first number old mid left old_count mid_count new_count out status found kept same prints =
-    grind (arith, nat_tests, known_bytes_kept, reads_kept)
+    grind (arith, nat_tests, keeping_preserves_known_bytes, keeping_preserves_reading)
 
 -- If the source failed before the first PES packet was found, only the line about the failure is
 -- printed.
-pub prints_failed : (first : FirstNumber) (number : ℕ) (source : SourceCall) (out : SinkCall)
+pub failed_search_prints_fault : (first : FirstNumber) (number : ℕ) (source : SourceCall)
+    (out : SinkCall)
     (status : Status)
     → ((n : ℕ) → first.known ≡ Some n → number ≤ n)
     → number ≡ first.skipped
@@ -121,25 +141,26 @@ pub prints_failed : (first : FirstNumber) (number : ℕ) (source : SourceCall) (
     → Keeps source.known source.left
     → source.new_count ≡ source.old_count + 1
     → PrintsOrFails out (fault_listing (counted_from number (check_line (Pes 0 Read)))) status
-    → PrintsFrom ListsPackets first source out status
-prints_failed first number source out status before skipped same kept risen printed = record {
-  number = number;
-  starts = λ n is. inr (before n is, skipped, same n is, (risen, kept));
-  prints = record {
-    ending = Some Fault;
-    listing = pes_listing number 0 (fails Read);
-    is_listed = record {
-      outcome = fails Read;
-      listing_eq = refl;
-      exact = λ bytes reported ok. cc;
-      taken = λ other. (
-        refl,
-        λ is. fails_within_first source.known source.left kept,
-        λ is. cc,
-      );
-    };
-    source_count = risen;
-    cut = λ is. cc;
-    printed = printed;
-  };
-}
+    → PrintsCountedFrom ListsPackets first source out status
+failed_search_prints_fault first number source out status before skipped same kept risen
+    printed = record {
+      number = number;
+      starts = λ n is. inr (before n is, skipped, same n is, (risen, kept));
+      prints = record {
+        ending = Some Fault;
+        listing = pes_listing number 0 (fails Read);
+        is_listed = record {
+          outcome = fails Read;
+          listing_eq = refl;
+          exact = λ bytes reported ok. cc;
+          taken = λ other. (
+            refl,
+            λ is. unchanged_bytes_allow_failure source.known source.left kept,
+            λ is. cc,
+          );
+        };
+        source_count = risen;
+        cut = λ is. cc;
+        printed = printed;
+      };
+    }

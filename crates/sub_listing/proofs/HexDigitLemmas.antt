@@ -14,37 +14,37 @@ use lib.Lanes.{zip2, pick_l, Each1}
 use Rattle.hex.specs.Hex.{encode_with}
 use Rattle.hex.proofs.HexLemmas.{length-encode_with}
 
-abbrev pub down : ℕ → ℕ → ℕ
-down a b = a / 2 ^ b
+abbrev pub shift_right_value : ℕ → ℕ → ℕ
+shift_right_value a b = a / 2 ^ b
 
-pub upper_ok : (v : List ℕ) → length v ≡ 16 → Each1 (Fits w8) v
-    → SwzOk w8 16 16 0 (zip2 down v (replicate 16 4))
-upper_ok v long fits =
+pub upper_digits_are_valid_indices : (v : List ℕ) → length v ≡ 16 → Each1 (Fits w8) v
+    → SwzOk w8 16 16 0 (zip2 shift_right_value v (replicate 16 4))
+upper_digits_are_valid_indices v long fits =
     let small =
     Each1-weaker (λ a. a < 256) (λ a. a / 16 < 16) (λ a h. omega arith) v
     (below_from_Fits w8 v fits)
     in
-    SwzOk-from_below w8 16 1 16 0 (zip2 down v (replicate 16 4)) refl
-    (omega (arith, length-zip2 down v (replicate 16 4) long))
-    (Each1-zip2 down (λ j. j < 16) v (replicate 16 4)
-    (Each2-splat (λ a b. down a b < 16) v 16 4 small))
+    SwzOk-from_below w8 16 1 16 0 (zip2 shift_right_value v (replicate 16 4)) refl
+    (omega (arith, length-zip2 shift_right_value v (replicate 16 4) long))
+    (Each1-zip2 shift_right_value (λ j. j < 16) v (replicate 16 4)
+    (Each2-splat (λ a b. shift_right_value a b < 16) v 16 4 small))
 
-pub lower_ok : (v : List ℕ) → length v ≡ 16
+pub lower_digits_are_valid_indices : (v : List ℕ) → length v ≡ 16
     → SwzOk w8 16 16 0 (zip2 bit_and v (replicate 16 15))
-lower_ok v long =
+lower_digits_are_valid_indices v long =
     let small = Each1-all (λ a. bit_and a 15 < 16) (λ a. omega (arith, and_le_r a 15)) v in
     SwzOk-from_below w8 16 1 16 0 (zip2 bit_and v (replicate 16 15)) refl
     (omega (arith, length-zip2 bit_and v (replicate 16 15) long))
     (Each1-zip2 bit_and (λ j. j < 16) v (replicate 16 15)
     (Each2-splat (λ a b. bit_and a b < 16) v 16 15 small))
 
-pub looked_up : (t : List ℕ) (g : ℕ → ℕ) (v js : List ℕ)
+pub swizzle_looks_up_digits : (t : List ℕ) (g : ℕ → ℕ) (v js : List ℕ)
     → length v ≡ 16
     → Each1 (Fits w8) v
     → js ≡ map g v
     → ((x : ℕ) → x < 256 → g x < 16)
     → swz_l w8 16 t 0 js ≡ map (λ x. get_or t (g x) 0) v
-looked_up t g v js long fits e small =
+swizzle_looks_up_digits t g v js long fits e small =
     let size : length js ≡ 16 = ap length e ∙ length-map v g ∙ long in
     ext_get_or 0 _ _
     (length-swz_l w8 16 t 0 js ∙ size ∙ sym (length-map v (λ x. get_or t (g x) 0) ∙ long)) (λ i h.
@@ -52,30 +52,32 @@ looked_up t g v js long fits e small =
     let within : i < length v = omega (arith, long) in
     let is : get_or js i 0 ≡ g (get_or v i 0) =
     ap (λ l. get_or l i 0) e ∙ get_or-map g v i 0 0 within in
-    let below : get_or js i 0 < 16 = omega (arith, small (get_or v i 0) (lane_fits v i fits)) in
+    let below : get_or js i 0 < 16 = omega
+    (arith, small (get_or v i 0) (lane_value_is_byte v i fits)) in
     let place : 16 * ((0 + i) / 16) + get_or js i 0 ≡ g (get_or v i 0) = omega arith in
     get_or-swz_l_below w8 16 t 0 js i (omega arith) below
     ∙ ap (λ k. get_or t k 0) place
     ∙ sym (get_or-map (λ x. get_or t (g x) 0) v i 0 0 within))
   where
-    lane_fits : (v : List ℕ) (i : ℕ) → Each1 (Fits w8) v → get_or v i 0 < 256
-    lane_fits [] i h = omega arith
-    lane_fits (x ∷ xs) zero h = h.0.fits
-    lane_fits (x ∷ xs) (suc i) h = lane_fits xs i h.1
+    lane_value_is_byte : (v : List ℕ) (i : ℕ) → Each1 (Fits w8) v → get_or v i 0 < 256
+    lane_value_is_byte [] i h = omega arith
+    lane_value_is_byte (x ∷ xs) zero h = h.0.fits
+    lane_value_is_byte (x ∷ xs) (suc i) h = lane_value_is_byte xs i h.1
 
-abbrev interleaved : List ℕ → List ℕ → List ℕ
-interleaved firsts seconds =
+abbrev interleaved_digits : List ℕ → List ℕ → List ℕ
+interleaved_digits firsts seconds =
     pick_l 0 (firsts ++ seconds)
     (0 ∷ 16 ∷ 1 ∷ 17 ∷ 2 ∷ 18 ∷ 3 ∷ 19 ∷ 4 ∷ 20 ∷ 5 ∷ 21 ∷ 6 ∷ 22 ∷ 7 ∷ 23 ∷ [])
     ++ pick_l 0 (firsts ++ seconds)
     (8 ∷ 24 ∷ 9 ∷ 25 ∷ 10 ∷ 26 ∷ 11 ∷ 27 ∷ 12 ∷ 28 ∷ 13 ∷ 29 ∷ 14 ∷ 30 ∷ 15 ∷ 31 ∷ [])
 
-pub interleaved_eq : (t v : List ℕ) → length v ≡ 16
-    → interleaved (map (λ b. get_or t (b / 16) 0) v) (map (λ b. get_or t (b % 16) 0) v)
+pub interleaving_encodes_hex : (t v : List ℕ) → length v ≡ 16
+    → interleaved_digits (map (λ b. get_or t (b / 16) 0) v) (map (λ b. get_or t (b % 16) 0) v)
     ≡ encode_with t v
 unfolding encode_with
-interleaved_eq t v long =
-    subst (λ l. interleaved (map (λ b. get_or t (b / 16) 0) l) (map (λ b. get_or t (b % 16) 0) l)
+interleaving_encodes_hex t v long =
+    subst (λ l. interleaved_digits (map (λ b. get_or t (b / 16) 0) l)
+    (map (λ b. get_or t (b % 16) 0) l)
     ≡ encode_with t l)
     (pick_l_whole 0 v 16 long) refl
 
@@ -95,13 +97,13 @@ drop-encode_with t (b ∷ xs) (suc n) =
     let e : 2 * suc n ≡ suc (suc (2 * n)) = omega arith in
     ap (λ m. drop m (encode_with t (b ∷ xs))) e ∙ drop-encode_with t xs n
 
-pub digits_by_blocks : (t xs line one two three : List ℕ)
+pub blocks_encode_all_digits : (t xs line one two three : List ℕ)
     → length xs ≡ 42
     → one ≡ line ++ encode_with t (take 16 xs)
     → two ≡ one ++ encode_with t (take 16 (drop 16 xs))
     → three ≡ two ++ take 20 (drop 12 (encode_with t (drop 26 xs)))
     → three ≡ line ++ encode_with t xs
-digits_by_blocks t xs line one two three long e1 e2 e3 =
+blocks_encode_all_digits t xs line one two three long e1 e2 e3 =
     let first = encode_with t (take 16 xs) in
     let second = encode_with t (take 16 (drop 16 xs)) in
     let last = encode_with t (drop 32 xs) in

@@ -5,17 +5,18 @@ use Rattle.std.proofs.Common.{◌≡◌, ℕ, ◌+◌, ◌<◌, Bool, true, fals
 use Rattle.std.proofs.Common.{arith, refl}
 use Rattle.sub_listing.specs.LastLine.{BuffersLastLineOnly, IsAlone, PutsLine}
 
-pub risen_fails : (old new : ℕ) (fails : Bool)
+pub raised_count_means_failure : (old new : ℕ) (fails : Bool)
     → old < new
     → new ≡ old + (if fails then 1 else 0)
     → fails ≡ true
-risen_fails old new true risen counted = refl
-risen_fails old new false risen counted = absurd (omega (arith, risen, counted))
+raised_count_means_failure old new true risen counted = refl
+raised_count_means_failure old new false risen counted = absurd (omega (arith, risen, counted))
 
-pub last_alone : {K : Type 0} (contents : K → Option (List ℕ)) (buffered : K → ℕ)
+pub only_last_line_is_buffered : {K : Type 0} (contents : K → Option (List ℕ)) (buffered : K → ℕ)
     (IsPush : K → List ℕ → Option ℕ → K → Type 0) (before new : K) (text put : List ℕ)
     → IsAlone (buffered before) text
     → put ≡ text
     → PutsLine contents IsPush before put new
     → BuffersLastLineOnly contents buffered IsPush new
-last_alone contents buffered IsPush before new text put alone same line = grind (arith, nat_tests)
+only_last_line_is_buffered contents buffered IsPush before new text put alone same line = grind
+    (arith, nat_tests)

@@ -13,40 +13,42 @@ use Rattle.ttx_pes.specs.Outcome as pes
 use Rattle.ttx_pes.specs.Outcome.{ReadsPackets, outcome_after}
 use Rattle.ttx_pes.specs.PesGrammar.{PesValue}
 use Rattle.ttx_pes.specs.Reader.{ReportsPacket}
-use Rattle.ttx_pes.specs.Reading.{most_packets, rest_after}
+use Rattle.ttx_pes.specs.Reading.{max_pes_packets, rest_after}
 use Rattle.ttx_pes.specs.declared.progress.Progress.TheVariants.{Reading}
 use Rattle.ttx_pes.proofs.OutcomeLemmas.{outcome_after-next}
 use Rattle.stl_file.specs.Fault as stl_fault
 use Rattle.stl_file.specs.Gsi.{IsGsi, gsi_size}
-use Rattle.stl_file.specs.Reader.{EndsKept, ReaderValue, RefusesOpening, TakesSubtitle, open_result}
-use Rattle.stl_file.specs.Reader.{findings_for, gsi_of, outcome_left, outcome_of}
+use Rattle.stl_file.specs.Reader.{EndsWithSubtitleBlock, ReaderValue, RefusesOpening}
+use Rattle.stl_file.specs.Reader.{ConsumesSubtitle, open_result}
+use Rattle.stl_file.specs.Reader.{findings_within_scope, checked_gsi_of_file, remaining_outcome}
+use Rattle.stl_file.specs.Reader.{outcome_of_file}
 use Rattle.stl_file.specs.Reading.{ends, fails}
 use Rattle.stl_file.specs.Subtitle.{SubtitleValue}
-use Rattle.stl_file.proofs.OpeningLemmas.{opened_bad, opened_good}
+use Rattle.stl_file.proofs.OpeningLemmas.{opening_fault_is_gsi_fault, opened_reader_has_gsi}
 use Rattle.stl_file.specs.declared.fault.StlFault.{StlFault}
 use Rattle.stl_file.specs.declared.progress.Progress.TheVariants as progress
-use Rattle.sub_listing.specs.Faults.{kind_by, stl_line}
+use Rattle.sub_listing.specs.Faults.{kind_of_failure, stl_line}
 use Rattle.sub_listing.specs.DeviceCall.{Counts, SinkCall, SourceCall}
-use Rattle.sub_listing.specs.Listing.{YieldsResults, IsCut, ListingRelation, Listing, Lists}
+use Rattle.sub_listing.specs.Listing.{YieldsResults, IsEndless, ListingRelation, Listing, Lists}
 use Rattle.sub_listing.specs.Listing.{PrintsListing}
 use Rattle.sub_listing.specs.Listing.{PrintsOrFails, followed, has_failed}
 use Rattle.sub_listing.specs.Lines.{number_in_file}
 use Rattle.sub_listing.specs.PacketsListing.{frame_lines, pes_listing}
 use Rattle.sub_listing.specs.ShowListing.{ListsFrom, ReadsFile, ReadsSubtitles, subtitles_listing}
-use Rattle.sub_listing.specs.FaultLine.{line_of, status_of}
+use Rattle.sub_listing.specs.FaultLine.{text_of_fault_line, status_of}
 use Rattle.sub_listing.specs.declared.status.Status.{Status}
 use Rattle.sub_listing.specs.declared.status.Status.TheVariants.{Fault}
 
 -- The lines printed so far are the start of any listing that is still possible.
 pub record IsPrefix
-    (Before After : ListingRelation)
+    (Before PreviousPes : ListingRelation)
     (reported left old now : Option (List ℕ))
     : Type 0 where
   pub text : List ℕ
   pub printed : Appends old now text
   pub listed :
       (end : Option (List ℕ)) (ending : Option Status) (more : Listing)
-      → After left end ending more
+      → PreviousPes left end ending more
       → Before reported end ending (followed text more)
 
 pub prefix-none :
@@ -67,12 +69,12 @@ followed-twice first second more =
 
 -- After flushing, the printed lines remain.
 pub prefix-kept :
-    (Before After : ListingRelation)
+    (Before PreviousPes : ListingRelation)
     (reported left old now new : Option (List ℕ))
-    → IsPrefix Before After reported left old now
+    → IsPrefix Before PreviousPes reported left old now
     → Keeps now new
-    → IsPrefix Before After reported left old new
-prefix-kept Before After reported left old now new i kept = grind (arith, nat_tests)
+    → IsPrefix Before PreviousPes reported left old new
+prefix-kept Before PreviousPes reported left old now new i kept = grind (arith, nat_tests)
 
 pub counts-fault : (old new : ℕ) (failed : Bool) → CountRisesIf old failed new → Counts old Fault
     new
@@ -84,13 +86,13 @@ pub counts-status : (old new : ℕ) (status : Status) → CountRisesIf old (has_
 counts-status old new status risen = grind (arith, nat_tests)
 
 pub prefix-more :
-    (Before At After : ListingRelation)
+    (Before At PreviousPes : ListingRelation)
     (reported left rest old now new : Option (List ℕ)) (text : List ℕ)
     → IsPrefix Before At reported left old now
-    → YieldsResults At After left rest text None
+    → YieldsResults At PreviousPes left rest text None
     → Appends now new text
-    → IsPrefix Before After reported rest old new
-prefix-more Before At After reported left rest old now new text i gives p = record {
+    → IsPrefix Before PreviousPes reported rest old new
+prefix-more Before At PreviousPes reported left rest old now new text i gives p = record {
   text = i.text ++ text;
   printed = Appends-trans old now new i.text text i.printed p;
   listed = λ end ending more is.
@@ -99,17 +101,17 @@ prefix-more Before At After reported left rest old now new text i gives p = reco
 }
 
 pub prefix-end :
-    (Before At After : ListingRelation) (source : SourceCall) (out : SinkCall)
+    (Before At PreviousPes : ListingRelation) (source : SourceCall) (out : SinkCall)
     (left now : Option (List ℕ)) (text : List ℕ)
     (status : Status)
     → IsPrefix Before At source.known left out.old now
-    → YieldsResults At After left source.left text (Some status)
+    → YieldsResults At PreviousPes left source.left text (Some status)
     → Appends now out.new text
     → out.new_count ≡ out.old_count
     → CountRisesIf source.old_count (has_failed (Some status)) source.new_count
     → PrintsListing Before source out status
 unfolding PrintsOrFails
-prefix-end Before At After source out left now text status i gives p same counted = record {
+prefix-end Before At PreviousPes source out left now text status i gives p same counted = record {
   ending = Some status;
   listing = followed i.text (record { text = text; status = status });
   is_listed = i.listed source.left (Some status)
@@ -120,17 +122,17 @@ prefix-end Before At After source out left now text status i gives p same counte
 }
 
 pub prefix-cut :
-    (Before At After : ListingRelation) (source : SourceCall) (out : SinkCall)
+    (Before At PreviousPes : ListingRelation) (source : SourceCall) (out : SinkCall)
     (left now : Option (List ℕ)) (text : List ℕ)
     (end : Option Status)
     → IsPrefix Before At source.known left out.old now
-    → YieldsResults At After left source.left text end
+    → YieldsResults At PreviousPes left source.left text end
     → AppendsPrefix now out.new text
     → out.new_count ≡ out.old_count + 1
     → CountRisesIf source.old_count (has_failed end) source.new_count
     → PrintsListing Before source out Fault
 unfolding PrintsOrFails
-prefix-cut Before At After source out left now text None i gives p risen counted =
+prefix-cut Before At PreviousPes source out left now text None i gives p risen counted =
     let more = gives.1 in record {
       ending = None;
       listing = followed i.text (followed text more.0);
@@ -145,21 +147,22 @@ prefix-cut Before At After source out left now text None i gives p risen counted
         refl,
       );
     }
-prefix-cut Before At After source out left now text (Some status) i gives p risen counted = record {
-  ending = Some status;
-  listing = followed i.text (record { text = text; status = status });
-  is_listed = i.listed source.left (Some status)
-      (record { text = text; status = status }) gives;
-  source_count = counted;
-  cut = λ e same. omega (arith, risen, same);
-  printed = inr (risen, AppendsPrefix-second out.old now out.new i.text text i.printed p, refl);
-}
+prefix-cut Before At PreviousPes source out left now text (Some status) i gives p risen
+    counted = record {
+      ending = Some status;
+      listing = followed i.text (record { text = text; status = status });
+      is_listed = i.listed source.left (Some status)
+          (record { text = text; status = status }) gives;
+      source_count = counted;
+      cut = λ e same. omega (arith, risen, same);
+      printed = inr (risen, AppendsPrefix-second out.old now out.new i.text text i.printed p, refl);
+    }
 
 pub prefix-stopped :
     (Before At : ListingRelation) (source : SourceCall) (out : SinkCall)
     (left now : Option (List ℕ))
     → IsPrefix Before At source.known left out.old now
-    → IsCut At left source.left
+    → IsEndless At left source.left
     → Keeps now out.new
     → out.new_count ≡ out.old_count + 1
     → source.new_count ≡ source.old_count
@@ -185,7 +188,7 @@ pub lists-some :
     (Takes : Bool → Option (List ℕ) → O → Option (List ℕ) → Type 0)
     (reported left : Option (List ℕ))
     → O
-    → IsCut (Lists listing_of given Takes) reported left
+    → IsEndless (Lists listing_of given Takes) reported left
 lists-some O listing_of given Takes None left o = (
   listing_of o,
   record {
@@ -235,7 +238,7 @@ gives-last O listing_of given Takes reported left o text failed line is exact ta
 
 pub gives-packet :
     (first index : ℕ) (v : PesValue) (reported left : Option (List ℕ)) (text : List ℕ)
-    → index ≤ most_packets
+    → index ≤ max_pes_packets
     → ReportsPacket (Reading index) reported left (Ok (Some v))
     → text ≡ frame_lines (number_in_file first index) v
     → YieldsResults (Lists (pes_listing first index) (outcome_after index) ReadsPackets)
@@ -255,7 +258,7 @@ gives-packet first index v reported left text few reports lines =
     pes.ends
 
 rises : (from to : ℕ) (blocks : List (List ℕ))
-    → EndsKept blocks
+    → EndsWithSubtitleBlock blocks
     → from + length blocks ≡ to
     → from < to
 rises from to [] kept counted = absurd kept
@@ -263,14 +266,14 @@ rises from to (b ∷ blocks) kept counted = omega arith
 
 -- Each subtitle has at least one block, so reading a subtitle increases the block number.
 pub block-rises : (from to : ℕ) (old new : Option (List ℕ)) (s : SubtitleValue)
-    → TakesSubtitle from to old new s
+    → ConsumesSubtitle from to old new s
     → from < to
 block-rises from to old new s t = rises from to t.blocks t.ends t.counted
 
 -- A listing has the status `Fault` exactly if the source failed.
-pub kind_by-failed : (b : Bool) → has_failed (Some (status_of (kind_by b))) ≡ b
-kind_by-failed true = refl
-kind_by-failed false = refl
+pub kind_of_failure-failed : (b : Bool) → has_failed (Some (status_of (kind_of_failure b))) ≡ b
+kind_of_failure-failed true = refl
+kind_of_failure-failed false = refl
 
 pub gives-opened :
     (count : ℕ) (r : ReaderValue) (reported left : Option (List ℕ))
@@ -281,32 +284,45 @@ pub gives-opened :
     → IfKnown reported (λ bytes. left ≡ Some (drop gsi_size bytes))
     → IfKnown reported (λ bytes. open_result bytes ≡ Ok r)
     → YieldsResults (ListsFrom None count) (ListsFrom (Some r) count) reported left [] None
-unfolding findings_for
+unfolding findings_within_scope
 gives-opened count r reported left start reading gsi taken rest opened =
-    gives-next _ (subtitles_listing count) (subtitles_listing count) outcome_of (outcome_left r)
+    gives-next _ (subtitles_listing count) (subtitles_listing count) outcome_of_file
+    (remaining_outcome r)
     ReadsFile (λ failed. ReadsSubtitles failed r.block) (λ o. o) reported left [] (λ o. refl)
     (λ o failed end reads. inr (left, r.gsi, gsi, taken, rw start at reads))
     (λ bytes is. (
       drop gsi_size bytes,
       rest bytes is,
-      rw ((opened_good (gsi_of false bytes) r (opened bytes is)).0, start, reading) refl,
+      rw (
+        (opened_reader_has_gsi (checked_gsi_of_file false bytes) r (opened bytes is)).0,
+        start,
+        reading,
+      ) refl,
     ))
     ends
 
 pub gives-refused :
     (count : ℕ) (f : StlFault) (reported left : Option (List ℕ)) (text : List ℕ)
-    → text ≡ line_of (stl_line f 0)
-    → IfKnown reported (λ bytes. stl_fault.is_file_read f ≡ false → open_result bytes ≡ Err f)
-    → (stl_fault.is_file_read f ≡ true
+    → text ≡ text_of_fault_line (stl_line f 0)
+    → IfKnown reported (λ bytes. stl_fault.is_file_read_failure f ≡ false → open_result bytes ≡ Err
+    f)
+    → (stl_fault.is_file_read_failure f ≡ true
     → (bytes : List ℕ) × (length bytes < gsi_size) × Consumes reported left bytes)
-    → (stl_fault.is_format f ≡ true → RefusesOpening reported left f)
-    → ListsFrom None count reported left (Some (status_of (kind_by (stl_fault.is_file_read f))))
-    (record { text = text; status = status_of (kind_by (stl_fault.is_file_read f)) })
-unfolding findings_for
+    → (stl_fault.is_format_fault f ≡ true → RefusesOpening reported left f)
+    → ListsFrom None count reported left
+    (Some (status_of (kind_of_failure (stl_fault.is_file_read_failure f))))
+    (record {
+      text = text;
+      status = status_of
+          (kind_of_failure (stl_fault.is_file_read_failure f));
+    })
+unfolding findings_within_scope
 gives-refused count f reported left text line exact failed refused =
-    gives-last _ (subtitles_listing count) outcome_of ReadsFile reported left (fails f 0) text
-    (stl_fault.is_file_read f) line (kind_by-failed (stl_fault.is_file_read f))
-    (λ bytes is fine. rw (opened_bad (gsi_of false bytes) f (exact bytes is fine)) refl)
+    gives-last _ (subtitles_listing count) outcome_of_file ReadsFile reported left (fails f 0) text
+    (stl_fault.is_file_read_failure f) line
+    (kind_of_failure-failed (stl_fault.is_file_read_failure f))
+    (λ bytes is fine. rw (opening_fault_is_gsi_fault (checked_gsi_of_file false bytes) f
+    (exact bytes is fine)) refl)
     (inl (record {
       fault = f;
       outcome_eq = refl;

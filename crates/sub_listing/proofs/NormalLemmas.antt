@@ -15,7 +15,8 @@ use Rattle.stl_file.specs.Reader.{block_of_byte}
 use Rattle.stl_file.specs.Gsi.{gsi_size}
 use Rattle.stl_file.specs.Scope.{whole}
 use Rattle.stl_file.specs.Subtitle.{SubtitleValue}
-use Rattle.stl_file.proofs.FileLemmas.{file_complete, file_sound, outcome_of-first}
+use Rattle.stl_file.proofs.FileLemmas.{file_is_accepted, accepted_bytes_are_file}
+use Rattle.stl_file.proofs.FileLemmas.{outcome_of_file-first}
 use Rattle.sub_listing.specs.Writing.{ReportsRead, read_limit}
 use Rattle.sub_listing.specs.declared.normal.InputFault.TheVariants as input
 
@@ -24,15 +25,16 @@ first-is_file : (s : List ℕ) (ts : List SubtitleValue)
     → IsFile (take read_limit s) (take gsi_size (take read_limit s)) ts
     → IsFile s (take gsi_size s) ts
 first-is_file s ts is =
-    file_sound whole s ts
-    (ap subtitles_of (sym (outcome_of-first s)) ∙ (file_complete whole _ _ ts is).1)
+    accepted_bytes_are_file whole s ts
+    (ap subtitles_of (sym (outcome_of_file-first s)) ∙ (file_is_accepted whole _ _ ts is).1)
 
 -- The first 12,800,897 bytes of a file determine the result of `normal`.
-pub answers_first : (s read : List ℕ) (old new : Option (List ℕ)) (answer : Result ℕ NormalFault)
+pub read_limit_keeps_answer : (s read : List ℕ) (old new : Option (List ℕ))
+    (answer : Result ℕ NormalFault)
     → read ≡ take read_limit s
     → NormalAnswers read old new answer
     → NormalAnswers s old new answer
-answers_first s read old new answer first answers =
+read_limit_keeps_answer s read old new answer first answers =
     go answer (subst (λ (b : List ℕ). NormalAnswers b old new answer) first answers)
   where
     prefix : take gsi_size (take read_limit s) ≡ take gsi_size s
@@ -53,7 +55,7 @@ answers_first s read old new answer first answers =
       wrote = rw (← prefix) (w.wrote);
     }
     go (Err (normal.Refused f block)) w =
-        (ap subtitles_of (sym (outcome_of-first s)) ∙ w.0, w.1)
+        (ap subtitles_of (sym (outcome_of_file-first s)) ∙ w.0, w.1)
 
 pub Consumes-next : (x y z : Option (List ℕ)) (n : ℕ) (xs ps vs : List ℕ)
     → vs ≡ xs ++ take n ps

@@ -27,16 +27,16 @@ unfolding PrintsOrFails
 printed-status out listing status (inl p) other = p.2
 printed-status out listing status (inr p) other = absurd (other p.2)
 
-pub did_not_rise : (b : Bool) (old new : ℕ)
+pub unchanged_count_means_success : (b : Bool) (old new : ℕ)
     → new ≡ old + (if b then 1 else 0)
     → new ≡ old
     → b ≡ false
-did_not_rise true old new counted same = absurd (omega (arith, counted, same))
-did_not_rise false old new counted same = refl
+unchanged_count_means_success true old new counted same = absurd (omega (arith, counted, same))
+unchanged_count_means_success false old new counted same = refl
 
-pub did_rise : (b : Bool) (old new : ℕ)
+pub changed_count_means_failure : (b : Bool) (old new : ℕ)
     → new ≡ old + (if b then 1 else 0)
     → new ≢ old
     → b ≡ true
-did_rise true old new counted other = refl
-did_rise false old new counted other = absurd (other (omega (arith, counted)))
+changed_count_means_failure true old new counted other = refl
+changed_count_means_failure false old new counted other = absurd (other (omega (arith, counted)))

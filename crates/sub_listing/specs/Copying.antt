@@ -4,25 +4,25 @@ use Rattle.std.specs.Prelude.{◌≡◌, ℕ, ◌<◌, List, [], Bool, true, fal
 use Rattle.std.specs.Prelude.{Option, Some, Result, Ok, Err}
 use Rattle.std.specs.Io.KnownBytes.{Appends, Keeps}
 use Rattle.sub_io.specs.Device.{AppendsPrefix}
-use Rattle.ttx_pes.specs.Fault.{is_read}
+use Rattle.ttx_pes.specs.Fault.{is_read_fault}
 use Rattle.ttx_pes.specs.PesPacketRange.{rest_after_pes_packets, count_pes_packets}
 use Rattle.ttx_pes.specs.PesPacketRange.{first_pes_packets, pes_packet_size}
 use Rattle.ttx_pes.specs.declared.pes_packets.Received.{Received}
 use Rattle.ttx_pes.specs.declared.pes_packets.Received.TheVariants.{End, PesPacket, Rest}
 use Rattle.sub_listing.specs.Extracting.{begins_with_gap_marker, count_gap_markers}
-use Rattle.sub_listing.specs.Extracting.{most_pes_packets, refusal_at}
+use Rattle.sub_listing.specs.Extracting.{max_pes_packet_count, fault_at_start}
 use Rattle.sub_listing.specs.declared.copying.CopyFault.{CopyFault}
 use Rattle.sub_listing.specs.declared.copying.CopyFault.TheVariants as fault
 
 -- The source of the PES packets failed.
-abbrev pub is_copy_read : CopyFault → Bool
-is_copy_read fault.Read = true
-is_copy_read fault.Write = false
+abbrev pub is_copy_source_failure : CopyFault → Bool
+is_copy_source_failure fault.Read = true
+is_copy_source_failure fault.Write = false
 
 -- The output file failed.
-abbrev pub is_copy_write : CopyFault → Bool
-is_copy_write fault.Read = false
-is_copy_write fault.Write = true
+abbrev pub is_copy_file_failure : CopyFault → Bool
+is_copy_file_failure fault.Read = false
+is_copy_file_failure fault.Write = true
 
 -- A PES packet was read.
 abbrev pub is_pes_packet : {A : Type 0} → Received A → Bool
@@ -30,9 +30,9 @@ is_pes_packet (PesPacket answer) = true
 is_pes_packet _ = false
 
 -- The source failed, but the result reports unreadable bytes instead. Contracts rule this case out.
-abbrev pub reports_read : {A : Type 0} → Received A → Bool
-reports_read (Rest f) = is_read f
-reports_read _ = false
+abbrev pub reports_source_failure : {A : Type 0} → Received A → Bool
+reports_source_failure (Rest f) = is_read_fault f
+reports_source_failure _ = false
 
 -- The first `read` of the bytes were consumed, and were written to the file.
 pub record HasCopied
@@ -51,7 +51,7 @@ CopiesNext bytes left old new (Ok (PesPacket is_gap_marker)) =
     bytes)
     × HasCopied bytes left old new size
 CopiesNext bytes left old new (Ok (Rest f)) =
-    (refusal_at bytes ≡ Some f) × (left ≡ Some bytes) × (new ≡ old)
+    (fault_at_start bytes ≡ Some f) × (left ≡ Some bytes) × (new ≡ old)
 CopiesNext bytes left old new (Err fault.Read) = Keeps old new
 CopiesNext bytes left old new (Err fault.Write) = AppendsPrefix old new bytes
 
@@ -60,7 +60,7 @@ CopiesNext bytes left old new (Err fault.Write) = AppendsPrefix old new bytes
 abbrev pub CopiesRest :
     List ℕ → Option (List ℕ) → Option (List ℕ) → Result (Unit {0}) CopyFault → Type 0
 CopiesRest bytes old new (Ok u) =
-    AppendsPrefix old new bytes × (length bytes < most_pes_packets → Appends old new bytes)
+    AppendsPrefix old new bytes × (length bytes < max_pes_packet_count → Appends old new bytes)
 CopiesRest bytes old new (Err f) = AppendsPrefix old new bytes
 
 -- Exactly `pes_packets` PES packets were copied, including `gaps` gap markers.

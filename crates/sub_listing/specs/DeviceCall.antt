@@ -55,7 +55,7 @@ sink_call contents failure_count old new = record {
 pub record Counts (old : ℕ) (status : Status) (new : ℕ) : Type 0 where
   pub kept : status ≢ Fault → new ≡ old
   pub risen : old ≤ new
-  pub once : new ≤ old + 1
+  pub rises_at_most_once : new ≤ old + 1
 
 -- During a command, a device fails at most once, and only if the status is `Fault`. The device is
 -- given with the function for its number of failed calls.

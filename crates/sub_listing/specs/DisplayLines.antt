@@ -5,12 +5,12 @@ use Rattle.std.specs.Prelude.{length, Option, Some, None, IfSome, IsTrue, if◌t
 use Rattle.std.specs.List.{list_all}
 use Rattle.ttx_page.specs.Page.{IsPage, Rows, row_at, space}
 use Rattle.ttx_page.specs.Screen.{Display}
-use Rattle.sub_listing.specs.Lines.{glyph, two_digits}
+use Rattle.sub_listing.specs.Lines.{printed_character, two_digits}
 
 -- The line of a row: its number in two digits, and its 40 cells between bars.
 abbrev pub row_line : ℕ → List ℕ → List ℕ
 row_line row cells =
-    codes "row " ++ two_digits row ++ codes " |" ++ map glyph cells ++ codes "|\n"
+    codes "row " ++ two_digits row ++ codes " |" ++ map printed_character cells ++ codes "|\n"
 
 -- The line of a row; no line for a blank row.
 abbrev pub row_text : ℕ → List ℕ → List ℕ
@@ -36,22 +36,22 @@ screen_text None = codes "shown no\n"
 screen_text (Some page) = page_text page
 
 -- The lines of the receiver's page or, if complete pages are required, of its screen.
-abbrev pub seen_text : Bool → Display → List ℕ
-seen_text asks_complete d =
-    if asks_complete then screen_text d.screen else page_text d.held.page
+abbrev pub displayed_text : Bool → Display → List ℕ
+displayed_text asks_complete d =
+    if asks_complete then screen_text d.screen else page_text d.receiver_state.page
 
 -- The page to print: the receiver's page or, if complete pages are required, the page on its
 -- screen, if any.
-abbrev pub seen_page : Bool → Display → Option Rows
-seen_page asks_complete d = if asks_complete then d.screen else Some d.held.page
+abbrev pub displayed_page : Bool → Display → Option Rows
+displayed_page asks_complete d = if asks_complete then d.screen else Some d.receiver_state.page
 
 -- If the receiver has received a header of its page, the printed page has 24 rows of 40 codes.
 abbrev pub PrintsCompletePage : Bool → Display → Type 0
 PrintsCompletePage asks_complete d =
-    IsTrue d.held.heard → IfSome (seen_page asks_complete d) IsPage
+    IsTrue d.receiver_state.heard → IfSome (displayed_page asks_complete d) IsPage
 
 -- All lines that `listen` prints for a receiver.
 abbrev pub display_text : Bool → Display → List ℕ
-display_text asks_complete d = if d.held.heard
-    then codes "heard yes\n" ++ open_line d.held.is_open ++ seen_text asks_complete d
+display_text asks_complete d = if d.receiver_state.heard
+    then codes "heard yes\n" ++ open_line d.receiver_state.is_open ++ displayed_text asks_complete d
     else codes "heard no\n"

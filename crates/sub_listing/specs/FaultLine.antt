@@ -1,5 +1,5 @@
--- The line of a fault (own): the kind, which also determines the exit status; the number and the
--- name of the fault; and its place.
+-- The line of a fault (not defined by a standard): the kind, which also determines the exit status;
+-- the number and the name of the fault; and its place.
 use Rattle.std.specs.Prelude.{ℕ, ◌%◌, List, [], ◌++◌, codes, decimal}
 use Rattle.sub_io.specs.FaultCode.{FaultCodeValue}
 use Rattle.stl_file.specs.TimeCode.{day}
@@ -13,8 +13,8 @@ use Rattle.sub_rules.specs.declared.fault_place.FaultPlace.{FaultPlace}
 use Rattle.sub_rules.specs.declared.fault_place.FaultPlace.TheVariants as place
 
 -- The line of a fault with this kind, code and place, if PES packets are counted from 0.
-abbrev pub line_as : Kind → FaultCodeValue → FaultPlace → FaultLine
-line_as k c p = record { kind = k; code = c; place = p; first = 0 }
+abbrev pub line_with : Kind → FaultCodeValue → FaultPlace → FaultLine
+line_with k c p = record { kind = k; code = c; place = p; first = 0 }
 
 -- The line of a fault, if PES packets are counted from `first`, the number of the first PES packet
 -- that is read.
@@ -29,12 +29,12 @@ kind_text kind.Usage = codes "usage "
 
 -- The time of a frame of the day, as `HH:MM:SS:FF`. Frames beyond the end of the day, which no
 -- event contains, are counted from the start of the day.
-abbrev pub clock_text : ℕ → List ℕ
-clock_text frame = time_text (frame % day)
+abbrev pub frame_time_text : ℕ → List ℕ
+frame_time_text frame = time_text (frame % day)
 
 -- The text for a frame of the day in a fault's line.
 abbrev pub frame_text : ℕ → List ℕ
-frame_text frame = codes " frame " ++ clock_text frame
+frame_text frame = codes " frame " ++ frame_time_text frame
 
 -- The text for a fault's place. The argument `first` is the number of the first PES packet that is
 -- read, in its file.
@@ -55,8 +55,9 @@ abbrev pub code_text : FaultCodeValue → List ℕ
 code_text code = decimal code.number ++ codes " " ++ code.name
 
 -- The complete line of a fault.
-abbrev pub line_of : FaultLine → List ℕ
-line_of t = kind_text t.kind ++ code_text t.code ++ place_text t.first t.place ++ codes "\n"
+abbrev pub text_of_fault_line : FaultLine → List ℕ
+text_of_fault_line t = kind_text t.kind ++ code_text t.code ++ place_text t.first t.place ++ codes
+    "\n"
 
 -- The exit status for a fault's line.
 abbrev pub status_of : Kind → Status

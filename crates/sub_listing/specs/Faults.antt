@@ -1,13 +1,13 @@
--- The line of each fault (own). The kind is `fault` for a failed device and for a lack of memory,
--- `usage` for invalid arguments, and `refused` for any other fault.
+-- The line of each fault (not defined by a standard). The kind is `fault` for a failed device and
+-- for a lack of memory, `usage` for invalid arguments, and `refused` for any other fault.
 use Rattle.std.specs.Prelude.{ℕ, Bool, codes, if◌then◌else◌}
 use Rattle.sub_io.specs.FaultCode.{FaultCodeValue, fault_code}
-use Rattle.stl_file.specs.Fault.{is_file_read, normal_code, stl_code}
+use Rattle.stl_file.specs.Fault.{is_file_read_failure, code_of_normal_fault, code_of_stl_fault}
 use Rattle.stl_file.specs.declared.fault.NormalFault.TheVariants as normal
 use Rattle.stl_file.specs.declared.fault.StlFault.{StlFault}
 use Rattle.stl_file.specs.declared.fault.StlFault.TheVariants as stl
 use Rattle.stl_rows.specs.declared.fault.LoadFaultKind.{LoadFaultKind}
-use Rattle.sub_listing.specs.FaultLine.{line_as}
+use Rattle.sub_listing.specs.FaultLine.{line_with}
 use Rattle.sub_listing.specs.declared.normal.InputFault.TheVariants as input
 use Rattle.sub_listing.specs.declared.packet.PacketFault.{PacketFault}
 use Rattle.sub_listing.specs.declared.packet.PacketFault.TheVariants as packet
@@ -16,24 +16,24 @@ use Rattle.sub_listing.specs.declared.fault_line.Kind.TheVariants as kind
 use Rattle.sub_listing.specs.declared.fault_line.FaultLine.{FaultLine}
 use Rattle.sub_listing.specs.declared.writing.WriteFault.{WriteFault}
 use Rattle.sub_listing.specs.declared.writing.WriteFault.TheVariants as write
-use Rattle.sub_rules.specs.Fault.{check_code, is_failure, place_of}
+use Rattle.sub_rules.specs.Fault.{code_of_check_fault, is_failure, place_of_fault}
 use Rattle.sub_rules.specs.declared.fault.CheckFault.{CheckFault}
 use Rattle.sub_rules.specs.declared.fault.CheckFault.TheVariants as check
 use Rattle.sub_rules.specs.declared.fault_place.FaultPlace.TheVariants as place
-use Rattle.sub_plan.specs.Fault.{is_plan_write, plan_code}
-use Rattle.sub_request.specs.Fault.{usage_code}
+use Rattle.sub_plan.specs.Fault.{is_plan_write_failure, code_of_plan_fault}
+use Rattle.sub_request.specs.Fault.{code_of_usage_fault}
 use Rattle.sub_request.specs.declared.request.UsageFault.{UsageFault}
 use Rattle.sub_request.specs.declared.request.UsageFault.TheVariants as usage
 
 -- ---- faults of files
 
 -- The kind of a fault's line: `fault` if a device or memory failed, otherwise `refused`.
-abbrev pub kind_by : Bool → Kind
-kind_by fails = if fails then kind.Fault else kind.Refused
+abbrev pub kind_of_failure : Bool → Kind
+kind_of_failure fails = if fails then kind.Fault else kind.Refused
 
 -- The line of a fault that a check found in a subtitle file or a PES file.
 abbrev pub check_line : CheckFault → FaultLine
-check_line f = line_as (kind_by (is_failure f)) (check_code f) (place_of f)
+check_line f = line_with (kind_of_failure (is_failure f)) (code_of_check_fault f) (place_of_fault f)
 
 -- The line of a fault at a TTI block that a command found while it loaded a subtitle file. For a
 -- fault in a text, the line also contains the position in the text.
@@ -42,18 +42,19 @@ load_line f block = check_line (check.Subtitles (record { kind = f; block = bloc
 
 -- The line of a fault at a TTI block that `show` or `normal` found in a subtitle file.
 abbrev pub stl_line : StlFault → ℕ → FaultLine
-stl_line f block = line_as (kind_by (is_file_read f)) (stl_code f) (place.Block block)
+stl_line f block = line_with (kind_of_failure (is_file_read_failure f)) (code_of_stl_fault f)
+    (place.Block block)
 
 -- ---- faults of one Teletext packet
 
--- The number and the name of a fault of a Teletext packet (own).
+-- The number and the name of a fault of a Teletext packet (not defined by a standard).
 abbrev pub packet_code : PacketFault → FaultCodeValue
 packet_code packet.BadAddress = fault_code 3 (codes "BadAddress")
 packet_code packet.BadHeader = fault_code 4 (codes "BadHeader")
 
 -- The line of a fault of a Teletext packet.
 abbrev pub packet_line : PacketFault → FaultLine
-packet_line f = line_as kind.Refused (packet_code f) place.Nowhere
+packet_line f = line_with kind.Refused (packet_code f) place.Nowhere
 
 -- ---- faults of arguments
 
@@ -66,7 +67,7 @@ usage_kind _ = kind.Usage
 
 -- The line of a fault of the arguments or of the program itself.
 abbrev pub usage_line : UsageFault → FaultLine
-usage_line f = line_as (usage_kind f) (usage_code f) place.Nowhere
+usage_line f = line_with (usage_kind f) (code_of_usage_fault f) place.Nowhere
 
 -- ---- faults of a file that is written
 
@@ -77,5 +78,6 @@ write_line (write.Input (input.Read block)) = stl_line stl.Read block
 write_line (write.Input input.Memory) = usage_line usage.Memory
 write_line (write.Load f) = load_line f.kind f.block
 write_line (write.Normal (normal.Refused f block)) = stl_line f block
-write_line (write.Normal f) = line_as kind.Fault (normal_code f) place.Nowhere
-write_line (write.Plan f) = line_as (kind_by (is_plan_write f)) (plan_code f) place.Nowhere
+write_line (write.Normal f) = line_with kind.Fault (code_of_normal_fault f) place.Nowhere
+write_line (write.Plan f) = line_with (kind_of_failure (is_plan_write_failure f))
+    (code_of_plan_fault f) place.Nowhere

@@ -19,8 +19,8 @@ first_number number skipped old new =
     record { known = number old; left = number new; skipped = skipped new }
 
 -- The source failed before any of its bytes was consumed.
-abbrev pub FailsUntouched : SourceCall → Type 0
-FailsUntouched source =
+abbrev pub FailsBeforeFirstByte : SourceCall → Type 0
+FailsBeforeFirstByte source =
     (source.new_count ≡ source.old_count + 1) × Keeps source.known source.left
 
 -- Reports count PES packets from `number`. If the first PES packet to read was found, `number` is
@@ -31,11 +31,12 @@ StartsAt first source number =
     (n : ℕ)
     → first.known ≡ Some n
     → (number ≡ n)
-    ⊎ ((number ≤ n) × (number ≡ first.skipped) × (first.left ≡ Some n) × FailsUntouched source)
+    ⊎ ((number ≤ n) × (number ≡ first.skipped) × (first.left ≡ Some n) × FailsBeforeFirstByte
+    source)
 
 -- A source was listed, with PES packets counted from the number of its first PES packet in the
 -- file.
-pub record PrintsFrom
+pub record PrintsCountedFrom
     (ListsFrom : ℕ → ListingRelation) (first : FirstNumber) (source : SourceCall) (out : SinkCall)
     (status : Status)
     : Type 0 where

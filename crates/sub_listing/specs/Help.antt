@@ -1,4 +1,4 @@
--- The text that `--help` prints (own).
+-- The text that `--help` prints (not defined by a standard).
 use Rattle.std.specs.Prelude.{ℕ, List, ◌++◌, codes}
 
 -- The lines of the text of `--help`.

@@ -3,7 +3,7 @@
 use Rattle.std.specs.Prelude.{◌≡◌, ℕ, Bool, List, Option}
 use Rattle.sub_io.specs.Calls.{PutsByPushes}
 use Rattle.sub_io.specs.Device.{AppendsPrefix}
-use Rattle.sub_listing.specs.FaultLine.{line_of}
+use Rattle.sub_listing.specs.FaultLine.{text_of_fault_line}
 use Rattle.sub_listing.specs.declared.fault_line.FaultLine.{FaultLine}
 
 -- If `ok`, exactly this line was written; otherwise the sink failed and received a prefix of the
@@ -22,10 +22,10 @@ pub record BuffersLastLineOnly
   pub before : K
   pub settled : buffered before ≡ 0
   pub reported : FaultLine
-  pub line : PutsLine contents IsPush before (line_of reported) new
+  pub line : PutsLine contents IsPush before (text_of_fault_line reported) new
 
 -- The text is the line of a fault, and everything before it was flushed.
 pub record IsAlone (buffered : ℕ) (text : List ℕ) : Type 0 where
   pub settled : buffered ≡ 0
   pub reported : FaultLine
-  pub line : text ≡ line_of reported
+  pub line : text ≡ text_of_fault_line reported

@@ -1,7 +1,7 @@
 -- The lines that the program prints. Each line ends with one newline.
 use Rattle.std.specs.Prelude.{ℕ, ◌+◌, ◌/◌, ◌%◌, ◌==◌, ◌&&◌, nat_le, List, [], ◌∷◌, ◌++◌, codes}
 use Rattle.std.specs.Prelude.{decimal, map, min, length, Bool, if◌then◌else◌, slice_index}
-use Rattle.ttx_packet.specs.Parity.{is_odd, code_of}
+use Rattle.ttx_packet.specs.Parity.{is_odd, character_code}
 use Rattle.ttx_packet.specs.PageHeader.{c4, c5, c6, c7, c8, c9, c10, c11, c12, c13, c14}
 use Rattle.ttx_packet.specs.declared.Header.{Header}
 use Rattle.hex.specs.Hex.{encode_lower}
@@ -10,41 +10,42 @@ use Rattle.stl_file.specs.Gsi.{five_digits}
 use Rattle.stl_file.specs.Subtitle.{SubtitleValue}
 
 -- The printed character of a cell's code: codes 20 to 7E as ASCII, any other code as a full stop.
-abbrev pub glyph : ℕ → ℕ
-glyph code = if nat_le 0x20 code && nat_le code 0x7E then code else 0x2E
+abbrev pub printed_character : ℕ → ℕ
+printed_character code = if nat_le 0x20 code && nat_le code 0x7E then code else 0x2E
 
 -- The printed character of a text byte with odd parity, or `?` if its parity is even.
-abbrev pub text_glyph : ℕ → ℕ
-text_glyph byte = if is_odd byte then glyph (code_of byte) else 0x3F
+abbrev pub printed_text_character : ℕ → ℕ
+printed_text_character byte = if is_odd byte then printed_character (character_code byte) else 0x3F
 
 -- An upper case hexadecimal digit, given its value 0 to 15.
 abbrev pub hex_digit : ℕ → ℕ
 hex_digit n = slice_index (codes "0123456789ABCDEF") n
 
 -- The two upper case hexadecimal digits of a byte.
-unfoldable pub hex_two : ℕ → List ℕ
-hex_two n = hex_digit (n / 16) ∷ hex_digit (n % 16) ∷ []
+unfoldable pub hex_digits_of_byte : ℕ → List ℕ
+hex_digits_of_byte n = hex_digit (n / 16) ∷ hex_digit (n % 16) ∷ []
 
 -- The printed number of a magazine, 1 to 8. Magazine 8 is coded as 0.
-abbrev pub shown_magazine : ℕ → ℕ
-shown_magazine magazine = if magazine == 0 then 8 else magazine
+abbrev pub printed_magazine : ℕ → ℕ
+printed_magazine magazine = if magazine == 0 then 8 else magazine
 
 -- The line with the magazine, 1 to 8, and the packet number of a Teletext packet.
 abbrev pub address_line : ℕ → ℕ → List ℕ
-address_line magazine packet_number = codes "magazine " ++ decimal (shown_magazine magazine)
+address_line magazine packet_number = codes "magazine " ++ decimal (printed_magazine magazine)
     ++ codes " packet " ++ decimal packet_number ++ codes "\n"
 
 -- The name of a control bit after a space, if the bit is set; otherwise no text.
-abbrev pub marked : Bool → List ℕ → List ℕ
-marked bit name = if bit then name else []
+abbrev pub name_if_set : Bool → List ℕ → List ℕ
+name_if_set bit name = if bit then name else []
 
 -- The names of the control bits that are set, in rising order, each after a space.
 abbrev pub control_names : Header → List ℕ
-control_names h = marked (c4 h) (codes " C4") ++ marked (c5 h) (codes " C5")
-    ++ marked (c6 h) (codes " C6") ++ marked (c7 h) (codes " C7") ++ marked (c8 h) (codes " C8")
-    ++ marked (c9 h) (codes " C9") ++ marked (c10 h) (codes " C10")
-    ++ marked (c11 h) (codes " C11") ++ marked (c12 h) (codes " C12")
-    ++ marked (c13 h) (codes " C13") ++ marked (c14 h) (codes " C14")
+control_names h = name_if_set (c4 h) (codes " C4") ++ name_if_set (c5 h) (codes " C5")
+    ++ name_if_set (c6 h) (codes " C6") ++ name_if_set (c7 h) (codes " C7") ++ name_if_set (c8 h)
+    (codes " C8")
+    ++ name_if_set (c9 h) (codes " C9") ++ name_if_set (c10 h) (codes " C10")
+    ++ name_if_set (c11 h) (codes " C11") ++ name_if_set (c12 h) (codes " C12")
+    ++ name_if_set (c13 h) (codes " C13") ++ name_if_set (c14 h) (codes " C14")
 
 -- The names of the control bits that are set, or ` none`.
 abbrev pub control_list : Header → List ℕ
@@ -54,13 +55,13 @@ control_list h =
 -- The line with the contents of a page header: page number and subcode in hexadecimal, and the
 -- control bits.
 abbrev pub header_line : Header → List ℕ
-header_line h = codes "page " ++ hex_two h.page ++ codes " subcode "
-    ++ hex_two (h.subcode / 256) ++ hex_two (h.subcode % 256)
+header_line h = codes "page " ++ hex_digits_of_byte h.page ++ codes " subcode "
+    ++ hex_digits_of_byte (h.subcode / 256) ++ hex_digits_of_byte (h.subcode % 256)
     ++ codes " control" ++ control_list h ++ codes "\n"
 
 -- The line with the text of a Teletext packet between bars.
 abbrev pub text_line : List ℕ → List ℕ
-text_line bytes = codes "text |" ++ map text_glyph bytes ++ codes "|\n"
+text_line bytes = codes "text |" ++ map printed_text_character bytes ++ codes "|\n"
 
 -- The number of a PES packet in its file, counted from 0, given its index among the PES packets
 -- that are read and the number `first` of the first of these. A number above 2^64 - 1 is printed as
@@ -88,7 +89,7 @@ unfoldable pub time_text : ℕ → List ℕ
 time_text frame = two_digits (frame / 90000) ++ codes ":" ++ two_digits ((frame / 1500) % 60)
     ++ codes ":" ++ two_digits ((frame / 25) % 60) ++ codes ":" ++ two_digits (frame % 25)
 
--- The text of a subtitle in hexadecimal, or a hyphen if it is empty (own).
+-- The text of a subtitle in hexadecimal, or a hyphen if it is empty (not defined by a standard).
 unfoldable pub text_digits : List ℕ → List ℕ
 text_digits text = if length text == 0 then codes "-" else encode_lower text
 

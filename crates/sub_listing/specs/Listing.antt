@@ -10,7 +10,7 @@ use Rattle.sub_io.specs.Reading.{IfKnown}
 use Rattle.sub_listing.specs.DeviceCall.{SinkCall, SourceCall}
 use Rattle.sub_listing.specs.Faults.{packet_line}
 use Rattle.sub_listing.specs.Lines.{address_line, header_line, text_line}
-use Rattle.sub_listing.specs.FaultLine.{line_of, status_of}
+use Rattle.sub_listing.specs.FaultLine.{text_of_fault_line, status_of}
 use Rattle.sub_listing.specs.declared.packet.PacketFault.TheVariants.{BadAddress, BadHeader}
 use Rattle.sub_listing.specs.declared.status.Status.{Status}
 use Rattle.sub_listing.specs.declared.status.Status.TheVariants.{Done, Refused, Fault}
@@ -27,7 +27,7 @@ done text = record { text = text; status = Done }
 
 -- The output of a command that ends with the line of a fault.
 abbrev pub fault_listing : FaultLine → Listing
-fault_listing t = record { text = line_of t; status = status_of t.kind }
+fault_listing t = record { text = text_of_fault_line t; status = status_of t.kind }
 
 -- A listing after some text.
 abbrev pub followed : List ℕ → Listing → Listing
@@ -36,29 +36,29 @@ followed text more = record { text = text ++ more.text; status = more.status }
 -- ---- the listing of one Teletext packet
 
 -- The listing of a page header, packet X/0 (EN 300 706): its eight coded bytes, then 32 text bytes.
-abbrev pub header_listing : ℕ → List ℕ → Option Header → Listing
-header_listing magazine packet None = fault_listing (packet_line BadHeader)
-header_listing magazine packet (Some h) =
+abbrev pub listing_of_header : ℕ → List ℕ → Option Header → Listing
+listing_of_header magazine packet None = fault_listing (packet_line BadHeader)
+listing_of_header magazine packet (Some h) =
     done (address_line magazine 0 ++ header_line h ++ text_line (drop 10 packet))
 
 -- The listing of a packet X/1 to X/31 (EN 300 706). Rows 1 to 24 have 40 text bytes, and packets 25
 -- to 31 have no text.
-abbrev pub row_listing : ℕ → ℕ → List ℕ → Listing
-row_listing magazine packet_number packet = if nat_le packet_number 24
+abbrev pub listing_of_row : ℕ → ℕ → List ℕ → Listing
+listing_of_row magazine packet_number packet = if nat_le packet_number 24
     then done (address_line magazine packet_number ++ text_line (drop 2 packet))
     else done (address_line magazine packet_number)
 
 -- The listing of a Teletext packet, given its magazine and packet number, or `None` if the address
 -- can't be decoded.
-abbrev pub addressed_listing : Option (ℕ × ℕ) → List ℕ → Listing
-addressed_listing None packet = fault_listing (packet_line BadAddress)
-addressed_listing (Some a) packet = if a.1 == 0
-    then header_listing a.0 packet (header packet)
-    else row_listing a.0 a.1 packet
+abbrev pub listing_by_address : Option (ℕ × ℕ) → List ℕ → Listing
+listing_by_address None packet = fault_listing (packet_line BadAddress)
+listing_by_address (Some a) packet = if a.1 == 0
+    then listing_of_header a.0 packet (header packet)
+    else listing_of_row a.0 a.1 packet
 
 -- The output of `packet` for the 42 bytes of a Teletext packet.
 abbrev pub packet_listing : List ℕ → Listing
-packet_listing packet = addressed_listing (option_map address_pair (address packet)) packet
+packet_listing packet = listing_by_address (option_map address_pair (address packet)) packet
 
 -- ---- exit statuses of a listing
 
@@ -120,13 +120,13 @@ pub record PrintsListing
 -- these lines.
 abbrev pub YieldsResults : ListingRelation → ListingRelation
     → Option (List ℕ) → Option (List ℕ) → List ℕ → Option Status → Type 0
-YieldsResults Before After known left text None =
+YieldsResults Before PreviousPes known left text None =
     ((end : Option (List ℕ)) (ending : Option Status) (more : Listing)
-    → After left end ending more → Before known end ending (followed text more))
-    × ((more : Listing) × After left left None more)
-YieldsResults Before After known left text (Some status) =
+    → PreviousPes left end ending more → Before known end ending (followed text more))
+    × ((more : Listing) × PreviousPes left left None more)
+YieldsResults Before PreviousPes known left text (Some status) =
     Before known left (Some status) (record { text = text; status = status })
 
 -- The sink failed before the next PES packet or subtitle was read, so the listing has no end.
-abbrev pub IsCut : ListingRelation → Option (List ℕ) → Option (List ℕ) → Type 0
-IsCut Lists known left = (more : Listing) × Lists known left None more
+abbrev pub IsEndless : ListingRelation → Option (List ℕ) → Option (List ℕ) → Type 0
+IsEndless Lists known left = (more : Listing) × Lists known left None more

@@ -4,7 +4,8 @@ use Rattle.std.specs.Prelude.{Option}
 use Rattle.std.specs.Io.KnownBytes.{Appends, Keeps}
 use Rattle.sub_io.specs.Device.{AppendsPrefix}
 use Rattle.sub_rules.specs.declared.event.Event.{Event}
-use Rattle.sub_listing.specs.EventLines.{event_line, event_lines, max_count, refusal, refusals}
+use Rattle.sub_listing.specs.EventLines.{event_line, event_lines, max_fault_count}
+use Rattle.sub_listing.specs.EventLines.{fault_count_of_event, fault_count_of_events}
 
 -- The state of the printer: the contents of its sink, if they are known, and the number of the
 -- sink's failed calls; the number of faults; whether the sink failed while printing; and the number
@@ -32,39 +33,41 @@ can_fail count = nat_lt count 0xFFFF_FFFF_FFFF_FFFF
 
 -- The number of faults after `more` further faults. A number above 2^64 - 1 is counted as 2^64 - 1.
 unfoldable pub counted : ℕ → ℕ → ℕ
-counted refused more = min (refused + more) max_count
+counted refused more = min (refused + more) max_fault_count
 
 -- An event was reported to a printer whose sink had not failed. Its line was written, and a fault
 -- was counted; or the sink failed once, and received a prefix of the line.
 pub record PrintsEvent (old : PrinterValue) (event : Event) (new : PrinterValue) : Type 0 where
   pub continues : old.failed ≡ false
-  pub counts_from : new.first ≡ old.first
+  pub keeps_first_number : new.first ≡ old.first
   pub put : new.failed ≡ false → Appends old.contents new.contents (event_line old.first event)
-  pub put_count : new.failed ≡ false → new.count ≡ old.count
-  pub put_refused : new.failed ≡ false → new.refused ≡ counted old.refused (refusal event)
+  pub keeps_failure_count : new.failed ≡ false → new.count ≡ old.count
+  pub counts_faults : new.failed ≡ false → new.refused ≡ counted old.refused
+      (fault_count_of_event event)
   pub cut :
       new.failed ≡ true → AppendsPrefix old.contents new.contents (event_line old.first event)
-  pub cut_count : new.failed ≡ true → new.count ≡ old.count + 1
+  pub counts_failure : new.failed ≡ true → new.count ≡ old.count + 1
 
 -- Several events were reported to a printer whose sink had not failed: all their lines were
 -- written, or the sink failed and received a prefix of them.
 pub record PrintsEvents (old : PrinterValue) (events : List Event) (new : PrinterValue) : Type 0
   where
-    pub counts_from : new.first ≡ old.first
+    pub keeps_first_number : new.first ≡ old.first
     pub put :
         new.failed ≡ false → Appends old.contents new.contents (event_lines old.first events)
-    pub put_count : new.failed ≡ false → new.count ≡ old.count
-    pub put_refused : new.failed ≡ false → new.refused ≡ counted old.refused (refusals events)
+    pub keeps_failure_count : new.failed ≡ false → new.count ≡ old.count
+    pub counts_faults : new.failed ≡ false → new.refused ≡ counted old.refused
+        (fault_count_of_events events)
     pub cut :
         new.failed ≡ true
         → AppendsPrefix old.contents new.contents (event_lines old.first events)
-    pub cut_count : new.failed ≡ true → new.count ≡ old.count + 1
+    pub counts_failure : new.failed ≡ true → new.count ≡ old.count + 1
 
 -- The printed lines remain after the printer was flushed. If flushing failed, the sink failed once.
 pub record StaysPrinted (old new : PrinterValue) : Type 0 where
   pub kept : Keeps old.contents new.contents
   pub refused : new.refused ≡ old.refused
-  pub counts_from : new.first ≡ old.first
+  pub keeps_first_number : new.first ≡ old.first
   pub same : new.failed ≡ old.failed → new.count ≡ old.count
   pub risen : new.failed ≢ old.failed → (new.failed ≡ true) × (new.count ≡ old.count + 1)
 

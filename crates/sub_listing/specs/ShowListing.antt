@@ -2,13 +2,14 @@
 use Rattle.std.specs.Io.KnownBytes.{Consumes}
 use Rattle.std.specs.Prelude.{◌≡◌, ◌⊎◌, ℕ, ◌+◌, ◌<◌, List, codes, decimal, ◌++◌, length, Option}
 use Rattle.std.specs.Prelude.{Bool, true, false, None, Some, ◌-◌, ◌≤◌}
-use Rattle.stl_file.specs.Fault.{is_format, is_file_read}
+use Rattle.stl_file.specs.Fault.{is_format_fault, is_file_read_failure}
 use Rattle.stl_file.specs.Gsi.{IsGsi, gsi_size}
-use Rattle.stl_file.specs.Reader.{FailsReading, Refuses, RefusesOpening, TakesSkipped, ReaderValue}
-use Rattle.stl_file.specs.Reader.{TakesSubtitle, outcome_left, outcome_of}
+use Rattle.stl_file.specs.Reader.{FailsReading, Refuses, RefusesOpening, ConsumesSkippedBlocks}
+use Rattle.stl_file.specs.Reader.{ReaderValue}
+use Rattle.stl_file.specs.Reader.{ConsumesSubtitle, remaining_outcome, outcome_of_file}
 use Rattle.stl_file.specs.Reading.{Outcome, ends, fails, gives}
 use Rattle.stl_file.specs.Scope.{whole}
-use Rattle.stl_file.specs.Tti.{most_blocks}
+use Rattle.stl_file.specs.Tti.{max_blocks}
 use Rattle.stl_file.specs.declared.fault.StlFault.{StlFault}
 use Rattle.stl_file.specs.declared.progress.Progress.TheVariants.{Reading}
 use Rattle.sub_listing.specs.Faults.{stl_line}
@@ -21,31 +22,31 @@ use Rattle.sub_listing.specs.Listing.{fault_listing}
 -- source failed, the fault names the block that was being read.
 abbrev pub ReadsSubtitles : Bool → ℕ → Option (List ℕ) → Outcome → Option (List ℕ) → Type 0
 ReadsSubtitles failed from known ends left =
-    (failed ≡ false) × (to : ℕ) × TakesSkipped from to known left
+    (failed ≡ false) × (to : ℕ) × ConsumesSkippedBlocks from to known left
 ReadsSubtitles failed from known (fails f block) left =
-    (is_file_read f ≡ failed)
+    (is_file_read_failure f ≡ failed)
     × (failed ≡ true → FailsReading whole from block None known left)
-    × (is_format f ≡ true → Refuses from block known left f)
+    × (is_format_fault f ≡ true → Refuses from block known left f)
 ReadsSubtitles failed from known (gives s block more) left =
-    (following : Option (List ℕ)) × TakesSubtitle from block known following s
+    (following : Option (List ℕ)) × ConsumesSubtitle from block known following s
     × ReadsSubtitles failed block following more left
 
 -- No GSI block was read: the source failed within the block, or no subtitle file begins with these
 -- bytes.
-pub record ReadsNoGsi (failed : Bool) (known : Option (List ℕ)) (outcome : Outcome)
+pub record ReadsWithoutGsi (failed : Bool) (known : Option (List ℕ)) (outcome : Outcome)
     (left : Option (List ℕ)) : Type 0 where
   pub fault : StlFault
   pub outcome_eq : outcome ≡ fails fault 0
-  pub read : is_file_read fault ≡ failed
+  pub read : is_file_read_failure fault ≡ failed
   pub failure :
       failed ≡ true → (bytes : List ℕ) × (length bytes < gsi_size) × Consumes known left bytes
-  pub refused : is_format fault ≡ true → RefusesOpening known left fault
+  pub refused : is_format_fault fault ≡ true → RefusesOpening known left fault
 
 -- The outcome of reading a subtitle file: a GSI block and the subtitles after it, or a fault in the
 -- GSI block.
 abbrev pub ReadsFile : Bool → Option (List ℕ) → Outcome → Option (List ℕ) → Type 0
 ReadsFile failed known outcome left =
-    ReadsNoGsi failed known outcome left
+    ReadsWithoutGsi failed known outcome left
     ⊎ ((following : Option (List ℕ)) × (gsi : List ℕ) × IsGsi gsi × Consumes known following gsi
     × ReadsSubtitles failed 0 following outcome left)
 
@@ -59,22 +60,22 @@ subtitles_listing count (gives s block more) =
 
 -- The subtitles of a file are listed from its start.
 abbrev pub ListsSubtitles : ListingRelation
-ListsSubtitles = Lists (subtitles_listing 0) outcome_of ReadsFile
+ListsSubtitles = Lists (subtitles_listing 0) outcome_of_file ReadsFile
 
 -- The remaining listing after `count` subtitles, given the reader, or `None` if the GSI block was
 -- not read yet.
 abbrev pub ListsFrom : Option ReaderValue → ℕ → ListingRelation
-ListsFrom None count = Lists (subtitles_listing count) outcome_of ReadsFile
+ListsFrom None count = Lists (subtitles_listing count) outcome_of_file ReadsFile
 ListsFrom (Some r) count =
-    Lists (subtitles_listing count) (outcome_left r) (λ failed. ReadsSubtitles failed r.block)
+    Lists (subtitles_listing count) (remaining_outcome r) (λ failed. ReadsSubtitles failed r.block)
 
 -- Either the reader is not at the end of the file and has found no fault, or the GSI block was not
 -- read yet.
 abbrev pub IsReady : Option ReaderValue → ℕ → Type 0
 IsReady None count = count ≡ 0
-IsReady (Some r) count = (r.progress ≡ Reading) × (count ≤ r.block) × (r.block ≤ most_blocks)
+IsReady (Some r) count = (r.progress ≡ Reading) × (count ≤ r.block) × (r.block ≤ max_blocks)
 
 -- The maximum number of blocks that the lister can still read.
 abbrev pub blocks_left : Option ReaderValue → ℕ
-blocks_left None = most_blocks + 1
-blocks_left (Some r) = most_blocks - r.block
+blocks_left None = max_blocks + 1
+blocks_left (Some r) = max_blocks - r.block

@@ -1,4 +1,4 @@
--- The output of `--version` (own).
+-- The output of `--version` (not defined by a standard).
 use Rattle.std.specs.Prelude.{ℕ, List, codes}
 
 -- The line that `--version` prints.

@@ -4,22 +4,23 @@ use Rattle.std.specs.Prelude.{false, Option, Result, Ok, Err, IsOkAnd}
 use Rattle.std.specs.Io.KnownBytes.{Appends, Consumes, Keeps}
 use Rattle.sub_io.specs.Device.{AppendsPrefix, CountRisesIf, failed}
 use Rattle.sub_io.specs.Reading.{IfKnown}
-use Rattle.stl_file.specs.Fault.{is_normal_write}
+use Rattle.stl_file.specs.Fault.{is_normal_write_failure}
 use Rattle.stl_file.specs.NormalForm.{NormalAnswers}
 use Rattle.stl_file.specs.Reader.{block_of_byte}
 use Rattle.stl_rows.specs.Fault as load_fault
-use Rattle.stl_rows.specs.Loading.{EndsRecord, FailsLoading, ReportsFault, loaded}
+use Rattle.stl_rows.specs.Loading.{EndsFaultlessSubtitle, FailsLoading, ReportsFault}
+use Rattle.stl_rows.specs.Loading.{loaded_programme}
 use Rattle.stl_rows.specs.Programme.{ProgrammeValue}
 use Rattle.stl_rows.specs.declared.fault.LoadFaultKind.TheVariants.{Memory}
 use Rattle.stl_rows.specs.declared.layout.Drawing.{Drawing}
-use Rattle.sub_plan.specs.Fault.{is_plan_write}
+use Rattle.sub_plan.specs.Fault.{is_plan_write_failure}
 use Rattle.sub_plan.specs.Options.{OptionsValue}
 use Rattle.sub_plan.specs.Schedule.{plan, plan_frames}
 use Rattle.sub_plan.specs.declared.fault.PlanFault.{PlanFault}
 use Rattle.sub_plan.specs.declared.fault.PlanFault.TheVariants.{NoSubtitles, Write}
 use Rattle.sub_listing.specs.Faults.{load_line, write_line}
 use Rattle.sub_listing.specs.Listing.{Listing, done, fault_listing, PrintsOrFails}
-use Rattle.sub_listing.specs.FaultLine.{line_of}
+use Rattle.sub_listing.specs.FaultLine.{text_of_fault_line}
 use Rattle.sub_listing.specs.declared.normal.InputFault.{InputFault}
 use Rattle.sub_listing.specs.declared.normal.InputFault.TheVariants as input
 use Rattle.sub_listing.specs.declared.writing.WriteFault.{WriteFault}
@@ -30,26 +31,26 @@ use Rattle.sub_listing.specs.declared.status.Status.{Status}
 -- ---- the result of writing, before its line is printed
 
 -- The source of `normal` failed.
-abbrev pub is_input_read : InputFault → Bool
-is_input_read (input.Read block) = true
-is_input_read input.Memory = false
+abbrev pub is_input_source_failure : InputFault → Bool
+is_input_source_failure (input.Read block) = true
+is_input_source_failure input.Memory = false
 
 -- The input failed.
 abbrev pub is_input_failure : WriteFault → Bool
-is_input_failure (write.Input f) = is_input_read f
-is_input_failure (write.Load f) = load_fault.is_load_read f
+is_input_failure (write.Input f) = is_input_source_failure f
+is_input_failure (write.Load f) = load_fault.is_load_read_failure f
 is_input_failure _ = false
 
 -- The output file failed.
 abbrev pub is_file_failure : WriteFault → Bool
-is_file_failure (write.Normal f) = is_normal_write f
-is_file_failure (write.Plan f) = is_plan_write f
+is_file_failure (write.Normal f) = is_normal_write_failure f
+is_file_failure (write.Plan f) = is_plan_write_failure f
 is_file_failure _ = false
 
 -- The output of a command that writes a file: the number of items in the file, or the fault.
-abbrev pub work_listing : List ℕ → Result ℕ WriteFault → Listing
-work_listing things (Ok count) = done (codes "written " ++ decimal count ++ things)
-work_listing things (Err f) = fault_listing (write_line f)
+abbrev pub file_result_listing : List ℕ → Result ℕ WriteFault → Listing
+file_result_listing item_name (Ok count) = done (codes "written " ++ decimal count ++ item_name)
+file_result_listing item_name (Err f) = fault_listing (write_line f)
 
 -- The type of relations between the bytes of the input before and after a command, the bytes of the
 -- output file before and after it, and the result of the command.
@@ -59,16 +60,16 @@ Work = Option (List ℕ) → Option (List ℕ) → Option (List ℕ) → Option 
 
 -- A command that writes a file has a result, the number of items in the file or a fault, and
 -- printed its line.
-pub record EndsWork
+pub record EndsWithFileResult
     (input : SourceCall) (file out : SinkCall) (status : Status)
-    (things : List ℕ) (HasWorked : Work)
+    (item_name : List ℕ) (HasWorked : Work)
     : Type 0 where
   pub answer : Result ℕ WriteFault
-  pub has_worked : HasWorked input.known input.left file.old file.new answer
+  pub is_written_as_specified : HasWorked input.known input.left file.old file.new answer
   -- The input and the file failed exactly if the result reports it.
   pub input_count : CountRisesIf input.old_count (failed is_input_failure answer) input.new_count
   pub file_count : CountRisesIf file.old_count (failed is_file_failure answer) file.new_count
-  pub printed : PrintsOrFails out (work_listing things answer) status
+  pub printed : PrintsOrFails out (file_result_listing item_name answer) status
 
 -- ---- the command `schedule`
 
@@ -92,14 +93,14 @@ WritesSchedule programme o serial old new (Err NoSubtitles) =
 -- block.
 abbrev pub Schedules : Drawing → OptionsValue → Bool → Work
 Schedules drawing o serial known left old new (Ok count) =
-    IfKnown known (λ bytes. IsOkAnd (loaded drawing bytes) (λ programme.
+    IfKnown known (λ bytes. IsOkAnd (loaded_programme drawing bytes) (λ programme.
     WritesSchedule programme o serial old new (Ok count)))
 Schedules drawing o serial known left old new (Err (write.Plan f)) =
-    IfKnown known (λ bytes. IsOkAnd (loaded drawing bytes) (λ programme.
+    IfKnown known (λ bytes. IsOkAnd (loaded_programme drawing bytes) (λ programme.
     WritesSchedule programme o serial old new (Err f)))
 Schedules drawing o serial known left old new (Err (write.Load f)) =
     IfKnown known (λ bytes. ReportsFault drawing bytes f.block f.kind)
-    × (load_fault.is_load_read f ≡ true → FailsLoading drawing known left f.block)
+    × (load_fault.is_load_read_failure f ≡ true → FailsLoading drawing known left f.block)
     × Keeps old new
 Schedules drawing o serial known left old new answer = ⊥
 
@@ -107,8 +108,8 @@ Schedules drawing o serial known left old new answer = ⊥
 abbrev pub PrintsMemory :
     Drawing → Option (List ℕ) → Option (List ℕ) → Option (List ℕ) → Type 0
 PrintsMemory drawing known old new =
-    (block : ℕ) × Appends old new (line_of (load_line Memory block))
-    × IfKnown known (λ bytes. EndsRecord drawing bytes block)
+    (block : ℕ) × Appends old new (text_of_fault_line (load_line Memory block))
+    × IfKnown known (λ bytes. EndsFaultlessSubtitle drawing bytes block)
 
 -- ---- the command `normal`
 

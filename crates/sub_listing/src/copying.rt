@@ -2,12 +2,13 @@
 //! PES packet.
 ghost use Rattle.std.specs.Prelude.{◌≡◌, Err, IfOk, OnErr, OnOk, false, length, true};
 ghost use Rattle.std.specs.Io.KnownBytes.{Appends};
-ghost use Rattle.sub_io.specs.Device.{AppendsPrefix, CanFail, CountsIf, failed};
+ghost use Rattle.sub_io.specs.Device.{AppendsPrefix, CanFail, CountsFailureIf, failed};
 ghost use Rattle.sub_io.specs.Reading.{IfKnown};
-ghost use Rattle.ttx_pes.specs.Advancing.{reports_rest};
+ghost use Rattle.ttx_pes.specs.Advancing.{faulty_rest_is_answer};
 ghost use Rattle.ttx_pes.specs.Reading.{is_gap_marker};
-ghost use Rattle.sub_listing.specs.Copying.{CopiesNext, CopiesRest, is_copy_read};
-ghost use Rattle.sub_listing.specs.Copying.{is_copy_write, is_pes_packet, reports_read};
+ghost use Rattle.sub_listing.specs.Copying.{CopiesNext, CopiesRest, is_copy_source_failure};
+ghost use Rattle.sub_listing.specs.Copying.{is_copy_file_failure, is_pes_packet};
+ghost use Rattle.sub_listing.specs.Copying.{reports_source_failure};
 
 use std::marker::Model;
 use sub_io::{Flush, put_all};
@@ -27,12 +28,12 @@ pub enum CopyFault {
 
 /// The bytes of the PES packet that was read last. The model is the list of the bytes.
 #[derive(Drop)]
-pub struct TakenPesPacket {
+pub struct CopyProgress {
     room: [u8; PES_PACKET_CAPACITY],
     len: usize,
 }
 
-impl Model for TakenPesPacket {
+impl Model for CopyProgress {
     ghost use Rattle.std.specs.Prelude.{ℕ, ◌≤◌, List, take};
 
     ghost Value = { List ℕ };
@@ -42,10 +43,10 @@ impl Model for TakenPesPacket {
     ghost invariant = { λ p. p.len ≤ 1656 };
 }
 
-impl TakenPesPacket {
+impl CopyProgress {
     /// Creates an empty buffer for a PES packet.
     pub fn new() -> Self {
-        TakenPesPacket {
+        CopyProgress {
             room: [0; PES_PACKET_CAPACITY],
             len: 0,
         }
@@ -60,14 +61,14 @@ impl TakenPesPacket {
     }
 }
 
-impl TakePesPacket for TakenPesPacket {
+impl TakePesPacket for CopyProgress {
     // The answer is `true` if the PES packet is a gap marker.
     type Answer = bool;
 
     ghost is_take = { λ old pes_packet answer new. (new ≡ pes_packet) ×
         (answer ≡ is_gap_marker pes_packet) };
 
-    #[tactic(auto, using(crate::proofs::CopyingLemmas::pes_packet_fits))]
+    #[tactic(auto, using(crate::proofs::CopyingLemmas::pes_packet_size_is_bounded))]
     fn take(&mut self, pes_packet: &[u8]) -> bool {
         let (prefix, _) = self.room.split_at_mut(pes_packet.len());
         prefix.copy_from_slice(pes_packet);
@@ -77,14 +78,15 @@ impl TakePesPacket for TakenPesPacket {
 }
 
 // Writes bytes to a file and flushes the file.
-fn put_and_flush<F: Flush>(file: &mut F, bytes: &[u8]) -> Result<(), CopyFault>
+fn write_and_flush<F: Flush>(file: &mut F, bytes: &[u8]) -> Result<(), CopyFault>
     requires { CanFail (F.failure_count file.old) }
     ensures ok { OnOk result (Appends (F.contents file.old) (F.contents file.new) bytes.now) }
     ensures err { OnErr result
         (AppendsPrefix (F.contents file.old) (F.contents file.new) bytes.now) }
     ensures buffered { OnOk result (F.buffered file.new ≡ 0) }
     ensures write { OnErr result (result ≡ Err CopyFault.Write) }
-    ensures count { CountsIf F.failure_count file.old (failed is_copy_write result) file.new }
+    ensures count { CountsFailureIf F.failure_count file.old (failed is_copy_file_failure result)
+        file.new }
 {
     if put_all(file, bytes).is_err() {
         return Err(CopyFault::Write);
@@ -105,30 +107,33 @@ fn put_and_flush<F: Flush>(file: &mut F, bytes: &[u8]) -> Result<(), CopyFault>
 pub fn copy_next<P: PesPackets, F: Flush>(
     pes_packets: &mut P,
     file: &mut F,
-    pes_packet: &mut TakenPesPacket,
+    pes_packet: &mut CopyProgress,
 ) -> Result<Received<bool>, CopyFault>
     requires pes_packets { CanFail (P.failure_count pes_packets.old) }
     requires file { CanFail (F.failure_count file.old) }
     ensures reported { IfKnown (P.remaining pes_packets.old) (λ bytes.
         CopiesNext bytes (P.remaining pes_packets.new) (F.contents file.old) (F.contents file.new)
         result) }
-    ensures rest { reports_rest result ≡ true → P.is_rest pes_packets.new ≡ true }
-    ensures buffered { F.buffered file.old ≡ 0 → failed is_copy_write result ≡ false
+    ensures rest { faulty_rest_is_answer result ≡ true → P.is_rest pes_packets.new ≡ true }
+    ensures buffered { F.buffered file.old ≡ 0 → failed is_copy_file_failure result ≡ false
         → F.buffered file.new ≡ 0 }
-    ensures own { IfOk result (λ received. reports_read received ≡ false) }
+    ensures never_reports_failed_read { IfOk result
+        (λ received. reports_source_failure received ≡ false) }
     ensures flushed { IfOk result (λ received. is_pes_packet received ≡ true → F.buffered file.new ≡
         0) }
     ensures device { P.device pes_packets.new ≡ P.device pes_packets.old }
-    ensures pes_failures { CountsIf P.failure_count pes_packets.old (failed is_copy_read result)
+    ensures source_failures_are_counted { CountsFailureIf P.failure_count pes_packets.old
+        (failed is_copy_source_failure result)
         pes_packets.new }
-    ensures file_count { CountsIf F.failure_count file.old (failed is_copy_write result) file.new }
+    ensures file_count { CountsFailureIf F.failure_count file.old (failed is_copy_file_failure
+        result) file.new }
 {
     let Ok(received) = pes_packets.next(pes_packet) else {
         return Err(CopyFault::Read);
     };
     match received {
         Received::PesPacket(is_gap_marker) => {
-            if put_and_flush(file, pes_packet.bytes()).is_err() {
+            if write_and_flush(file, pes_packet.bytes()).is_err() {
                 return Err(CopyFault::Write);
             }
             Ok(Received::PesPacket(is_gap_marker))
@@ -154,12 +159,14 @@ pub fn copy_rest<P: PesPackets, F: Flush>(
     requires file { CanFail (F.failure_count file.old) }
     ensures reported { IfKnown (P.remaining pes_packets.old) (λ bytes.
         CopiesRest bytes (F.contents file.old) (F.contents file.new) result) }
-    ensures buffered { F.buffered file.old ≡ 0 → failed is_copy_write result ≡ false
+    ensures buffered { F.buffered file.old ≡ 0 → failed is_copy_file_failure result ≡ false
         → F.buffered file.new ≡ 0 }
     ensures device { P.device pes_packets.new ≡ P.device pes_packets.old }
-    ensures pes_failures { CountsIf P.failure_count pes_packets.old (failed is_copy_read result)
+    ensures source_failures_are_counted { CountsFailureIf P.failure_count pes_packets.old
+        (failed is_copy_source_failure result)
         pes_packets.new }
-    ensures file_count { CountsIf F.failure_count file.old (failed is_copy_write result) file.new }
+    ensures file_count { CountsFailureIf F.failure_count file.old (failed is_copy_file_failure
+        result) file.new }
 {
     let mut room = [0; REST_BUFFER_SIZE];
     'reads: for turn in 0..u64::MAX {
@@ -170,7 +177,7 @@ pub fn copy_rest<P: PesPackets, F: Flush>(
             return Ok(());
         }
         let (part, _) = room.split_at(n);
-        if put_and_flush(file, part).is_err() {
+        if write_and_flush(file, part).is_err() {
             return Err(CopyFault::Write);
         }
     }

@@ -1,18 +1,18 @@
 //! `extract TS PES`: writes the PES packets that a recording carries in the transport packets of
 //! one PID.
 ghost use Rattle.std.specs.Prelude.{◌≡◌, ◌+◌, ◌<◌, IfErr, OnOk, false, true, if◌then◌else◌};
-ghost use Rattle.sub_io.specs.Device.{CountsIf, failed};
+ghost use Rattle.sub_io.specs.Device.{CountsFailureIf, failed};
 ghost use Rattle.sub_listing.specs.DeviceCall.{CanFail, CountsFault, read_call, sink_call};
 ghost use Rattle.sub_listing.specs.Extracting.{EndsExtract, Extracts, extract_line};
-ghost use Rattle.sub_listing.specs.Extracting.{is_extract_read, is_extract_write};
-ghost use Rattle.sub_listing.specs.Extracting.{reports_refused_read};
+ghost use Rattle.sub_listing.specs.Extracting.{is_extract_source_failure, is_extract_file_failure};
+ghost use Rattle.sub_listing.specs.Extracting.{reports_failure_as_rejection};
 ghost use Rattle.sub_listing.specs.Faults.{check_line};
 ghost use Rattle.sub_listing.specs.FaultLine.{counted_from};
 ghost use Rattle.sub_rules.specs.declared.fault.CheckFault.TheVariants.{Pes};
 
-use crate::copying::{CopyFault, TakenPesPacket, copy_next, copy_rest};
+use crate::copying::{CopyFault, CopyProgress, copy_next, copy_rest};
 use crate::fault_line::FaultLine;
-use crate::faults::{line_of_check, line_of_file_write};
+use crate::faults::{fault_line_of_check, fault_line_of_file_write};
 use crate::lines::{Line, push_number, push_text};
 use crate::printing::{print_done, print_fault_line};
 use crate::status::Status;
@@ -70,7 +70,8 @@ pub fn extract_packets<P: PesPackets, F: Close, K: Sink>(
         (sink_call F.contents F.failure_count file.old file.new)
         (sink_call K.contents K.failure_count out.old out.new) result }
     ensures device { P.device pes_packets.new ≡ P.device pes_packets.old }
-    ensures pes_failures { CountsFault P.failure_count pes_packets.old result pes_packets.new }
+    ensures source_failures_are_counted { CountsFault P.failure_count pes_packets.old result
+        pes_packets.new }
     ensures file_count { CountsFault F.failure_count file.old result file.new }
     ensures out_count { CountsFault K.failure_count out.old result out.new }
     ensures fault { result ≡ Status.Fault
@@ -92,7 +93,7 @@ pub fn extract_packets<P: PesPackets, F: Close, K: Sink>(
             push_text(&mut line, b" gaps\n");
             print_done(line.as_slice(), out)
         }
-        Err(fault) => print_fault_line(&line_of_extract(fault), out),
+        Err(fault) => print_fault_line(&fault_line_of_extract(fault), out),
     }
 }
 
@@ -106,13 +107,15 @@ fn write_pes_packets<P: PesPackets, F: Close>(
     ensures extracts { Extracts (P.remaining pes_packets.old) (F.contents file.old)
         (F.contents file.new) result }
     ensures device { P.device pes_packets.new ≡ P.device pes_packets.old }
-    ensures pes_failures { CountsIf P.failure_count pes_packets.old (failed is_extract_read result)
+    ensures source_failures_are_counted { CountsFailureIf P.failure_count pes_packets.old
+        (failed is_extract_source_failure result)
         pes_packets.new }
-    ensures file_count { CountsIf F.failure_count file.old (failed is_extract_write result)
+    ensures file_count { CountsFailureIf F.failure_count file.old (failed is_extract_file_failure
+        result)
         file.new }
-    ensures buffered { F.buffered file.old ≡ 0 → failed is_extract_write result ≡ false
+    ensures buffered { F.buffered file.old ≡ 0 → failed is_extract_file_failure result ≡ false
         → F.buffered file.new ≡ 0 }
-    ensures own { IfErr result (λ f. reports_refused_read f ≡ false) }
+    ensures never_reports_failed_read { IfErr result (λ f. reports_failure_as_rejection f ≡ false) }
     ensures done { OnOk result (F.buffered file.new ≡ 0) }
     ensures stored { OnOk result (F.is_stored file.new ≡ true) }
 {
@@ -135,16 +138,18 @@ fn copy_pes_packets<P: PesPackets, F: Flush>(
     ensures extracts { Extracts (P.remaining pes_packets.old) (F.contents file.old)
         (F.contents file.new) result }
     ensures device { P.device pes_packets.new ≡ P.device pes_packets.old }
-    ensures pes_failures { CountsIf P.failure_count pes_packets.old (failed is_extract_read result)
+    ensures source_failures_are_counted { CountsFailureIf P.failure_count pes_packets.old
+        (failed is_extract_source_failure result)
         pes_packets.new }
-    ensures file_count { CountsIf F.failure_count file.old (failed is_extract_write result)
+    ensures file_count { CountsFailureIf F.failure_count file.old (failed is_extract_file_failure
+        result)
         file.new }
-    ensures buffered { F.buffered file.old ≡ 0 → failed is_extract_write result ≡ false
+    ensures buffered { F.buffered file.old ≡ 0 → failed is_extract_file_failure result ≡ false
         → F.buffered file.new ≡ 0 }
-    ensures own { IfErr result (λ f. reports_refused_read f ≡ false) }
+    ensures never_reports_failed_read { IfErr result (λ f. reports_failure_as_rejection f ≡ false) }
     ensures done { OnOk result (F.buffered file.new ≡ 0) }
 {
-    let mut pes_packet = TakenPesPacket::new();
+    let mut pes_packet = CopyProgress::new();
     let mut gaps = 0;
     'pes_packets: for pes in 0..u64::MAX {
         match copy_next(pes_packets, file, &mut pes_packet) {
@@ -179,20 +184,20 @@ fn counted(gaps: u64, is_gap_marker: bool) -> u64
 }
 
 // Returns the line of a fault of `extract`.
-fn line_of_extract(fault: ExtractFault) -> FaultLine
+fn fault_line_of_extract(fault: ExtractFault) -> FaultLine
     ensures { result ≡ extract_line fault }
 {
     match fault {
-        ExtractFault::Read { pes } => line_at_pes(PesFault::Read, pes),
-        ExtractFault::Write => line_of_file_write(),
-        ExtractFault::Empty => line_of_check(CheckFault::Empty),
-        ExtractFault::Refused { fault, pes } => line_at_pes(fault, pes),
+        ExtractFault::Read { pes } => fault_line_at_pes(PesFault::Read, pes),
+        ExtractFault::Write => fault_line_of_file_write(),
+        ExtractFault::Empty => fault_line_of_check(CheckFault::Empty),
+        ExtractFault::Refused { fault, pes } => fault_line_at_pes(fault, pes),
     }
 }
 
 // Returns the line of a fault at the PES packet with this number.
-fn line_at_pes(fault: PesFault, pes: u64) -> FaultLine
+fn fault_line_at_pes(fault: PesFault, pes: u64) -> FaultLine
     ensures { result ≡ counted_from pes (check_line (Pes 0 fault)) }
 {
-    line_of_check(CheckFault::Pes { fault, pes: 0 }).counted_from(pes)
+    fault_line_of_check(CheckFault::Pes { fault, pes: 0 }).counted_from(pes)
 }

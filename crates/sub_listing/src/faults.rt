@@ -4,7 +4,7 @@ ghost use Rattle.ttx_pes.specs.Fault.{pes_code};
 ghost use Rattle.ttx_pes.specs.declared.fault.PesFault.TheVariants.{Read, Write};
 ghost use Rattle.sub_listing.specs.Faults.{check_line, packet_line, stl_line, usage_line};
 ghost use Rattle.sub_listing.specs.Faults.{write_line};
-ghost use Rattle.sub_listing.specs.FaultLine.{line_as, counted_from};
+ghost use Rattle.sub_listing.specs.FaultLine.{line_with, counted_from};
 ghost use Rattle.sub_rules.specs.declared.fault.CheckFault.TheVariants.{Pes};
 ghost use Rattle.sub_rules.specs.declared.fault_place.FaultPlace.TheVariants.{Nowhere};
 
@@ -22,7 +22,7 @@ use ttx_pes::{FailedAt, PesFault};
 
 /// Returns the line of a fault at a block of a subtitle file: `refused`, or `fault` if the source
 /// failed.
-pub fn line_of_stl(fault: StlFault, block: u32) -> FaultLine
+pub fn fault_line_of_stl(fault: StlFault, block: u32) -> FaultLine
     ensures { result ≡ stl_line fault block }
 {
     let kind = match fault {
@@ -39,7 +39,7 @@ pub fn line_of_stl(fault: StlFault, block: u32) -> FaultLine
 
 /// Returns the line of a fault that a check found: `refused`, or `fault` if a device failed or
 /// memory ran out.
-pub fn line_of_check(fault: CheckFault) -> FaultLine
+pub fn fault_line_of_check(fault: CheckFault) -> FaultLine
     ensures { result ≡ check_line fault }
 {
     let kind = match fault {
@@ -62,64 +62,66 @@ pub fn line_of_check(fault: CheckFault) -> FaultLine
 }
 
 /// Returns the line for a source that failed before the first PES packet was found.
-pub fn line_of_failed_read(at: FailedAt) -> FaultLine
+pub fn fault_line_of_failed_read(at: FailedAt) -> FaultLine
     ensures { result ≡ counted_from at.pes (check_line (Pes 0 Read)) }
 {
     let fault = CheckFault::Pes {
         fault: PesFault::Read,
         pes: 0,
     };
-    line_of_check(fault).counted_from(at.pes)
+    fault_line_of_check(fault).counted_from(at.pes)
 }
 
 /// Returns the line for a failure of the output file of `extract`.
-pub fn line_of_file_write() -> FaultLine
-    ensures { result ≡ line_as Kind.Fault (pes_code Write) Nowhere }
+pub fn fault_line_of_file_write() -> FaultLine
+    ensures { result ≡ line_with Kind.Fault (pes_code Write) Nowhere }
 {
-    nowhere(Kind::Fault, PesFault::Write.code())
+    fault_line_without_place(Kind::Fault, PesFault::Write.code())
 }
 
 /// Returns the line of a fault of a Teletext packet.
-pub fn line_of_packet(fault: PacketFault) -> FaultLine
+pub fn fault_line_of_packet(fault: PacketFault) -> FaultLine
     ensures { result ≡ packet_line fault }
 {
-    nowhere(Kind::Refused, fault.code())
+    fault_line_without_place(Kind::Refused, fault.code())
 }
 
 /// Returns the line of a fault of a command that writes a file.
-pub fn line_of_write(fault: WriteFault) -> FaultLine
+pub fn fault_line_of_write(fault: WriteFault) -> FaultLine
     ensures { result ≡ write_line fault }
 {
     match fault {
-        WriteFault::Input(InputFault::Read { block }) => line_of_stl(StlFault::Read, block),
-        WriteFault::Input(InputFault::Memory) => line_of_usage(&UsageFault::Memory),
-        WriteFault::Load(fault) => line_of_check(CheckFault::Subtitles(fault)),
-        WriteFault::Normal(NormalFault::Refused { fault, block }) => line_of_stl(fault, block),
-        WriteFault::Normal(fault) => nowhere(Kind::Fault, fault.code()),
+        WriteFault::Input(InputFault::Read { block }) => fault_line_of_stl(StlFault::Read, block),
+        WriteFault::Input(InputFault::Memory) => usage_fault_line(&UsageFault::Memory),
+        WriteFault::Load(fault) => fault_line_of_check(CheckFault::Subtitles(fault)),
+        WriteFault::Normal(NormalFault::Refused { fault, block }) => fault_line_of_stl(
+            fault, block,
+        ),
+        WriteFault::Normal(fault) => fault_line_without_place(Kind::Fault, fault.code()),
         WriteFault::Plan(fault) => {
             let kind = match fault {
                 PlanFault::NoSubtitles => Kind::Refused,
                 PlanFault::Write => Kind::Fault,
             };
-            nowhere(kind, fault.code())
+            fault_line_without_place(kind, fault.code())
         }
     }
 }
 
 /// Returns the line of a fault of the arguments, or of the program itself.
-pub fn line_of_usage(fault: &UsageFault) -> FaultLine
+pub fn usage_fault_line(fault: &UsageFault) -> FaultLine
     ensures { result ≡ usage_line fault.now }
 {
     let kind = match fault {
         UsageFault::Open | UsageFault::Memory => Kind::Fault,
         _ => Kind::Usage,
     };
-    nowhere(kind, fault.code())
+    fault_line_without_place(kind, fault.code())
 }
 
 // Returns the line of a fault that has no place.
-fn nowhere(kind: Kind, code: FaultCode) -> FaultLine
-    ensures { result ≡ line_as kind code Nowhere }
+fn fault_line_without_place(kind: Kind, code: FaultCode) -> FaultLine
+    ensures { result ≡ line_with kind code Nowhere }
 {
     let place = FaultPlace::Nowhere;
     FaultLine {

@@ -36,15 +36,15 @@ pub fn digits_of_block(block: &[u8; 16]) -> [u8; 32]
     let second = second_digits(bytes);
     let mut digits = [0; 32];
     let (prefix, back) = digits.split_at_mut(16);
-    let of_prefix = first.shuffle(
+    let first_half_digits = first.shuffle(
         second,
         [0, 16, 1, 17, 2, 18, 3, 19, 4, 20, 5, 21, 6, 22, 7, 23],
     );
-    let of_back = first.shuffle(
+    let second_half_digits = first.shuffle(
         second,
         [8, 24, 9, 25, 10, 26, 11, 27, 12, 28, 13, 29, 14, 30, 15, 31],
     );
-    prefix.copy_from_slice(&of_prefix.to_array());
-    back.copy_from_slice(&of_back.to_array());
+    prefix.copy_from_slice(&first_half_digits.to_array());
+    back.copy_from_slice(&second_half_digits.to_array());
     digits
 }

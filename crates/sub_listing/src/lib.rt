@@ -31,7 +31,7 @@ mod writing;
 
 pub use extract::extract_packets;
 pub use fault_line::{FaultLine, Kind};
-pub use faults::{line_of_check, line_of_failed_read, line_of_usage};
+pub use faults::{fault_line_of_check, fault_line_of_failed_read, usage_fault_line};
 pub use help::print_help;
 pub use lines::{LINE_CAPACITY, Line, push_decimal, push_number, push_text};
 pub use normal::{InputFault, read_input, write_normal};

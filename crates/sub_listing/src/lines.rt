@@ -7,19 +7,22 @@ ghost use Rattle.std.specs.Prelude.{◌≡◌, ◌+◌, ◌%◌, ◌≤◌, ◌<
 ghost use Rattle.arrayvec.specs.ArrayVec.{array_vec_len};
 ghost use Rattle.hex.specs.Hex.{encode_lower};
 ghost use Rattle.stl_file.specs.TimeCode.{day};
-ghost use Rattle.sub_listing.specs.EventLines.{ended_line, event_line, skipped_line, trusted_line};
-ghost use Rattle.sub_listing.specs.Lines.{glyph, number_in_file, text_digits, time_text};
+ghost use Rattle.sub_listing.specs.EventLines.{fault_end_line, event_line, skipped_packets_line};
+ghost use Rattle.sub_listing.specs.EventLines.{clean_frames_line};
+ghost use Rattle.sub_listing.specs.Lines.{printed_character, number_in_file, text_digits};
+ghost use Rattle.sub_listing.specs.Lines.{time_text};
 ghost use Rattle.sub_listing.specs.Lines.{two_digits};
-ghost use Rattle.sub_listing.specs.FaultLine.{code_text, frame_text, line_of, place_text};
+ghost use Rattle.sub_listing.specs.FaultLine.{code_text, frame_text, text_of_fault_line};
+ghost use Rattle.sub_listing.specs.FaultLine.{place_text};
 
 use crate::fault_line::{FaultLine, Kind};
-use crate::faults::line_of_check;
+use crate::faults::fault_line_of_check;
 use crate::hex_digits::digits_of_block;
 use arrayvec::ArrayVec;
 use stl_file::TimeCode;
 use sub_io::FaultCode;
 use sub_rules::{CheckFault, EndRule, Event, FaultPlace};
-use ttx_pes::MOST_PACKETS;
+use ttx_pes::MAX_PES_PACKETS;
 
 /// The maximum number of bytes of a number in decimal.
 pub const NUMBER_CAPACITY: usize = 20;
@@ -137,8 +140,8 @@ pub fn push_text_digits<const N: usize>(line: &mut ArrayVec<u8, N>, text: &[u8])
 }
 
 /// Returns the printed character for a cell's code.
-pub fn glyph(code: u8) -> u8
-    ensures { result ≡ glyph code }
+pub fn printed_character(code: u8) -> u8
+    ensures { result ≡ printed_character code }
 {
     if code >= 0x20 && code <= 0x7E {
         code
@@ -150,7 +153,7 @@ pub fn glyph(code: u8) -> u8
 /// Appends the line of a fault.
 pub fn push_fault_line<const N: usize>(line: &mut ArrayVec<u8, N>, reported: &FaultLine)
     requires { array_vec_len line.old + LINE_CAPACITY ≤ N }
-    ensures { line.new.items ≡ line.old.items ++ line_of reported.now }
+    ensures { line.new.items ≡ line.old.items ++ text_of_fault_line reported.now }
 {
     match reported.kind {
         Kind::Refused => push_text(line, b"refused "),
@@ -169,17 +172,20 @@ pub fn push_event<const N: usize>(line: &mut ArrayVec<u8, N>, event: Event, firs
     ensures { line.new.items ≡ line.old.items ++ event_line first event }
 {
     match event {
-        Event::Reported(fault) => push_fault_line(line, &line_of_check(fault).counted_from(first)),
-        Event::Ended { rule, frame } => push_ended(line, rule, frame),
-        Event::SkippedUntil(fault) => push_skipped(line, fault, first),
-        Event::Trusted { from, to } => push_trusted(line, from, to),
+        Event::Reported(fault) => push_fault_line(
+            line,
+            &fault_line_of_check(fault).counted_from(first),
+        ),
+        Event::Ended { rule, frame } => push_fault_end(line, rule, frame),
+        Event::SkippedUntil(fault) => push_skipped_packets(line, fault, first),
+        Event::Trusted { from, to } => push_clean_frames(line, from, to),
     }
 }
 
 // Appends the line for the end of a fault: the rule was broken up to this frame.
-fn push_ended<const N: usize>(line: &mut ArrayVec<u8, N>, rule: EndRule, frame: u32)
+fn push_fault_end<const N: usize>(line: &mut ArrayVec<u8, N>, rule: EndRule, frame: u32)
     requires { array_vec_len line.old + LINE_CAPACITY ≤ N }
-    ensures { line.new.items ≡ line.old.items ++ ended_line rule frame }
+    ensures { line.new.items ≡ line.old.items ++ fault_end_line rule frame }
 {
     push_text(line, b"ended ");
     push_code(line, &rule.code());
@@ -188,9 +194,9 @@ fn push_ended<const N: usize>(line: &mut ArrayVec<u8, N>, rule: EndRule, frame: 
 }
 
 // Appends the line for the end of skipped PES packets, which the fault names.
-fn push_skipped<const N: usize>(line: &mut ArrayVec<u8, N>, fault: CheckFault, first: u64)
+fn push_skipped_packets<const N: usize>(line: &mut ArrayVec<u8, N>, fault: CheckFault, first: u64)
     requires { array_vec_len line.old + LINE_CAPACITY ≤ N }
-    ensures { line.new.items ≡ line.old.items ++ skipped_line first fault }
+    ensures { line.new.items ≡ line.old.items ++ skipped_packets_line first fault }
 {
     push_text(line, b"ended ");
     push_code(line, &fault.code());
@@ -198,14 +204,14 @@ fn push_skipped<const N: usize>(line: &mut ArrayVec<u8, N>, fault: CheckFault, f
     push_text(line, b"\n");
 }
 
-fn push_trusted<const N: usize>(line: &mut ArrayVec<u8, N>, from: u32, to: u32)
+fn push_clean_frames<const N: usize>(line: &mut ArrayVec<u8, N>, from: u32, to: u32)
     requires { array_vec_len line.old + LINE_CAPACITY ≤ N }
-    ensures { line.new.items ≡ line.old.items ++ trusted_line from to }
+    ensures { line.new.items ≡ line.old.items ++ clean_frames_line from to }
 {
     push_text(line, b"trusted frames ");
-    push_clock(line, from);
+    push_frame_time(line, from);
     push_text(line, b" ");
-    push_clock(line, to);
+    push_frame_time(line, to);
     push_text(line, b"\n");
 }
 
@@ -254,15 +260,15 @@ fn push_frame<const N: usize>(line: &mut ArrayVec<u8, N>, frame: u32)
     ensures len { array_vec_len line.new ≡ array_vec_len line.old + 18 }
 {
     push_text(line, b" frame ");
-    push_clock(line, frame);
+    push_frame_time(line, frame);
 }
 
 // Appends the time of a frame of the day to a line.
-fn push_clock<const N: usize>(line: &mut ArrayVec<u8, N>, frame: u32)
+fn push_frame_time<const N: usize>(line: &mut ArrayVec<u8, N>, frame: u32)
     requires { array_vec_len line.old + 11 ≤ N }
     ensures items { line.new.items ≡ line.old.items ++ time_text (frame % day) }
     ensures len { array_vec_len line.new ≡ array_vec_len line.old + 11 }
 {
-    // A day has `MOST_PACKETS` frames, one for each PES packet.
-    push_time(line, TimeCode::of_frame(frame % MOST_PACKETS));
+    // A day has `MAX_PES_PACKETS` frames, one for each PES packet.
+    push_time(line, TimeCode::of_frame(frame % MAX_PES_PACKETS));
 }

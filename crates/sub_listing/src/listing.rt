@@ -3,13 +3,14 @@
 ghost use Rattle.std.specs.Prelude.{◌≡◌, ℕ, ◌+◌, ◌<◌, ◌≤◌, ◌++◌, [], None, Some, decimal, length};
 ghost use Rattle.std.specs.Prelude.{Bool, List, Option, false, true};
 ghost use Rattle.std.specs.Borrow.{GName};
-ghost use Rattle.sub_io.specs.Device.{CountsIf};
+ghost use Rattle.sub_io.specs.Device.{CountsFailureIf};
 ghost use Rattle.sub_listing.specs.DeviceCall.{CanFail, CountsFault, read_call, sink_call};
 ghost use Rattle.sub_listing.specs.LastLine.{BuffersLastLineOnly, IsAlone};
-ghost use Rattle.sub_listing.specs.Listing.{YieldsResults, IsCut, ListingRelation, PrintsListing};
+ghost use Rattle.sub_listing.specs.Listing.{YieldsResults, IsEndless, ListingRelation};
+ghost use Rattle.sub_listing.specs.Listing.{PrintsListing};
 ghost use Rattle.sub_listing.specs.Listing.{has_failed};
 ghost use Rattle.sub_listing.specs.Printer.{StaysPrinted, printer_value};
-ghost use Rattle.sub_listing.specs.FaultLine.{line_of, status_of};
+ghost use Rattle.sub_listing.specs.FaultLine.{text_of_fault_line, status_of};
 ghost use Rattle.sub_listing.specs.declared.status.Status.TheVariants.{Done};
 
 use crate::fault_line::FaultLine;
@@ -38,7 +39,7 @@ pub trait Lister<I> {
 
     /// Whether the output can be followed while the source is read: lines are flushed before a read
     /// that may block.
-    ghost is_followed: { Bool };
+    ghost can_be_followed: { Bool };
 
     // The remaining bytes of the input, if they are known.
     ghost known: { I → Option (List ℕ) };
@@ -79,16 +80,16 @@ pub trait Lister<I> {
         ensures settled { printer.new.failed ≡ false → result ≡ None
             → left input.new ≡ known input.new }
         ensures ready { printer.new.failed ≡ false → result ≡ None → ready self.new }
-        ensures fewer { printer.new.failed ≡ false → result ≡ None
+        ensures pes_packets_decrease { printer.new.failed ≡ false → result ≡ None
             → pes_packets self.new < pes_packets self.old }
         ensures count { printer.new.failed ≡ false
-            → CountsIf failure_count input.old (has_failed result) input.new }
+            → CountsFailureIf failure_count input.old (has_failed result) input.new }
         ensures cut { printer.new.failed ≡ true
-            → IsCut (lists self.old) (known input.old) (left input.new) }
-        ensures cut_count { printer.new.failed ≡ true
+            → IsEndless (lists self.old) (known input.old) (left input.new) }
+        ensures counts_failure { printer.new.failed ≡ true
             → failure_count input.new ≡ failure_count input.old }
         ensures buffered { device input.new ≡ device input.old }
-        ensures followed { is_followed ≡ true
+        ensures followed { can_be_followed ≡ true
             → (printer.old.pending ≡ false → K.buffered printer.old.out.now ≡ 0)
             → has_failed result ≡ true → printer.new.failed ≡ false
             → IsAlone (K.buffered printer.new.out.now) text.new.items };
@@ -111,7 +112,7 @@ pub fn list<I, L: Lister<I>, K: Flush>(lister: &mut L, input: &mut I, out: &mut 
     ensures fault { result ≡ Status.Fault
         → L.failure_count input.old + K.failure_count out.old
         < L.failure_count input.new + K.failure_count out.new }
-    ensures followed { L.is_followed ≡ true
+    ensures followed { L.can_be_followed ≡ true
         → K.buffered out.old ≡ 0
         → L.failure_count input.old < L.failure_count input.new
         → BuffersLastLineOnly K.contents K.buffered K.is_push out.new }
@@ -147,7 +148,7 @@ fn list_to<I, L: Lister<I>, K: Flush>(
     ensures fault { result ≡ Status.Fault
         → L.failure_count input.old + K.failure_count printer.old.out.now
         < L.failure_count input.new + K.failure_count printer.new.out.now }
-    ensures followed { L.is_followed ≡ true
+    ensures followed { L.can_be_followed ≡ true
         → (printer.old.pending ≡ false → K.buffered printer.old.out.now ≡ 0)
         → L.failure_count input.old < L.failure_count input.new
         → BuffersLastLineOnly K.contents K.buffered K.is_push printer.new.out.now }
@@ -172,7 +173,7 @@ fn list_to<I, L: Lister<I>, K: Flush>(
 /// Ends a listing with the line of a fault.
 pub fn end_with_fault_line(text: &mut Text, reported: &FaultLine) -> Option<Status>
     requires { text.old.items ≡ [] }
-    ensures line { text.new.items ≡ line_of reported.now }
+    ensures line { text.new.items ≡ text_of_fault_line reported.now }
     ensures end { result ≡ Some (status_of reported.now.kind) }
 {
     push_fault_line(text, reported);
@@ -180,13 +181,13 @@ pub fn end_with_fault_line(text: &mut Text, reported: &FaultLine) -> Option<Stat
 }
 
 /// Ends a listing with the number of listed items.
-pub fn end_at(text: &mut Text, count: u32, things: &[u8]) -> Option<Status>
+pub fn end_with_count(text: &mut Text, count: u32, item_name: &[u8]) -> Option<Status>
     requires empty { text.old.items ≡ [] }
-    requires few { length things.now ≤ 32 }
-    ensures line { text.new.items ≡ decimal count ++ things.now }
+    requires few { length item_name.now ≤ 32 }
+    ensures line { text.new.items ≡ decimal count ++ item_name.now }
     ensures end { result ≡ Some Done }
 {
     push_decimal(text, u64::from(count));
-    push_text(text, things);
+    push_text(text, item_name);
     Some(Status::Done)
 }

@@ -1,12 +1,13 @@
 //! `normal IN OUT`: writes the normal form of a subtitle file.
 ghost use Rattle.std.specs.Prelude.{◌≡◌, ◌<◌, IfErr, IfOk, List, OnOk, codes, take, true, ℕ};
-ghost use Rattle.sub_io.specs.Device.{CanFail, CountsIf, failed};
+ghost use Rattle.sub_io.specs.Device.{CanFail, CountsFailureIf, failed};
 ghost use Rattle.sub_io.specs.Reading.{IfKnown};
-ghost use Rattle.stl_file.specs.Fault.{is_normal_write};
+ghost use Rattle.stl_file.specs.Fault.{is_normal_write_failure};
 ghost use Rattle.stl_file.specs.NormalForm.{NormalAnswers};
 ghost use Rattle.stl_file.specs.Reader.{block_of_byte};
 ghost use Rattle.sub_listing.specs.DeviceCall.{CountsFault, sink_call, source_call};
-ghost use Rattle.sub_listing.specs.Writing.{EndsWork, Normalizes, ReportsRead, is_input_read};
+ghost use Rattle.sub_listing.specs.Writing.{EndsWithFileResult, Normalizes, ReportsRead};
+ghost use Rattle.sub_listing.specs.Writing.{is_input_source_failure};
 ghost use Rattle.sub_listing.specs.Writing.{read_limit};
 
 use crate::status::Status;
@@ -35,8 +36,8 @@ pub enum InputFault {
     Memory,
 }
 
-/// Writes the normal form of a subtitle file (own), and prints the number of its subtitles, or the
-/// reason why there is no normal form.
+/// Writes the normal form of a subtitle file (not defined by a standard), and prints the number of
+/// its subtitles, or the reason why there is no normal form.
 ///
 /// The input is read to its end before anything is written, and the line is printed after the
 /// system has stored the file. Returns `Fault` if a device failed or memory ran out.
@@ -49,7 +50,7 @@ pub fn write_normal<S: Source, F: Close, K: Sink>(
     requires input { CanFail (S.failure_count input.old) }
     requires file { CanFail (F.failure_count file.old) }
     requires out { CanFail (K.failure_count out.old) }
-    ensures work { EndsWork
+    ensures work { EndsWithFileResult
         (source_call S.remaining S.failure_count input.old input.new)
         (sink_call F.contents F.failure_count file.old file.new)
         (sink_call K.contents K.failure_count out.old out.new) result
@@ -68,7 +69,7 @@ pub fn write_normal<S: Source, F: Close, K: Sink>(
 pub struct NormalWork;
 
 impl Work for NormalWork {
-    ghost has_worked = { λ w. Normalizes };
+    ghost is_written_as_specified = { λ w. Normalizes };
 
     fn work<S: Source, F: Close>(
         &self,
@@ -80,7 +81,7 @@ impl Work for NormalWork {
             Ok(bytes) => bytes,
             Err(fault) => return Err(WriteFault::Input(fault)),
         };
-        match put_normal(bytes.as_slice(), file) {
+        match write_normal_form(bytes.as_slice(), file) {
             Ok(count) => Ok(count),
             Err(fault) => Err(WriteFault::Normal(fault)),
         }
@@ -88,11 +89,12 @@ impl Work for NormalWork {
 }
 
 // Writes the normal form of a subtitle file, given its first bytes, and stores the output file.
-fn put_normal<F: Close>(bytes: &[u8], file: &mut F) -> Result<u32, NormalFault>
+fn write_normal_form<F: Close>(bytes: &[u8], file: &mut F) -> Result<u32, NormalFault>
     requires { CanFail (F.failure_count file.old) }
     ensures answer { (s : List ℕ) → bytes.now ≡ take read_limit s
         → NormalAnswers s (F.contents file.old) (F.contents file.new) result }
-    ensures count { CountsIf F.failure_count file.old (failed is_normal_write result) file.new }
+    ensures count { CountsFailureIf F.failure_count file.old (failed is_normal_write_failure result)
+        file.new }
     ensures buffered { OnOk result (F.buffered file.new ≡ 0) }
     ensures stored { OnOk result (F.is_stored file.new ≡ true) }
 {
@@ -120,7 +122,8 @@ pub fn read_input<A: Allocator + Drop, S: Source>(
     ensures bytes { IfKnown (S.remaining input.old) (λ bytes.
         IfOk result (λ v. v.items ≡ take read_limit bytes)) }
     ensures read { IfErr result (ReportsRead (S.remaining input.old) (S.remaining input.new)) }
-    ensures count { CountsIf S.failure_count input.old (failed is_input_read result) input.new }
+    ensures count { CountsFailureIf S.failure_count input.old (failed is_input_source_failure
+        result) input.new }
 {
     let mut bytes = Vec::new(alloc);
     let mut room = [0; PULL_CAPACITY];

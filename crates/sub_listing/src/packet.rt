@@ -3,12 +3,13 @@ ghost use Rattle.std.specs.Prelude.{◌≡◌, ◌+◌, ◌≤◌, [], ◌++◌,
 ghost use Rattle.arrayvec.specs.ArrayVec.{array_vec_len};
 ghost use Rattle.sub_listing.specs.DeviceCall.{CanFail, CountsFault, sink_call};
 ghost use Rattle.sub_listing.specs.Faults.{packet_code, packet_line};
-ghost use Rattle.sub_listing.specs.Lines.{address_line, control_list, header_line, hex_two, marked};
+ghost use Rattle.sub_listing.specs.Lines.{address_line, control_list, header_line};
+ghost use Rattle.sub_listing.specs.Lines.{hex_digits_of_byte, name_if_set};
 ghost use Rattle.sub_listing.specs.Lines.{text_line};
 ghost use Rattle.sub_listing.specs.Listing.{PrintsOrFails, done, packet_listing, fault_listing};
 
-use crate::faults::line_of_packet;
-use crate::lines::{glyph, push_number, push_text};
+use crate::faults::fault_line_of_packet;
+use crate::lines::{printed_character, push_number, push_text};
 use crate::printing::{print_done, print_fault_line};
 use crate::status::Status;
 use arrayvec::ArrayVec;
@@ -48,7 +49,7 @@ pub enum PacketFault {
 }
 
 impl PacketFault {
-    /// Returns the number and the name of the fault for reports (own).
+    /// Returns the number and the name of the fault for reports (not defined by a standard).
     pub fn code(self) -> FaultCode
         ensures { result ≡ packet_code self }
     {
@@ -73,7 +74,7 @@ pub fn show_packet<K: Sink>(bytes: &[u8; 42], out: &mut K) -> Status
     let mut text = Text::new();
     match push_packet(&mut text, &Packet::new(*bytes)) {
         Ok(()) => print_done(text.as_slice(), out),
-        Err(fault) => print_fault_line(&line_of_packet(fault), out),
+        Err(fault) => print_fault_line(&fault_line_of_packet(fault), out),
     }
 }
 
@@ -105,8 +106,8 @@ fn push_address(line: &mut Text, magazine: u8, packet_number: u8)
     ensures items { line.new.items ≡ line.old.items ++ address_line magazine packet_number }
     ensures len { array_vec_len line.new ≤ array_vec_len line.old + ADDRESS_CAPACITY }
 {
-    let shown_magazine = if magazine == 0 { 8 } else { magazine };
-    push_number(line, b"magazine ", u64::from(shown_magazine));
+    let printed_magazine = if magazine == 0 { 8 } else { magazine };
+    push_number(line, b"magazine ", u64::from(printed_magazine));
     push_number(line, b" packet ", u64::from(packet_number));
     push_text(line, b"\n");
 }
@@ -128,10 +129,10 @@ fn push_header(line: &mut Text, header: &Header)
 }
 
 // Appends a byte as two upper case hexadecimal digits.
-#[tactic(auto, unfolding(crate::specs::Lines::hex_two))]
+#[tactic(auto, unfolding(crate::specs::Lines::hex_digits_of_byte))]
 fn push_hex(line: &mut Text, byte: u8)
     requires { array_vec_len line.old + 2 ≤ PACKET_CAPACITY }
-    ensures items { line.new.items ≡ line.old.items ++ hex_two byte }
+    ensures items { line.new.items ≡ line.old.items ++ hex_digits_of_byte byte }
     ensures len { array_vec_len line.new ≡ array_vec_len line.old + 2 }
 {
     line.push(HEX_DIGITS[(byte / 16) as usize]);
@@ -146,17 +147,17 @@ fn push_control(line: &mut Text, header: &Header)
 {
     let control = header.control;
     let mut names = ArrayVec::<u8, CONTROL_CAPACITY>::new();
-    push_name(&mut names, control.contains(Control::C4), b" C4");
-    push_name(&mut names, control.contains(Control::C5), b" C5");
-    push_name(&mut names, control.contains(Control::C6), b" C6");
-    push_name(&mut names, control.contains(Control::C7), b" C7");
-    push_name(&mut names, control.contains(Control::C8), b" C8");
-    push_name(&mut names, control.contains(Control::C9), b" C9");
-    push_name(&mut names, control.contains(Control::C10), b" C10");
-    push_name(&mut names, control.contains(Control::C11), b" C11");
-    push_name(&mut names, control.contains(Control::C12), b" C12");
-    push_name(&mut names, control.contains(Control::C13), b" C13");
-    push_name(&mut names, control.contains(Control::C14), b" C14");
+    push_control_name(&mut names, control.contains(Control::C4), b" C4");
+    push_control_name(&mut names, control.contains(Control::C5), b" C5");
+    push_control_name(&mut names, control.contains(Control::C6), b" C6");
+    push_control_name(&mut names, control.contains(Control::C7), b" C7");
+    push_control_name(&mut names, control.contains(Control::C8), b" C8");
+    push_control_name(&mut names, control.contains(Control::C9), b" C9");
+    push_control_name(&mut names, control.contains(Control::C10), b" C10");
+    push_control_name(&mut names, control.contains(Control::C11), b" C11");
+    push_control_name(&mut names, control.contains(Control::C12), b" C12");
+    push_control_name(&mut names, control.contains(Control::C13), b" C13");
+    push_control_name(&mut names, control.contains(Control::C14), b" C14");
     if names.is_empty() {
         push_text(line, b" none");
     } else {
@@ -165,9 +166,9 @@ fn push_control(line: &mut Text, header: &Header)
 }
 
 // Appends the name of a control bit if the bit is set.
-fn push_name(names: &mut ArrayVec<u8, CONTROL_CAPACITY>, is_set: bool, name: &[u8])
+fn push_control_name(names: &mut ArrayVec<u8, CONTROL_CAPACITY>, is_set: bool, name: &[u8])
     requires { array_vec_len names.old + length name.now ≤ CONTROL_CAPACITY }
-    ensures items { names.new.items ≡ names.old.items ++ marked is_set name.now }
+    ensures items { names.new.items ≡ names.old.items ++ name_if_set is_set name.now }
     ensures len { array_vec_len names.new ≤ array_vec_len names.old + length name.now }
 {
     if is_set {
@@ -185,7 +186,7 @@ fn push_text_line(line: &mut Text, bytes: &[u8])
     for byte in bytes {
         // A byte of even parity is printed as `?`, since it has no code.
         line.push(if is_odd(*byte) {
-            glyph(*byte % 128)
+            printed_character(*byte % 128)
         } else {
             b'?'
         });

@@ -5,9 +5,9 @@ ghost use Rattle.arrayvec.specs.ArrayVec.{array_vec_len};
 ghost use Rattle.sub_io.specs.Device.{CanFail};
 ghost use Rattle.ttx_pes.specs.BorrowedPacket.{NothingIsPending};
 ghost use Rattle.ttx_pes.specs.Outcome.{ReadsPackets, outcome_after};
-ghost use Rattle.ttx_pes.specs.Reading.{most_packets};
+ghost use Rattle.ttx_pes.specs.Reading.{max_pes_packets};
 ghost use Rattle.ttx_pes.specs.declared.progress.Progress.TheVariants.{Reading};
-ghost use Rattle.sub_listing.specs.FirstPacket.{PrintsFrom, first_number};
+ghost use Rattle.sub_listing.specs.FirstPacket.{PrintsCountedFrom, first_number};
 ghost use Rattle.sub_listing.specs.Lines.{number_in_file, unit_line};
 ghost use Rattle.sub_listing.specs.DeviceCall.{CountsFault, read_call, sink_call};
 ghost use Rattle.sub_listing.specs.LastLine.{BuffersLastLineOnly};
@@ -15,16 +15,16 @@ ghost use Rattle.sub_listing.specs.Listing.{Lists};
 ghost use Rattle.sub_listing.specs.PacketsListing.{ListsPackets, frame_lines, pes_listing};
 ghost use Rattle.sub_listing.specs.Printer.{StaysPrinted, printer_value};
 
-use crate::faults::{line_of_check, line_of_failed_read};
+use crate::faults::{fault_line_of_check, fault_line_of_failed_read};
 use crate::lines::{number_in_file, push_lower_hex, push_number, push_text};
-use crate::listing::{LINES_CAPACITY, Lister, Text, end_at, end_with_fault_line, list};
+use crate::listing::{LINES_CAPACITY, Lister, Text, end_with_count, end_with_fault_line, list};
 use crate::printer::Printer;
 use crate::printing::print_fault_line;
 use crate::status::Status;
 use sub_io::{Flush, Stopped};
 use sub_rules::CheckFault;
 use ttx_pes::{
-    Compared, ComparingReader, MOST_UNITS, NumberedPesPackets, PesPackets, Unit, flush_first,
+    Compared, ComparingReader, MAX_UNITS, NumberedPesPackets, PesPackets, Unit, flush_first,
 };
 
 /// Lists the PES packets of a file (EN 300 472), each with its number in the file, and then the
@@ -34,12 +34,13 @@ use ttx_pes::{
 pub fn list_packets<P: NumberedPesPackets, K: Flush>(pes_packets: &mut P, out: &mut K) -> Status
     requires pes_packets { CanFail (P.failure_count pes_packets.old) }
     requires out { CanFail (K.failure_count out.old) }
-    ensures listing { PrintsFrom ListsPackets
+    ensures listing { PrintsCountedFrom ListsPackets
         (first_number P.first P.skipped pes_packets.old pes_packets.new)
         (read_call P.remaining P.left P.failure_count pes_packets.old pes_packets.new)
         (sink_call K.contents K.failure_count out.old out.new) result }
     ensures device { P.device pes_packets.new ≡ P.device pes_packets.old }
-    ensures pes_failures { CountsFault P.failure_count pes_packets.old result pes_packets.new }
+    ensures source_failures_are_counted { CountsFault P.failure_count pes_packets.old result
+        pes_packets.new }
     ensures out_count { CountsFault K.failure_count out.old result out.new }
     ensures fault { result ≡ Status.Fault
         → P.failure_count pes_packets.old + K.failure_count out.old
@@ -52,7 +53,7 @@ pub fn list_packets<P: NumberedPesPackets, K: Flush>(pes_packets: &mut P, out: &
 {
     match pes_packets.find_first() {
         Ok(first) => list(&mut PacketLister::new(first), pes_packets, out),
-        Err(at) => print_fault_line(&line_of_failed_read(at), out),
+        Err(at) => print_fault_line(&fault_line_of_failed_read(at), out),
     }
 }
 
@@ -79,8 +80,8 @@ impl PacketLister {
     }
 
     // Makes the lines of the PES packet that was read last.
-    fn list_read(&mut self, text: &mut Text) -> Option<Status>
-        requires few { self.old.index < most_packets }
+    fn list_next_result(&mut self, text: &mut Text) -> Option<Status>
+        requires few { self.old.index < max_pes_packets }
         requires empty { text.old.items ≡ [] }
         ensures lines { text.new.items
             ≡ frame_lines (number_in_file self.old.first self.old.index) self.old.reader.frame }
@@ -96,13 +97,13 @@ impl PacketLister {
 }
 
 impl<P: PesPackets> Lister<P> for PacketLister {
-    ghost ready = { λ l. (l.reader.progress ≡ Reading l.index) × (l.index ≤ most_packets) };
+    ghost ready = { λ l. (l.reader.progress ≡ Reading l.index) × (l.index ≤ max_pes_packets) };
 
-    ghost pes_packets = { λ l. most_packets - l.index };
+    ghost pes_packets = { λ l. max_pes_packets - l.index };
 
     ghost lists = { λ l. Lists (pes_listing l.first l.index) (outcome_after l.index) ReadsPackets };
 
-    ghost is_followed = { true };
+    ghost can_be_followed = { true };
 
     ghost known = { λ p. P.remaining p };
 
@@ -122,12 +123,12 @@ impl<P: PesPackets> Lister<P> for PacketLister {
             return Some(Status::Fault);
         }
         match self.reader.next(input) {
-            Ok(Compared::End) => end_at(text, self.index, b" pes\n"),
-            Ok(Compared::Same) => self.list_read(text),
-            Ok(Compared::Other) => self.list_read(text),
+            Ok(Compared::End) => end_with_count(text, self.index, b" pes\n"),
+            Ok(Compared::Same) => self.list_next_result(text),
+            Ok(Compared::Other) => self.list_next_result(text),
             Err(fault) => {
                 let pes = self.index;
-                let reported = line_of_check(CheckFault::Pes { fault, pes });
+                let reported = fault_line_of_check(CheckFault::Pes { fault, pes });
                 end_with_fault_line(text, &reported.counted_from(self.first))
             }
         }
@@ -156,13 +157,13 @@ fn flush_lines<P: PesPackets, K: Flush>(
 }
 
 // The maximum number of bytes of the line of a PES packet.
-const PES_LINE: usize = 64;
+const PES_LINE_CAPACITY: usize = 64;
 
 // The maximum number of bytes of the line of a Teletext unit.
-const UNIT_LINE: usize = 192;
+const UNIT_LINE_CAPACITY: usize = 192;
 
 // The lines of a PES packet and of all its Teletext units fit in `LINES_CAPACITY` bytes.
-const _: () = prove!(PES_LINE + MOST_UNITS * UNIT_LINE <= LINES_CAPACITY);
+const _: () = prove!(PES_LINE_CAPACITY + MAX_UNITS * UNIT_LINE_CAPACITY <= LINES_CAPACITY);
 
 // Appends the lines of a PES packet, with its number in its file, and of its Teletext units.
 fn push_frame(text: &mut Text, number: u64, reader: &ComparingReader)
@@ -180,9 +181,9 @@ fn push_frame(text: &mut Text, number: u64, reader: &ComparingReader)
 
 // Appends the line of a Teletext unit: its fields, and its packet in the bit order of Teletext.
 fn push_unit(text: &mut Text, number: usize, unit: &Unit)
-    requires { array_vec_len text.old + UNIT_LINE ≤ LINES_CAPACITY }
+    requires { array_vec_len text.old + UNIT_LINE_CAPACITY ≤ LINES_CAPACITY }
     ensures items { text.new.items ≡ text.old.items ++ unit_line number unit.now }
-    ensures len { array_vec_len text.new ≤ array_vec_len text.old + UNIT_LINE }
+    ensures len { array_vec_len text.new ≤ array_vec_len text.old + UNIT_LINE_CAPACITY }
 {
     push_number(text, b"unit ", number as u64);
     push_number(text, b" id 0", u64::from(unit.id()));

@@ -3,15 +3,15 @@ ghost use Rattle.std.specs.Prelude.{◌≡◌, ◌||◌, OnErr, OnOk, false, is_
 ghost use Rattle.std.proofs.Common.{◌∙◌};
 ghost use Rattle.std.specs.Io.KnownBytes.{Appends};
 ghost use Rattle.sub_io.specs.Device.{AppendsPrefix, CanFail, CountsFailure};
-ghost use Rattle.sub_listing.specs.EventLines.{refusal, subtitle_event};
+ghost use Rattle.sub_listing.specs.EventLines.{fault_count_of_event, subtitle_event};
 ghost use Rattle.sub_listing.specs.LastLine.{PutsLine};
-ghost use Rattle.sub_listing.specs.StaysPrinted.{line_stays};
+ghost use Rattle.sub_listing.specs.StaysPrinted.{printed_line_remains};
 ghost use Rattle.sub_listing.specs.Printer.{FlushesLines, PrintsEvent, can_fail, counted};
 ghost use Rattle.sub_listing.specs.Printer.{printer_value};
 
 use crate::lines::{Line, push_event};
 use stl_rows::LoadFault;
-use sub_io::{Audience, Flush, Live, LiveAudience, Sink, Stopped, put_all};
+use sub_io::{Flush, Live, LiveReportSink, ReportSink, Sink, Stopped, put_all};
 use sub_rules::{CheckFault, Event};
 
 /// A device that prints the line of each event at once, and counts the faults.
@@ -117,16 +117,16 @@ impl<'a, K: Sink> Printer<'a, K> {
     #[tactic(auto, unfolding(crate::specs::Printer::counted))]
     fn count(&mut self, event: Event)
         ensures { self.new ≡ record self.old {
-          refused = counted self.old.refused (refusal event);
+          refused = counted self.old.refused (fault_count_of_event event);
         } }
     {
-        self.refused = self.refused.saturating_add(refusal(event));
+        self.refused = self.refused.saturating_add(fault_count_of_event(event));
     }
 }
 
 // Returns the number of faults that an event reports: 1 or 0.
-fn refusal(event: Event) -> u64
-    ensures { result ≡ refusal event }
+fn fault_count_of_event(event: Event) -> u64
+    ensures { result ≡ fault_count_of_event event }
 {
     match event {
         Event::Reported(_) => 1,
@@ -134,7 +134,7 @@ fn refusal(event: Event) -> u64
     }
 }
 
-impl<K: Flush> Audience<Event> for Printer<'_, K> {
+impl<K: Flush> ReportSink<Event> for Printer<'_, K> {
     ghost is_reported = { λ s event t. (t.out.ghost_name ≡ s.out.ghost_name)
         × PrintsEvent
         (printer_value (K.contents s.out.now) (K.failure_count s.out.now) s.refused s.failed
@@ -155,7 +155,7 @@ impl<K: Flush> Audience<Event> for Printer<'_, K> {
     }
 }
 
-impl<K: Flush> Audience<LoadFault> for Printer<'_, K> {
+impl<K: Flush> ReportSink<LoadFault> for Printer<'_, K> {
     ghost is_reported = { λ s fault t. (t.out.ghost_name ≡ s.out.ghost_name)
         × PrintsEvent
         (printer_value (K.contents s.out.now) (K.failure_count s.out.now) s.refused s.failed
@@ -205,19 +205,23 @@ impl<K: Flush> Live for Printer<'_, K> {
     }
 }
 
-impl<K: Flush> LiveAudience<Event> for Printer<'_, K> {
-    ghost stays_reported = { record {
+impl<K: Flush> LiveReportSink<Event> for Printer<'_, K> {
+    ghost flush_keeps_reports = { record {
       reported = λ before old new item ok is has_pending on.
-          (on.0 ∙ is.0, line_stays _ _ _ item is.1 on.1.stays, on.2 has_pending);
+          (on.0 ∙ is.0, printed_line_remains _ _ _ item is.1 on.1.stays, on.2 has_pending);
       stopped = λ old new ok on. on.1.stopped;
       has_pending = λ before new item is. is.2;
     } };
 }
 
-impl<K: Flush> LiveAudience<LoadFault> for Printer<'_, K> {
-    ghost stays_reported = { record {
-      reported = λ before old new item ok is has_pending on.
-          (on.0 ∙ is.0, line_stays _ _ _ (subtitle_event item) is.1 on.1.stays, on.2 has_pending);
+impl<K: Flush> LiveReportSink<LoadFault> for Printer<'_, K> {
+    ghost flush_keeps_reports = { record {
+      reported = λ before old new item ok is has_pending on. (
+        on.0 ∙ is.0,
+        printed_line_remains _ _ _ (subtitle_event item) is.1 on.1.stays,
+        on.2
+            has_pending,
+      );
       stopped = λ old new ok on. on.1.stopped;
       has_pending = λ before new item is. is.2;
     } };

@@ -3,7 +3,7 @@ ghost use Rattle.std.specs.Prelude.{◌≡◌, ◌≢◌, ◌+◌, List, ℕ};
 ghost use Rattle.sub_listing.specs.DeviceCall.{CanFail, CountsFault, sink_call};
 ghost use Rattle.sub_listing.specs.LastLine.{PutsLine};
 ghost use Rattle.sub_listing.specs.Listing.{PrintsOrFails, done, fault_listing};
-ghost use Rattle.sub_listing.specs.FaultLine.{line_of, status_of};
+ghost use Rattle.sub_listing.specs.FaultLine.{text_of_fault_line, status_of};
 
 use crate::fault_line::FaultLine;
 use crate::lines::{Line, push_fault_line};
@@ -38,8 +38,8 @@ pub fn print_fault_line<K: Sink>(reported: &FaultLine, out: &mut K) -> Status
         (fault_listing reported.now) result }
     ensures count { CountsFault K.failure_count out.old result out.new }
     ensures fault { status_of reported.now.kind ≡ Status.Fault → result ≡ Status.Fault }
-    ensures not_done { result ≢ Status.Done }
-    ensures line { PutsLine K.contents K.is_push out.old (line_of reported.now) out.new }
+    ensures is_not_done { result ≢ Status.Done }
+    ensures line { PutsLine K.contents K.is_push out.old (text_of_fault_line reported.now) out.new }
     ensures failed { result ≡ Status.Fault → status_of reported.now.kind ≢ Status.Fault
         → K.failure_count out.new ≡ K.failure_count out.old + 1 }
 {

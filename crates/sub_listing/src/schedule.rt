@@ -1,10 +1,10 @@
 //! `schedule STL PES`: writes the schedule of a subtitle file.
 ghost use Rattle.std.specs.Prelude.{◌≡◌, OnOk, codes, true};
-ghost use Rattle.sub_io.specs.Device.{CanFail, CountsIf, failed};
+ghost use Rattle.sub_io.specs.Device.{CanFail, CountsFailureIf, failed};
 ghost use Rattle.stl_rows.specs.Layout.{drawing_within};
-ghost use Rattle.sub_plan.specs.Fault.{is_plan_write};
+ghost use Rattle.sub_plan.specs.Fault.{is_plan_write_failure};
 ghost use Rattle.sub_listing.specs.DeviceCall.{CountsFault, sink_call, source_call};
-ghost use Rattle.sub_listing.specs.Writing.{EndsWork, Schedules, WritesSchedule};
+ghost use Rattle.sub_listing.specs.Writing.{EndsWithFileResult, Schedules, WritesSchedule};
 
 use crate::status::Status;
 use crate::writing::{Work, WriteFault, write};
@@ -31,7 +31,7 @@ pub fn write_schedule<S: Source, F: Close, K: Sink>(
     requires input { CanFail (S.failure_count input.old) }
     requires file { CanFail (F.failure_count file.old) }
     requires out { CanFail (K.failure_count out.old) }
-    ensures work { EndsWork
+    ensures work { EndsWithFileResult
         (source_call S.remaining S.failure_count input.old input.new)
         (sink_call F.contents F.failure_count file.old file.new)
         (sink_call K.contents K.failure_count out.old out.new) result
@@ -74,7 +74,8 @@ pub struct ScheduleWork<'a> {
 }
 
 impl<'a> Work for ScheduleWork<'a> {
-    ghost has_worked = { λ w. Schedules (drawing_within w.national w.layout w.scope) w.options.now
+    ghost is_written_as_specified = { λ w. Schedules (drawing_within w.national w.layout w.scope)
+        w.options.now
         w.serial };
 
     fn work<S: Source, F: Close>(
@@ -84,16 +85,19 @@ impl<'a> Work for ScheduleWork<'a> {
         file: &mut F,
     ) -> Result<u32, WriteFault> {
         match load(alloc, input, self.national, self.layout, self.scope) {
-            Ok(programme) => put_schedule(&programme, self.options, self.serial, file).map_err(
-                WriteFault::Plan,
-            ),
+            Ok(programme) => write_planned_schedule(
+                &programme,
+                self.options,
+                self.serial,
+                file,
+            ).map_err(WriteFault::Plan),
             Err(fault) => Err(WriteFault::Load(fault)),
         }
     }
 }
 
 // Writes the schedule of a programme, and stores the file.
-fn put_schedule<F: Close>(
+fn write_planned_schedule<F: Close>(
     programme: &Programme,
     options: &Options,
     serial: bool,
@@ -102,7 +106,8 @@ fn put_schedule<F: Close>(
     requires { CanFail (F.failure_count file.old) }
     ensures written { WritesSchedule programme.now options.now serial
         (F.contents file.old) (F.contents file.new) result }
-    ensures count { CountsIf F.failure_count file.old (failed is_plan_write result) file.new }
+    ensures count { CountsFailureIf F.failure_count file.old (failed is_plan_write_failure result)
+        file.new }
     ensures buffered { OnOk result (F.buffered file.new ≡ 0) }
     ensures stored { OnOk result (F.is_stored file.new ≡ true) }
 {

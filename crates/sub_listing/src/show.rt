@@ -5,9 +5,9 @@ ghost use Rattle.sub_listing.specs.Lines.{subtitle_line};
 ghost use Rattle.sub_listing.specs.Listing.{PrintsListing};
 ghost use Rattle.sub_listing.specs.ShowListing.{IsReady, ListsFrom, ListsSubtitles, blocks_left};
 
-use crate::faults::line_of_stl;
+use crate::faults::fault_line_of_stl;
 use crate::lines::{push_number, push_text, push_text_digits, push_time};
-use crate::listing::{Lister, Text, end_at, end_with_fault_line, list};
+use crate::listing::{Lister, Text, end_with_count, end_with_fault_line, list};
 use crate::printer::Printer;
 use crate::status::Status;
 use stl_file::{StlReader, Subtitle, five_digits_of};
@@ -61,7 +61,7 @@ impl<S: Source> Lister<S> for SubtitleLister {
 
     ghost lists = { λ l. ListsFrom l.reader l.count };
 
-    ghost is_followed = { false };
+    ghost can_be_followed = { false };
 
     ghost known = { λ s. S.remaining s };
 
@@ -83,7 +83,7 @@ impl<S: Source> Lister<S> for SubtitleLister {
                     self.reader = Some(reader);
                     None
                 }
-                Err(fault) => end_with_fault_line(text, &line_of_stl(fault, 0)),
+                Err(fault) => end_with_fault_line(text, &fault_line_of_stl(fault, 0)),
             };
         };
         match reader.next(input) {
@@ -92,8 +92,8 @@ impl<S: Source> Lister<S> for SubtitleLister {
                 self.count += 1;
                 None
             }
-            Ok(None) => end_at(text, self.count, b" subtitles\n"),
-            Err(fault) => end_with_fault_line(text, &line_of_stl(fault, reader.block())),
+            Ok(None) => end_with_count(text, self.count, b" subtitles\n"),
+            Err(fault) => end_with_fault_line(text, &fault_line_of_stl(fault, reader.block())),
         }
     }
 }

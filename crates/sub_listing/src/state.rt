@@ -4,14 +4,14 @@ ghost use Rattle.std.specs.List.{list_all};
 ghost use Rattle.arrayvec.specs.ArrayVec.{array_vec_len};
 ghost use Rattle.ttx_page.specs.Page.{IsPage, space};
 ghost use Rattle.sub_listing.specs.DeviceCall.{CanFail, CountsFault, sink_call};
-ghost use Rattle.sub_listing.specs.Lines.{glyph};
+ghost use Rattle.sub_listing.specs.Lines.{printed_character};
 ghost use Rattle.sub_listing.specs.Listing.{PrintsOrFails, done};
 ghost use Rattle.ttx_page.specs.Screen.{display};
 ghost use Rattle.sub_listing.specs.DisplayLines.{PrintsCompletePage, display_text, page_text};
 ghost use Rattle.sub_listing.specs.DisplayLines.{row_text};
-ghost use Rattle.sub_listing.specs.DisplayLines.{seen_page, seen_text};
+ghost use Rattle.sub_listing.specs.DisplayLines.{displayed_page, displayed_text};
 
-use crate::lines::{LINE_CAPACITY, glyph, push_text, push_two_digits};
+use crate::lines::{LINE_CAPACITY, printed_character, push_text, push_two_digits};
 use crate::printing::print_done;
 use crate::status::Status;
 use arrayvec::ArrayVec;
@@ -59,7 +59,7 @@ pub fn print_state<R: Receiver, K: Sink>(
         } else {
             push_text(&mut text, b"open no\n");
         }
-        push_seen(&mut text, receiver, screen, asks_complete);
+        push_displayed(&mut text, receiver, screen, asks_complete);
     } else {
         push_text(&mut text, b"heard no\n");
     }
@@ -67,11 +67,16 @@ pub fn print_state<R: Receiver, K: Sink>(
 }
 
 // Appends the lines of a receiver's page, or of its screen.
-fn push_seen<R: Receiver>(text: &mut Text, receiver: &R, screen: &Option<Page>, asks_complete: bool)
+fn push_displayed<R: Receiver>(
+    text: &mut Text,
+    receiver: &R,
+    screen: &Option<Page>,
+    asks_complete: bool,
+)
     requires { array_vec_len text.old + ROWS_CAPACITY ≤ STATE_CAPACITY }
     ensures items { text.new.items ≡ text.old.items
-        ++ seen_text asks_complete (display (R.state receiver.now) screen.now) }
-    ensures page { IfSome (seen_page asks_complete (display (R.state receiver.now) screen.now))
+        ++ displayed_text asks_complete (display (R.state receiver.now) screen.now) }
+    ensures page { IfSome (displayed_page asks_complete (display (R.state receiver.now) screen.now))
         IsPage }
 {
     match screen {
@@ -111,7 +116,7 @@ fn push_row(rows: &mut Rows, row: u8, cells: &[u8; 40])
     push_two_digits(rows, row);
     push_text(rows, b" |");
     for cell in cells {
-        rows.push(glyph(*cell));
+        rows.push(printed_character(*cell));
     }
     push_text(rows, b"|\n");
 }

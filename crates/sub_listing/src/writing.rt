@@ -1,11 +1,11 @@
 //! Runs the commands that write a file, and prints a line about the result.
 ghost use Rattle.std.specs.Prelude.{◌≡◌, ◌≤◌, OnOk, length, true};
-ghost use Rattle.sub_io.specs.Device.{CountsIf, failed};
-ghost use Rattle.sub_listing.specs.Writing.{EndsWork, is_file_failure, is_input_failure};
+ghost use Rattle.sub_io.specs.Device.{CountsFailureIf, failed};
+ghost use Rattle.sub_listing.specs.Writing.{EndsWithFileResult, is_file_failure, is_input_failure};
 ghost use Rattle.sub_listing.specs.DeviceCall.{CanFail, CountsFault, sink_call, source_call};
 ghost use Rattle.sub_listing.specs.Writing as writing;
 
-use crate::faults::line_of_write;
+use crate::faults::fault_line_of_write;
 use crate::lines::{Line, push_number, push_text};
 use crate::normal::InputFault;
 use crate::printing::{print_done, print_fault_line};
@@ -33,7 +33,7 @@ pub enum WriteFault {
 pub trait Work {
     /// Relates the bytes of the input and of the output file, before and after the call, to the
     /// result.
-    ghost has_worked: { Self → writing.Work };
+    ghost is_written_as_specified: { Self → writing.Work };
 
     /// Writes the output file of the command, and returns the number of items written. The input is
     /// read to its end before anything is written, and the file is stored at the end.
@@ -45,11 +45,14 @@ pub trait Work {
     ) -> Result<u32, WriteFault>
         requires input { CanFail (S.failure_count input.old) }
         requires file { CanFail (F.failure_count file.old) }
-        ensures has_worked { has_worked self.now (S.remaining input.old) (S.remaining input.new)
+        ensures is_written_as_specified { is_written_as_specified self.now (S.remaining input.old)
+            (S.remaining input.new)
             (F.contents file.old) (F.contents file.new) result }
-        ensures input_count { CountsIf S.failure_count input.old (failed is_input_failure result)
+        ensures input_count { CountsFailureIf S.failure_count input.old (failed is_input_failure
+            result)
             input.new }
-        ensures file_count { CountsIf F.failure_count file.old (failed is_file_failure result)
+        ensures file_count { CountsFailureIf F.failure_count file.old
+            (failed is_file_failure result)
             file.new }
         ensures buffered { OnOk result (F.buffered file.new ≡ 0) }
         ensures stored { OnOk result (F.is_stored file.new ≡ true) };
@@ -59,20 +62,20 @@ pub trait Work {
 pub fn write<W: Work, S: Source, F: Close, K: Sink>(
     alloc: Global,
     work: &W,
-    things: &[u8],
+    item_name: &[u8],
     input: &mut S,
     file: &mut F,
     out: &mut K,
 ) -> Status
-    requires few { length things.now ≤ 32 }
+    requires few { length item_name.now ≤ 32 }
     requires input { CanFail (S.failure_count input.old) }
     requires file { CanFail (F.failure_count file.old) }
     requires out { CanFail (K.failure_count out.old) }
-    ensures work { EndsWork
+    ensures work { EndsWithFileResult
         (source_call S.remaining S.failure_count input.old input.new)
         (sink_call F.contents F.failure_count file.old file.new)
         (sink_call K.contents K.failure_count out.old out.new) result
-        things.now (W.has_worked work.now) }
+        item_name.now (W.is_written_as_specified work.now) }
     ensures input_count { CountsFault S.failure_count input.old result input.new }
     ensures file_count { CountsFault F.failure_count file.old result file.new }
     ensures out_count { CountsFault K.failure_count out.old result out.new }
@@ -83,9 +86,9 @@ pub fn write<W: Work, S: Source, F: Close, K: Sink>(
         Ok(count) => {
             let mut line = Line::new();
             push_number(&mut line, b"written ", u64::from(count));
-            push_text(&mut line, things);
+            push_text(&mut line, item_name);
             print_done(line.as_slice(), out)
         }
-        Err(fault) => print_fault_line(&line_of_write(fault), out),
+        Err(fault) => print_fault_line(&fault_line_of_write(fault), out),
     }
 }

@@ -11,14 +11,14 @@ use Rattle.ttx_packet.specs.PageId.{PageIdValue}
 use Rattle.ttx_page.specs.Page.{space}
 use Rattle.ttx_page.specs.PacketKind.{begins_text, ends_page, is_row, is_this_page, kind}
 use Rattle.ttx_page.specs.Shown.{kept}
-use Rattle.ttx_page.specs.Span.{from_beginning, holds_beginning, is_open_after, text_span}
+use Rattle.ttx_page.specs.Span.{from_text_beginning, has_text_beginning, is_open_after, text_span}
 use Rattle.ttx_page.specs.Span.{while_open}
 use Rattle.ttx_page.specs.declared.packet_kind.PacketKind.{PacketKind}
-use Rattle.ttx_page.proofs.RepeatLaws.{shown_without_repeats}
-use Rattle.ttx_page.proofs.SpanPush.{list_any-push, span-push}
+use Rattle.ttx_page.proofs.RepeatLaws.{kept_text_is_shown_text}
+use Rattle.ttx_page.proofs.SpanPushLemmas.{list_any-push, span-push}
 use Rattle.ttx_page.proofs.TextSpan.{text_span-push}
 use Rattle.sub_rules.specs.Kept.{has_row, header_of_page, last_header}
-use Rattle.sub_rules.specs.PacketTests.{first_of_row}
+use Rattle.sub_rules.specs.PacketTests.{first_packet_of_row}
 use Rattle.sub_rules.specs.declared.packet_rule.Watched.{Watched}
 
 pub last_header-append :
@@ -59,50 +59,55 @@ find-push :
     (cond (opened && is_row row k) (option_or (find f xs) (Some p)) (find f xs))
 find-push keeps k row opened xs p f e = grind (arith, nat_tests, find-append)
 
-pub first_of_row-push :
+pub first_packet_of_row-push :
     (keeps : Bool) (page : PageIdValue) (heard : List (List ℕ)) (p : List ℕ) (row : ℕ)
-    → first_of_row page (text_span keeps (kind page) (heard ++ p ∷ [])) row
+    → first_packet_of_row page (text_span keeps (kind page) (heard ++ p ∷ [])) row
     ≡ cond (begins_text keeps (kind page p)) None
     (cond (is_open_after (kind page) heard && is_row row (kind page p))
-    (option_or (first_of_row page (text_span keeps (kind page) heard) row) (Some p))
-    (first_of_row page (text_span keeps (kind page) heard) row))
-first_of_row-push keeps page heard p row = grind (arith, nat_tests, text_span-push, find-push)
+    (option_or (first_packet_of_row page (text_span keeps (kind page) heard) row) (Some p))
+    (first_packet_of_row page (text_span keeps (kind page) heard) row))
+first_packet_of_row-push keeps page heard p row = grind (
+  arith,
+  nat_tests,
+  text_span-push,
+  find-push,
+)
 
-pub begins_not : (keeps : Bool) (k : PacketKind)
+pub other_packet_begins_no_text : (keeps : Bool) (k : PacketKind)
     → is_this_page k ≡ false
     → begins_text keeps k ≡ false
-begins_not keeps k e = grind (arith, nat_tests)
+other_packet_begins_no_text keeps k e = grind (arith, nat_tests)
 
 pub or_assoc : (a b c : Bool) → ((a || b) || c) ≡ (a || (b || c))
 or_assoc a b c = grind (arith, nat_tests)
 
 pub beginning-more : (w : Watched) (xs : List (List ℕ)) (x : List ℕ)
-    → holds_beginning w.keeps (kind w.page) (xs ++ x ∷ [])
-    ≡ (holds_beginning w.keeps (kind w.page) xs || begins_text w.keeps (kind w.page x))
+    → has_text_beginning w.keeps (kind w.page) (xs ++ x ∷ [])
+    ≡ (has_text_beginning w.keeps (kind w.page) xs || begins_text w.keeps (kind w.page x))
 beginning-more w xs x = list_any-push (kind w.page) (λ y. begins_text w.keeps (kind w.page y)) xs x
 
 -- Packets before the header that erased the page do not change its text.
-from_begins : (keeps : Bool) (page : PageIdValue) (xs ys : List (List ℕ))
-    → holds_beginning keeps (kind page) ys ≡ true
-    → from_beginning keeps (kind page) (xs ++ ys) ≡ from_beginning keeps (kind page) ys
-from_begins keeps page [] ys e = refl
-from_begins keeps page (x ∷ xs) ys e =
-    let rest = from_begins keeps page xs ys e in
+from_beginning_ignores_earlier_packets : (keeps : Bool) (page : PageIdValue) (xs ys : List (List ℕ))
+    → has_text_beginning keeps (kind page) ys ≡ true
+    → from_text_beginning keeps (kind page) (xs ++ ys) ≡ from_text_beginning keeps (kind page) ys
+from_beginning_ignores_earlier_packets keeps page [] ys e = refl
+from_beginning_ignores_earlier_packets keeps page (x ∷ xs) ys e =
+    let rest = from_beginning_ignores_earlier_packets keeps page xs ys e in
     let both = list_any-append (λ y. begins_text keeps (kind page y)) xs ys in
     grind (arith, nat_tests)
 
 pub text_span-begins : (keeps : Bool) (page : PageIdValue) (xs ys : List (List ℕ))
-    → holds_beginning keeps (kind page) ys ≡ true
+    → has_text_beginning keeps (kind page) ys ≡ true
     → text_span keeps (kind page) (xs ++ ys) ≡ text_span keeps (kind page) ys
 text_span-begins keeps page xs ys e =
-    ap (while_open (kind page) false) (from_begins keeps page xs ys e)
+    ap (while_open (kind page) false) (from_beginning_ignores_earlier_packets keeps page xs ys e)
 
-any_found : (test : List ℕ → Bool) (ps : List (List ℕ)) (code : List ℕ → ℕ)
+found_code_means_a_packet_matches : (test : List ℕ → Bool) (ps : List (List ℕ)) (code : List ℕ → ℕ)
     → (unwrap_or (option_map code (find test ps)) space == space) ≡ false
     → list_any test ps ≡ true
-any_found test [] code e = grind (arith, nat_tests)
-any_found test (p ∷ ps) code e =
-    let rest = any_found test ps code in grind (arith, nat_tests)
+found_code_means_a_packet_matches test [] code e = grind (arith, nat_tests)
+found_code_means_a_packet_matches test (p ∷ ps) code e =
+    let rest = found_code_means_a_packet_matches test ps code in grind (arith, nat_tests)
 
 -- If each header must have C4 (erase page) set, each code other than a space came in a row since
 -- the last header.
@@ -112,4 +117,4 @@ pub row_of_code :
     → (kept keeps page heard row column == space) ≡ false
     → has_row page heard row ≡ true
 row_of_code keeps page heard row column none e = grind
-    (arith, nat_tests, any_found, shown_without_repeats)
+    (arith, nat_tests, found_code_means_a_packet_matches, kept_text_is_shown_text)

@@ -1,11 +1,11 @@
 pub mod KeptLemmas
-pub mod KeptPageLemmas
+pub mod StoredPageLemmas
 pub mod ListenerLemmas
 pub mod PacketEventLemmas
 pub mod PacketRuleLemmas
 pub mod SkippedLemmas
 pub mod SkippedRunLemmas
 pub mod RuleSetLemmas
-pub mod SentAgainLemmas
+pub mod RepeatedPacketLemmas
 pub mod UnexpectedLemmas
 pub mod WrongCellLemmas

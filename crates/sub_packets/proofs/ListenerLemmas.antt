@@ -12,12 +12,12 @@ use Rattle.ttx_page.specs.declared.packet_kind.PacketKind.TheVariants.{Row, This
 use Rattle.ttx_page.specs.PacketKind.{kind, is_this_page, ends_page, is_row}
 use Rattle.ttx_page.specs.Page.{blank_row, blank, space}
 use Rattle.ttx_page.specs.Span.{is_open_after}
-use Rattle.ttx_page.proofs.SpanPush.{open-this, open-other}
+use Rattle.ttx_page.proofs.SpanPushLemmas.{open-this, open-other}
 use Rattle.sub_rules.proofs.PacketLists.{first_header-push}
 use Rattle.sub_packets.specs.Listener.{Knows}
 use Rattle.sub_rules.specs.PacketRules.{codes_of, first_header}
 use Rattle.sub_rules.specs.Kept.{has_row, last_header}
-use Rattle.sub_packets.proofs.KeptLemmas.{first_of_row-push, has_row-push, last_header-push}
+use Rattle.sub_packets.proofs.KeptLemmas.{first_packet_of_row-push, has_row-push, last_header-push}
 use Rattle.sub_packets.specs.declared.listener.Listener.{Listener}
 
 abbrev c11_of : Option Header → Option Bool
@@ -42,23 +42,23 @@ state_of_no_packets s serial opened subcode sent again page = grind
 module _ (heard : List (List ℕ)) (p : List ℕ) (s : Listener) (read : Option Header)
     (serial : Option Bool) (known : Knows heard s) (is_read : read ≡ header p)
     (serial_eq : serial ≡ option_or s.serial (c11_of read)) where
-  serial_more : serial ≡ c11_of (first_header (heard ++ p ∷ []))
-  serial_more = grind (arith, c11-or, first_header-push, known.serial_eq)
+  first_serial_mode_is_updated : serial ≡ c11_of (first_header (heard ++ p ∷ []))
+  first_serial_mode_is_updated = grind (arith, c11-or, first_header-push, known.serial_eq)
 
-  subcode_this : (h : Header) → kind s.watched.page p ≡ ThisPage h
+  header_sets_subcode : (h : Header) → kind s.watched.page p ≡ ThisPage h
       → Some h.subcode
       ≡ option_map (λ (x : Header). x.subcode) (last_header s.watched.page (heard ++ p ∷ []))
-  subcode_this h is = rw (last_header-push s.watched.page heard p, is) refl
+  header_sets_subcode h is = rw (last_header-push s.watched.page heard p, is) refl
 
-  no_repeated_header : (h : Header) → kind s.watched.page p ≡ ThisPage h
+  header_leaves_no_row_repeated : (h : Header) → kind s.watched.page p ≡ ThisPage h
       → (row : ℕ) → 1 ≤ row → row ≤ 24
       → get_or (replicate 24 false) (row - 1) false ≡ has_row s.watched.page (heard ++ p ∷ []) row
-  no_repeated_header h is row low high =
+  header_leaves_no_row_repeated h is row low high =
       rw (has_row-push s.watched.page heard p row, is)
       (get_or-replicate 24 (row - 1) false false (omega arith))
 
   -- A header that erases the page opens it and clears the set of received rows.
-  pub knows_begins : (h : Header) → kind s.watched.page p ≡ ThisPage h
+  pub erasing_header_keeps_knowledge : (h : Header) → kind s.watched.page p ≡ ThisPage h
       → (c4 h || not s.watched.keeps) ≡ true
       → Knows (heard ++ p ∷ []) (record s {
         serial = serial;
@@ -69,21 +69,21 @@ module _ (heard : List (List ℕ)) (p : List ℕ) (s : Listener) (read : Option 
         comparison = record s.comparison { page = blank };
       })
   unfolding blank blank_row
-  knows_begins h is begins = record {
-    serial_eq = serial_more;
+  erasing_header_keeps_knowledge h is begins = record {
+    serial_eq = first_serial_mode_is_updated;
     open_eq = sym (open-this (kind s.watched.page) heard p (ap is_this_page is));
-    subcode_eq = subcode_this h is;
+    subcode_eq = header_sets_subcode h is;
     sent_eq = λ row low high.
-        rw (first_of_row-push s.watched.keeps s.watched.page heard p row, is, begins)
+        rw (first_packet_of_row-push s.watched.keeps s.watched.page heard p row, is, begins)
         (get_or-replicate 24 (row - 1) false false (omega arith));
     page_is = λ row low high.
-        rw (first_of_row-push s.watched.keeps s.watched.page heard p row, is, begins)
+        rw (first_packet_of_row-push s.watched.keeps s.watched.page heard p row, is, begins)
         (get_or-replicate 24 (row - 1) (replicate 40 space) [] (omega arith));
-    again_is = no_repeated_header h is;
+    again_is = header_leaves_no_row_repeated h is;
   }
 
   -- A header with C4 (erase page) clear opens the page and keeps the received rows.
-  pub knows_repeat : (h : Header) → kind s.watched.page p ≡ ThisPage h
+  pub repeating_header_keeps_knowledge : (h : Header) → kind s.watched.page p ≡ ThisPage h
       → (c4 h || not s.watched.keeps) ≡ false
       → Knows (heard ++ p ∷ []) (record s {
         serial = serial;
@@ -91,45 +91,45 @@ module _ (heard : List (List ℕ)) (p : List ℕ) (s : Listener) (read : Option 
         subcode = Some h.subcode;
         again = replicate 24 false;
       })
-  knows_repeat h is keeps =
+  repeating_header_keeps_knowledge h is keeps =
       grind (
         arith,
         nat_tests,
-        serial_more,
+        first_serial_mode_is_updated,
         open-this,
-        subcode_this,
-        first_of_row-push,
-        no_repeated_header,
+        header_sets_subcode,
+        first_packet_of_row-push,
+        header_leaves_no_row_repeated,
       )
 
   module _ (other : is_this_page (kind s.watched.page p) ≡ false) where
-    subcode_still : s.subcode
+    other_packet_keeps_subcode : s.subcode
         ≡ option_map (λ (x : Header). x.subcode) (last_header s.watched.page (heard ++ p ∷ []))
-    subcode_still =
+    other_packet_keeps_subcode =
         let before = known.subcode_eq in
         let more = last_header-push s.watched.page heard p in
         grind (arith, nat_tests)
 
     -- A packet that is neither a header of the page nor a row of the open page does not change the
     -- rows. It may close the page.
-    pub knows_still : (opened : Bool)
+    pub other_packet_keeps_knowledge : (opened : Bool)
         → opened ≡ (s.is_open && not (ends_page (kind s.watched.page p)))
         → ((row : ℕ) → 1 ≤ row → row ≤ 24 → s.is_open ≡ true
         → is_row row (kind s.watched.page p) ≡ false)
         → Knows (heard ++ p ∷ []) (record s { serial = serial; is_open = opened })
-    knows_still opened e none = record {
-      serial_eq = serial_more;
+    other_packet_keeps_knowledge opened e none = record {
+      serial_eq = first_serial_mode_is_updated;
       open_eq = grind (arith, nat_tests, open-other, known.open_eq);
-      subcode_eq = subcode_still;
+      subcode_eq = other_packet_keeps_subcode;
       sent_eq = λ row low high.
           let before = known.sent_eq row low high in
-          let more = first_of_row-push s.watched.keeps s.watched.page heard p row in
+          let more = first_packet_of_row-push s.watched.keeps s.watched.page heard p row in
           let no_row = none row low high in
           let open_eq = known.open_eq in
           grind (arith, nat_tests);
       page_is = λ row low high.
           let before = known.page_is row low high in
-          let more = first_of_row-push s.watched.keeps s.watched.page heard p row in
+          let more = first_packet_of_row-push s.watched.keeps s.watched.page heard p row in
           let no_row = none row low high in
           let open_eq = known.open_eq in
           grind (arith, nat_tests);
@@ -143,39 +143,39 @@ module _ (heard : List (List ℕ)) (p : List ℕ) (s : Listener) (read : Option 
 
     module _ (y : ℕ) (low : 1 ≤ y) (high : y ≤ 24) (k : kind s.watched.page p ≡ Row y)
         (opened : s.is_open ≡ true) (width : length s.again ≡ 24) where
-      open_still : s.is_open ≡ is_open_after (kind s.watched.page) (heard ++ p ∷ [])
-      open_still = grind (arith, nat_tests, open-other, known.open_eq)
+      row_keeps_page_open : s.is_open ≡ is_open_after (kind s.watched.page) (heard ++ p ∷ [])
+      row_keeps_page_open = grind (arith, nat_tests, open-other, known.open_eq)
 
-      again_more : (row : ℕ) → 1 ≤ row → row ≤ 24
+      row_is_marked_repeated : (row : ℕ) → 1 ≤ row → row ≤ 24
           → get_or (set s.again (y - 1) true) (row - 1) false
           ≡ has_row s.watched.page (heard ++ p ∷ []) row
-      again_more row a b =
+      row_is_marked_repeated row a b =
           let more = has_row-push s.watched.page heard p row in
           let before = known.again_is row a b in
           grind (arith, nat_tests, known.open_eq, get_or-set_at, get_or-set_other)
 
-      pub knows_again : get_or s.sent (y - 1) false ≡ true
+      pub repeated_row_keeps_knowledge : get_or s.sent (y - 1) false ≡ true
           → Knows (heard ++ p ∷ []) (record s {
             serial = serial;
             again = set s.again (y - 1) true;
           })
-      knows_again old = record {
-        serial_eq = serial_more;
-        open_eq = open_still;
-        subcode_eq = subcode_still;
+      repeated_row_keeps_knowledge old = record {
+        serial_eq = first_serial_mode_is_updated;
+        open_eq = row_keeps_page_open;
+        subcode_eq = other_packet_keeps_subcode;
         sent_eq = λ row a b.
-            let more = first_of_row-push s.watched.keeps s.watched.page heard p row in
+            let more = first_packet_of_row-push s.watched.keeps s.watched.page heard p row in
             let before = known.sent_eq row a b in
             grind (arith, nat_tests, known.open_eq);
         page_is = λ row a b.
-            let more = first_of_row-push s.watched.keeps s.watched.page heard p row in
+            let more = first_packet_of_row-push s.watched.keeps s.watched.page heard p row in
             let marks = known.sent_eq row a b in
             let before = known.page_is row a b in
             grind (arith, nat_tests, known.open_eq);
-        again_is = again_more;
+        again_is = row_is_marked_repeated;
       }
 
-      pub knows_row : get_or s.sent (y - 1) false ≡ false
+      pub new_row_keeps_knowledge : get_or s.sent (y - 1) false ≡ false
           → length s.sent ≡ 24 → length s.comparison.page ≡ 24
           → Knows (heard ++ p ∷ []) (record s {
             serial = serial;
@@ -185,18 +185,18 @@ module _ (heard : List (List ℕ)) (p : List ℕ) (s : Listener) (read : Option 
               page = set s.comparison.page (y - 1) (codes_of p);
             };
           })
-      knows_row new long double_not_in_row_23 = record {
-        serial_eq = serial_more;
-        open_eq = open_still;
-        subcode_eq = subcode_still;
+      new_row_keeps_knowledge new long double_not_in_row_23 = record {
+        serial_eq = first_serial_mode_is_updated;
+        open_eq = row_keeps_page_open;
+        subcode_eq = other_packet_keeps_subcode;
         sent_eq = λ row a b.
-            let more = first_of_row-push s.watched.keeps s.watched.page heard p row in
+            let more = first_packet_of_row-push s.watched.keeps s.watched.page heard p row in
             let before = known.sent_eq row a b in
             grind (arith, nat_tests, known.open_eq, get_or-set_at, get_or-set_other);
         page_is = λ row a b.
-            let more = first_of_row-push s.watched.keeps s.watched.page heard p row in
+            let more = first_packet_of_row-push s.watched.keeps s.watched.page heard p row in
             let marks = known.sent_eq row a b in
             let before = known.page_is row a b in
             grind (arith, nat_tests, known.open_eq, get_or-set_at, get_or-set_other);
-        again_is = again_more;
+        again_is = row_is_marked_repeated;
       }

@@ -7,26 +7,31 @@ use Rattle.std.proofs.lemmas.Bool.Decides.{nat_tests}
 use Rattle.sub_packets.specs.Listener.{rule_set}
 use Rattle.sub_rules.specs.declared.packet_rule.PacketRule.{PacketRule}
 
-pub no_rules : (test : PacketRule → Bool) (rules : List PacketRule) → rule_set test rules ≡ 0
+pub empty_rule_set_filters_nothing : (test : PacketRule → Bool) (rules : List PacketRule) → rule_set
+    test rules ≡ 0
     → filter test rules ≡ []
 unfolding rule_set
-no_rules test [] e = refl
-no_rules test (r ∷ rules) e = grind (arith, nat_tests, no_rules test rules)
+empty_rule_set_filters_nothing test [] e = refl
+empty_rule_set_filters_nothing test (r ∷ rules) e = grind
+    (arith, nat_tests, empty_rule_set_filters_nothing test rules)
 
 -- The lowest bit of a rule set belongs to its first rule; half of the set is the set of the other
 -- rules.
-lowest_bit : (b : Bool) (n : ℕ)
+lowest_bit_and_quotient : (b : Bool) (n : ℕ)
     → (((cond b 1 0 + 2 * n) % 2 == 1) ≡ b) × ((cond b 1 0 + 2 * n) / 2 ≡ n)
-lowest_bit true n = let bit : (1 + 2 * n) % 2 ≡ 1 = omega arith in (rw bit refl, omega arith)
-lowest_bit false n = let bit : (0 + 2 * n) % 2 ≡ 0 = omega arith in (rw bit refl, omega arith)
+lowest_bit_and_quotient true n = let bit : (1 + 2 * n) % 2 ≡ 1 = omega arith
+    in (rw bit refl, omega arith)
+lowest_bit_and_quotient false n = let bit : (0 + 2 * n) % 2 ≡ 0 = omega arith
+    in (rw bit refl, omega arith)
 
 module _ {A : Type 0} (report : PacketRule → A) (test : PacketRule → Bool) where
-  reported_first : (r : PacketRule) (rules : List PacketRule)
+  filtered_reports_begin_with_first_rule : (r : PacketRule) (rules : List PacketRule)
       → map report (filter test (r ∷ rules))
       ≡ cond (test r) (report r ∷ []) [] ++ map report (filter test rules)
-  reported_first r rules = grind (arith, nat_tests)
+  filtered_reports_begin_with_first_rule r rules = grind (arith, nat_tests)
 
-  pub reported_next : (rules : List PacketRule) (i : ℕ) (d : PacketRule) (left : ℕ) (reported : A)
+  pub next_bit_gives_next_report : (rules : List PacketRule) (i : ℕ) (d : PacketRule) (left : ℕ)
+      (reported : A)
       → i < length rules
       → reported ≡ report (get_or rules i d)
       → left ≡ rule_set test (drop i rules)
@@ -34,11 +39,12 @@ module _ {A : Type 0} (report : PacketRule → A) (test : PacketRule → Bool) w
       ≡ cond (left % 2 == 1) (reported ∷ []) [] ++ map report (filter test (drop (i + 1) rules)))
       × (left / 2 ≡ rule_set test (drop (i + 1) rules))
   unfolding rule_set
-  reported_next rules i d left reported l is e =
+  next_bit_gives_next_report rules i d left reported l is e =
       let r : PacketRule = get_or rules i d in
       let next : suc i ≡ i + 1 = omega arith in
       let rest : drop i rules ≡ r ∷ drop (i + 1) rules = drop-cons rules i d l ∙ rw next refl in
       let set : left ≡ cond (test r) 1 0 + 2 * rule_set test (drop (i + 1) rules) =
       e ∙ ap (rule_set test) rest in
-      let bit = lowest_bit (test r) (rule_set test (drop (i + 1) rules)) in
-      rw (rest, set, bit.0, bit.1, is) (reported_first r (drop (i + 1) rules), refl)
+      let bit = lowest_bit_and_quotient (test r) (rule_set test (drop (i + 1) rules)) in
+      rw (rest, set, bit.0, bit.1, is)
+      (filtered_reports_begin_with_first_rule r (drop (i + 1) rules), refl)

@@ -8,27 +8,29 @@ use Rattle.std.proofs.Common.{Option, None, MatchOption}
 use Rattle.std.proofs.Common.{sym, ◌∙◌, subst, arith}
 use Rattle.stl_rows.specs.DuePage.{IsEdge}
 use Rattle.stl_rows.specs.Programme.{ProgrammeValue}
-use Rattle.stl_rows.proofs.DuePageLemmas.{due_back}
-use Rattle.ttx_page.proofs.DifferingLemmas.{cells_same, columns_zero}
-use Rattle.ttx_page.specs.Differing.{differing, row_differing}
+use Rattle.stl_rows.proofs.DuePageLemmas.{due_page_stays_without_edges}
+use Rattle.ttx_page.proofs.DifferingLemmas.{zero_difference_equal_cells}
+use Rattle.ttx_page.proofs.DifferingLemmas.{zero_difference_equal_columns}
+use Rattle.ttx_page.specs.Differing.{differing, row_difference}
 use Rattle.ttx_page.specs.Page.{DiffersFirst, IsCell, Rows, blank, blank_row, cell, row_at}
 use Rattle.ttx_page.specs.Page.{space}
-use Rattle.sub_plan.specs.Schedule.{due_in}
-use Rattle.sub_packets.specs.KeptPage.{unexpected_kept}
-use Rattle.sub_packets.specs.Unexpected.{IsLeft, unless_due}
+use Rattle.sub_plan.specs.Schedule.{due_page_in}
+use Rattle.sub_packets.specs.StoredPage.{first_unexpected_kept_cell}
+use Rattle.sub_packets.specs.UnexpectedCodes.{LacksDueCodes, space_if_due}
 use Rattle.sub_packets.specs.declared.listener.Listener.{Listener}
-use Rattle.sub_packets.proofs.WrongCellLemmas.{by_cells, cell-blank, first_cell-none}
+use Rattle.sub_packets.proofs.WrongCellLemmas.{cell_equality_matches_page_equality, cell-blank}
+use Rattle.sub_packets.proofs.WrongCellLemmas.{first_cell-none}
 use Rattle.sub_packets.proofs.WrongCellLemmas.{first_difference}
 use Rattle.sub_rules.specs.Events.{was_due}
 
-pub due_same : (programme : ProgrammeValue) (f at : ℕ)
+pub due_page_is_constant_between_cues : (programme : ProgrammeValue) (f at : ℕ)
     → f ≤ at
     → ((e : ℕ) → IsEdge programme.records e → f < e → e ≤ at → ⊥)
-    → due_in programme f ≡ due_in programme at
-due_same programme f at until none =
+    → due_page_in programme f ≡ due_page_in programme at
+due_page_is_constant_between_cues programme f at until none =
     let back : at - (at - f) ≡ f = omega arith in
-    subst (λ g. due_in programme g ≡ due_in programme at) back
-    (due_back programme.drawing programme.records at (at - f) (omega arith)
+    subst (λ g. due_page_in programme g ≡ due_page_in programme at) back
+    (due_page_stays_without_edges programme.drawing programme.records at (at - f) (omega arith)
     (λ e edge after low. none e edge (omega arith) low))
 
 module _ (page : ℕ → Rows) (first f : ℕ) where
@@ -49,27 +51,28 @@ module _ (page : ℕ → Rows) (first f : ℕ) where
       grind (arith, nat_tests, was_due-one, (was_due-same n m row column code))
 
   -- If the codes expected at frame f are removed, no code expected at f is left.
-  pub left_first : (shown left : Rows)
+  pub removing_first_page_leaves_others : (shown left : Rows)
       → ((row column : ℕ) → IsCell row column
-      → cell left row column ≡ unless_due (cell (page f) row column) (cell shown row column))
-      → IsLeft page first f (f - f) shown left
+      → cell left row column ≡ space_if_due (cell (page f) row column) (cell shown row column))
+      → LacksDueCodes page first f (f - f) shown left
   unfolding was_due
-  left_first shown left cells row column is =
+  removing_first_page_leaves_others shown left cells row column is =
       let none : f - f ≡ 0 = omega arith in rw none (cells row column is)
 
   -- If the codes expected at an earlier frame are removed as well, no code is left that was
   -- expected from that frame on, because the expected page did not change in between.
-  pub left_more : (at before : ℕ) (shown left new : Rows)
+  pub removing_earlier_page_leaves_others : (at before : ℕ) (shown left new : Rows)
       → before < at
       → at ≤ f
       → first ≤ before
       → ((g : ℕ) → before < g → g ≤ at → page g ≡ page at)
-      → IsLeft page first f (f - at) shown left
+      → LacksDueCodes page first f (f - at) shown left
       → ((row column : ℕ) → IsCell row column
-      → cell new row column ≡ unless_due (cell (page before) row column) (cell left row column))
-      → IsLeft page first f (f - before) shown new
+      → cell new row column ≡ space_if_due (cell (page before) row column) (cell left row column))
+      → LacksDueCodes page first f (f - before) shown new
   unfolding was_due
-  left_more at before shown left new less until low same old cells row column is =
+  removing_earlier_page_leaves_others at before shown left new less until low same old cells row
+      column is =
       let m = f - suc before in
       let next : f - before ≡ suc m = omega arith in
       let there : f - suc m ≡ before = omega arith in
@@ -84,46 +87,48 @@ module _ (page : ℕ → Rows) (first f : ℕ) where
 
   -- No code is left that was expected at frame f or at one of the n frames before, because the
   -- expected page did not change since the earliest of these frames.
-  pub left_all : (at n : ℕ) (shown left : Rows)
+  pub constant_page_leaves_same_codes : (at n : ℕ) (shown left : Rows)
       → at ≤ f
       → f ≤ at + n
       → ((g : ℕ) → first ≤ g → f ≤ g + n → g ≤ at → page g ≡ page at)
-      → IsLeft page first f (f - at) shown left
-      → IsLeft page first f n shown left
-  left_all at n shown left h1 h2 h3 h4 = grind (arith, nat_tests, was_due-same)
+      → LacksDueCodes page first f (f - at) shown left
+      → LacksDueCodes page first f n shown left
+  constant_page_leaves_same_codes at n shown left h1 h2 h3 h4 = grind
+      (arith, nat_tests, was_due-same)
 
 pub unexpected_eq :
     (s : Listener) (page : ℕ → Rows) (first f n : ℕ) (left : Rows) (o : Option (ℕ × ℕ))
-    → IsLeft page first f n s.comparison.page left
+    → LacksDueCodes page first f n s.comparison.page left
     → MatchOption o (left ≡ blank) (λ place. DiffersFirst left blank place.0 place.1)
-    → o ≡ unexpected_kept s page first f n
-unfolding unexpected_kept
+    → o ≡ first_unexpected_kept_cell s page first f n
+unfolding first_unexpected_kept_cell
 unexpected_eq s page first f n left o is_left found =
     first_difference _ left blank o
     (λ row column is.
     let rest = is_left row column is in
     let space_eq = cell-blank row column is in
     grind (arith, nat_tests))
-    (by_cells left blank o (λ place. DiffersFirst left blank place.0 place.1) found)
+    (cell_equality_matches_page_equality left blank o (λ place. DiffersFirst left blank place.0
+    place.1) found)
 
-pub unexpected_none :
+pub no_unexpected_cell_shows_expected_codes :
     (s : Listener) (page : ℕ → Rows) (first f n : ℕ)
     → differing blank s.comparison.page ≡ 0
-    → unexpected_kept s page first f n ≡ None
-unfolding unexpected_kept
-unexpected_none s page first f n same =
+    → first_unexpected_kept_cell s page first f n ≡ None
+unfolding first_unexpected_kept_cell
+no_unexpected_cell_shows_expected_codes s page first f n same =
     first_cell-none _
     (λ row column is.
     let space_eq = cell-blank row column is in
-    let equal = cells_same blank s.comparison.page same row column is in
+    let equal = zero_difference_equal_cells blank s.comparison.page same row column is in
     grind (arith, nat_tests))
 
-pub blank_row_stays : (left : Rows) (row column due : ℕ)
-    → row_differing (row_at left row) blank_row ≡ 0
+pub blank_row_is_left_unchanged : (left : Rows) (row column due : ℕ)
+    → row_difference (row_at left row) blank_row ≡ 0
     → column < 40
-    → cell left row column ≡ unless_due due (cell left row column)
+    → cell left row column ≡ space_if_due due (cell left row column)
 unfolding blank_row
-blank_row_stays left row column due same l =
-    let is = columns_zero 40 (row_at left row) blank_row same column l in
+blank_row_is_left_unchanged left row column due same l =
+    let is = zero_difference_equal_columns 40 (row_at left row) blank_row same column l in
     let space_eq = get_or-replicate 40 column space 0 l in
     grind (arith, nat_tests)

@@ -9,12 +9,13 @@ pub record ComparisonValue : Type 0 where
   pub due : Rows
 
 -- `wrong`, if it is known, is the number of cells in which the shown page differs from the expected
--- page; `blank_wrong` is that number for a blank page.
-pub record IsCounted (page due : Rows) (wrong : Option ℕ) (blank_wrong : ℕ) : Type 0 where
+-- page; `blank_page_difference_count` is that number for a blank page.
+pub record HasExactCounts (page due : Rows) (wrong : Option ℕ) (blank_page_difference_count : ℕ) :
+    Type 0 where
   pub wrong_eq : IfSome wrong (λ n. n ≡ differing page due)
-  pub blank_is : blank_wrong ≡ differing blank due
+  pub blank_is : blank_page_difference_count ≡ differing blank due
 
 -- The number of wrong cells after the wrong cells of one row changed from `before` to `after`.
-abbrev pub recounted : Option ℕ → ℕ → ℕ → Option ℕ
-recounted None before after = None
-recounted (Some n) before after = Some (n - before + after)
+abbrev pub updated_wrong_count : Option ℕ → ℕ → ℕ → Option ℕ
+updated_wrong_count None before after = None
+updated_wrong_count (Some n) before after = Some (n - before + after)

@@ -1,6 +1,6 @@
 pub mod Comparison
-pub mod KeptPage
+pub mod StoredPage
 pub mod Listener
-pub mod Missing
-pub mod SentAgain
-pub mod Unexpected
+pub mod CellOrder
+pub mod RepeatedPackets
+pub mod UnexpectedCodes

@@ -8,12 +8,12 @@ use Rattle.ttx_packet.specs.PageHeader.{c11}
 use Rattle.ttx_packet.specs.declared.header.Header.{Header}
 use Rattle.ttx_page.specs.Page.{blank_row, row_at}
 use Rattle.ttx_page.specs.PacketKind.{is_this_page, kind}
-use Rattle.ttx_page.specs.Span.{holds_beginning, is_open_after, text_span}
+use Rattle.ttx_page.specs.Span.{has_text_beginning, is_open_after, text_span}
 use Rattle.sub_rules.specs.Kept.{has_row, last_header}
 use Rattle.sub_rules.specs.PacketRules.{codes_of, first_header, header_count}
-use Rattle.sub_rules.specs.PacketTests.{breaks, broken_rules, first_of_row, is_same_bit}
+use Rattle.sub_rules.specs.PacketTests.{breaks, broken_rules, first_packet_of_row, is_same_bit}
 use Rattle.sub_rules.specs.PacketTests.{packet_rules}
-use Rattle.sub_packets.specs.SentAgain.{BeginsWithHeader}
+use Rattle.sub_packets.specs.RepeatedPackets.{BeginsWithHeader}
 use Rattle.sub_packets.specs.declared.listener.Listener.{Listener}
 use Rattle.sub_rules.specs.declared.packet_rule.PacketRule.{PacketRule}
 use Rattle.sub_rules.specs.declared.packet_rule.Watched.{Watched}
@@ -29,9 +29,9 @@ rule_set test (r ∷ rules) = (if test r then 1 else 0) + 2 * rule_set test rule
 -- ---- the state of a listener
 
 -- The codes of a row's first packet; spaces if no packet of the row was received.
-abbrev pub held : Option (List ℕ) → List ℕ
-held None = blank_row
-held (Some p) = codes_of p
+abbrev pub row_or_blank : Option (List ℕ) → List ℕ
+row_or_blank None = blank_row
+row_or_blank (Some p) = codes_of p
 
 -- The listener's state is the one that `sub_rules` defines for the packets received so far,
 -- `heard`.
@@ -44,11 +44,13 @@ pub record Knows (heard : List (List ℕ)) (s : Listener) : Type 0 where
   pub sent_eq : (row : ℕ) → 1 ≤ row → row ≤ 24
       → slice_index_or s.sent (row - 1) false
       ≡ is_some
-      (first_of_row s.watched.page (text_span s.watched.keeps (kind s.watched.page) heard) row)
+      (first_packet_of_row s.watched.page (text_span s.watched.keeps (kind s.watched.page) heard)
+      row)
   pub page_is : (row : ℕ) → 1 ≤ row → row ≤ 24
       → row_at s.comparison.page row
-      ≡ held
-      (first_of_row s.watched.page (text_span s.watched.keeps (kind s.watched.page) heard) row)
+      ≡ row_or_blank
+      (first_packet_of_row s.watched.page (text_span s.watched.keeps (kind s.watched.page) heard)
+      row)
   -- The rows received since the last header of the page.
   pub again_is : (row : ℕ) → 1 ≤ row → row ≤ 24
       → slice_index_or s.again (row - 1) false ≡ has_row s.watched.page heard row
@@ -60,38 +62,40 @@ BreakNoRule w before packets n =
 
 -- The packets `last`, the last ones received, begin with a header that erases the page, contain
 -- `headers` headers of the page, and break no rule.
-pub record WereJudged (w : Watched) (heard last : List (List ℕ)) (headers : ℕ) : Type 0 where
-  pub before : List (List ℕ)
-  pub heard_eq : heard ≡ before ++ last
-  pub begins : BeginsWithHeader w last
-  pub clean : BreakNoRule w before last (length last)
-  pub count : header_count w.page last ≡ headers
+pub record LastPacketsAreClean (w : Watched) (heard last : List (List ℕ)) (headers : ℕ) : Type 0
+  where
+    pub before : List (List ℕ)
+    pub heard_eq : heard ≡ before ++ last
+    pub begins : BeginsWithHeader w last
+    pub clean : BreakNoRule w before last (length last)
+    pub count : header_count w.page last ≡ headers
 
 -- The frame has a header that erases the page: among its first `from` packets, or among `packets`.
-abbrev pub begins_frame : Watched → ℕ → Bool → List (List ℕ) → Bool
-begins_frame w from before packets =
-    (nat_lt 0 from && before) || holds_beginning w.keeps (kind w.page) packets
+abbrev pub begins_frame_with_header : Watched → ℕ → Bool → List (List ℕ) → Bool
+begins_frame_with_header w from before packets =
+    (nat_lt 0 from && before) || has_text_beginning w.keeps (kind w.page) packets
 
 -- The listener's state agrees with all packets received, `heard`, and with those of the last PES
 -- packet, `last`.
 pub record KnowsLast (heard last : List (List ℕ)) (s : Listener) : Type 0 where
   pub knows : Knows heard s
-  pub last_is : (headers : ℕ) → s.last ≡ Some headers → WereJudged s.watched heard last headers
+  pub last_is : (headers : ℕ) → s.last ≡ Some headers → LastPacketsAreClean s.watched heard last
+      headers
   pub started_eq : (headers : ℕ) → s.last ≡ Some headers → s.begun ≡ true
 
 -- ---- packets that can be skipped
 
 -- A header with the C11 `serial` has the same C11 (magazine serial) as the first page header; false
 -- if no page header was received.
-abbrev pub is_of_mode : Option Bool → Bool → Bool
-is_of_mode None serial = false
-is_of_mode (Some first) serial = is_same_bit first serial
+abbrev pub has_serial_mode : Option Bool → Bool → Bool
+has_serial_mode None serial = false
+has_serial_mode (Some first) serial = is_same_bit first serial
 
 -- A page header can be skipped: it has the C11 of the first page header, is no header of the page,
 -- and does not end the open page.
 abbrev pub is_skipped_header : ℕ → Header → Listener → Bool
 is_skipped_header magazine h s =
-    is_of_mode s.serial (c11 h)
+    has_serial_mode s.serial (c11 h)
     && (if s.is_open then not (magazine == s.watched.page.magazine) && not (c11 h)
     else not (magazine == s.watched.page.magazine && h.page == s.watched.page.page))
 

@@ -2,18 +2,18 @@
 //! whether one of them erases the page, and whether all packets are free of faults.
 ghost use Rattle.std.specs.Prelude.{◌≡◌, ◌+◌, ◌<◌, ◌&&◌, ◌||◌, ◌==◌, if◌then◌else◌, None, Some};
 ghost use Rattle.std.specs.Prelude.{nat_lt};
-ghost use Rattle.ttx_pes.specs.PesGrammar.{most_units};
+ghost use Rattle.ttx_pes.specs.PesGrammar.{max_units};
 
 /// Returns the number of headers of the page after one more packet.
-pub(crate) fn counted(headers: u8, is_header: bool) -> u8
-    requires { headers < most_units }
+pub(crate) fn header_count_after(headers: u8, is_header: bool) -> u8
+    requires { headers < max_units }
     ensures { result ≡ headers + (if is_header then 1 else 0) }
 {
     if is_header { headers + 1 } else { headers }
 }
 
 /// Returns whether the first packet erases the page. `begins` says whether packet `k` does.
-pub(crate) fn begins_with(first: bool, k: usize, begins: bool) -> bool
+pub(crate) fn begins_with_header(first: bool, k: usize, begins: bool) -> bool
     ensures { result ≡ (if k == 0 then begins else first) }
 {
     if k == 0 { begins } else { first }
@@ -44,7 +44,7 @@ pub(crate) fn stays_clean(is_clean: bool, breaks_none: bool) -> bool
 
 /// Returns the number of headers of the page, if the first packet erases the page and no packet
 /// breaks a rule.
-pub(crate) fn last_headers(first: bool, is_clean: bool, headers: u8) -> Option<u8>
+pub(crate) fn clean_header_count(first: bool, is_clean: bool, headers: u8) -> Option<u8>
     ensures { result ≡ (if first && is_clean then Some headers else None) }
 {
     if first && is_clean {

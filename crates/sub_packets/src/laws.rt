@@ -1,10 +1,10 @@
 //! A law about packets that are sent again.
 //!
 //! The function has no body: its contract states the law.
-ghost use Rattle.sub_packets.specs.SentAgain.{LawOfSentAgain};
+ghost use Rattle.sub_packets.specs.RepeatedPackets.{LawOfRepeatedPackets};
 
 /// If packets begin with a header that erases the page and break no rule, they break no rule when
 /// they are sent again.
-pub fn law_of_sent_again()
-    ensures { LawOfSentAgain }
+pub fn law_of_repeated_packets()
+    ensures { LawOfRepeatedPackets }
 {}

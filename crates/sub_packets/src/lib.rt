@@ -5,12 +5,12 @@
 //!
 //! ```text
 //! let mut listener = Listener::new(watched, due);
-//! listener.hear_sending(&units, false, 250, 0, &mut taker); // 2 headers of the page
+//! listener.hear_frame_packets(&units, false, 250, 0, &mut taker); // 2 headers of the page
 //! listener.first_wrong(); // Some((22, 7))
 //! ```
 #![tactic(auto)]
 
-mod breaking;
+mod broken_rule_checks;
 mod comparison;
 mod last_heard;
 mod laws;
@@ -22,6 +22,6 @@ mod unexpected;
 mod wrong_cell;
 
 pub use comparison::Comparison;
-pub use laws::law_of_sent_again;
+pub use laws::law_of_repeated_packets;
 pub use listener::Listener;
 pub use taker::{Taker, report_if};

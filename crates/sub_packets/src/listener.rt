@@ -10,20 +10,21 @@ ghost use Rattle.ttx_packet.specs.PageHeader.{HasExactHeader, coded_header, head
 ghost use Rattle.ttx_page.specs.Page.{AreCodes, IsPage, IsRow, blank};
 ghost use Rattle.ttx_page.specs.PacketKind.{begins_text, is_this_page, kind};
 ghost use Rattle.ttx_page.specs.Span.{is_open_after};
-ghost use Rattle.ttx_pes.specs.PesGrammar.{most_units};
+ghost use Rattle.ttx_pes.specs.PesGrammar.{max_units};
 ghost use Rattle.stl_rows.specs.DuePage.{ReportsNextEdge};
 ghost use Rattle.stl_rows.specs.Programme.{IsProgramme};
-ghost use Rattle.sub_plan.specs.Schedule.{due_in};
-ghost use Rattle.sub_rules.specs.Events.{packets_reported};
+ghost use Rattle.sub_plan.specs.Schedule.{due_page_in};
+ghost use Rattle.sub_rules.specs.Events.{numbered_packet_events};
 ghost use Rattle.sub_rules.specs.PacketRules.{header_count, packets_of_units};
 ghost use Rattle.sub_rules.specs.Events.{packet_fault};
 ghost use Rattle.sub_rules.specs.PacketTests.{breaks, packet_rules};
 
 use crate::comparison::Comparison;
 use crate::last_heard::{
-    begins_with, counted, has_started, has_started_before, last_headers, stays_clean,
+    begins_with_header, clean_header_count, has_started, has_started_before, header_count_after,
+    stays_clean,
 };
-use crate::packet_rules::{begins_text, first_serial, is_of_mode, is_serial, text_codes};
+use crate::packet_rules::{begins_text, first_serial, has_serial_mode, is_serial, text_codes};
 use crate::rule_set::report_rules;
 use crate::taker::Taker;
 use stl_rows::Programme;
@@ -63,7 +64,7 @@ pub struct Listener {
 
 // The properties of a received packet.
 #[derive(Clone, Copy)]
-struct Heard {
+struct HeardPacket {
     // Whether the packet is a header of the page.
     is_header: bool,
     // Whether the packet is a header that erases the page.
@@ -73,9 +74,9 @@ struct Heard {
 }
 
 impl Listener {
-    ghost use Rattle.sub_packets.specs.KeptPage.{is_incomplete_kept};
+    ghost use Rattle.sub_packets.specs.StoredPage.{is_kept_page_open};
     ghost use Rattle.sub_packets.specs.Listener.{IsSkipped, Knows, KnowsLast, IsAlwaysSkipped};
-    ghost use Rattle.sub_packets.specs.Listener.{begins_frame};
+    ghost use Rattle.sub_packets.specs.Listener.{begins_frame_with_header};
     ghost use Rattle.sub_packets.specs.Listener.{is_skipped_header, rule_set};
 
     /// Returns the state before the first packet, with the expected page `due`.
@@ -105,7 +106,7 @@ impl Listener {
         guess: usize,
     ) -> (Option<u32>, usize)
         ensures due { self.new ≡ record self.old {
-          comparison = record self.old.comparison { due = due_in programme.now frame };
+          comparison = record self.old.comparison { due = due_page_in programme.now frame };
         } }
         ensures edge { ReportsNextEdge programme.now.records frame result.0 }
         ensures programme { IsProgramme programme.now.drawing programme.now.records }
@@ -115,7 +116,7 @@ impl Listener {
 
     /// Returns whether complete pages are required and the page is open.
     pub fn is_incomplete(&self) -> bool
-        ensures { result ≡ is_incomplete_kept self.now }
+        ensures { result ≡ is_kept_page_open self.now }
     {
         self.watched.complete && self.is_open
     }
@@ -128,7 +129,7 @@ impl Listener {
     /// If packets that begin with a header that erases the page and break no rule are sent again,
     /// they change nothing, so they are not examined.
     #[inline(always)]
-    pub fn hear_sending<A: Taker>(
+    pub fn hear_frame_packets<A: Taker>(
         &mut self,
         units: &SentUnits<'_>,
         again: bool,
@@ -136,18 +137,18 @@ impl Listener {
         from: u32,
         taker: &mut A,
     ) -> u8
-        requires few { length units.now ≤ most_units }
-        requires from { from + most_units ≤ u32.MAX }
+        requires few { length units.now ≤ max_units }
+        requires from { from + max_units ≤ u32.MAX }
         ensures watched { self.new.watched ≡ self.old.watched }
         ensures due { self.new.comparison.due ≡ self.old.comparison.due }
         ensures knows { (heard last : List (List ℕ)) → KnowsLast heard last self.old
             → (again ≡ true → last ≡ packets_of_units units.now) → KnowsLast
             (heard ++ packets_of_units units.now) (packets_of_units units.now) self.new
             × (result ≡ header_count self.old.watched.page (packets_of_units units.now))
-            × (self.new.begun ≡ begins_frame self.old.watched from self.old.begun
+            × (self.new.begun ≡ begins_frame_with_header self.old.watched from self.old.begun
             (packets_of_units units.now))
             × Reports A.is_reported taker.old taker.new
-            (packets_reported self.old.watched frame from heard (packets_of_units units.now)
+            (numbered_packet_events self.old.watched frame from heard (packets_of_units units.now)
             (length (packets_of_units units.now))) }
     {
         if again {
@@ -155,29 +156,29 @@ impl Listener {
                 return headers;
             }
         }
-        self.hear_all(units, frame, from, taker)
+        self.hear_each_packet(units, frame, from, taker)
     }
 
     // Receives the packets of a PES packet, and reports the rules that they break.
     #[inline(never)]
-    fn hear_all<A: Taker>(
+    fn hear_each_packet<A: Taker>(
         &mut self,
         units: &SentUnits<'_>,
         frame: u32,
         from: u32,
         taker: &mut A,
     ) -> u8
-        requires few { length units.now ≤ most_units }
-        requires from { from + most_units ≤ u32.MAX }
+        requires few { length units.now ≤ max_units }
+        requires from { from + max_units ≤ u32.MAX }
         ensures watched { self.new.watched ≡ self.old.watched }
         ensures due { self.new.comparison.due ≡ self.old.comparison.due }
         ensures knows { (heard : List (List ℕ)) → Knows heard self.old → KnowsLast
             (heard ++ packets_of_units units.now) (packets_of_units units.now) self.new
             × (result ≡ header_count self.old.watched.page (packets_of_units units.now))
-            × (self.new.begun ≡ begins_frame self.old.watched from self.old.begun
+            × (self.new.begun ≡ begins_frame_with_header self.old.watched from self.old.begun
             (packets_of_units units.now))
             × Reports A.is_reported taker.old taker.new
-            (packets_reported self.old.watched frame from heard (packets_of_units units.now)
+            (numbered_packet_events self.old.watched frame from heard (packets_of_units units.now)
             (length (packets_of_units units.now))) }
     {
         let mut headers = 0;
@@ -188,18 +189,18 @@ impl Listener {
         while k < units.len() {
             let sent = units.packet(k);
             if self.is_skipped(self.is_open, &sent) {
-                k = self.next_heard(units, k + 1);
+                k = self.next_examined_packet(units, k + 1);
             } else {
                 let heard = self.judge(&sent.packet(), frame, from + k as u32, taker);
-                first = begins_with(first, k, heard.begins);
+                first = begins_with_header(first, k, heard.begins);
                 begun = has_started(begun, heard.begins);
-                headers = counted(headers, heard.is_header);
+                headers = header_count_after(headers, heard.is_header);
                 is_clean = stays_clean(is_clean, heard.is_clean);
                 k += 1;
             }
         }
         self.begun = begun;
-        self.last = last_headers(first, is_clean, headers);
+        self.last = clean_header_count(first, is_clean, headers);
         headers
     }
 
@@ -209,7 +210,7 @@ impl Listener {
     // Most packets of a service can be skipped. This is a separate function so that the loop keeps
     // its values in registers and is compiled once for an open page and once for a closed page.
     #[inline(never)]
-    fn next_heard(&self, units: &SentUnits<'_>, from: usize) -> usize
+    fn next_examined_packet(&self, units: &SentUnits<'_>, from: usize) -> usize
         requires { from ≤ length units.now }
         ensures from { from ≤ result }
         ensures within { result ≤ length units.now }
@@ -239,7 +240,7 @@ impl Listener {
             return false;
         };
         if packet_number != 0 {
-            return self.is_closed_to(is_open, magazine);
+            return self.is_closed_for_magazine(is_open, magazine);
         }
         if self.is_for_page(is_open, magazine, packet) {
             return false;
@@ -259,7 +260,7 @@ impl Listener {
 
     // Returns whether the page is closed or the packet is of another magazine.
     #[inline(always)]
-    fn is_closed_to(&self, is_open: bool, magazine: u8) -> bool
+    fn is_closed_for_magazine(&self, is_open: bool, magazine: u8) -> bool
         ensures { result ≡ not (is_open && magazine == self.now.watched.page.magazine) }
     {
         !(is_open && magazine == self.watched.page.magazine())
@@ -288,7 +289,7 @@ impl Listener {
         ensures { result ≡ is_skipped_header magazine header.now self.now }
     {
         let is_serial = is_serial(header);
-        if !is_of_mode(self.serial, is_serial) {
+        if !has_serial_mode(self.serial, is_serial) {
             return false;
         }
         let is_magazine = magazine == self.watched.page.magazine();
@@ -301,7 +302,13 @@ impl Listener {
 
     // Receives a packet that must be examined, and reports the rules that it breaks.
     #[inline(never)]
-    fn judge<A: Taker>(&mut self, packet: &Packet, frame: u32, number: u32, taker: &mut A) -> Heard
+    fn judge<A: Taker>(
+        &mut self,
+        packet: &Packet,
+        frame: u32,
+        number: u32,
+        taker: &mut A,
+    ) -> HeardPacket
         ensures watched { self.new.watched ≡ self.old.watched }
         ensures due { self.new.comparison.due ≡ self.old.comparison.due }
         ensures header { result.is_header
@@ -318,13 +325,13 @@ impl Listener {
         ensures knows { (heard : List (List ℕ)) → Knows heard self.old
             → Knows (heard ++ packet.now ∷ []) self.new }
     {
-        let (found, page_header) = PacketKind::with_header(self.watched.page, packet);
+        let (found, page_header) = PacketKind::classify_with_header(self.watched.page, packet);
         let rules = self.broken_rules(packet, found, page_header);
         report_rules(rules, frame, number, taker);
         let is_header = self.hear(packet, found, page_header);
         let begins = begins_text(self.watched.keeps, &found);
         let is_clean = rules.has_none();
-        Heard {
+        HeardPacket {
             is_header,
             begins,
             is_clean,
@@ -350,7 +357,7 @@ impl Listener {
                 if begins_text(self.watched.keeps, &found) {
                     self.start(header.subcode);
                 } else {
-                    self.repeat(header.subcode);
+                    self.repeat_header(header.subcode);
                 }
                 true
             }
@@ -359,8 +366,8 @@ impl Listener {
                 false
             }
             PacketKind::Row(row) => {
-                if self.is_new(row) {
-                    self.store(row, &text_codes(packet));
+                if self.is_new_row(row) {
+                    self.store_row(row, &text_codes(packet));
                 } else if self.is_open {
                     self.note_repeated_row(row);
                 }
@@ -371,7 +378,7 @@ impl Listener {
     }
 
     // Returns whether the page is open and the row has not been received yet.
-    fn is_new(&self, row: u8) -> bool
+    fn is_new_row(&self, row: u8) -> bool
         requires { IsRow row }
         ensures { result
             ≡ (self.now.is_open && not (slice_index_or self.now.sent (row - 1) false)) }
@@ -397,7 +404,7 @@ impl Listener {
     }
 
     // Notes a header that does not erase the page: the text stays, and each row must be sent again.
-    fn repeat(&mut self, subcode: u16)
+    fn repeat_header(&mut self, subcode: u16)
         ensures { self.new ≡ record self.old {
           is_open = true;
           subcode = Some subcode;
@@ -410,7 +417,7 @@ impl Listener {
     }
 
     // Stores the codes of a row, and notes that the row was received.
-    fn store(&mut self, row: u8, codes: &[u8; 40])
+    fn store_row(&mut self, row: u8, codes: &[u8; 40])
         requires row { (1 ≤ row) × (row ≤ 24) }
         requires codes { AreCodes codes.now }
         ensures kept { self.new ≡ record self.old {

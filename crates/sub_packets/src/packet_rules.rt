@@ -2,16 +2,17 @@
 ghost use Rattle.std.specs.Prelude.{◌≡◌, ◌&&◌, Bool, not, Option, is_some, option_map};
 ghost use Rattle.std.specs.Option.{option_or};
 ghost use Rattle.ttx_packet.specs.PacketAddress.{IsPacket, address};
-ghost use Rattle.ttx_packet.specs.PageHeader.{c4, c11, header, is_set};
-ghost use Rattle.ttx_packet.specs.RowPacket.{first_even_byte};
+ghost use Rattle.ttx_packet.specs.PageHeader.{c4, c11, header, is_flag_set};
+ghost use Rattle.ttx_packet.specs.RowPacket.{first_even_parity_byte};
 ghost use Rattle.ttx_packet.specs.declared.header.Header.{Header};
 ghost use Rattle.ttx_page.specs.Page.{AreCodes};
 ghost use Rattle.ttx_page.specs.PacketKind.{begins_text};
-ghost use Rattle.sub_packets.specs.Listener.{is_of_mode};
+ghost use Rattle.sub_packets.specs.Listener.{has_serial_mode};
 ghost use Rattle.sub_plan.specs.Sending.{national_bits};
 ghost use Rattle.sub_rules.specs.PacketRules.{codes_of};
-ghost use Rattle.sub_rules.specs.PacketTests.{are_code_words, is_of_enhancement, is_of_header};
-ghost use Rattle.sub_rules.specs.PacketTests.{has_subtitle_bits, is_other_mode, is_same_bit};
+ghost use Rattle.sub_rules.specs.PacketTests.{are_code_words, is_enhancement_address};
+ghost use Rattle.sub_rules.specs.PacketTests.{is_header_address};
+ghost use Rattle.sub_rules.specs.PacketTests.{has_subtitle_bits, has_different_mode, is_same_bit};
 ghost use Rattle.sub_rules.specs.PacketTests.{is_same_subcode};
 
 use bitflags::Flags;
@@ -21,7 +22,7 @@ use ttx_page::PacketKind;
 
 // Returns whether the packet is a packet X/0.
 fn is_header_packet(packet: &Packet) -> bool
-    ensures { result ≡ is_of_header (address packet.now) }
+    ensures { result ≡ is_header_address (address packet.now) }
 {
     match packet.address() {
         None => false,
@@ -34,7 +35,8 @@ fn is_header_packet(packet: &Packet) -> bool
 #[tactic(auto, using(crate::proofs::PacketRuleLemmas::header_is_zero))]
 pub(crate) fn has_wrong_codes(packet: &Packet, page_header: Option<Header>) -> bool
     requires { page_header ≡ header packet.now }
-    ensures { result ≡ (is_of_header (address packet.now) && not (are_code_words 2 8 packet.now)) }
+    ensures { result ≡ (is_header_address (address packet.now) && not
+        (are_code_words 2 8 packet.now)) }
 {
     match page_header {
         Some(_) => has_wrong_word(packet),
@@ -65,8 +67,8 @@ pub(crate) fn is_serial(header: &Header) -> bool
 
 /// Returns whether the packet has a page header whose C11 differs from that of the first page
 /// header.
-pub(crate) fn is_other_mode(serial: Option<bool>, page_header: Option<Header>) -> bool
-    ensures { result ≡ is_other_mode serial (option_map (λ (h : Header). c11 h) page_header) }
+pub(crate) fn has_different_mode(serial: Option<bool>, page_header: Option<Header>) -> bool
+    ensures { result ≡ has_different_mode serial (option_map (λ (h : Header). c11 h) page_header) }
 {
     match (page_header, serial) {
         (Some(header), Some(first)) => is_serial(&header) != first,
@@ -90,7 +92,7 @@ pub(crate) fn first_serial(serial: Option<bool>, page_header: Option<Header>) ->
 
 /// Returns whether `control` has the control bit `flag`.
 fn is_bit(control: Control, flag: Control) -> bool
-    ensures { result ≡ is_set control flag.0 }
+    ensures { result ≡ is_flag_set control flag.0 }
 {
     control.contains(flag)
 }
@@ -114,8 +116,8 @@ pub(crate) fn is_same_bit(one: bool, other: bool) -> bool
 
 /// Returns whether `is_serial` equals C11 of the first page header; `false` before a page header
 /// was received.
-pub(crate) fn is_of_mode(serial: Option<bool>, is_serial: bool) -> bool
-    ensures { result ≡ is_of_mode serial is_serial }
+pub(crate) fn has_serial_mode(serial: Option<bool>, is_serial: bool) -> bool
+    ensures { result ≡ has_serial_mode serial is_serial }
 {
     match serial {
         Some(first) => is_same_bit(first, is_serial),
@@ -168,7 +170,7 @@ pub(crate) fn has_subtitle_bits(national: National, header: &Header) -> bool
 
 /// Returns whether the packet is a packet X/25 to X/28 of the page's magazine.
 pub(crate) fn is_enhancement(page: PageId, packet: &Packet) -> bool
-    ensures { result ≡ is_of_enhancement page (address packet.now) }
+    ensures { result ≡ is_enhancement_address page (address packet.now) }
 {
     match packet.address() {
         None => false,
@@ -180,7 +182,7 @@ pub(crate) fn is_enhancement(page: PageId, packet: &Packet) -> bool
 
 /// Returns whether one of the 40 text bytes of a packet has even parity.
 pub(crate) fn has_even_byte(packet: &Packet) -> bool
-    ensures { result ≡ is_some (first_even_byte packet.now) }
+    ensures { result ≡ is_some (first_even_parity_byte packet.now) }
 {
     packet.first_even().is_some()
 }

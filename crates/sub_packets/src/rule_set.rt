@@ -37,7 +37,7 @@ impl RuleSet {
     /// Adds the rule that comes before all others of the set in report order, if `is_broken`, and
     /// returns the set.
     #[inline(always)]
-    pub fn with_before(self, is_broken: bool) -> RuleSet
+    pub fn with_earlier_rule(self, is_broken: bool) -> RuleSet
         requires room { self.0 < 0x80 }
         ensures set { result.0 ≡ (if is_broken then 1 else 0) + 2 * self.0 }
         ensures small { result.0 ≤ 2 * self.0 + 1 }

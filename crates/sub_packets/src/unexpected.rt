@@ -2,15 +2,15 @@
 ghost use Rattle.std.specs.Prelude.{◌≡◌, ℕ, ◌+◌, ◌-◌, ◌<◌, ◌≤◌, ◌==◌, MatchOption};
 ghost use Rattle.std.specs.Prelude.{if◌then◌else◌, slice_index};
 ghost use Rattle.ttx_page.specs.Page.{AreCodes, IsCell, IsPage, IsRow, blank_row, cell};
-ghost use Rattle.sub_packets.specs.Unexpected.{IsLeft, unless_due};
-ghost use Rattle.sub_plan.specs.Schedule.{due_in};
+ghost use Rattle.sub_packets.specs.UnexpectedCodes.{LacksDueCodes, space_if_due};
+ghost use Rattle.sub_plan.specs.Schedule.{due_page_in};
 
 use crate::listener::Listener;
 use stl_rows::Programme;
-use ttx_page::{Page, differing_columns};
+use ttx_page::{Page, count_differing_columns};
 
 impl Listener {
-    ghost use Rattle.sub_packets.specs.KeptPage.{unexpected_kept};
+    ghost use Rattle.sub_packets.specs.StoredPage.{first_unexpected_kept_cell};
 
     /// Returns the row (1 to 24) and column (0 to 39) of the first cell whose code is neither a
     /// space nor expected in that cell at `frame` or at one of the `within` frames before `frame`.
@@ -25,30 +25,37 @@ impl Listener {
         frame: u32,
         within: u32,
     ) -> Option<(u8, u8)>
-        ensures { result ≡ unexpected_kept self.now (due_in programme.now) first frame within }
+        ensures { result ≡ first_unexpected_kept_cell self.now (due_page_in programme.now) first
+            frame within }
     {
         let shown = self.comparison.shown();
         // A blank page has no unexpected cell. This is the usual case: a header has erased the
         // page, and the rows follow in a later frame.
-        if shown.cells_not_blank() == 0 {
+        if shown.count_nonblank_cells() == 0 {
             return None;
         }
-        let left = left_of(shown, programme, first, frame, within);
+        let left = page_without_due_codes(shown, programme, first, frame, within);
         left.first_difference(&Page::blank())
     }
 }
 
 // Returns the page with a space for each code that was expected in its cell within the last
 // `within` frames.
-fn left_of(shown: &Page, programme: &Programme, first: u32, frame: u32, within: u32) -> Page
-    ensures { IsLeft (due_in programme.now) first frame within shown.now result }
+fn page_without_due_codes(
+    shown: &Page,
+    programme: &Programme,
+    first: u32,
+    frame: u32,
+    within: u32,
+) -> Page
+    ensures { LacksDueCodes (due_page_in programme.now) first frame within shown.now result }
 {
     let least = earliest(first, frame, within);
     let mut left = *shown;
-    excuse(&mut left, &programme.due_page(frame));
+    blank_due_cells(&mut left, &programme.due_page(frame));
     let mut at = frame;
-    while let Some(before) = frame_before(programme, at, least) {
-        excuse(&mut left, &programme.due_page(before));
+    while let Some(before) = last_edge_before(programme, at, least) {
+        blank_due_cells(&mut left, &programme.due_page(before));
         at = before;
     }
     left
@@ -66,11 +73,12 @@ fn earliest(first: u32, frame: u32, within: u32) -> u32
 
 // Returns the last frame before `at` with another expected page; `None` if that frame is before
 // `least`.
-fn frame_before(programme: &Programme, at: u32, least: u32) -> Option<u32>
+fn last_edge_before(programme: &Programme, at: u32, least: u32) -> Option<u32>
     ensures { MatchOption result
-        ((f : ℕ) → least ≤ f → f ≤ at → due_in programme.now f ≡ due_in programme.now at)
+        ((f : ℕ) → least ≤ f → f ≤ at → due_page_in programme.now f ≡ due_page_in programme.now at)
         (λ before. (least ≤ before) × (before < at)
-        × ((f : ℕ) → before < f → f ≤ at → due_in programme.now f ≡ due_in programme.now at)) }
+        × ((f : ℕ) → before < f → f ≤ at → due_page_in programme.now f ≡ due_page_in programme.now
+        at)) }
 {
     let Some(edge) = programme.last_edge(at) else {
         return None;
@@ -79,27 +87,27 @@ fn frame_before(programme: &Programme, at: u32, least: u32) -> Option<u32>
 }
 
 // Replaces by a space each code of the page that is the expected code of its cell.
-fn excuse(left: &mut Page, due: &Page)
+fn blank_due_cells(left: &mut Page, due: &Page)
     ensures { (row column : ℕ) → IsCell row column → cell left.new row column
-        ≡ unless_due (cell due.now row column) (cell left.old row column) }
+        ≡ space_if_due (cell due.now row column) (cell left.old row column) }
 {
     for row in 1..25u8 {
-        excuse_row(left, due, row);
+        blank_due_cells_of_row(left, due, row);
     }
 }
 
 /// Replaces by a space each code of a row that is the expected code of its cell. A blank row, the
 /// usual case, is not copied.
-pub(crate) fn excuse_row(left: &mut Page, due: &Page, row: u8)
+pub(crate) fn blank_due_cells_of_row(left: &mut Page, due: &Page, row: u8)
     requires { IsRow row }
     ensures { (r column : ℕ) → IsCell r column → cell left.new r column
         ≡ (if r == row
-        then unless_due (cell due.now r column) (cell left.old r column)
+        then space_if_due (cell due.now r column) (cell left.old r column)
         else cell left.old r column) }
 {
     let shown = left.row(row);
-    if differing_columns(shown, &spaces()) != 0 {
-        let codes = excused(shown, due.row(row));
+    if count_differing_columns(shown, &spaces()) != 0 {
+        let codes = codes_without_due(shown, due.row(row));
         left.set_row(row, &codes);
     }
 }
@@ -113,23 +121,23 @@ fn spaces() -> [u8; 40]
 }
 
 // Returns the codes of a row, with a space for each code that is the expected code of its cell.
-fn excused(shown: &[u8; 40], due: &[u8; 40]) -> [u8; 40]
+fn codes_without_due(shown: &[u8; 40], due: &[u8; 40]) -> [u8; 40]
     requires { AreCodes shown.now }
     ensures value { (column : ℕ) → column < 40 → slice_index result column
-        ≡ unless_due (slice_index due.now column) (slice_index shown.now column) }
+        ≡ space_if_due (slice_index due.now column) (slice_index shown.now column) }
     ensures codes { AreCodes result }
 {
     let mut codes = *shown;
     for column in 0..40usize {
-        codes[column] = unless_due(due[column], shown[column]);
+        codes[column] = space_if_due(due[column], shown[column]);
     }
     codes
 }
 
 // Returns the code `shown`, or a space if `shown` is the expected code.
 #[inline(always)]
-fn unless_due(due: u8, shown: u8) -> u8
-    ensures { result ≡ unless_due due shown }
+fn space_if_due(due: u8, shown: u8) -> u8
+    ensures { result ≡ space_if_due due shown }
 {
     if due == shown { 0x20 } else { shown }
 }

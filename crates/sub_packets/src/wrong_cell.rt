@@ -3,20 +3,20 @@
 ghost use Rattle.std.specs.Prelude.{◌≡◌, ℕ, ◌-◌, ◌==◌, IsTrue, None, false};
 ghost use Rattle.std.specs.Prelude.{if◌then◌else◌, slice_index_or};
 ghost use Rattle.ttx_page.specs.Page.{IsCell, cell, space};
-ghost use Rattle.sub_packets.specs.Missing.{earlier};
+ghost use Rattle.sub_packets.specs.CellOrder.{earlier};
 
 use crate::listener::Listener;
-use crate::unexpected::excuse_row;
+use crate::unexpected::blank_due_cells_of_row;
 use ttx_page::Page;
 
 impl Listener {
-    ghost use Rattle.sub_packets.specs.KeptPage.{wrong_kept};
+    ghost use Rattle.sub_packets.specs.StoredPage.{first_wrong_kept_cell};
 
     /// Returns whether the page is known to be correct without a comparison. If repeats may have C4
     /// (erase page) clear, it is not known, since rows may be missing.
     #[inline(always)]
     pub fn is_known_right(&self) -> bool
-        ensures { IsTrue result → wrong_kept self.now ≡ None }
+        ensures { IsTrue result → first_wrong_kept_cell self.now ≡ None }
     {
         self.comparison.is_known_right() && !self.watched.keeps
     }
@@ -25,7 +25,7 @@ impl Listener {
     /// it differs from the expected page, or if its row has text and was not sent since the last
     /// header of the page, although repeats may have C4 (erase page) clear.
     pub fn first_wrong(&self) -> Option<(u8, u8)>
-        ensures { result ≡ wrong_kept self.now }
+        ensures { result ≡ first_wrong_kept_cell self.now }
     {
         let differing = self.comparison.first_wrong();
         if !self.watched.keeps {
@@ -47,7 +47,7 @@ impl Listener {
         let mut missing = *due;
         for row in 1..25u8 {
             if self.again[row as usize - 1] {
-                excuse_row(&mut missing, due, row);
+                blank_due_cells_of_row(&mut missing, due, row);
             }
         }
         missing

@@ -92,27 +92,27 @@ pub law_of_exact_clock : LawOfExactClock
 unfolding clock
 law_of_exact_clock origin pts frame = exact_by origin pts (frame_of_pts origin pts) refl frame
 
-pub exact_none : (origin pts : ℕ)
+pub pts_without_frame_reads_none : (origin pts : ℕ)
     → ((frame : ℕ) → frame < day → pts_of origin frame ≢ pts)
     → None ≡ frame_of_pts origin pts
-exact_none origin pts none = sym (no_frame_found origin pts none)
+pts_without_frame_reads_none origin pts none = sym (no_frame_found origin pts none)
 
-pub exact_read : (origin pts frame : ℕ)
+pub pts_of_frame_reads_frame : (origin pts frame : ℕ)
     → frame < day
     → pts_of origin frame ≡ pts
     → Some frame ≡ frame_of_pts origin pts
-exact_read origin pts frame in_day is = sym (frame_found origin pts frame in_day is)
+pts_of_frame_reads_frame origin pts frame in_day is = sym (frame_found origin pts frame in_day is)
 
-pub clock_exact : (within origin pts : ℕ)
+pub clock_without_tolerance_is_exact : (within origin pts : ℕ)
     → within ≡ 0
     → frame_of_pts origin pts ≡ clock within origin pts
 unfolding clock
-clock_exact zero origin pts none = refl
-clock_exact (suc n) origin pts none = absurd (omega arith)
+clock_without_tolerance_is_exact zero origin pts none = refl
+clock_without_tolerance_is_exact (suc n) origin pts none = absurd (omega arith)
 
-pub clock_with_tolerance : (within origin pts : ℕ)
+pub clock_reads_with_tolerance : (within origin pts : ℕ)
     → within ≢ 0
     → frame_with_tolerance origin pts ≡ clock within origin pts
 unfolding clock
-clock_with_tolerance zero origin pts some = absurd (some refl)
-clock_with_tolerance (suc n) origin pts some = refl
+clock_reads_with_tolerance zero origin pts some = absurd (some refl)
+clock_reads_with_tolerance (suc n) origin pts some = refl

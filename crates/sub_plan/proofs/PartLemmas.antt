@@ -17,12 +17,12 @@ use Rattle.sub_plan.specs.Options.{OptionsValue}
 use Rattle.sub_plan.specs.Schedule.{sending_at}
 use Rattle.sub_plan.specs.Sending.{sending}
 use Rattle.sub_plan.specs.Steps.{packets_at, steps}
-use Rattle.sub_plan.proofs.ScheduleBases.{range_all}
-use Rattle.sub_plan.proofs.StepLemmas.{IsStretch}
+use Rattle.sub_plan.proofs.ScheduleBases.{property_holds_on_range}
+use Rattle.sub_plan.proofs.StepLemmas.{IsIntervalOfOnePage}
 
 -- The sink received the bytes of `count` frames, and these frames followed by the frames `left` are
 -- all frames of the schedule.
-pub record IsPartDone (u v : Option (List ℕ)) (bytes_of : ℕ → List ℕ) (count : ℕ)
+pub record IsPartWritten (u v : Option (List ℕ)) (bytes_of : ℕ → List ℕ) (count : ℕ)
     (left all : List ℕ) : Type 0 where
   pub done : List ℕ
   pub whole : done ++ left ≡ all
@@ -30,11 +30,11 @@ pub record IsPartDone (u v : Option (List ℕ)) (bytes_of : ℕ → List ℕ) (c
   pub bytes : Appends u v (flat_map bytes_of done)
 
 module _ {u v : Option (List ℕ)} {bytes_of : ℕ → List ℕ} {count : ℕ} {left all : List ℕ}
-    (part : IsPartDone u v bytes_of count left all) where
+    (part : IsPartWritten u v bytes_of count left all) where
   pub part-more : {w : Option (List ℕ)} (more : List ℕ) {left' : List ℕ}
       → left ≡ more ++ left'
       → Appends v w (flat_map bytes_of more)
-      → IsPartDone u w bytes_of (count + length more) left' all
+      → IsPartWritten u w bytes_of (count + length more) left' all
   part-more {w} more {left'} e goes = record {
     done = part.done ++ more;
     whole = append_assoc part.done more left' ∙ rw e at part.whole;
@@ -59,7 +59,7 @@ module _ {u v : Option (List ℕ)} {bytes_of : ℕ → List ℕ} {count : ℕ} {
   pub part-one : {w : Option (List ℕ)} {f : ℕ} {left' : List ℕ}
       → left ≡ f ∷ left'
       → Appends v w (bytes_of f)
-      → IsPartDone u w bytes_of (count + 1) left' all
+      → IsPartWritten u w bytes_of (count + 1) left' all
   part-one {w} {f} e goes = part-more (f ∷ []) e (rw (append-nil (bytes_of f)) goes)
 
   pub prefix-one : (w : Option (List ℕ)) {f : ℕ} {left' : List ℕ}
@@ -68,17 +68,21 @@ module _ {u v : Option (List ℕ)} {bytes_of : ℕ → List ℕ} {count : ℕ} {
       → AppendsPrefix u w (flat_map bytes_of all)
   prefix-one w {f} {left'} e p = prefix-more w (f ∷ []) left' e (rw (append-nil (bytes_of f)) p)
 
-flat_map_same : (f g : ℕ → List ℕ) (xs : List ℕ) → All (λ x. f x ≡ g x) xs
+equal_functions_flat_map_equally : (f g : ℕ → List ℕ) (xs : List ℕ) → All (λ x. f x ≡ g x) xs
     → flat_map f xs ≡ flat_map g xs
-flat_map_same f g [] h = refl
-flat_map_same f g (x ∷ xs) h =
-    rw (All-head (λ y. f y ≡ g y) x xs h, flat_map_same f g xs (All-tail (λ y. f y ≡ g y) x xs h))
+equal_functions_flat_map_equally f g [] h = refl
+equal_functions_flat_map_equally f g (x ∷ xs) h =
+    rw (
+      All-head (λ y. f y ≡ g y) x xs h,
+      equal_functions_flat_map_equally f g xs
+          (All-tail (λ y. f y ≡ g y) x xs h),
+    )
     refl
 
 -- Between a base and the next base, each page transmission has the page expected at the base.
 pub stretch-bytes : (due : ℕ → Rows) (o : OptionsValue) (national : National) (serial : Bool)
     (first b end last : ℕ)
-    → IsStretch due first b end last
+    → IsIntervalOfOnePage due first b end last
     → flat_map (packets_at o.origin (sending o.page national serial (due b)))
     (steps o.every b end)
     ≡ flat_map (sending_at due o national serial) (steps o.every b end)
@@ -86,8 +90,9 @@ unfolding steps
 stretch-bytes due o national serial first b end last s =
     let own = packets_at o.origin (sending o.page national serial (due b)) in
     let at = sending_at due o national serial in
-    flat_map_same own at (filter (λ f. (f - b) % o.every == 0) (range_with_len b (end - b)))
+    equal_functions_flat_map_equally own at
+    (filter (λ f. (f - b) % o.every == 0) (range_with_len b (end - b)))
     (All-filter (λ f. (f - b) % o.every == 0) (λ f. own f ≡ at f) (range_with_len b (end - b))
-    (range_all (λ f. own f ≡ at f) b (end - b)
+    (property_holds_on_range (λ f. own f ≡ at f) b (end - b)
     (λ j low high. ap (λ page. packets_at o.origin (sending o.page national serial page) j)
     (sym (s.same j low (omega (arith, s.some)))))))

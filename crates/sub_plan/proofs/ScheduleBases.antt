@@ -13,43 +13,43 @@ use Rattle.sub_plan.specs.Laws.{IsBase, IsLastBase, IsLastSending, LawOfEqualPag
 use Rattle.sub_plan.specs.Laws.{LawOfLastSending}
 use Rattle.sub_plan.specs.Schedule.{base, is_base, is_same_page, is_sending}
 
-pub range_split : (a m n : ℕ) → range_with_len a (m + n) ≡ range_with_len a m
+pub range_splits_in_two : (a m n : ℕ) → range_with_len a (m + n) ≡ range_with_len a m
     ++ range_with_len (a + m) n
-range_split a zero n = grind (arith, nat_tests)
-range_split a (suc m) n =
+range_splits_in_two a zero n = grind (arith, nat_tests)
+range_splits_in_two a (suc m) n =
     let e : suc m + n ≡ suc (m + n) = omega arith in
-    grind (arith, nat_tests, range_split (a + 1) m n)
+    grind (arith, nat_tests, range_splits_in_two (a + 1) m n)
 
-pub range_all : (P : ℕ → Type 0) (a n : ℕ) → ((j : ℕ) → a ≤ j → j < a + n → P j)
+pub property_holds_on_range : (P : ℕ → Type 0) (a n : ℕ) → ((j : ℕ) → a ≤ j → j < a + n → P j)
     → All P (range_with_len a n)
-range_all P a zero h = All-nil P
-range_all P a (suc n) h =
+property_holds_on_range P a zero h = All-nil P
+property_holds_on_range P a (suc n) h =
     All-cons P a (range_with_len (a + 1) n) (h a (omega arith) (omega arith))
-    (range_all P (a + 1) n (λ j b c. h j (omega arith) (omega arith)))
+    (property_holds_on_range P (a + 1) n (λ j b c. h j (omega arith) (omega arith)))
 
-pub stays : {X : Type 0} (value : ℕ → X) (s f : ℕ) → s ≤ f
+pub value_stays_without_changes : {X : Type 0} (value : ℕ → X) (s f : ℕ) → s ≤ f
     → ((k : ℕ) → s < k → k ≤ f → value k ≡ value (k - 1)) → value f ≡ value s
-stays value s zero low step = let e : zero ≡ s = omega arith in ap value e
-stays value s (suc f) low step =
+value_stays_without_changes value s zero low step = let e : zero ≡ s = omega arith in ap value e
+value_stays_without_changes value s (suc f) low step =
     elim (cases_lt f s) [
       | inl here ↦ let e : suc f ≡ s = omega arith in ap value e
       | inr before ↦
           let back : suc f - 1 ≡ f = omega arith in
           step (suc f) (omega arith) (omega arith) ∙ ap value back
-          ∙ stays value s f before (λ k a c. step k a (omega arith))
+          ∙ value_stays_without_changes value s f before (λ k a c. step k a (omega arith))
     ]
 
-record IsLastOf (test : ℕ → Bool) (first f g : ℕ) : Type 0 where
+record IsLastPassing (test : ℕ → Bool) (first f g : ℕ) : Type 0 where
   low : first ≤ g
   high : g ≤ f
   passes : test g ≡ true
-  none_after : (k : ℕ) → g < k → k ≤ f → test k ≡ false
+  no_later_match : (k : ℕ) → g < k → k ≤ f → test k ≡ false
 
-find_last : (test : ℕ → Bool) (first f : ℕ) → test first ≡ true → first ≤ f
-    → (g : ℕ) × IsLastOf test first f g
-find_last test first f start low = go f (test f) refl low
+last_passing_exists : (test : ℕ → Bool) (first f : ℕ) → test first ≡ true → first ≤ f
+    → (g : ℕ) × IsLastPassing test first f g
+last_passing_exists test first f start low = go f (test f) refl low
   where
-    go : (f : ℕ) (b : Bool) → test f ≡ b → first ≤ f → (g : ℕ) × IsLastOf test first f g
+    go : (f : ℕ) (b : Bool) → test f ≡ b → first ≤ f → (g : ℕ) × IsLastPassing test first f g
     go f true h low = grind (arith, nat_tests)
     go zero false h low = let e : first ≡ zero = omega arith in cc
     go (suc f) false h low =
@@ -62,7 +62,7 @@ find_last test first f start low = go f (test f) refl low
                   low = found.1.low;
                   high = omega (arith, found.1.high);
                   passes = found.1.passes;
-                  none_after = grind (arith, nat_tests, cases_lt);
+                  no_later_match = grind (arith, nat_tests, cases_lt);
                 },
               )
         ]
@@ -76,11 +76,18 @@ unfolding is_base
 is_base-Decides due first f =
     grind (arith, nat_tests, Decides-or, Decides-eqb, Decides-not, same_page-Decides)
 
-no_base : (due : ℕ → Rows) (first f : ℕ) → (IsBase due first f → ⊥) → is_base due first f ≡ false
-no_base due first f none = grind (arith, nat_tests, false_from_ne_true, is_base-Decides)
+other_frame_is_no_base : (due : ℕ → Rows) (first f : ℕ) → (IsBase due first f → ⊥) → is_base due
+    first f ≡ false
+other_frame_is_no_base due first f none = grind (
+  arith,
+  nat_tests,
+  false_from_ne_true,
+  is_base-Decides,
+)
 
-same_unless_base : (due : ℕ → Rows) (first f : ℕ) → (IsBase due first f → ⊥) → due f ≡ due (f - 1)
-same_unless_base due first f none =
+due_page_changes_at_base : (due : ℕ → Rows) (first f : ℕ) → (IsBase due first f → ⊥) → due f ≡ due
+    (f - 1)
+due_page_changes_at_base due first f none =
     let same = same_page-Decides (due f) (due (f - 1)) in grind (arith, nat_tests)
 
 base-at : (due : ℕ → Rows) (first b : ℕ) → IsBase due first b → base due first b ≡ b
@@ -90,28 +97,31 @@ base-at due first b h = grind (arith, nat_tests, is_base-Decides)
 base-before : (due : ℕ → Rows) (first f : ℕ) → (IsBase due first f → ⊥)
     → base due first f ≡ base due first (f - 1)
 unfolding base
-base-before due first f none = grind (arith, nat_tests, no_base)
+base-before due first f none = grind (arith, nat_tests, other_frame_is_no_base)
 
-base_stays : (due : ℕ → Rows) (first s f : ℕ) → s ≤ f
+base_stays_without_new_base : (due : ℕ → Rows) (first s f : ℕ) → s ≤ f
     → ((k : ℕ) → s < k → k ≤ f → IsBase due first k → ⊥) → base due first f ≡ base due first s
-base_stays due first s f low none =
-    stays (base due first) s f low (λ k a c. base-before due first k (none k a c))
+base_stays_without_new_base due first s f low none =
+    value_stays_without_changes (base due first) s f low (λ k a c. base-before due first k
+    (none k a c))
 
 pub base-last : (due : ℕ → Rows) (first f b : ℕ) → IsLastBase due first f b → base due first f ≡ b
 base-last due first f b last =
-    base_stays due first b f last.high last.none_after ∙ base-at due first b last.is_base
+    base_stays_without_new_base due first b f last.high last.no_later_match ∙ base-at due first b
+    last.is_base
 
-pub last_base : (due : ℕ → Rows) (first f : ℕ) → first ≤ f
+pub base_is_last_base : (due : ℕ → Rows) (first f : ℕ) → first ≤ f
     → IsLastBase due first f (base due first f)
-last_base due first f low =
+base_is_last_base due first f low =
     let found =
-    find_last (is_base due first) first f ((is_base-Decides due first first).1 (inl refl)) low in
+    last_passing_exists (is_base due first) first f ((is_base-Decides due first first).1 (inl refl))
+    low in
     let last : IsLastBase due first f found.0 = record {
       low = found.1.low;
       high = found.1.high;
       is_base = (is_base-Decides due first found.0).0 found.1.passes;
-      none_after = λ k a c b. false≢true
-          (sym (found.1.none_after k a c) ∙ (is_base-Decides due first k).1 b);
+      no_later_match = λ k a c b. false≢true
+          (sym (found.1.no_later_match k a c) ∙ (is_base-Decides due first k).1 b);
     } in
     rw (base-last due first f found.0 last) last
 
@@ -145,15 +155,18 @@ sends-again : (due : ℕ → Rows) (every first last s : ℕ) → first ≤ s �
 unfolding is_sending
 sends-again due every first last s low high sent none =
     let b : ℕ = base due first s in
-    let e : s + every - b ≡ s - b + every = omega (arith, (last_base due first s low).high) in
-    grind (arith, nat_tests, last_base, sends, base_stays, add-mod_right)
+    let e : s + every - b ≡ s - b + every = omega (arith, (base_is_last_base due first s low).high)
+    in
+    grind (arith, nat_tests, base_is_last_base, sends, base_stays_without_new_base, add-mod_right)
 
 -- The last page transmission at or before a frame shows the page expected at that frame.
-pub last_sending : (due : ℕ → Rows) (every first last f : ℕ) → 1 ≤ every → first ≤ f → (g : ℕ)
+pub last_sending_exists : (due : ℕ → Rows) (every first last f : ℕ) → 1 ≤ every → first ≤ f →
+    (g : ℕ)
     × IsLastSending due every first last f g
-last_sending due every first last f some low =
+last_sending_exists due every first last f some low =
     let found =
-    find_last (is_sending due every first last) first f (sends-first due every first last some)
+    last_passing_exists (is_sending due every first last) first f (sends-first due every first last
+    some)
     low in
     let sent = found.1 in (
       found.0,
@@ -161,34 +174,36 @@ last_sending due every first last f some low =
         low = sent.low;
         high = sent.high;
         sends = sent.passes;
-        none_after = sent.none_after;
-        same = sym (stays due found.0 f sent.high (λ k a c. same_unless_base due first k (λ b.
-            false≢true (sym (sent.none_after k a c) ∙ sends-base due every first last k some b))));
+        no_later_match = sent.no_later_match;
+        same = sym (value_stays_without_changes due found.0 f sent.high
+            (λ k a c. due_page_changes_at_base due first k (λ b.
+            false≢true (sym (sent.no_later_match k a c) ∙ sends-base due every first last k some
+            b))));
       },
     )
 
 -- Any `every` consecutive frames contain a page transmission: if the last transmission were before
 -- these frames, another would follow it among them.
-pub sending_in_gap : (due : ℕ → Rows) (every first last g : ℕ)
+pub every_gap_has_a_sending : (due : ℕ → Rows) (every first last g : ℕ)
     → 1 ≤ every
     → first ≤ g
     → g + every ≤ last + 1
     → (f : ℕ) × (g ≤ f) × (f < g + every) × (is_sending due every first last f ≡ true)
-sending_in_gap due every first last g some low room =
-    let found = last_sending due every first last (g + every - 1) some (omega arith) in
+every_gap_has_a_sending due every first last g some low room =
+    let found = last_sending_exists due every first last (g + every - 1) some (omega arith) in
     let s : ℕ = found.0 in
     let sent = found.1 in
     elim (cases_lt s g) [
       | inr late ↦ (s, late, omega (arith, sent.high), sent.sends)
       | inl early ↦
-          absurd (false≢true (sym (sent.none_after (s + every) (omega arith) (omega arith))
+          absurd (false≢true (sym (sent.no_later_match (s + every) (omega arith) (omega arith))
           ∙ sends-again due every first last s sent.low (omega arith) sent.sends
-          (λ k a c b. false≢true (sym (sent.none_after k a (omega arith))
+          (λ k a c b. false≢true (sym (sent.no_later_match k a (omega arith))
           ∙ sends-base due every first last k some b))))
     ]
 
 pub law_of_last_sending : LawOfLastSending
-law_of_last_sending = last_sending
+law_of_last_sending = last_sending_exists
 
 pub law_of_equal_pages : LawOfEqualPages
 law_of_equal_pages due first f after same = grind (arith, nat_tests, base-before)

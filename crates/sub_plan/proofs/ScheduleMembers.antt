@@ -9,15 +9,16 @@ use Rattle.std.specs.List.{range_with_len, Contains}
 use Rattle.ttx_page.specs.Page.{Rows}
 use Rattle.sub_plan.specs.Laws.{IsSending, LawOfGaps, LawOfSendings}
 use Rattle.sub_plan.specs.Schedule.{is_sending, sendings_from}
-use Rattle.sub_plan.proofs.ScheduleBases.{base-last, last_base, range_all, sending_in_gap}
+use Rattle.sub_plan.proofs.ScheduleBases.{base-last, base_is_last_base, property_holds_on_range}
+use Rattle.sub_plan.proofs.ScheduleBases.{every_gap_has_a_sending}
 
-members : (p : ℕ → Bool) (a n x : ℕ) → Contains (filter p (range_with_len a n)) x
+filtered_members_pass : (p : ℕ → Bool) (a n x : ℕ) → Contains (filter p (range_with_len a n)) x
     → ((a ≤ x) × (x < a + n)) × (p x ≡ true)
-members p a n x c =
+filtered_members_pass p a n x c =
     let xs = range_with_len a n in (
       All-contains (λ y. (a ≤ y) × (y < a + n)) (filter p xs) x
           (All-filter p (λ y. (a ≤ y) × (y < a + n)) xs
-          (range_all (λ y. (a ≤ y) × (y < a + n)) a n (λ j low high. (low, high)))) c,
+          (property_holds_on_range (λ y. (a ≤ y) × (y < a + n)) a n (λ j low high. (low, high)))) c,
       All-contains (λ y. p y ≡ true) (filter p xs) x (filter_passes p xs) c,
     )
 
@@ -38,13 +39,14 @@ is_sending-Decides : (due : ℕ → Rows) (every first last f : ℕ) → first �
     → Decides (is_sending due every first last f) (IsSending due every first last f)
 unfolding is_sending
 is_sending-Decides due every first last f low =
-    grind (arith, nat_tests, Decides-or, Decides-eqb, Decides-like, last_base, base-last)
+    grind (arith, nat_tests, Decides-or, Decides-eqb, Decides-like, base_is_last_base, base-last)
 
 pub law_of_sendings : LawOfSendings
 unfolding sendings_from
 law_of_sendings due every first last f = (
   λ c.
-      let m = members (is_sending due every first last) first (last + 1 - first) f c in
+      let m = filtered_members_pass (is_sending due every first last) first (last + 1 - first) f c
+      in
       let low = m.0.0 in
       (low, omega (arith, m.0.1), (is_sending-Decides due every first last f low).0 m.1),
   λ s. contains (is_sending due every first last) first (last + 1 - first) f s.0
@@ -54,4 +56,4 @@ law_of_sendings due every first last f = (
 pub law_of_gaps : LawOfGaps
 unfolding sendings_from
 law_of_gaps due every first last g some low room =
-    grind (arith, nat_tests, sending_in_gap due every first last g some low room, contains)
+    grind (arith, nat_tests, every_gap_has_a_sending due every first last g some low room, contains)

@@ -15,38 +15,50 @@ use Rattle.ttx_packet.specs.PageId.{PageIdValue}
 use Rattle.ttx_packet.specs.RowPacket.{row_packet}
 use Rattle.ttx_page.specs.Page.{Rows, blank_row, row_at}
 use Rattle.stl_rows.specs.declared.national.National.{National}
-use Rattle.ttx_pes.proofs.LineOrderLemmas.{numbered_is_value}
+use Rattle.ttx_pes.proofs.LineOrderLemmas.{numbered_frame_is_valid}
 use Rattle.sub_plan.specs.FrameTime.{pts_of}
 use Rattle.sub_plan.specs.Sending.{is_sent_row, watched_header, closing_header, rows_from}
 use Rattle.sub_plan.specs.Sending.{sent_rows, sending}
 use Rattle.sub_plan.specs.Laws.{IsSentPacket, LawOfDueSize, LawOfPesValues, LawOfSize}
-use Rattle.stl_rows.proofs.LastRowLemmas.{last_row_blank}
-use Rattle.sub_plan.proofs.SentPackets.{closer}
-use Rattle.sub_plan.proofs.SendingLemmas.{all_sent}
+use Rattle.stl_rows.proofs.LastRowLemmas.{due_row_24_is_blank}
+use Rattle.sub_plan.proofs.SentPackets.{closing_header_packet}
+use Rattle.sub_plan.proofs.SendingLemmas.{sending_has_sent_packets}
 
-pub short_filter : (test : ℕ → Bool) (xs : List ℕ) → length (filter test xs) ≤ length xs
-short_filter test xs = omega (arith, length-filter test xs, count_by-le-length test xs)
+pub filter_is_no_longer : (test : ℕ → Bool) (xs : List ℕ) → length (filter test xs) ≤ length xs
+filter_is_no_longer test xs = omega (arith, length-filter test xs, count_by-le-length test xs)
 
-short_rows : (magazine : ℕ) (page : Rows) (a n : ℕ) → length (rows_from magazine page a n) ≤ n
-short_rows magazine page a n = search (rules, length-map, short_filter, length-range_with_len)
+rows_are_at_most_count : (magazine : ℕ) (page : Rows) (a n : ℕ) → length (rows_from magazine page a
+    n) ≤ n
+rows_are_at_most_count magazine page a n = search (
+  rules,
+  length-map,
+  filter_is_no_longer,
+  length-range_with_len,
+)
 
-short_page : (magazine : ℕ) (page : Rows) → length (sent_rows magazine page) ≤ 24
+page_fits_in_24_rows : (magazine : ℕ) (page : Rows) → length (sent_rows magazine page) ≤ 24
 unfolding sent_rows
-short_page magazine page = short_rows magazine page 1 24
+page_fits_in_24_rows magazine page = rows_are_at_most_count magazine page 1 24
 
 pub law_of_size : LawOfSize
 unfolding sending
-law_of_size w national serial page = grind (arith, nat_tests, length_push, closer, short_page)
+law_of_size w national serial page = grind (
+  arith,
+  nat_tests,
+  length_push,
+  closing_header_packet,
+  page_fits_in_24_rows,
+)
 
 blank_row_unsent : is_sent_row blank_row ≡ false
 unfolding blank_row
 blank_row_unsent = refl
 
-rows_but_last : (magazine : ℕ) (page : Rows)
+page_fits_in_23_rows : (magazine : ℕ) (page : Rows)
     → row_at page 24 ≡ blank_row
     → length (sent_rows magazine page) ≤ 23
 unfolding sent_rows
-rows_but_last magazine page e =
+page_fits_in_23_rows magazine page e =
     let test : ℕ → Bool = λ row. is_sent_row (row_at page row) in
     let rows : filter test (range_with_len 1 24) ≡ filter test (range_with_len 1 23) =
     filter-append test (range_with_len 1 23) (24 ∷ [])
@@ -55,12 +67,19 @@ rows_but_last magazine page e =
       length-map (filter test (range_with_len 1 24))
           (λ row. row_packet magazine row (row_at page row)),
       rows,
-    ) (short_filter test (range_with_len 1 23))
+    ) (filter_is_no_longer test (range_with_len 1 23))
 
 pub law_of_due_size : LawOfDueSize
 unfolding sending
 law_of_due_size w serial programme frame =
-    grind (arith, nat_tests, length_push, closer, rows_but_last, last_row_blank)
+    grind (
+      arith,
+      nat_tests,
+      length_push,
+      closing_header_packet,
+      page_fits_in_23_rows,
+      due_row_24_is_blank,
+    )
 
 pub law_of_pes_values : LawOfPesValues
 law_of_pes_values o national serial page frame ok shape =
@@ -69,22 +88,22 @@ law_of_pes_values o national serial page frame ok shape =
     let few : length packets ≤ 32 = omega (arith, law_of_size o.page national serial page) in
     let each : All IsPacket packets =
     All-weaker (IsSentPacket o.page national serial) IsPacket (λ p is. is.whole) packets
-    (all_sent o.page national serial page ok.page shape) in
-    (numbered_is_value (pts_of o.origin frame) packets small few
+    (sending_has_sent_packets o.page national serial page ok.page shape) in
+    (numbered_frame_is_valid (pts_of o.origin frame) packets small few
     (recursion_from_All IsPacket packets each)).0
 
-pub rows_next : (magazine : ℕ) (page : Rows) (row : ℕ)
+pub rows_from_splits_at_row : (magazine : ℕ) (page : Rows) (row : ℕ)
     → row ≤ 24
     → rows_from magazine page row (25 - row)
     ≡ cond (is_sent_row (row_at page row)) (row_packet magazine row (row_at page row) ∷ []) []
     ++ rows_from magazine page (row + 1) (25 - (row + 1))
-rows_next magazine page row high = grind (arith, nat_tests)
+rows_from_splits_at_row magazine page row high = grind (arith, nat_tests)
 
-pub sending_made : (w : PageIdValue) (national : National) (serial : Bool) (page : Rows)
+pub packets_make_the_sending : (w : PageIdValue) (national : National) (serial : Bool) (page : Rows)
     (sent : List (List ℕ))
     → sent ≡ header_packet w.magazine (watched_header w national serial)
     ∷ rows_from w.magazine page 1 24
     → sent ++ header_packet w.magazine (closing_header serial) ∷ []
     ≡ sending w national serial page
 unfolding sending sent_rows
-sending_made w national serial page sent is = rw is refl
+packets_make_the_sending w national serial page sent is = rw is refl

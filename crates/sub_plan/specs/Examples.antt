@@ -12,27 +12,27 @@ abbrev pub page_888 : PageIdValue
 page_888 = record { magazine = 0; page = 0x88 }
 
 -- A header packet of page 888: ten coded bytes, the last of them `last`, and 32 spaces.
-abbrev pub header_888_ending : ℕ → List ℕ
-header_888_ending last =
+abbrev pub header_of_888_ending_with : ℕ → List ℕ
+header_of_888_ending_with last =
     (0x15 ∷ 0x15 ∷ 0xD0 ∷ 0xD0 ∷ 0x15 ∷ 0xD0 ∷ 0x15 ∷ 0xD0 ∷ 0x02 ∷ last ∷ []) ++ replicate 32 0x20
 
 -- The header of page 888 with a national option ends with these coded bytes in parallel and in
 -- serial mode. The last coded byte has C11 to C14 as its four data bits.
-abbrev pub HasLastBytes : National → ℕ → ℕ → Type 0
-HasLastBytes national parallel serial =
-    (header_packet 0 (watched_header page_888 national false) ≡ header_888_ending parallel)
-    × (header_packet 0 (watched_header page_888 national true) ≡ header_888_ending serial)
+abbrev pub HasLastHeaderBytes : National → ℕ → ℕ → Type 0
+HasLastHeaderBytes national parallel serial =
+    (header_packet 0 (watched_header page_888 national false) ≡ header_of_888_ending_with parallel)
+    × (header_packet 0 (watched_header page_888 national true) ≡ header_of_888_ending_with serial)
 
 -- The header of page 888 for each national option, in parallel and in serial mode.
 abbrev pub ExampleOfWatchedHeaders : Type 0
 ExampleOfWatchedHeaders =
-    HasLastBytes English 0x15 0x02
-    × HasLastBytes German 0xD0 0xC7
-    × HasLastBytes Swedish 0x64 0x73
-    × HasLastBytes Italian 0xA1 0xB6
-    × HasLastBytes French 0x49 0x5E
-    × HasLastBytes Spanish 0x8C 0x9B
-    × HasLastBytes Czech 0x38 0x2F
+    HasLastHeaderBytes English 0x15 0x02
+    × HasLastHeaderBytes German 0xD0 0xC7
+    × HasLastHeaderBytes Swedish 0x64 0x73
+    × HasLastHeaderBytes Italian 0xA1 0xB6
+    × HasLastHeaderBytes French 0x49 0x5E
+    × HasLastHeaderBytes Spanish 0x8C 0x9B
+    × HasLastHeaderBytes Czech 0x38 0x2F
 
 -- The closing header of magazine 8, in parallel and in serial mode.
 abbrev pub ExampleOfClosingHeaders : Type 0

@@ -6,11 +6,11 @@ use Rattle.sub_plan.specs.declared.fault.PlanFault.{PlanFault}
 use Rattle.sub_plan.specs.declared.fault.PlanFault.TheVariants as fault
 
 -- The number and the name of an error of writing a schedule.
-abbrev pub plan_code : PlanFault → FaultCodeValue
-plan_code fault.NoSubtitles = fault_code 82 (codes "NoSubtitles")
-plan_code fault.Write = fault_code 42 (codes "Write")
+abbrev pub code_of_plan_fault : PlanFault → FaultCodeValue
+code_of_plan_fault fault.NoSubtitles = fault_code 82 (codes "NoSubtitles")
+code_of_plan_fault fault.Write = fault_code 42 (codes "Write")
 
 -- The error means that the sink failed.
-abbrev pub is_plan_write : PlanFault → Bool
-is_plan_write fault.Write = true
-is_plan_write _ = false
+abbrev pub is_plan_write_failure : PlanFault → Bool
+is_plan_write_failure fault.Write = true
+is_plan_write_failure _ = false

@@ -20,7 +20,7 @@ use Rattle.stl_rows.specs.Programme.{IsProgramme, ProgrammeValue}
 use Rattle.stl_file.specs.TimeCode.{day}
 use Rattle.sub_plan.specs.FrameTime.{clock, pts_of}
 use Rattle.sub_plan.specs.Options.{IsOptions, IsWatchable, OptionsValue}
-use Rattle.sub_plan.specs.Schedule.{base, due_in, is_sending, sendings, pes_value, plan_frames}
+use Rattle.sub_plan.specs.Schedule.{base, due_page_in, is_sending, sendings, pes_value, plan_frames}
 use Rattle.sub_plan.specs.Sending.{sending, watched_header}
 
 -- ---- laws of one page transmission
@@ -61,7 +61,7 @@ LawOfSentPackets =
 abbrev pub LawOfDueSize : Type 0
 LawOfDueSize =
     (w : PageIdValue) (serial : Bool) (programme : ProgrammeValue) (frame : ℕ)
-    → length (sending w programme.drawing.national serial (due_in programme frame)) ≤ 25
+    → length (sending w programme.drawing.national serial (due_page_in programme frame)) ≤ 25
 
 -- A page transmission has at most 26 packets. So one PES packet has enough lines for all of them.
 abbrev pub LawOfSize : Type 0
@@ -106,7 +106,7 @@ pub record IsLastBase (due : ℕ → Rows) (first f b : ℕ) : Type 0 where
   pub low : first ≤ b
   pub high : b ≤ f
   pub is_base : IsBase due first b
-  pub none_after : (k : ℕ) → b < k → k ≤ f → IsBase due first k → ⊥
+  pub no_later_match : (k : ℕ) → b < k → k ≤ f → IsBase due first k → ⊥
 
 -- The frame f has a page transmission: f is the last frame, or the distance from the last base to f
 -- is a multiple of `every`.
@@ -147,7 +147,7 @@ pub record IsLastSending (due : ℕ → Rows) (every first last f g : ℕ) : Typ
   pub low : first ≤ g
   pub high : g ≤ f
   pub sends : IsTrue (is_sending due every first last g)
-  pub none_after : (k : ℕ) → g < k → k ≤ f → IsFalse (is_sending due every first last k)
+  pub no_later_match : (k : ℕ) → g < k → k ≤ f → IsFalse (is_sending due every first last k)
   pub same : due g ≡ due f
 
 -- From the first frame on, each frame has a page transmission at or before it, and the last of

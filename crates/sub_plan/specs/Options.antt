@@ -35,5 +35,5 @@ pub record IsOptions (o : OptionsValue) : Type 0 where
   pub least : 1 ≤ o.every
   pub most : o.every ≤ day
   pub origin : o.origin < 2 ^ 33
-  pub within_most : o.within ≤ 50
+  pub within_is_at_most_50 : o.within ≤ 50
   pub pace : IfSome o.pace (λ frames. (1 ≤ frames) × (frames ≤ day))

@@ -64,8 +64,8 @@ sendings_at due o national serial frames = flat_map (sending_at due o national s
 -- ---- the schedule of a programme
 
 -- The expected page of a programme at a frame.
-abbrev pub due_in : ProgrammeValue → ℕ → Rows
-due_in programme = due programme.drawing programme.records
+abbrev pub due_page_in : ProgrammeValue → ℕ → Rows
+due_page_in programme = due programme.drawing programme.records
 
 -- The frames with a page transmission, from the first TCI to the last TCO; none if the programme
 -- has no subtitle.
@@ -77,12 +77,12 @@ sendings_between due every (Some first) (Some last) = sendings due every first l
 -- The frames of a programme's schedule that have a page transmission, in rising order.
 abbrev pub plan_frames : ProgrammeValue → ℕ → List ℕ
 plan_frames programme every =
-    sendings_between (due_in programme) every
+    sendings_between (due_page_in programme) every
     (first_tci programme.records)
     (last_tco programme.records)
 
 -- The bytes of a programme's schedule: one PES packet for each frame with a page transmission.
 abbrev pub plan : ProgrammeValue → OptionsValue → Bool → List ℕ
 plan programme o serial =
-    sendings_at (due_in programme) o programme.drawing.national serial
+    sendings_at (due_page_in programme) o programme.drawing.national serial
     (plan_frames programme o.every)

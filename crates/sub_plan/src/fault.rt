@@ -33,11 +33,11 @@ pub enum PlanFault {
 }
 
 impl PlanFault {
-    ghost use Rattle.sub_plan.specs.Fault.{plan_code};
+    ghost use Rattle.sub_plan.specs.Fault.{code_of_plan_fault};
 
     /// Returns the number and the name of the error for reports.
     pub fn code(self) -> FaultCode
-        ensures { result ≡ plan_code self }
+        ensures { result ≡ code_of_plan_fault self }
     {
         match self {
             PlanFault::NoSubtitles => FaultCode::new(82, "NoSubtitles"),

@@ -10,7 +10,7 @@ ghost use Rattle.sub_plan.specs.declared.fault.OptionFault.TheVariants.{Within};
 use crate::fault::OptionFault;
 use std::marker::Model;
 use ttx_packet::PageId;
-use ttx_pes::MOST_PACKETS;
+use ttx_pes::MAX_PES_PACKETS;
 
 /// The number of 90 kHz ticks per frame, a 25th of a second.
 const TICKS_PER_FRAME: u64 = 3600;
@@ -20,16 +20,16 @@ const PTS_END: u64 = 8_589_934_592;
 
 /// The number of frames of a day at 25 frames per second. A PES file has at most one PES packet per
 /// frame.
-const FRAMES_OF_DAY: u64 = MOST_PACKETS as u64;
+const FRAMES_PER_DAY: u64 = MAX_PES_PACKETS as u64;
 
 /// The greatest repeat bound and the greatest pace in frames: a day.
-const MOST_FRAMES: u64 = FRAMES_OF_DAY;
+const MAX_REPEAT_FRAMES: u64 = FRAMES_PER_DAY;
 
 /// The greatest number of frames within which the page must be right: two seconds.
-const MOST_WITHIN: u64 = 50;
+const MAX_WITHIN: u64 = 50;
 
 /// The number of ticks by which a PTS may precede its frame: a quarter of a frame.
-const TICKS_EARLY: u64 = 900;
+const MAX_EARLY_TICKS: u64 = 900;
 
 /// The options of a schedule and of a check: the page with the subtitles, its repeat bound, the PTS
 /// of frame 0, whether complete pages are required, the number of frames within which the expected
@@ -115,7 +115,7 @@ impl Options {
             ↔ ((1 ≤ every) × (every ≤ day) × (2 ^ 33 ≤ origin)) }
         ensures others { (result ≢ Err Within) × (result ≢ Err Pace) }
     {
-        if every < 1 || every > MOST_FRAMES {
+        if every < 1 || every > MAX_REPEAT_FRAMES {
             return Err(OptionFault::Every);
         }
         if origin >= PTS_END {
@@ -164,7 +164,7 @@ impl Options {
         ensures within { (result ≡ Err Within) ↔ (50 < frames) }
         ensures others { IfErr result (λ fault. fault ≡ Within) }
     {
-        if frames > MOST_WITHIN {
+        if frames > MAX_WITHIN {
             return Err(OptionFault::Within);
         }
         Ok(Options {
@@ -193,7 +193,7 @@ impl Options {
         ensures pace { (result ≡ Err Pace) ↔ ((frames < 1) ⊎ (day < frames)) }
         ensures others { IfErr result (λ fault. fault ≡ Pace) }
     {
-        if frames < 1 || frames > MOST_FRAMES {
+        if frames < 1 || frames > MAX_REPEAT_FRAMES {
             return Err(OptionFault::Pace);
         }
         Ok(Options {
@@ -295,7 +295,7 @@ fn exact_frame(origin: u64, pts: u64) -> Option<u32>
         return None;
     }
     let frame = ticks / TICKS_PER_FRAME;
-    if frame >= FRAMES_OF_DAY {
+    if frame >= FRAMES_PER_DAY {
         return None;
     }
     Some(frame as u32)
@@ -310,9 +310,9 @@ fn nearest_frame(origin: u64, pts: u64) -> Option<u32>
     if pts >= PTS_END {
         return None;
     }
-    let ticks = (pts + (PTS_END - origin) + TICKS_EARLY) % PTS_END;
+    let ticks = (pts + (PTS_END - origin) + MAX_EARLY_TICKS) % PTS_END;
     let frame = ticks / TICKS_PER_FRAME;
-    if frame >= FRAMES_OF_DAY {
+    if frame >= FRAMES_PER_DAY {
         return None;
     }
     Some(frame as u32)

@@ -2,12 +2,12 @@
 ghost use Rattle.std.specs.Prelude.{◌≡◌, ◌≢◌, ◌↔◌, ℕ, ◌+◌, ◌-◌, ◌<◌, ◌≤◌, List, [], Err, IfOk};
 ghost use Rattle.std.specs.Prelude.{length};
 ghost use Rattle.std.specs.List.{flat_map};
-ghost use Rattle.sub_io.specs.Device.{CanFail, CountsFailure, CountsIf, Writes, failed};
+ghost use Rattle.sub_io.specs.Device.{CanFail, CountsFailure, CountsFailureIf, Writes, failed};
 ghost use Rattle.ttx_pes.specs.LineOrder.{numbered_units};
-ghost use Rattle.sub_plan.specs.Fault.{is_plan_write};
+ghost use Rattle.sub_plan.specs.Fault.{is_plan_write_failure};
 ghost use Rattle.sub_plan.specs.declared.fault.PlanFault.TheVariants.{NoSubtitles};
 ghost use Rattle.stl_file.specs.TimeCode.{day};
-ghost use Rattle.sub_plan.specs.Schedule.{due_in, plan, plan_frames, sendings, sendings_at};
+ghost use Rattle.sub_plan.specs.Schedule.{due_page_in, plan, plan_frames, sendings, sendings_at};
 ghost use Rattle.sub_plan.specs.Steps.{packets_at, steps};
 
 use crate::fault::PlanFault;
@@ -33,8 +33,8 @@ fn put_at<K: Sink>(
         (packets_at options.now.origin packets.now frame) result }
     ensures count { CountsFailure (K.failure_count sink.old) result (K.failure_count sink.new) }
 {
-    let mut once = RepeatedPacket::of_packets(packets);
-    repeat_at(sink, options, frame, &mut once)
+    let mut repeated_sending = RepeatedPacket::from_packets(packets);
+    repeat_at(sink, options, frame, &mut repeated_sending)
 }
 
 // Writes a page transmission at a frame, repeated from an earlier frame.
@@ -57,7 +57,7 @@ fn repeat_at<K: Sink>(
 }
 
 // Returns the repeat bound in frames, as a `u32` to be added to a frame.
-fn step_of(options: &Options) -> u32
+fn repeat_interval(options: &Options) -> u32
     ensures value { result ≡ options.now.every }
     ensures least { 1 ≤ result }
     ensures most { result ≤ day }
@@ -83,8 +83,8 @@ fn send_steps<K: Sink>(
         (packets_at options.now.origin packets.now) (steps options.now.every from end)) result }
     ensures count { CountsFailure (K.failure_count sink.old) result (K.failure_count sink.new) }
 {
-    let every = step_of(options);
-    let mut packet = RepeatedPacket::of_packets(packets);
+    let every = repeat_interval(options);
+    let mut packet = RepeatedPacket::from_packets(packets);
     let mut frame = from;
     let mut count = 0;
     while frame < end {
@@ -99,13 +99,14 @@ fn send_steps<K: Sink>(
 // differs; and the expected page at the returned frame. Draws the page only at cues.
 fn next_change(programme: &Programme, frame: u32, page: &Page, last: u32) -> (u32, Page)
     requires within { frame < last }
-    requires page { page.now ≡ due_in programme.now frame }
+    requires page { page.now ≡ due_page_in programme.now frame }
     ensures after { frame < result.0 }
     ensures within { result.0 ≤ last }
     ensures same { (f : ℕ)
-        → frame ≤ f → f < result.0 → due_in programme.now f ≡ due_in programme.now frame }
-    ensures change { result.0 < last → due_in programme.now result.0 ≢ due_in programme.now frame }
-    ensures page { result.1 ≡ due_in programme.now result.0 }
+        → frame ≤ f → f < result.0 → due_page_in programme.now f ≡ due_page_in programme.now frame }
+    ensures change { result.0 < last → due_page_in programme.now result.0 ≢ due_page_in
+        programme.now frame }
+    ensures page { result.1 ≡ due_page_in programme.now result.0 }
 {
     law_of_edges();
     let mut at = frame;
@@ -136,10 +137,10 @@ fn send_all<K: Sink>(
     requires day { last < day }
     requires failures { CanFail (K.failure_count sink.old) }
     ensures number { IfOk result
-        (λ n. n ≡ length (sendings (due_in programme.now) options.now.every first last)) }
+        (λ n. n ≡ length (sendings (due_page_in programme.now) options.now.every first last)) }
     ensures bytes { Writes (K.contents sink.old) (K.contents sink.new)
-        (sendings_at (due_in programme.now) options.now programme.now.drawing.national serial
-        (sendings (due_in programme.now) options.now.every first last))
+        (sendings_at (due_page_in programme.now) options.now programme.now.drawing.national serial
+        (sendings (due_page_in programme.now) options.now.every first last))
         result }
     ensures count { CountsFailure (K.failure_count sink.old) result (K.failure_count sink.new) }
 {
@@ -148,13 +149,13 @@ fn send_all<K: Sink>(
     let mut page = programme.due_page(first);
     let mut count = 0;
     while frame < last {
-        let sending = PageSending::of_page(options.page(), national, serial, &page);
+        let sending = PageSending::from_page(options.page(), national, serial, &page);
         let (end, next) = next_change(programme, frame, &page, last);
         count += send_steps(sink, options, frame, end, sending.packets())?;
         frame = end;
         page = next;
     }
-    let sending = PageSending::of_page(options.page(), national, serial, &page);
+    let sending = PageSending::from_page(options.page(), national, serial, &page);
     put_at(sink, options, last, sending.packets())?;
     Ok(count + 1)
 }
@@ -185,7 +186,8 @@ pub fn schedule<K: Sink>(
         (λ n. n ≡ length (plan_frames programme.now options.now.every)) }
     ensures empty { (result ≡ Err NoSubtitles) ↔ (programme.now.records ≡ []) }
     ensures nothing { result ≡ Err NoSubtitles → sink.new ≡ sink.old }
-    ensures count { CountsIf K.failure_count sink.old (failed is_plan_write result) sink.new }
+    ensures count { CountsFailureIf K.failure_count sink.old (failed is_plan_write_failure result)
+        sink.new }
 {
     let Some(first) = programme.first_tci() else {
         return Err(PlanFault::NoSubtitles);

@@ -82,11 +82,11 @@ pub enum FileNames<'a> {
 }
 
 impl<'a> Request<'a> {
-    ghost use Rattle.sub_request.specs.Files.{files_of};
+    ghost use Rattle.sub_request.specs.Files.{files_of_request};
 
     /// Returns the names of the files that the request reads and writes.
     pub fn files(&self) -> FileNames<'a>
-        ensures { result ≡ files_of self.now }
+        ensures { result ≡ files_of_request self.now }
     {
         match self {
             Request::Help | Request::Version | Request::Packet { .. } => FileNames::None,

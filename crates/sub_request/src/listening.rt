@@ -24,7 +24,7 @@ pub enum ReceiverKind {
     DropRow,
     /// The receiver stores a space in the cell, and blanks the page at each header of the page,
     /// even if C4 is clear.
-    Anew,
+    BlankEachHeader,
 }
 
 /// The parameters of the command `listen`: one run of a receiver over the PES packets of a file.

@@ -79,11 +79,11 @@ pub enum UsageFault {
 }
 
 impl UsageFault {
-    ghost use Rattle.sub_request.specs.Fault.{usage_code};
+    ghost use Rattle.sub_request.specs.Fault.{code_of_usage_fault};
 
     /// Returns the number and the name of the fault for reports.
     pub fn code(&self) -> FaultCode
-        ensures { result ≡ usage_code self.now }
+        ensures { result ≡ code_of_usage_fault self.now }
     {
         match self {
             UsageFault::Words => FaultCode::new(0, "Words"),

@@ -8,9 +8,9 @@ use Rattle.ttx_packet.specs.PacketAddress.{HasExactAddress}
 use Rattle.ttx_packet.specs.PageHeader.{HasExactHeader}
 use Rattle.sub_rules.specs.PacketTests.{are_code_words, is_word_below}
 
-word_decided : (b : ℕ) → Decides (is_word_below b 16) (IsCodeWord b)
+code_word_test_is_exact : (b : ℕ) → Decides (is_word_below b 16) (IsCodeWord b)
 unfolding is_word_below
-word_decided b =
+code_word_test_is_exact b =
     Decides-below_or (λ n. b == code_word n) (λ n. b ≡ code_word n) (is_word_below b)
     (λ n. Decides-eqb b (code_word n)) refl (λ _. refl) 16
 
@@ -21,18 +21,18 @@ unfolding are_code_words
 code_words_decided from n p =
     Decides-below_and (λ k. is_word_below (slice_index p (from + k)) 16)
     (λ k. IsCodeWord (slice_index p (from + k))) (λ m. are_code_words from m p)
-    (λ k. word_decided (slice_index p (from + k))) refl (λ _. refl) n
+    (λ k. code_word_test_is_exact (slice_index p (from + k))) refl (λ _. refl) n
 
-pub address_decided : (p : List ℕ) → Decides (are_code_words 0 2 p) (HasExactAddress p)
-address_decided p =
+pub address_test_is_exact : (p : List ℕ) → Decides (are_code_words 0 2 p) (HasExactAddress p)
+address_test_is_exact p =
     Decides-like (are_code_words 0 2 p)
     (λ h k l.
     let here : 0 + k ≡ k = omega arith in subst (λ n. IsCodeWord (slice_index p n)) here (h k l))
     (λ h k l. h (0 + k) (omega arith))
     (code_words_decided 0 2 p)
 
-pub header_decided : (p : List ℕ) → Decides (are_code_words 2 8 p) (HasExactHeader p)
-header_decided p =
+pub header_test_is_exact : (p : List ℕ) → Decides (are_code_words 2 8 p) (HasExactHeader p)
+header_test_is_exact p =
     Decides-like (are_code_words 2 8 p)
     (λ h k low high.
     let here : 2 + (k - 2) ≡ k = omega arith in

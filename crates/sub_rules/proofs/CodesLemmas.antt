@@ -9,19 +9,19 @@ use Rattle.std.proofs.lemmas.Option.{same_Some}
 use Rattle.std.specs.Int.RustNames.{count_ones}
 use lib.Count.{ones_in}
 use Rattle.ttx_packet.specs.Hamming84.{code_word}
-use Rattle.ttx_packet.specs.Parity.{is_odd, code_of}
+use Rattle.ttx_packet.specs.Parity.{is_odd, character_code}
 use Rattle.ttx_packet.specs.PacketAddress.{address, HasExactAddress, IsPacket}
 use Rattle.ttx_packet.specs.RowPacket.{HasOddText}
-use Rattle.ttx_packet.proofs.Hamming84Lemmas.{decoded-code_word}
+use Rattle.ttx_packet.proofs.Hamming84Lemmas.{decoded_nibble-code_word}
 use Rattle.sub_rules.specs.PacketRules.{codes_of}
 
-upper_odd : (code : ℕ) → code < 128 → is_odd (code + 128) ≡ not (is_odd code)
+high_bit_flips_parity : (code : ℕ) → code < 128 → is_odd (code + 128) ≡ not (is_odd code)
 unfolding is_odd count_ones ones_in
-upper_odd code l =
+high_bit_flips_parity code l =
     agree_below_at (λ k. is_odd (k + 128)) (λ k. not (is_odd k)) 128 code refl l
 
-one_odd : (b c : ℕ) → b < 128 → c ≡ b + 128 → is_odd b ≡ true → is_odd c ≡ true → ⊥
-one_odd b c l s ob oc = grind (arith, nat_tests, true≢false, upper_odd)
+one_of_pair_is_even : (b c : ℕ) → b < 128 → c ≡ b + 128 → is_odd b ≡ true → is_odd c ≡ true → ⊥
+one_of_pair_is_even b c l s ob oc = grind (arith, nat_tests, true≢false, high_bit_flips_parity)
 
 odd_same :
     (b c : ℕ)
@@ -31,7 +31,7 @@ odd_same :
     → is_odd c ≡ true
     → b % 128 ≡ c % 128
     → b ≡ c
-odd_same b c lb lc ob oc e = grind (arith, one_odd)
+odd_same b c lb lc ob oc e = grind (arith, one_of_pair_is_even)
 
 address_eq :
     (p : List ℕ) (m n : ℕ)
@@ -42,7 +42,7 @@ address_eq :
     → address p
     ≡ Some (record { magazine = (m + 0x10 * n) % 8; packet_number = (m + 0x10 * n) / 8 })
 unfolding address
-address_eq p m n lm ln e f = grind (arith, decoded-code_word)
+address_eq p m n lm ln e f = grind (arith, decoded_nibble-code_word)
 
 same_address :
     (p q : List ℕ)
@@ -60,15 +60,15 @@ same_address p q x y e =
     (sym (address_eq p a.0 b.0 a.1 b.1 a.2 b.2) ∙ e ∙ address_eq q c.0 d.0 c.1 d.1 c.2 d.2) in
     grind (arith, nat_tests)
 
-pub code_at : (bytes : List ℕ) (k : ℕ)
-    → get_or (map code_of bytes) k 0 ≡ code_of (get_or bytes k 0)
-code_at [] k = refl
-code_at (b ∷ bytes) zero = refl
-code_at (b ∷ bytes) (suc k) = code_at bytes k
+pub code_of_commutes_with_get : (bytes : List ℕ) (k : ℕ)
+    → get_or (map character_code bytes) k 0 ≡ character_code (get_or bytes k 0)
+code_of_commutes_with_get [] k = refl
+code_of_commutes_with_get (b ∷ bytes) zero = refl
+code_of_commutes_with_get (b ∷ bytes) (suc k) = code_of_commutes_with_get bytes k
 
 pub code_of_column :
-    (p : List ℕ) (k : ℕ) → get_or (codes_of p) k 0 ≡ code_of (get_or p (k + 2) 0)
-code_of_column p k = grind (arith, nat_tests, code_at, get_or-drop)
+    (p : List ℕ) (k : ℕ) → get_or (codes_of p) k 0 ≡ character_code (get_or p (k + 2) 0)
+code_of_column p k = grind (arith, nat_tests, code_of_commutes_with_get, get_or-drop)
 
 -- Rows with correct addresses and odd parity are equal if they have the same codes. So a checker
 -- need only store the codes of a row.
@@ -81,7 +81,7 @@ pub same_packet :
     → address p ≡ address q
     → HasOddText p
     → HasOddText q
-    → map code_of (drop 2 p) ≡ map code_of (drop 2 q)
+    → map character_code (drop 2 p) ≡ map character_code (drop 2 q)
     → p ≡ q
 same_packet p q wp wq xp xq a op oq codes =
     same_lists p q (wp.size ∙ sym wq.size)

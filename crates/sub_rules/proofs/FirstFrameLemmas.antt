@@ -3,8 +3,9 @@
 -- the events before its end.
 use Rattle.std.proofs.Common.{◌≡◌, ℕ, zero, suc, ◌+◌, ◌-◌, ◌≤◌, map, take}
 use Rattle.std.proofs.Common.{Option, refl, sym, ap, ◌∙◌, arith, take-take}
-use Rattle.sub_rules.specs.Events.{end_before, events_at_end, gap_length, is_gap, is_silent}
-use Rattle.sub_rules.specs.Events.{is_incomplete, is_late, is_unfinished, latest, order_events}
+use Rattle.sub_rules.specs.Events.{previous_end_frame, events_at_end, gap_length, is_gap, is_silent}
+use Rattle.sub_rules.specs.Events.{is_incomplete, is_late, is_unfinished, latest_frame}
+use Rattle.sub_rules.specs.Events.{order_events}
 use Rattle.sub_rules.specs.Events.{first_unfinished_before, first_unfinished_in_frames}
 use Rattle.sub_rules.specs.Events.{first_unfinished_in_gap, active_faults_at}
 use Rattle.sub_rules.specs.Events.{active_faults_before, unfinished_run_start}
@@ -19,54 +20,56 @@ module _ (g : Criteria) (xs ys : Transmission) (n : ℕ)
     pub frame_at-same : (k : ℕ) → frame_at xs k ≡ frame_at ys k
     frame_at-same k = rw numbers refl
 
-    pub latest-same : (k : ℕ) → latest xs k ≡ latest ys k
-    unfolding latest
-    latest-same zero = refl
-    latest-same (suc k) = rw (latest-same k, frame_at-same k) refl
+    pub latest_frame-same : (k : ℕ) → latest_frame xs k ≡ latest_frame ys k
+    unfolding latest_frame
+    latest_frame-same zero = refl
+    latest_frame-same (suc k) = rw (latest_frame-same k, frame_at-same k) refl
 
     pub gap_length-same : (i : ℕ) → gap_length xs i ≡ gap_length ys i
     unfolding gap_length
     gap_length-same zero = refl
-    gap_length-same (suc i) = rw (latest-same (suc i), frame_at-same (suc i)) refl
+    gap_length-same (suc i) = rw (latest_frame-same (suc i), frame_at-same (suc i)) refl
 
     pub order_events-same : (i : ℕ) → order_events g xs i ≡ order_events g ys i
     unfolding order_events
     order_events-same zero = rw (frame_at-same 0) refl
     order_events-same (suc i) = rw (frame_at-same i, frame_at-same (suc i)) refl
 
-    end_same : (i f : ℕ) → end_before xs i f ≡ end_before ys i f
-    end_same i f = rw (latest-same i, frame_at-same (i - 1)) refl
+    end_before_depends_on_prefix : (i f : ℕ) → previous_end_frame xs i f ≡ previous_end_frame ys i f
+    end_before_depends_on_prefix i f = rw (latest_frame-same i, frame_at-same (i - 1)) refl
 
-    frames_same : (k : ℕ) → k ≤ n → take k xs ≡ take k ys
-    frames_same k l = sym (take-take k n xs l) ∙ ap (take k) first ∙ take-take k n ys l
+    equal_prefixes_have_equal_frames : (k : ℕ) → k ≤ n → take k xs ≡ take k ys
+    equal_prefixes_have_equal_frames k l = sym (take-take k n xs l) ∙ ap (take k) first ∙ take-take
+        k n ys l
 
-    unfinished_same : (k f : ℕ) → k ≤ n → is_unfinished g xs k f ≡ is_unfinished g ys k f
+    is_unfinished_depends_on_prefix : (k f : ℕ) → k ≤ n → is_unfinished g xs k f ≡ is_unfinished g
+        ys k f
     unfolding is_incomplete
-    unfinished_same k f l = rw (frames_same k l) refl
+    is_unfinished_depends_on_prefix k f l = rw (equal_prefixes_have_equal_frames k l) refl
 
-    gap_first_unfinished_same : (k : ℕ) (first_unfinished : Option ℕ) (m : ℕ) → k ≤ n
+    gap_run_start_depends_on_prefix : (k : ℕ) (first_unfinished : Option ℕ) (m : ℕ) → k ≤ n
         → first_unfinished_in_gap g xs k first_unfinished m ≡ first_unfinished_in_gap g ys k
         first_unfinished m
     unfolding first_unfinished_in_gap
-    gap_first_unfinished_same k first_unfinished zero l = refl
-    gap_first_unfinished_same k first_unfinished (suc m) l =
+    gap_run_start_depends_on_prefix k first_unfinished zero l = refl
+    gap_run_start_depends_on_prefix k first_unfinished (suc m) l =
         rw (
-          gap_first_unfinished_same k first_unfinished m l,
-          unfinished_same k (latest xs k + suc m) l,
-          latest-same k,
+          gap_run_start_depends_on_prefix k first_unfinished m l,
+          is_unfinished_depends_on_prefix k (latest_frame xs k + suc m) l,
+          latest_frame-same k,
         ) refl
 
-    first_unfinished_same : (k : ℕ) → k ≤ n → first_unfinished_in_frames g xs k ≡
+    run_start_depends_on_prefix : (k : ℕ) → k ≤ n → first_unfinished_in_frames g xs k ≡
         first_unfinished_in_frames g ys k
     unfolding first_unfinished_in_frames
-    first_unfinished_same zero l = refl
-    first_unfinished_same (suc i) l =
+    run_start_depends_on_prefix zero l = refl
+    run_start_depends_on_prefix (suc i) l =
         rw (
-          gap_first_unfinished_same i (first_unfinished_in_frames g xs i) (gap_length xs i)
+          gap_run_start_depends_on_prefix i (first_unfinished_in_frames g xs i) (gap_length xs i)
               (omega arith),
-          first_unfinished_same i (omega arith),
+          run_start_depends_on_prefix i (omega arith),
           gap_length-same i,
-          unfinished_same (suc i) (frame_at xs i) l,
+          is_unfinished_depends_on_prefix (suc i) (frame_at xs i) l,
           frame_at-same i,
         ) refl
 
@@ -75,9 +78,10 @@ module _ (g : Criteria) (xs ys : Transmission) (n : ℕ)
     unfolding unfinished_run_start
     unfinished_run_start-same k f l =
         rw (
-          gap_first_unfinished_same k (first_unfinished_in_frames g xs k) (f - latest xs k) l,
-          first_unfinished_same k l,
-          latest-same k,
+          gap_run_start_depends_on_prefix k (first_unfinished_in_frames g xs k)
+              (f - latest_frame xs k) l,
+          run_start_depends_on_prefix k l,
+          latest_frame-same k,
         ) refl
 
     pub first_unfinished_before-same : (k f : ℕ) → k ≤ n → first_unfinished_before g xs k f ≡
@@ -93,26 +97,36 @@ module _ (g : Criteria) (xs ys : Transmission) (n : ℕ)
     is_silent-same : (k f : ℕ) → is_silent g xs k f ≡ is_silent g ys k f
     unfolding is_silent
     is_silent-same zero f = refl
-    is_silent-same (suc k) f = rw (latest-same (suc k)) refl
+    is_silent-same (suc k) f = rw (latest_frame-same (suc k)) refl
 
     pub active_faults_at-same : (k f : ℕ) → k ≤ n → active_faults_at g xs k f ≡ active_faults_at g
         ys k f
     unfolding active_faults_at is_gap is_incomplete
     active_faults_at-same k f l =
-        rw (is_late-same k f l, frames_same k l, frame_at-same 0, is_silent-same k f) refl
+        rw (
+          is_late-same k f l,
+          equal_prefixes_have_equal_frames k l,
+          frame_at-same 0,
+          is_silent-same k f,
+        ) refl
 
     pub active_faults_before-same : (i f : ℕ) → i ≤ n
         → active_faults_before g xs i f ≡ active_faults_before g ys i f
     unfolding active_faults_before
     active_faults_before-same zero f l = refl
     active_faults_before-same (suc i) f l =
-        ap (active_faults_at g xs (suc i)) (end_same (suc i) f)
-        ∙ active_faults_at-same (suc i) (end_before ys (suc i) f) l
+        ap (active_faults_at g xs (suc i)) (end_before_depends_on_prefix (suc i) f)
+        ∙ active_faults_at-same (suc i) (previous_end_frame ys (suc i) f) l
 
     pub events_at_end-same : (i k f : ℕ) → i ≤ n → k ≤ n
         → events_at_end g xs i k f ≡ events_at_end g ys i k f
     events_at_end-same i k f l m =
-        rw (active_faults_before-same i f l, end_same i f, active_faults_at-same k f m) refl
+        rw (
+          active_faults_before-same i f l,
+          end_before_depends_on_prefix i f,
+          active_faults_at-same
+              k f m,
+        ) refl
 
     pub steps_at_end-same : (i k f : ℕ) → i ≤ n → k ≤ n
         → steps_at_end g xs i k f ≡ steps_at_end g ys i k f
@@ -130,8 +144,8 @@ module _ (g : Criteria) (xs ys : Transmission) (n : ℕ)
     steps_of_gap-same i (suc m) l =
         rw (
           steps_of_gap-same i m l,
-          steps_at_end-same i i (latest xs i + suc m) l l,
-          latest-same i,
+          steps_at_end-same i i (latest_frame xs i + suc m) l l,
+          latest_frame-same i,
         ) refl
 
     pub steps_of_arrival-same : (i : ℕ) → i ≤ n

@@ -1,7 +1,7 @@
 -- The events of a transmission whose frames have one PES packet each.
 use Rattle.std.specs.Prelude.{ℕ, zero, suc, ◌+◌, List, [], ◌++◌, length}
 use Rattle.sub_rules.specs.Events.{closing_events, events_at_end, first_header_events, gap_length}
-use Rattle.sub_rules.specs.Events.{latest, order_events, packet_events}
+use Rattle.sub_rules.specs.Events.{latest_frame, order_events, packet_events}
 use Rattle.sub_rules.specs.FrameRules.{Criteria, frame_at, packets_before, packets_of_frame}
 use Rattle.sub_rules.specs.Transmission.{Transmission}
 use Rattle.sub_rules.specs.declared.event.Event.{Event}
@@ -10,7 +10,7 @@ use Rattle.sub_rules.specs.declared.event.Event.{Event}
 unfoldable pub gap_events : Criteria → Transmission → ℕ → ℕ → List Event
 gap_events g frames i zero = []
 gap_events g frames i (suc n) =
-    gap_events g frames i n ++ events_at_end g frames i i (latest frames i + suc n)
+    gap_events g frames i n ++ events_at_end g frames i i (latest_frame frames i + suc n)
 
 -- The events of entry i of the transmission: for its frame number, for the frames before it, for
 -- its packets, and at its end.
@@ -24,11 +24,12 @@ frame_events g frames i =
     ++ events_at_end g frames i (suc i) (frame_at frames i)
 
 -- The events of the first n entries of the transmission.
-unfoldable pub events_of_first : Criteria → Transmission → ℕ → List Event
-events_of_first g frames zero = []
-events_of_first g frames (suc n) = events_of_first g frames n ++ frame_events g frames n
+unfoldable pub events_of_first_frames : Criteria → Transmission → ℕ → List Event
+events_of_first_frames g frames zero = []
+events_of_first_frames g frames (suc n) = events_of_first_frames g frames n ++ frame_events g frames
+    n
 
 -- All events of a transmission, if each frame is one PES packet.
 unfoldable pub events : Criteria → Transmission → List Event
 events g frames =
-    events_of_first g frames (length frames) ++ closing_events g frames (length frames)
+    events_of_first_frames g frames (length frames) ++ closing_events g frames (length frames)

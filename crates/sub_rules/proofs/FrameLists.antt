@@ -6,10 +6,10 @@ use Rattle.std.proofs.lemmas.List.{flat_map_more, take_more, get_or-map}
 use Rattle.sub_rules.specs.FrameRules.{packets_of_frame, packets_before}
 use Rattle.sub_rules.specs.Transmission.{SentFrame, Transmission}
 
-pub joined_more : (frames : Transmission) (n : ℕ) → n < length frames
+pub packets_before_appends_next_frame : (frames : Transmission) (n : ℕ) → n < length frames
     → packets_before frames (n + 1) ≡ packets_before frames n ++ packets_of_frame frames n
-joined_more [] n l = absurd (omega arith)
-joined_more (s ∷ ss) n l =
+packets_before_appends_next_frame [] n l = absurd (omega arith)
+packets_before_appends_next_frame (s ∷ ss) n l =
     ap (flat_map (λ (x : SentFrame). x.packets)) (take_more (s ∷ ss) n s l)
     ∙ sym (flat_map_more (λ (x : SentFrame). x.packets) [] (take n (s ∷ ss)) (get_or (s ∷ ss) n s))
     ∙ ap (λ ps. flat_map (λ (x : SentFrame). x.packets) (take n (s ∷ ss)) ++ ps)

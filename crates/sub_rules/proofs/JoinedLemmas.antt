@@ -7,7 +7,7 @@ use Rattle.std.proofs.Math.Seq.{take-append-add}
 use Rattle.std.proofs.lemmas.List.{append-nil, get_or_append_left, get_or-append-add}
 use Rattle.std.specs.List.{AllByRecursion}
 use lib.Seq.{take-append-le}
-use Rattle.sub_rules.specs.Events.{packets_reported}
+use Rattle.sub_rules.specs.Events.{numbered_packet_events}
 use Rattle.sub_rules.specs.FrameRules.{Criteria, frame_at, packets_before, packets_of_frame}
 use Rattle.sub_rules.specs.PesPacketEvents.{steps_of_each}
 use Rattle.sub_rules.specs.PesPackets.{PesPacket, frames_of, continues_with, joined, joined_after}
@@ -65,11 +65,11 @@ pub joined-within : (within : ℕ) (frames : Transmission) → within ≡ 0
 joined-within within frames none =
     ap (λ (w : ℕ). joined w frames) none ∙ joined-none frames
 
-abbrev pub with_more : List (List ℕ) → SentFrame → SentFrame
-with_more packets s = record { frame = s.frame; packets = s.packets ++ packets }
+abbrev pub with_added_packets : List (List ℕ) → SentFrame → SentFrame
+with_added_packets packets s = record { frame = s.frame; packets = s.packets ++ packets }
 
 pub with_packets-push : (packets : List (List ℕ)) (init : Transmission) (s : SentFrame)
-    → with_packets packets (init ++ s ∷ []) ≡ init ++ with_more packets s ∷ []
+    → with_packets packets (init ++ s ∷ []) ≡ init ++ with_added_packets packets s ∷ []
 unfolding with_packets
 with_packets-push packets [] s = refl
 with_packets-push packets (x ∷ []) s = refl
@@ -140,14 +140,19 @@ module _ (P : List ℕ → Type 0) where
   abbrev pub EachReadPacket : Transmission → Type 0
   EachReadPacket frames = AllByRecursion (λ (s : SentFrame). AllByRecursion P s.packets) frames
 
-  read_with : (packets : List (List ℕ)) (sent : Transmission) → EachReadPacket sent
+  added_packets_keep_property : (packets : List (List ℕ)) (sent : Transmission) → EachReadPacket
+      sent
       → AllByRecursion P packets
       → EachReadPacket (with_packets packets sent)
   unfolding with_packets
-  read_with packets [] each more = each
-  read_with packets (s ∷ []) each more = (Each-append P s.packets packets each.0 more, tt)
-  read_with packets (s ∷ next ∷ frames) each more =
-      (each.0, read_with packets (next ∷ frames) each.1 more)
+  added_packets_keep_property packets [] each more = each
+  added_packets_keep_property packets (s ∷ []) each more = (
+    Each-append P s.packets packets each.0
+        more,
+    tt,
+  )
+  added_packets_keep_property packets (s ∷ next ∷ frames) each more =
+      (each.0, added_packets_keep_property packets (next ∷ frames) each.1 more)
 
   pub sent_after-read : (within : ℕ) (sent : Transmission) (s : SentFrame) → EachReadPacket sent
       → AllByRecursion P s.packets
@@ -155,7 +160,7 @@ module _ (P : List ℕ → Type 0) where
   sent_after-read within sent s each more = go (continues_with within sent s)
     where
       go : (same : Bool) → EachReadPacket (cond same (with_packets s.packets sent) (sent ++ s ∷ []))
-      go true = read_with s.packets sent each more
+      go true = added_packets_keep_property s.packets sent each more
       go false =
           Each-append (λ (x : SentFrame). AllByRecursion P x.packets) sent (s ∷ []) each (more, tt)
 
@@ -190,47 +195,48 @@ steps_of_each-append g sent pes n (Skipped u ∷ xs) ys d =
     let rest = steps_of_each-append g sent (suc pes) n xs ys (omega arith) in
     grind (arith, nat_tests, append_assoc)
 
-pub packets_reported-first :
+pub numbered_packet_events-first :
     (w : Watched) (frame from : ℕ) (before xs ys : List (List ℕ)) (n : ℕ)
     → n ≤ length xs
-    → packets_reported w frame from before (xs ++ ys) n ≡ packets_reported w frame from before xs n
-unfolding packets_reported
-packets_reported-first w frame from before xs ys zero l = refl
-packets_reported-first w frame from before xs ys (suc n) l =
+    → numbered_packet_events w frame from before (xs ++ ys) n ≡ numbered_packet_events w frame from
+    before xs n
+unfolding numbered_packet_events
+numbered_packet_events-first w frame from before xs ys zero l = refl
+numbered_packet_events-first w frame from before xs ys (suc n) l =
     rw (
-      packets_reported-first w frame from before xs ys n (omega arith),
+      numbered_packet_events-first w frame from before xs ys n (omega arith),
       take-append-le n xs ys (omega arith),
       get_or_append_left xs ys [] n (omega arith),
     ) refl
 
-packets_reported-then :
+numbered_packet_events-then :
     (w : Watched) (frame from : ℕ) (before xs ys : List (List ℕ)) (n : ℕ)
-    → packets_reported w frame from before (xs ++ ys) (length xs + n)
-    ≡ packets_reported w frame from before xs (length xs)
-    ++ packets_reported w frame (from + length xs) (before ++ xs) ys n
-unfolding packets_reported
-packets_reported-then w frame from before xs ys zero =
+    → numbered_packet_events w frame from before (xs ++ ys) (length xs + n)
+    ≡ numbered_packet_events w frame from before xs (length xs)
+    ++ numbered_packet_events w frame (from + length xs) (before ++ xs) ys n
+unfolding numbered_packet_events
+numbered_packet_events-then w frame from before xs ys zero =
     let none : length xs + 0 ≡ length xs = omega arith in
-    ap (packets_reported w frame from before (xs ++ ys)) none
-    ∙ packets_reported-first w frame from before xs ys (length xs) (omega arith)
-    ∙ sym (append-nil (packets_reported w frame from before xs (length xs)))
-packets_reported-then w frame from before xs ys (suc n) =
+    ap (numbered_packet_events w frame from before (xs ++ ys)) none
+    ∙ numbered_packet_events-first w frame from before xs ys (length xs) (omega arith)
+    ∙ sym (append-nil (numbered_packet_events w frame from before xs (length xs)))
+numbered_packet_events-then w frame from before xs ys (suc n) =
     let more : length xs + suc n ≡ suc (length xs + n) = omega arith in
     let number : from + (length xs + n) ≡ from + length xs + n = omega arith in
-    ap (packets_reported w frame from before (xs ++ ys)) more
+    ap (numbered_packet_events w frame from before (xs ++ ys)) more
     ∙ rw (
-      packets_reported-then w frame from before xs ys n,
+      numbered_packet_events-then w frame from before xs ys n,
       take-append-add xs ys n,
       get_or-append-add xs ys n [],
       number,
       sym (append_assoc before xs (take n ys)),
-    ) (append_assoc (packets_reported w frame from before xs (length xs)) _ _)
+    ) (append_assoc (numbered_packet_events w frame from before xs (length xs)) _ _)
 
-pub packets_reported-append :
+pub numbered_packet_events-append :
     (w : Watched) (frame from : ℕ) (before xs ys : List (List ℕ))
-    → packets_reported w frame from before (xs ++ ys) (length (xs ++ ys))
-    ≡ packets_reported w frame from before xs (length xs)
-    ++ packets_reported w frame (from + length xs) (before ++ xs) ys (length ys)
-packets_reported-append w frame from before xs ys =
-    ap (packets_reported w frame from before (xs ++ ys)) (length-append xs ys)
-    ∙ packets_reported-then w frame from before xs ys (length ys)
+    → numbered_packet_events w frame from before (xs ++ ys) (length (xs ++ ys))
+    ≡ numbered_packet_events w frame from before xs (length xs)
+    ++ numbered_packet_events w frame (from + length xs) (before ++ xs) ys (length ys)
+numbered_packet_events-append w frame from before xs ys =
+    ap (numbered_packet_events w frame from before (xs ++ ys)) (length-append xs ys)
+    ∙ numbered_packet_events-then w frame from before xs ys (length ys)

@@ -7,7 +7,7 @@ use Rattle.std.proofs.lemmas.Bool.{or_parts, eq-eqb, both_ways}
 use Rattle.std.proofs.lemmas.List.{length-append}
 use Rattle.std.proofs.lemmas.List.Elements.{filter-append}
 use Rattle.ttx_packet.specs.PageId.{PageIdValue}
-use Rattle.ttx_page.specs.Span.{holds_header}
+use Rattle.ttx_page.specs.Span.{has_page_header}
 use Rattle.sub_rules.specs.PacketRules.{header_count, first_header}
 use Rattle.ttx_page.specs.declared.packet_kind.PacketKind.{PacketKind}
 use Rattle.ttx_page.specs.declared.packet_kind.PacketKind.TheVariants.{Row}
@@ -51,8 +51,10 @@ module _ {X : Type 0} where
           → (x : X) × (cond b (Some y) (find f ys) ≡ Some x) × (f x ≡ true) × P x
       go b p d ih = grind arith
 
-pub no_row : (row : ℕ) (k : PacketKind) → is_row row k ≡ false → k ≡ Row row → ⊥
-no_row row k e s = both_ways (is_row row k) e (ap (is_row row) s ∙ eq-eqb row row refl)
+pub failed_row_test_excludes_row : (row : ℕ) (k : PacketKind) → is_row row k ≡ false → k ≡ Row row →
+    ⊥
+failed_row_test_excludes_row row k e s = both_ways (is_row row k) e (ap (is_row row) s ∙ eq-eqb row
+    row refl)
 
 pub header_count-append :
     (page : PageIdValue) (ps qs : List (List ℕ))
@@ -68,7 +70,7 @@ header_count-push page ps p =
 
 pub holds-count :
     (page : PageIdValue) (ps : List (List ℕ))
-    → holds_header (kind page) ps ≡ nat_lt 0 (header_count page ps)
+    → has_page_header (kind page) ps ≡ nat_lt 0 (header_count page ps)
 holds-count page [] = refl
 holds-count page (q ∷ qs) = let ih = holds-count page qs in grind (arith, nat_tests)
 

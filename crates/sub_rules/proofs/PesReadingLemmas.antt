@@ -5,11 +5,11 @@ use Rattle.std.proofs.Common.{Option, Some, None, Result, Ok, Err, refl, ap, ari
 use Rattle.std.proofs.lemmas.List.{get_or-map, get_or-drop, length-drop, drop-drop}
 use Rattle.ttx_pes.specs.PesGrammar.{PesValue}
 use Rattle.ttx_pes.specs.PesPackets.{rest_after_pes_packet}
-use Rattle.ttx_pes.specs.Reading.{answer_at, rest_after, most_packets}
+use Rattle.ttx_pes.specs.Reading.{answer_at, rest_after, max_pes_packets}
 use Rattle.ttx_pes.specs.SentUnits.{packets_of_units}
 use Rattle.sub_plan.specs.FrameTime.{Clock}
 use Rattle.sub_rules.specs.Events.{unread_fault}
-use Rattle.sub_rules.specs.FrameRules.{Unread}
+use Rattle.sub_rules.specs.FrameRules.{UnreadReason}
 use Rattle.sub_rules.specs.PesFrames.{IsReadAs}
 use Rattle.sub_rules.specs.PesReading.{ReadsAs, file_at}
 use Rattle.sub_rules.specs.PesPackets.{PesPacket, ReadsPesPackets, ReportsPesPacket, pes_packets_at}
@@ -22,11 +22,11 @@ use Rattle.sub_rules.specs.declared.pes_packet.NextPesPacket.TheVariants as next
 use Rattle.sub_rules.specs.declared.sending.Sending.{Sending}
 use Rattle.sub_rules.proofs.PesPacketFileLemmas.{file_at-next}
 
-is_sent :
+appended_frame_is_sent :
     (frames : Transmission) (n : ℕ) (s : SentFrame) (others : Transmission)
     → drop n frames ≡ s ∷ others
     → IsSentFrame frames n s.frame s.packets
-is_sent frames n s others e =
+appended_frame_is_sent frames n s others e =
     let size : length (drop n frames) ≡ suc (length others) = ap length e in
     let l : n < length frames = omega (arith, length-drop n frames) in
     let at : get_or frames n s ≡ s = grind (arith, nat_tests, get_or-drop n frames 0 s) in
@@ -34,15 +34,15 @@ is_sent frames n s others e =
 
 pub reads_ended :
     (clock : Clock) (given : ℕ) (bytes : List ℕ)
-    → given ≤ most_packets
+    → given ≤ max_pes_packets
     → answer_at given bytes ≡ Ok None
     → ReadsAs clock given bytes [] None
 reads_ended clock given bytes few ends = grind (arith, nat_tests, file_at-next)
 
 pub reads_more :
     (clock : Clock) (given : ℕ) (bytes : List ℕ) (v : PesValue) (s : SentFrame)
-    (frames : Transmission) (unread : Option Unread)
-    → given ≤ most_packets
+    (frames : Transmission) (unread : Option UnreadReason)
+    → given ≤ max_pes_packets
     → answer_at given bytes ≡ Ok (Some v)
     → IsReadAs clock v s
     → ReadsAs clock (given + 1) (rest_after bytes) frames unread
@@ -53,7 +53,7 @@ reads_more clock given bytes v s frames unread few is sent reads =
 abbrev pub ReportsNext :
     Clock → ℕ → List ℕ → PesValue → Result (Option NextPesPacket) CheckFault → Type 0
 ReportsNext clock n bytes v answer =
-    (pes_packets : List PesPacket) (unread : Option Unread)
+    (pes_packets : List PesPacket) (unread : Option UnreadReason)
     → ReadsPesPackets clock n bytes pes_packets unread
     → ReportsPesPacket clock n bytes pes_packets unread v answer
 
@@ -64,14 +64,14 @@ reported_fault _ = None
 
 -- A PES packet that is sent is the next frame of the transmission.
 pub record ReadsNext
-    (clock : Clock) (n : ℕ) (bytes : List ℕ) (frames : Transmission) (unread : Option Unread)
+    (clock : Clock) (n : ℕ) (bytes : List ℕ) (frames : Transmission) (unread : Option UnreadReason)
     (v : PesValue) (frame : ℕ)
     : Type 0 where
   pub sent : IsSentFrame frames n frame (packets_of_units v.units)
   pub left : ReadsAs clock (n + 1) (rest_after_pes_packet bytes) (drop (n + 1) frames) unread
 
 pub reads_next :
-    (clock : Clock) (n : ℕ) (bytes : List ℕ) (frames : Transmission) (unread : Option Unread)
+    (clock : Clock) (n : ℕ) (bytes : List ℕ) (frames : Transmission) (unread : Option UnreadReason)
     (v : PesValue) (sending : Sending)
     → ReadsAs clock n bytes (drop n frames) unread
     → ReportsNext clock n bytes v (Ok (Some (next.Sent sending)))
@@ -84,10 +84,10 @@ reads_next clock n bytes frames unread v sending reads reports =
     let is = (reports file.pes_packets file.unread refl).0 in
     let first = is.first in
     let left = is.left in
-    grind (arith, nat_tests, drop-drop 1 n frames, is_sent frames n s rest.frames)
+    grind (arith, nat_tests, drop-drop 1 n frames, appended_frame_is_sent frames n s rest.frames)
 
 pub reads_end :
-    (clock : Clock) (n : ℕ) (bytes : List ℕ) (frames : Transmission) (unread : Option Unread)
+    (clock : Clock) (n : ℕ) (bytes : List ℕ) (frames : Transmission) (unread : Option UnreadReason)
     (v : PesValue)
     → ReadsAs clock n bytes (drop n frames) unread
     → ReportsNext clock n bytes v (Ok None)
@@ -99,12 +99,12 @@ reads_end clock n bytes frames unread v reads reports =
     grind (arith, nat_tests, length-drop n frames)
 
 pub reads_unread :
-    (clock : Clock) (n : ℕ) (bytes : List ℕ) (frames : Transmission) (unread : Option Unread)
+    (clock : Clock) (n : ℕ) (bytes : List ℕ) (frames : Transmission) (unread : Option UnreadReason)
     (v : PesValue) (answer : Result (Option NextPesPacket) CheckFault) (f : CheckFault)
     → ReadsAs clock n bytes (drop n frames) unread
     → ReportsNext clock n bytes v answer
     → reported_fault answer ≡ Some f
-    → (length frames ≤ n) × (u : Unread) × (unread ≡ Some u) × (f ≡ unread_fault n (Some u))
+    → (length frames ≤ n) × (u : UnreadReason) × (unread ≡ Some u) × (f ≡ unread_fault n (Some u))
 unfolding file_at read_until_skipped
 reads_unread clock n bytes frames unread v answer f reads reports of =
     let file = pes_packets_at clock n bytes in

@@ -7,7 +7,7 @@ use Rattle.std.specs.List.{list_all}
 use Rattle.std.proofs.lemmas.Bool.{leb-true, le-leb}
 use Rattle.std.proofs.lemmas.Bool.Decides.{Decides-by_and, Decides-below_and}
 use Rattle.std.proofs.lemmas.Bool.Decides.{nat_tests}
-use Rattle.ttx_packet.proofs.OneBitLemmas.{first_below_eq}
+use Rattle.ttx_packet.proofs.OneBitLemmas.{first_below_satisfies_test}
 use Rattle.ttx_packet.specs.OneBit.{first_below}
 use Rattle.stl_rows.specs.declared.national.NationalBits.{NationalBits}
 use Rattle.sub_rules.specs.PacketTests.{is_same_bit, is_same_option}
@@ -17,11 +17,11 @@ pub implied :
     {P Q : Type 0} (a b : Bool) → Decides a P → Decides b Q → Decides (not a || b) (P → Q)
 implied a b p q = grind arith
 
-pub same_bit : (a b : Bool) → Decides (is_same_bit a b) (a ≡ b)
-same_bit a b = grind arith
+pub bit_test_is_exact : (a b : Bool) → Decides (is_same_bit a b) (a ≡ b)
+bit_test_is_exact a b = grind arith
 
-pub same_option : (a b : NationalBits) → Decides (is_same_option a b) (a ≡ b)
-same_option a b = grind arith
+pub national_option_test_is_exact : (a b : NationalBits) → Decides (is_same_option a b) (a ≡ b)
+national_option_test_is_exact a b = grind arith
 
 pub holds : (a : Bool) → Decides a (a ≡ true)
 holds a = (λ e. e, λ e. e)
@@ -32,37 +32,39 @@ fails a = grind arith
 pub at_most : (a b : ℕ) → Decides (nat_le a b) (a ≤ b)
 at_most a b = (leb-true a b, le-leb a b)
 
-abbrev pub all_below : (ℕ → Bool) → ℕ → Bool
-all_below test zero = true
-all_below test (suc n) = test n && all_below test n
+abbrev pub passes_all_below : (ℕ → Bool) → ℕ → Bool
+passes_all_below test zero = true
+passes_all_below test (suc n) = test n && passes_all_below test n
 
 pub below :
     (test : ℕ → Bool) (P : ℕ → Type 0)
     → ((k : ℕ) → Decides (test k) (P k))
     → (n : ℕ)
-    → Decides (all_below test n) ((k : ℕ) → k < n → P k)
-below test P each n = Decides-below_and test P (all_below test) each refl (λ _. refl) n
+    → Decides (passes_all_below test n) ((k : ℕ) → k < n → P k)
+below test P each n = Decides-below_and test P (passes_all_below test) each refl (λ _. refl) n
 
-pub each_below : (test : ℕ → Bool) (n : ℕ) → all_below test n ≡ true → (k : ℕ) → k < n
+pub passing_all_below_passes_each : (test : ℕ → Bool) (n : ℕ) → passes_all_below test n ≡ true →
+    (k : ℕ) → k < n
     → test k ≡ true
-each_below test n = (below test (λ k. test k ≡ true) (λ k. holds (test k)) n).0
+passing_all_below_passes_each test n = (below test (λ k. test k ≡ true) (λ k. holds (test k)) n).0
 
-pub first_below_none : (n : ℕ) (test : ℕ → Bool) → first_below n test ≡ None
+pub no_first_below_fails_each : (n : ℕ) (test : ℕ → Bool) → first_below n test ≡ None
     → (k : ℕ) → k < n → test k ≡ false
-first_below_none zero test e k l = absurd (omega arith)
-first_below_none (suc n) test e k l = let before = first_below_none n test in grind
+no_first_below_fails_each zero test e k l = absurd (omega arith)
+no_first_below_fails_each (suc n) test e k l = let before = no_first_below_fails_each n test
+    in grind
     (arith, nat_tests)
 
-pub first_below_least : (n : ℕ) (test : ℕ → Bool) (x : ℕ) → first_below n test ≡ Some x
+pub first_below_is_least : (n : ℕ) (test : ℕ → Bool) (x : ℕ) → first_below n test ≡ Some x
     → (k : ℕ) → k < x → test k ≡ false
-first_below_least zero test x e k l = grind arith
-first_below_least (suc n) test x e k l =
+first_below_is_least zero test x e k l = grind arith
+first_below_is_least (suc n) test x e k l =
     grind (
       arith,
       nat_tests,
-      first_below_least n test x,
-      first_below_none n test,
-      first_below_eq n
+      first_below_is_least n test x,
+      no_first_below_fails_each n test,
+      first_below_satisfies_test n
           test x,
     )
 
@@ -73,14 +75,14 @@ pub each_of :
     → Decides (list_all test xs) (All P xs)
 each_of test P each xs = Decides-by_and test P (list_all test) each refl (λ _ _. refl) xs
 
-abbrev pub each_packet : (List ℕ → Bool) → Transmission → Bool
-each_packet test frames = list_all (λ (s : SentFrame). list_all test s.packets) frames
+abbrev pub each_packet_passes : (List ℕ → Bool) → Transmission → Bool
+each_packet_passes test frames = list_all (λ (s : SentFrame). list_all test s.packets) frames
 
 pub packets_decided :
     (test : List ℕ → Bool) (P : List ℕ → Type 0)
     → ((p : List ℕ) → Decides (test p) (P p))
     → (frames : Transmission)
-    → Decides (each_packet test frames) (EachPacket P frames)
+    → Decides (each_packet_passes test frames) (EachPacket P frames)
 packets_decided test P each frames =
     each_of (λ (s : SentFrame). list_all test s.packets) (λ (s : SentFrame). All P s.packets)
     (λ s. each_of test P each s.packets) frames

@@ -20,10 +20,10 @@ use Rattle.ttx_packet.specs.PageId.{PageIdValue}
 use Rattle.ttx_page.specs.Page.{Rows, cell, space}
 use Rattle.ttx_page.specs.PacketKind.{kind}
 use Rattle.ttx_page.specs.Shown.{kept}
-use Rattle.ttx_page.specs.Span.{holds_header, is_open_after}
-use Rattle.sub_rules.specs.FrameRules.{Criteria, Unread, end_frame, frame_at, packets_before}
+use Rattle.ttx_page.specs.Span.{has_page_header, is_open_after}
+use Rattle.sub_rules.specs.FrameRules.{Criteria, UnreadReason, end_frame, frame_at, packets_before}
 use Rattle.sub_rules.specs.FrameRules.{packets_of_frame}
-use Rattle.sub_rules.specs.FrameRules.Unread.{BadPacket, NoFrame}
+use Rattle.sub_rules.specs.FrameRules.UnreadReason.{BadPacket, NoFrame}
 use Rattle.sub_rules.specs.Kept.{has_row}
 use Rattle.sub_rules.specs.PacketTests.{broken_rules}
 use Rattle.sub_rules.specs.Transmission.{SentFrame, Transmission}
@@ -46,17 +46,17 @@ end_rules = end.Content ∷ end.Gap ∷ end.Incomplete ∷ end.Undecided ∷ end
 
 -- The place of a broken rule that concerns the entire page: (0, 0), which is no cell. `None` if the
 -- rule is not broken.
-abbrev pub entire_frame : Bool → Option (ℕ × ℕ)
-entire_frame true = Some (0, 0)
-entire_frame false = None
+abbrev pub entire_frame_place : Bool → Option (ℕ × ℕ)
+entire_frame_place true = Some (0, 0)
+entire_frame_place false = None
 
 -- The place at which a rule is broken, given the active faults; `None` if the rule is not broken.
-abbrev pub broken_at : EndRule → ActiveFaults → Option (ℕ × ℕ)
-broken_at end.Content s = s.content
-broken_at end.Gap s = entire_frame s.gap
-broken_at end.Incomplete s = entire_frame s.incomplete
-broken_at end.Undecided s = entire_frame s.undecided
-broken_at end.Silent s = entire_frame s.silent
+abbrev pub place_of_broken_rule : EndRule → ActiveFaults → Option (ℕ × ℕ)
+place_of_broken_rule end.Content s = s.content
+place_of_broken_rule end.Gap s = entire_frame_place s.gap
+place_of_broken_rule end.Incomplete s = entire_frame_place s.incomplete
+place_of_broken_rule end.Undecided s = entire_frame_place s.undecided
+place_of_broken_rule end.Silent s = entire_frame_place s.silent
 
 -- The state in which no fault is active.
 abbrev pub no_active_faults : ActiveFaults
@@ -77,16 +77,16 @@ first_cell test =
     (first_below 24 (λ above. is_some (first_below 40 (test (above + 1)))))
 
 -- After these packets, the cell has the code of the expected page: `IsRight` as a test.
-abbrev pub is_right : Bool → PageIdValue → List (List ℕ) → Rows → ℕ → ℕ → Bool
-is_right keeps page packets due row column =
+abbrev pub is_right_cell : Bool → PageIdValue → List (List ℕ) → Rows → ℕ → ℕ → Bool
+is_right_cell keeps page packets due row column =
     kept keeps page packets row column == cell due row column
     && (cell due row column == space || has_row page packets row)
 
 -- The first cell that differs from the expected page after these packets; `None` if no cell
 -- differs.
-unfoldable pub wrong_after : Bool → PageIdValue → List (List ℕ) → Rows → Option (ℕ × ℕ)
-wrong_after keeps page packets due =
-    first_cell (λ row column. not (is_right keeps page packets due row column))
+unfoldable pub first_wrong_cell_after : Bool → PageIdValue → List (List ℕ) → Rows → Option (ℕ × ℕ)
+first_wrong_cell_after keeps page packets due =
+    first_cell (λ row column. not (is_right_cell keeps page packets due row column))
 
 -- The first wrong cell at the end of frame f, after n frames of the transmission. `None` if the
 -- expected page is unknown, since any code may then be in any cell.
@@ -94,17 +94,19 @@ abbrev pub wrong_cell : Criteria → Transmission → ℕ → ℕ → Option (�
 wrong_cell g frames n f =
     if g.undecided f
     then None
-    else wrong_after g.watched.keeps g.watched.page (packets_before frames n) (g.due f)
+    else first_wrong_cell_after g.watched.keeps g.watched.page (packets_before frames n) (g.due f)
 
 -- The frame s has a header of the page, and is at most `every` - 1 frames before frame f.
-abbrev pub covers : Criteria → ℕ → SentFrame → Bool
-covers g f s = holds_header (kind g.watched.page) s.packets && nat_lt f (s.frame + g.every)
+abbrev pub has_recent_header : Criteria → ℕ → SentFrame → Bool
+has_recent_header g f s = has_page_header (kind g.watched.page) s.packets && nat_lt f
+    (s.frame + g.every)
 
 -- A header of the page is missing: none of the last `every` frames up to frame f has one, among the
 -- first n frames of the transmission. False until `every` frames have passed since the first frame.
 unfoldable pub is_gap : Criteria → Transmission → ℕ → ℕ → Bool
 is_gap g frames n f =
-    nat_le (frame_at frames 0 + g.every) (f + 1) && not (list_any (covers g f) (take n frames))
+    nat_le (frame_at frames 0 + g.every) (f + 1) && not (list_any (has_recent_header g f)
+    (take n frames))
 
 -- Complete pages are required, and the page is open after the first n frames of the transmission.
 unfoldable pub is_incomplete : Criteria → Transmission → ℕ → Bool
@@ -119,31 +121,32 @@ abbrev pub is_unfinished : Criteria → Transmission → ℕ → ℕ → Bool
 is_unfinished g frames n f = is_some (wrong_cell g frames n f) || is_incomplete g frames n
 
 -- The greatest frame number among the first n frames of the transmission.
-unfoldable pub latest : Transmission → ℕ → ℕ
-latest frames zero = 0
-latest frames (suc n) = max (latest frames n) (frame_at frames n)
+unfoldable pub latest_frame : Transmission → ℕ → ℕ
+latest_frame frames zero = 0
+latest_frame frames (suc n) = max (latest_frame frames n) (frame_at frames n)
 
 -- At least `pace` frames have passed between the frame `last` and the end of frame f. False if no
 -- pace is required.
-abbrev pub silent_for : Option ℕ → ℕ → ℕ → Bool
-silent_for None last f = false
-silent_for (Some pace) last f = nat_le (last + pace) f
+abbrev pub is_silent_for : Option ℕ → ℕ → ℕ → Bool
+is_silent_for None last f = false
+is_silent_for (Some pace) last f = nat_le (last + pace) f
 
 -- No PES packet was sent in the last `pace` frames up to frame f. False if no pace is required.
 unfoldable pub is_silent : Criteria → Transmission → ℕ → ℕ → Bool
 is_silent g frames zero f = is_some g.pace
-is_silent g frames (suc n) f = silent_for g.pace (latest frames (suc n)) f
+is_silent g frames (suc n) f = is_silent_for g.pace (latest_frame frames (suc n)) f
 
 -- The number of frames without a PES packet between frame i of the transmission and all frames
 -- before it.
 unfoldable pub gap_length : Transmission → ℕ → ℕ
 gap_length frames zero = 0
-gap_length frames (suc i) = frame_at frames (suc i) - (latest frames (suc i) + 1)
+gap_length frames (suc i) = frame_at frames (suc i) - (latest_frame frames (suc i) + 1)
 
 -- The first frame of the current run of frames with an unfinished page, at the end of frame f.
 -- `first_unfinished` is the value at the end of the frame before.
-abbrev pub unfinished_from : Option ℕ → Bool → ℕ → Option ℕ
-unfinished_from first_unfinished unfinished f = if unfinished then Some (unwrap_or first_unfinished
+abbrev pub extended_unfinished_run : Option ℕ → Bool → ℕ → Option ℕ
+extended_unfinished_run first_unfinished unfinished f = if unfinished then Some
+    (unwrap_or first_unfinished
     f) else None
 
 -- The first frame of the current run of frames with an unfinished page, after k more frames without
@@ -151,8 +154,8 @@ unfinished_from first_unfinished unfinished f = if unfinished then Some (unwrap_
 unfoldable pub first_unfinished_in_gap : Criteria → Transmission → ℕ → Option ℕ → ℕ → Option ℕ
 first_unfinished_in_gap g frames n first_unfinished zero = first_unfinished
 first_unfinished_in_gap g frames n first_unfinished (suc k) =
-    let f = latest frames n + suc k in
-    unfinished_from (first_unfinished_in_gap g frames n first_unfinished k)
+    let f = latest_frame frames n + suc k in
+    extended_unfinished_run (first_unfinished_in_gap g frames n first_unfinished k)
     (is_unfinished g frames n f) f
 
 -- The first frame of the current run of frames with an unfinished page, after the first n frames of
@@ -160,7 +163,8 @@ first_unfinished_in_gap g frames n first_unfinished (suc k) =
 unfoldable pub first_unfinished_in_frames : Criteria → Transmission → ℕ → Option ℕ
 first_unfinished_in_frames g frames zero = None
 first_unfinished_in_frames g frames (suc i) =
-    unfinished_from (first_unfinished_in_gap g frames i (first_unfinished_in_frames g frames i)
+    extended_unfinished_run
+    (first_unfinished_in_gap g frames i (first_unfinished_in_frames g frames i)
     (gap_length frames i))
     (is_unfinished g frames (suc i) (frame_at frames i)) (frame_at frames i)
 
@@ -168,7 +172,8 @@ first_unfinished_in_frames g frames (suc i) =
 -- after n frames of the transmission; `None` if the page is finished at that end.
 unfoldable pub unfinished_run_start : Criteria → Transmission → ℕ → ℕ → Option ℕ
 unfinished_run_start g frames n f =
-    first_unfinished_in_gap g frames n (first_unfinished_in_frames g frames n) (f - latest frames n)
+    first_unfinished_in_gap g frames n (first_unfinished_in_frames g frames n)
+    (f - latest_frame frames n)
 
 -- The first frame of the run of frames with an unfinished page, at the end of the frame before
 -- frame f, after n frames of the transmission.
@@ -207,9 +212,9 @@ was_due due first f (suc n) row column code =
 
 -- The first cell whose code, after these packets, is neither a space nor expected in that cell at
 -- frame f or at one of the n frames before f. Frames before `first` do not count.
-unfoldable pub unexpected_after :
+unfoldable pub first_unexpected_cell_after :
     Bool → PageIdValue → List (List ℕ) → (ℕ → Rows) → ℕ → ℕ → ℕ → Option (ℕ × ℕ)
-unexpected_after keeps page packets due first f n =
+first_unexpected_cell_after keeps page packets due first f n =
     first_cell
     (λ row column.
     not (kept keeps page packets row column == space)
@@ -223,18 +228,18 @@ was_undecided undecided first f (suc n) =
     was_undecided undecided first f n || (nat_le (first + suc n) f && undecided (f - suc n))
 
 -- The expected page is unknown at frame f or at one of the `within` frames before f.
-abbrev pub undecided_within : Criteria → Transmission → ℕ → Bool
-undecided_within g frames f = was_undecided g.undecided (frame_at frames 0) f g.within
+abbrev pub is_undecided_within : Criteria → Transmission → ℕ → Bool
+is_undecided_within g frames f = was_undecided g.undecided (frame_at frames 0) f g.within
 
 -- The first cell with a code that was not expected at frame f or at one of the `within` frames
 -- before f, after n frames of the transmission. `None` if the expected page is unknown at one of
 -- these frames.
 abbrev pub unexpected_cell : Criteria → Transmission → ℕ → ℕ → Option (ℕ × ℕ)
 unexpected_cell g frames n f =
-    if undecided_within g frames f
+    if is_undecided_within g frames f
     then None
     else
-    unexpected_after g.watched.keeps g.watched.page (packets_before frames n) g.due
+    first_unexpected_cell_after g.watched.keeps g.watched.page (packets_before frames n) g.due
     (frame_at frames 0)
     f g.within
 
@@ -251,56 +256,57 @@ active_faults_at g frames n f = record {
   content = broken_cell g frames n f;
   gap = is_gap g frames n f;
   incomplete = is_late g frames n f && is_incomplete g frames n;
-  undecided = undecided_within g frames f;
+  undecided = is_undecided_within g frames f;
   silent = is_silent g frames n f;
 }
 
 -- ---- events at the end of a frame
 
 -- The fault for a rule that is broken at this place at the end of frame f.
-abbrev pub end_fault : EndRule → ℕ → ℕ × ℕ → CheckFault
-end_fault end.Content f cell = fault.Content f cell.0 cell.1
-end_fault end.Gap f cell = fault.Gap f
-end_fault end.Incomplete f cell = fault.Incomplete f
-end_fault end.Undecided f cell = fault.Undecided f
-end_fault end.Silent f cell = fault.Silent f
+abbrev pub end_rule_fault : EndRule → ℕ → ℕ × ℕ → CheckFault
+end_rule_fault end.Content f cell = fault.Content f cell.0 cell.1
+end_rule_fault end.Gap f cell = fault.Gap f
+end_rule_fault end.Incomplete f cell = fault.Incomplete f
+end_rule_fault end.Undecided f cell = fault.Undecided f
+end_rule_fault end.Silent f cell = fault.Silent f
 
 -- The events of one rule at the end of frame f. `old` is the place at which the rule was broken at
 -- the previous end, of frame `before`; `new` is the place at the end of f.
 abbrev pub rule_events : EndRule → Option (ℕ × ℕ) → ℕ → Option (ℕ × ℕ) → ℕ → List Event
 rule_events rule None before None f = []
-rule_events rule None before (Some new) f = Reported (end_fault rule f new) ∷ []
+rule_events rule None before (Some new) f = Reported (end_rule_fault rule f new) ∷ []
 rule_events rule (Some old) before None f = Ended rule before ∷ []
 rule_events rule (Some old) before (Some new) f =
     if (old.0 == new.0) && (old.1 == new.1)
     then []
-    else Ended rule before ∷ Reported (end_fault rule f new) ∷ []
+    else Ended rule before ∷ Reported (end_rule_fault rule f new) ∷ []
 
 -- The events of all rules at the end of frame f. `old` are the active faults at the previous end,
 -- of frame `before`; `new` are the active faults at the end of f.
 unfoldable pub end_events : ActiveFaults → ℕ → ActiveFaults → ℕ → List Event
 end_events old before new f =
-    flat_map (λ rule. rule_events rule (broken_at rule old) before (broken_at rule new) f) end_rules
+    flat_map (λ rule. rule_events rule (place_of_broken_rule rule old) before
+    (place_of_broken_rule rule new) f) end_rules
 
 -- ---- the order of frame ends
 
 -- The frame that ends before frame f, after i frames of the transmission: the day's frame before f,
 -- if it has no PES packet; otherwise the frame of the last PES packet.
-abbrev pub end_before : Transmission → ℕ → ℕ → ℕ
-end_before frames i f =
-    if nat_lt (latest frames i + 1) f then f - 1 else frame_at frames (i - 1)
+abbrev pub previous_end_frame : Transmission → ℕ → ℕ → ℕ
+previous_end_frame frames i f =
+    if nat_lt (latest_frame frames i + 1) f then f - 1 else frame_at frames (i - 1)
 
 -- The active faults at the end before frame f ends; none before the first end.
 unfoldable pub active_faults_before : Criteria → Transmission → ℕ → ℕ → ActiveFaults
 active_faults_before g frames zero f = no_active_faults
 active_faults_before g frames (suc i) f = active_faults_at g frames (suc i)
-    (end_before frames (suc i) f)
+    (previous_end_frame frames (suc i) f)
 
 -- The events at the end of frame f. By this end, n frames of the transmission were sent; by the
 -- previous end, i frames.
 abbrev pub events_at_end : Criteria → Transmission → ℕ → ℕ → ℕ → List Event
 events_at_end g frames i n f =
-    end_events (active_faults_before g frames i f) (end_before frames i f)
+    end_events (active_faults_before g frames i f) (previous_end_frame frames i f)
     (active_faults_at g frames n f) f
 
 -- ---- events for a PES packet
@@ -334,27 +340,29 @@ packet_fault rule.Enhancement frame packet = fault.Enhancement frame packet
 
 -- The events for packet k of a frame, sent after the packets `before`: one event for each rule that
 -- the packet breaks.
-unfoldable pub rules_reported : Watched → ℕ → ℕ → List (List ℕ) → List ℕ → List Event
-rules_reported w frame k before p =
+unfoldable pub broken_rule_events : Watched → ℕ → ℕ → List (List ℕ) → List ℕ → List Event
+broken_rule_events w frame k before p =
     map (λ (r : PacketRule). Reported (packet_fault r frame k)) (broken_rules w before p)
 
 -- The events for the first n of `packets`, which are packets of one frame, numbered from `from`.
 -- The packets `before` were sent earlier.
-unfoldable pub packets_reported : Watched → ℕ → ℕ → List (List ℕ) → List (List ℕ) → ℕ → List Event
-packets_reported w frame from before packets zero = []
-packets_reported w frame from before packets (suc n) =
-    packets_reported w frame from before packets n
-    ++ rules_reported w frame (from + n) (before ++ take n packets) (slice_index_or packets n [])
+unfoldable pub numbered_packet_events : Watched → ℕ → ℕ → List (List ℕ) → List (List ℕ) → ℕ → List
+    Event
+numbered_packet_events w frame from before packets zero = []
+numbered_packet_events w frame from before packets (suc n) =
+    numbered_packet_events w frame from before packets n
+    ++ broken_rule_events w frame (from + n) (before ++ take n packets) (slice_index_or packets n
+    [])
 
 -- The events for the first n packets of a frame, numbered from 0. The packets `before` were sent
 -- earlier.
 abbrev pub packet_events : Watched → ℕ → List (List ℕ) → List (List ℕ) → ℕ → List Event
-packet_events w frame before packets n = packets_reported w frame 0 before packets n
+packet_events w frame before packets n = numbered_packet_events w frame 0 before packets n
 
 -- The event `NoFirstHeader`, if the first frame has no header of the page.
 unfoldable pub first_header_events : Criteria → Transmission → ℕ → List Event
 first_header_events g frames zero =
-    if holds_header (kind g.watched.page) (packets_of_frame frames 0)
+    if has_page_header (kind g.watched.page) (packets_of_frame frames 0)
     then []
     else Reported (fault.NoFirstHeader (frame_at frames 0)) ∷ []
 first_header_events g frames (suc i) = []
@@ -362,20 +370,20 @@ first_header_events g frames (suc i) = []
 -- ---- events of the entire transmission
 
 -- The events at the end of the file: each active fault ends.
-abbrev pub endings : ActiveFaults → ℕ → List Event
-endings last frame = end_events last frame no_active_faults frame
+abbrev pub fault_ending_events : ActiveFaults → ℕ → List Event
+fault_ending_events last frame = end_events last frame no_active_faults frame
 
 -- The fault for the bytes after the last frame that was read, at PES packet number `pes`. `Empty`
 -- if all bytes were read, for a file without frames.
-abbrev pub unread_fault : ℕ → Option Unread → CheckFault
+abbrev pub unread_fault : ℕ → Option UnreadReason → CheckFault
 unread_fault pes (Some (BadPacket f)) = fault.Pes pes f
 unread_fault pes (Some NoFrame) = fault.OffFrame pes
 unread_fault pes None = fault.Empty
 
 -- A subtitle ends after this last frame.
-abbrev pub is_short : Option ℕ → ℕ → Bool
-is_short None frame = false
-is_short (Some last_tco) frame = nat_lt frame last_tco
+abbrev pub ends_too_early : Option ℕ → ℕ → Bool
+ends_too_early None frame = false
+ends_too_early (Some last_tco) frame = nat_lt frame last_tco
 
 -- The page is unfinished at the last end, but still had time to become correct in a frame that the
 -- file does not have.
@@ -389,27 +397,28 @@ is_pending g frames =
 -- end but not yet overdue.
 abbrev pub late_events : Criteria → Transmission → List Event
 late_events g frames =
-    if is_short g.last_tco (end_frame frames) || is_pending g frames
+    if ends_too_early g.last_tco (end_frame frames) || is_pending g frames
     then Reported (fault.Late (end_frame frames)) ∷ []
     else []
 
 -- The events after the end of the last frame. `unread` says why the rest of the file could not be
 -- read.
-abbrev pub rest_events : Criteria → Transmission → Option Unread → List Event
-rest_events g frames (Some unread) = Reported (unread_fault (length frames) (Some unread)) ∷ []
-rest_events g frames None = late_events g frames
+abbrev pub unread_or_late_events : Criteria → Transmission → Option UnreadReason → List Event
+unread_or_late_events g frames (Some unread) = Reported (unread_fault (length frames) (Some unread))
+    ∷ []
+unread_or_late_events g frames None = late_events g frames
 
 -- All events at the end of the file. If there are no frames, the only event says why.
 unfoldable pub closing_events : Criteria → Transmission → ℕ → List Event
 closing_events g frames zero = Reported (unread_fault 0 g.unread) ∷ []
 closing_events g frames (suc n) =
-    endings (active_faults_at g frames (suc n) (end_frame frames)) (end_frame frames)
-    ++ rest_events g frames g.unread
+    fault_ending_events (active_faults_at g frames (suc n) (end_frame frames)) (end_frame frames)
+    ++ unread_or_late_events g frames g.unread
 
 -- The first fault among the events; `None` if no event is a fault.
-abbrev pub first_reported : List Event → Option CheckFault
-first_reported [] = None
-first_reported (Reported f ∷ more) = Some f
-first_reported (Ended rule frame ∷ more) = first_reported more
-first_reported (Trusted from to ∷ more) = first_reported more
-first_reported (SkippedUntil f ∷ more) = first_reported more
+abbrev pub first_reported_fault : List Event → Option CheckFault
+first_reported_fault [] = None
+first_reported_fault (Reported f ∷ more) = Some f
+first_reported_fault (Ended rule frame ∷ more) = first_reported_fault more
+first_reported_fault (Trusted from to ∷ more) = first_reported_fault more
+first_reported_fault (SkippedUntil f ∷ more) = first_reported_fault more

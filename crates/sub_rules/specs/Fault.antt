@@ -16,68 +16,76 @@ use Rattle.sub_rules.specs.declared.fault_place.FaultPlace.{FaultPlace}
 use Rattle.sub_rules.specs.declared.fault_place.FaultPlace.TheVariants as place
 use Rattle.sub_rules.specs.declared.fault_row.FaultRow.{FaultRow}
 use Rattle.ttx_pes.specs.Fault as pes
-use Rattle.ttx_pes.specs.Fault.{is_of_pes_packet, pes_code}
+use Rattle.ttx_pes.specs.Fault.{is_packet_content_fault, pes_code}
 use Rattle.ttx_pes.specs.declared.fault.PesFault.TheVariants.{Read}
 
 -- The number and name of the fault for a rule that is checked at the end of a frame.
-abbrev pub rule_code : EndRule → FaultCodeValue
-rule_code end.Content = fault_code 72 (codes "Content")
-rule_code end.Gap = fault_code 73 (codes "Gap")
-rule_code end.Incomplete = fault_code 77 (codes "Incomplete")
-rule_code end.Undecided = fault_code 78 (codes "Undecided")
-rule_code end.Silent = fault_code 79 (codes "Silent")
+abbrev pub code_of_end_rule : EndRule → FaultCodeValue
+code_of_end_rule end.Content = fault_code 72 (codes "Content")
+code_of_end_rule end.Gap = fault_code 73 (codes "Gap")
+code_of_end_rule end.Incomplete = fault_code 77 (codes "Incomplete")
+code_of_end_rule end.Undecided = fault_code 78 (codes "Undecided")
+code_of_end_rule end.Silent = fault_code 79 (codes "Silent")
 
 -- The place of a fault in the subtitle file: the TTI block and, for a fault in a subtitle's text,
 -- the position in the text.
-abbrev pub load_place : LoadFaultKind → ℕ → FaultPlace
-load_place (Row f) block = place.Text block f.at
-load_place _ block = place.Block block
+abbrev pub place_of_load_fault : LoadFaultKind → ℕ → FaultPlace
+place_of_load_fault (Row f) block = place.Text block f.at
+place_of_load_fault _ block = place.Block block
 
 -- ---- the table of faults
 
 -- The table row of a fault whose PES packet is not skipped.
-abbrev pub coded_row : FaultCodeValue → FaultPlace → Bool → FaultRow
-coded_row code place invalidates =
+abbrev pub row_with_code : FaultCodeValue → FaultPlace → Bool → FaultRow
+row_with_code code place invalidates =
     record { code = code; place = place; invalidates = invalidates; is_skipped = false }
 
 -- The table row of a fault with this number and name, whose PES packet is not skipped.
-abbrev pub rule_row : ℕ → List ℕ → FaultPlace → Bool → FaultRow
-rule_row number name place invalidates = coded_row (fault_code number name) place invalidates
+abbrev pub row_with_number : ℕ → List ℕ → FaultPlace → Bool → FaultRow
+row_with_number number name place invalidates = row_with_code (fault_code number name) place
+    invalidates
 
 -- The table row of a fault: its number and name, its place, whether it affects receivers, and
 -- whether its PES packet is skipped. The receivers of the model ignore C11 and packets X/25 to
 -- X/28.
 abbrev pub fault_row : CheckFault → FaultRow
-fault_row (fault.Subtitles f) = coded_row (load_code f.kind) (load_place f.kind f.block) false
+fault_row (fault.Subtitles f) = row_with_code (load_code f.kind) (place_of_load_fault f.kind
+    f.block) false
 fault_row (fault.Pes n f) =
-    record (coded_row (pes_code f) (place.Pes n) true) { is_skipped = is_of_pes_packet f }
-fault_row fault.Empty = rule_row 60 (codes "Empty") place.Nowhere false
+    record (row_with_code (pes_code f) (place.Pes n) true) {
+      is_skipped = is_packet_content_fault
+          f;
+    }
+fault_row fault.Empty = row_with_number 60 (codes "Empty") place.Nowhere false
 fault_row (fault.OffFrame n) =
-    record (rule_row 61 (codes "OffFrame") (place.Pes n) true) { is_skipped = true }
-fault_row (fault.Order n) = rule_row 62 (codes "Order") (place.Pes n) true
-fault_row (fault.Early f) = rule_row 63 (codes "Early") (place.Frame f) false
-fault_row (fault.Address f k) = rule_row 64 (codes "Address") (place.Packet f k) true
-fault_row (fault.HeaderCode f k) = rule_row 65 (codes "HeaderCode") (place.Packet f k) true
-fault_row (fault.Mode f k) = rule_row 66 (codes "Mode") (place.Packet f k) false
-fault_row (fault.Control f k) = rule_row 67 (codes "Control") (place.Packet f k) true
-fault_row (fault.Parity f k) = rule_row 68 (codes "Parity") (place.Packet f k) true
-fault_row (fault.RowChanged f k) = rule_row 69 (codes "RowChanged") (place.Packet f k) true
-fault_row (fault.Enhancement f k) = rule_row 70 (codes "Enhancement") (place.Packet f k) false
-fault_row (fault.NoFirstHeader f) = rule_row 71 (codes "NoFirstHeader") (place.Frame f) false
-fault_row (fault.Content f r c) = coded_row (rule_code end.Content) (place.Cell f r c) true
-fault_row (fault.Gap f) = coded_row (rule_code end.Gap) (place.Frame f) true
-fault_row (fault.Incomplete f) = coded_row (rule_code end.Incomplete) (place.Frame f) true
-fault_row (fault.Undecided f) = coded_row (rule_code end.Undecided) (place.Frame f) true
-fault_row (fault.Silent f) = coded_row (rule_code end.Silent) (place.Frame f) true
-fault_row (fault.Late f) = rule_row 74 (codes "Late") (place.Frame f) false
+    record (row_with_number 61 (codes "OffFrame") (place.Pes n) true) { is_skipped = true }
+fault_row (fault.Order n) = row_with_number 62 (codes "Order") (place.Pes n) true
+fault_row (fault.Early f) = row_with_number 63 (codes "Early") (place.Frame f) false
+fault_row (fault.Address f k) = row_with_number 64 (codes "Address") (place.Packet f k) true
+fault_row (fault.HeaderCode f k) = row_with_number 65 (codes "HeaderCode") (place.Packet f k) true
+fault_row (fault.Mode f k) = row_with_number 66 (codes "Mode") (place.Packet f k) false
+fault_row (fault.Control f k) = row_with_number 67 (codes "Control") (place.Packet f k) true
+fault_row (fault.Parity f k) = row_with_number 68 (codes "Parity") (place.Packet f k) true
+fault_row (fault.RowChanged f k) = row_with_number 69 (codes "RowChanged") (place.Packet f k) true
+fault_row (fault.Enhancement f k) = row_with_number 70 (codes "Enhancement") (place.Packet f k)
+    false
+fault_row (fault.NoFirstHeader f) = row_with_number 71 (codes "NoFirstHeader") (place.Frame f) false
+fault_row (fault.Content f r c) = row_with_code (code_of_end_rule end.Content) (place.Cell f r c)
+    true
+fault_row (fault.Gap f) = row_with_code (code_of_end_rule end.Gap) (place.Frame f) true
+fault_row (fault.Incomplete f) = row_with_code (code_of_end_rule end.Incomplete) (place.Frame f)
+    true
+fault_row (fault.Undecided f) = row_with_code (code_of_end_rule end.Undecided) (place.Frame f) true
+fault_row (fault.Silent f) = row_with_code (code_of_end_rule end.Silent) (place.Frame f) true
+fault_row (fault.Late f) = row_with_number 74 (codes "Late") (place.Frame f) false
 
 -- The number and name of a fault.
-abbrev pub check_code : CheckFault → FaultCodeValue
-check_code f = (fault_row f).code
+abbrev pub code_of_check_fault : CheckFault → FaultCodeValue
+code_of_check_fault f = (fault_row f).code
 
 -- The place of a fault.
-abbrev pub place_of : CheckFault → FaultPlace
-place_of f = (fault_row f).place
+abbrev pub place_of_fault : CheckFault → FaultPlace
+place_of_fault f = (fault_row f).place
 
 -- The first frame that is no longer trusted because of a fault; `None` if the fault does not affect
 -- receivers. For a faulty PES packet, it is `last`, the frame of the previous PES packet, to which
@@ -91,27 +99,27 @@ invalidated_frame last late true (place.Cell f r c) = Some (unwrap_or late f)
 invalidated_frame last late _ _ = None
 
 -- The same fault with PES packet number `pes`, if its place is a PES packet.
-abbrev pub fault_at_pes : ℕ → CheckFault → CheckFault
-fault_at_pes pes (fault.Order index) = fault.Order pes
-fault_at_pes pes (fault.Pes index f) = fault.Pes pes f
-fault_at_pes pes (fault.OffFrame index) = fault.OffFrame pes
-fault_at_pes pes refusal = refusal
+abbrev pub fault_with_pes_number : ℕ → CheckFault → CheckFault
+fault_with_pes_number pes (fault.Order index) = fault.Order pes
+fault_with_pes_number pes (fault.Pes index f) = fault.Pes pes f
+fault_with_pes_number pes (fault.OffFrame index) = fault.OffFrame pes
+fault_with_pes_number pes refusal = refusal
 
 -- ---- causes of faults
 
 -- The PES file could not be read.
 abbrev pub is_pes_read : CheckFault → Bool
-is_pes_read (fault.Pes index f) = pes.is_read f
+is_pes_read (fault.Pes index f) = pes.is_read_fault f
 is_pes_read _ = false
 
 -- A PES packet could not be written. The checker never reports this fault.
 abbrev pub is_pes_write : CheckFault → Bool
-is_pes_write (fault.Pes index f) = pes.is_write f
+is_pes_write (fault.Pes index f) = pes.is_write_fault f
 is_pes_write _ = false
 
 -- The subtitle file could not be read.
 abbrev pub is_stl_read : CheckFault → Bool
-is_stl_read (fault.Subtitles f) = load.is_load_read f
+is_stl_read (fault.Subtitles f) = load.is_load_read_failure f
 is_stl_read _ = false
 
 -- The fault is in the subtitle file.

@@ -4,22 +4,22 @@ use Rattle.std.specs.Prelude.{Option, Some, map, take, length, IsTrue, IsFalse}
 use Rattle.std.specs.Prelude.{slice_index, slice_index_or, flat_map}
 use Rattle.ttx_page.specs.Page.{Rows}
 use Rattle.ttx_page.specs.PacketKind.{kind}
-use Rattle.ttx_page.specs.Span.{holds_header, is_open_after}
+use Rattle.ttx_page.specs.Span.{has_page_header, is_open_after}
 use Rattle.ttx_pes.specs.declared.fault.PesFault.{PesFault}
-use Rattle.stl_rows.specs.DuePage.{tci_of_ending}
-use Rattle.stl_rows.specs.Judged.{JudgedValue, has_refused, is_undecided_in}
+use Rattle.stl_rows.specs.DuePage.{tci_of_subtitle_ending_at}
+use Rattle.stl_rows.specs.Judged.{JudgedValue, has_unreliable_subtitle, is_undecided_in}
 use Rattle.stl_rows.specs.Programme.{ProgrammeValue, first_tci, last_tco}
 use Rattle.sub_plan.specs.Options.{OptionsValue}
-use Rattle.sub_plan.specs.Schedule.{due_in}
+use Rattle.sub_plan.specs.Schedule.{due_page_in}
 use Rattle.sub_rules.specs.Kept.{IsRight}
 use Rattle.sub_rules.specs.Transmission.{SentFrame, Transmission}
 use Rattle.sub_rules.specs.declared.packet_rule.Watched.{Watched}
 
 -- The reason why the rest of a PES file cannot be read as frames: the next bytes are no valid PES
 -- packet, or the PTS of the next PES packet belongs to no frame of the day.
-pub data Unread : Type 0 where
-  BadPacket : PesFault → Unread
-  NoFrame : Unread
+pub data UnreadReason : Type 0 where
+  BadPacket : PesFault → UnreadReason
+  NoFrame : UnreadReason
 
 -- The criteria of a check:
 --
@@ -45,7 +45,7 @@ pub record Criteria : Type 0 where
   pub last_tco : Option ℕ
   pub any_refused : Bool
   pub undecided : ℕ → Bool
-  pub unread : Option Unread
+  pub unread : Option UnreadReason
 
 -- The page to check: its number, the national option of the subtitles, whether complete pages are
 -- required, and whether repeats may have C4 (erase page) clear.
@@ -59,14 +59,15 @@ watched_of programme options = record {
 
 -- The criteria for subtitles of which none was rejected, with this page, repeat bound, delay and
 -- pace.
-abbrev pub criteria_with : ProgrammeValue → Watched → ℕ → ℕ → Option ℕ → Option Unread → Criteria
+abbrev pub criteria_with : ProgrammeValue → Watched → ℕ → ℕ → Option ℕ → Option UnreadReason →
+    Criteria
 criteria_with programme watched every within pace unread = record {
   watched = watched;
   every = every;
   within = within;
   pace = pace;
-  due = due_in programme;
-  ending = tci_of_ending programme.records;
+  due = due_page_in programme;
+  ending = tci_of_subtitle_ending_at programme.records;
   first_tci = first_tci programme.records;
   last_tco = last_tco programme.records;
   any_refused = false;
@@ -75,20 +76,20 @@ criteria_with programme watched every within pace unread = record {
 }
 
 -- The criteria for subtitles of which none was rejected, with these options.
-abbrev pub criteria_of : ProgrammeValue → OptionsValue → Option Unread → Criteria
+abbrev pub criteria_of : ProgrammeValue → OptionsValue → Option UnreadReason → Criteria
 criteria_of programme options unread =
     criteria_with programme (watched_of programme options) options.every options.within options.pace
     unread
 
 -- The expected page is unknown at this frame, because subtitles were rejected.
 abbrev pub is_due_undecided : JudgedValue → ℕ → Bool
-is_due_undecided j frame = has_refused j && is_undecided_in j frame
+is_due_undecided j frame = has_unreliable_subtitle j && is_undecided_in j frame
 
 -- The criteria for the reliable subtitles of a file, of which others may have been rejected.
-abbrev pub criteria_of_judged : JudgedValue → OptionsValue → Option Unread → Criteria
+abbrev pub criteria_of_judged : JudgedValue → OptionsValue → Option UnreadReason → Criteria
 criteria_of_judged j options unread =
     record (criteria_of j.programme options unread) {
-      any_refused = has_refused j;
+      any_refused = has_unreliable_subtitle j;
       undecided = is_due_undecided j;
     }
 
@@ -110,7 +111,7 @@ end_frame frames = frame_at frames (length frames - 1)
 
 -- Entry i of the transmission has a header of the page.
 abbrev pub HasHeader : Criteria → Transmission → ℕ → Type 0
-HasHeader g frames i = holds_header (kind g.watched.page) (packets_of_frame frames i) ≡ true
+HasHeader g frames i = has_page_header (kind g.watched.page) (packets_of_frame frames i) ≡ true
 
 -- The cell is correct at the end of frame f, after n entries of the transmission.
 abbrev pub ShowsDue : Criteria → Transmission → ℕ → ℕ → ℕ → ℕ → Type 0
@@ -119,19 +120,19 @@ ShowsDue g frames n f row column =
 
 -- One of the last `every` frames up to frame f has a header of the page, or is before the first
 -- frame of the transmission.
-abbrev pub IsCovered : Criteria → Transmission → ℕ → ℕ → Type 0
-IsCovered g frames n f =
+abbrev pub HasRecentPageHeader : Criteria → Transmission → ℕ → ℕ → Type 0
+HasRecentPageHeader g frames n f =
     (f + 1 < frame_at frames 0 + g.every)
     ⊎ ((j : ℕ) × (j < n) × (f < frame_at frames j + g.every) × HasHeader g frames j)
 
 -- If a pace is required, a PES packet was sent less than that many frames before the end of frame
 -- f.
-abbrev pub IsPaced : Criteria → Transmission → ℕ → ℕ → Type 0
-IsPaced g frames n f =
+abbrev pub HasRecentPesPacket : Criteria → Transmission → ℕ → ℕ → Type 0
+HasRecentPesPacket g frames n f =
     (pace : ℕ) → g.pace ≡ Some pace → (j : ℕ) × (j < n) × (f < frame_at frames j + pace)
 
 -- If complete pages are required, the page is not open after n entries of the transmission.
-abbrev pub IsEnded : Criteria → Transmission → ℕ → Type 0
-IsEnded g frames n =
+abbrev pub HasNoOpenPage : Criteria → Transmission → ℕ → Type 0
+HasNoOpenPage g frames n =
     IsTrue g.watched.complete
     → IsFalse (is_open_after (kind g.watched.page) (packets_before frames n))

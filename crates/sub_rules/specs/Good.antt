@@ -14,12 +14,12 @@ use Rattle.ttx_page.specs.Noise.{IsOddRow, IsSameRow}
 use Rattle.ttx_page.specs.Page.{cell, IsCell}
 use Rattle.ttx_page.specs.PacketKind.{kind}
 use Rattle.ttx_page.specs.Shown.{shown}
-use Rattle.ttx_page.specs.Span.{holds_header, span}
+use Rattle.ttx_page.specs.Span.{has_page_header, span}
 use Rattle.stl_rows.specs.declared.national.National.{National}
 use Rattle.stl_rows.specs.SubSets.{sub_set}
 use Rattle.stl_rows.specs.Programme.{ProgrammeValue, first_tci, last_tco}
 use Rattle.sub_plan.specs.Options.{OptionsValue}
-use Rattle.sub_plan.specs.Schedule.{due_in}
+use Rattle.sub_plan.specs.Schedule.{due_page_in}
 use Rattle.sub_plan.specs.Sending.{national_bits}
 use Rattle.sub_rules.specs.FrameRules.{frame_at}
 use Rattle.sub_rules.specs.Transmission.{Transmission, IsRising, EachPacket, first_frame}
@@ -27,8 +27,8 @@ use Rattle.sub_rules.specs.Transmission.{last_frame, packets_of, on_air_until}
 
 -- If both packets are page headers, of any page and magazine, they have the same C11 (magazine
 -- serial, EN 300 706), so both are in serial or both in parallel mode.
-abbrev pub IsInOneMode : List ℕ → List ℕ → Type 0
-IsInOneMode one other =
+abbrev pub HaveSameMode : List ℕ → List ℕ → Type 0
+HaveSameMode one other =
     (h k : Header) → header one ≡ Some h → header other ≡ Some k → c11 h ≡ c11 k
 
 -- The control bits of the header of a subtitle page (EN 300 706): C4, erase page, is set; C5,
@@ -71,7 +71,7 @@ HasCleanSpans page transmission =
 
 -- The frame f of the transmission contains a header of the page.
 abbrev pub HoldsHeader : PageIdValue → Transmission → ℕ → Type 0
-HoldsHeader page transmission f = IsTrue (holds_header (kind page) (packets_of transmission f))
+HoldsHeader page transmission f = IsTrue (has_page_header (kind page) (packets_of transmission f))
 
 -- At least one of any `every` consecutive frames, from the first frame of the transmission to the
 -- last, has a header of the page.
@@ -102,7 +102,8 @@ ShowsDuePages programme page transmission =
     (f row column : ℕ)
     → first_frame transmission ≤ f → f ≤ last_frame transmission
     → IsCell row column
-    → shown page (on_air_until transmission f) row column ≡ cell (due_in programme f) row column
+    → shown page (on_air_until transmission f) row column ≡ cell (due_page_in programme f) row
+    column
 
 -- Rules 1 to 6 of a good transmission, which concern everything except the displayed text.
 pub record KeepsRules
@@ -120,7 +121,7 @@ pub record KeepsRules
   -- Hamming 8/4 code words without a wrong bit.
   pub exact : EachPacket HasExactCodeWords transmission
   -- Rule 3: all page headers, of any page and magazine, have the same C11, magazine serial.
-  pub serial : EachPacket (λ one. EachPacket (IsInOneMode one) transmission) transmission
+  pub serial : EachPacket (λ one. EachPacket (HaveSameMode one) transmission) transmission
   -- Rule 4: each header of the page has the control bits of a subtitle, with the national option of
   -- the programme.
   pub control : EachPacket (IsControlled programme.drawing.national options.page) transmission

@@ -78,13 +78,13 @@ pub record HasSubtitleBits (national : National) (h : Header) : Type 0 where
   pub option : national_bits h ≡ (sub_set national).bits
 
 -- If the packet is a header of the page, it has the control bits of a subtitle page, with any C4.
-abbrev pub IsOfSubtitle : National → PageIdValue → List ℕ → Type 0
-IsOfSubtitle national page packet =
+abbrev pub HasSubtitleHeaderBits : National → PageIdValue → List ℕ → Type 0
+HasSubtitleHeaderBits national page packet =
     (h : Header) → kind page packet ≡ ThisPage h → HasSubtitleBits national h
 
 -- The rule for a header of the page that is sent after the packets `before`: it has the control
 -- bits of a subtitle page, and has C4 (erase page) set or, if that is allowed, repeats the page.
-pub record IsControlledBy (w : Watched) (before : List (List ℕ)) (packet : List ℕ) : Type 0 where
-  pub control : IsOfSubtitle w.national w.page packet
+pub record HasAllowedHeader (w : Watched) (before : List (List ℕ)) (packet : List ℕ) : Type 0 where
+  pub control : HasSubtitleHeaderBits w.national w.page packet
   pub erases : IsFalse w.keeps → ErasesPage w.page packet
   pub keeping : ErasesOrRepeats w.complete w.page before packet

@@ -7,7 +7,7 @@ use Rattle.std.specs.Option.{option_or}
 use Rattle.ttx_packet.specs.PacketAddress.{PacketAddress, address, HasExactAddress}
 use Rattle.ttx_packet.specs.PacketAddress.{IsPacket}
 use Rattle.ttx_packet.specs.PageHeader.{c11, header, HasExactHeader}
-use Rattle.ttx_packet.specs.Parity.{code_of}
+use Rattle.ttx_packet.specs.Parity.{character_code}
 use Rattle.ttx_packet.specs.declared.header.Header.{Header}
 use Rattle.ttx_page.specs.declared.packet_kind.PacketKind.TheVariants.{Row}
 use Rattle.ttx_packet.specs.PageId.{PageIdValue}
@@ -15,7 +15,7 @@ use Rattle.ttx_page.specs.Noise.{IsOddRow}
 use Rattle.ttx_page.specs.PacketKind.{is_this_page, kind}
 use Rattle.ttx_page.specs.Span.{is_open_after, text_span}
 use Rattle.sub_rules.specs.Good.{IsEnhancement}
-use Rattle.sub_rules.specs.Kept.{IsControlledBy}
+use Rattle.sub_rules.specs.Kept.{HasAllowedHeader}
 use Rattle.sub_rules.specs.declared.packet_rule.PacketRule.{PacketRule}
 use Rattle.sub_rules.specs.declared.packet_rule.PacketRule.TheVariants as rule
 use Rattle.sub_rules.specs.declared.packet_rule.Watched.{Watched}
@@ -28,7 +28,7 @@ first_header (p ∷ ps) = option_or (header p) (first_header ps)
 
 -- The 40 codes of a row, without parity bits.
 abbrev pub codes_of : List ℕ → List ℕ
-codes_of packet = map code_of (drop 2 packet)
+codes_of packet = map character_code (drop 2 packet)
 
 -- The number of headers of the page among these packets.
 abbrev pub header_count : PageIdValue → List (List ℕ) → ℕ
@@ -49,7 +49,7 @@ KeepsRule rule.Mode w before p =
     → c11 h ≡ c11 first
 -- Control: a header of the page has the control bits of a subtitle page, and has C4 (erase page)
 -- set or, if that is allowed, repeats the page.
-KeepsRule rule.Control w before p = IsControlledBy w before p
+KeepsRule rule.Control w before p = HasAllowedHeader w before p
 -- Parity: while the page is open, its rows have 40 bytes of odd parity.
 KeepsRule rule.Parity w before p =
     IsTrue (is_open_after (kind w.page) before) → IsOddRow w.page p

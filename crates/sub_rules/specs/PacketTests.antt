@@ -7,10 +7,10 @@ use Rattle.ttx_packet.specs.Hamming84.{code_word}
 use Rattle.ttx_packet.specs.PacketAddress.{PacketAddress, address}
 use Rattle.ttx_packet.specs.PageHeader.{c4, c5, c6, c7, c10, c11, header}
 use Rattle.ttx_packet.specs.PageId.{PageIdValue}
-use Rattle.ttx_packet.specs.RowPacket.{first_even_byte}
+use Rattle.ttx_packet.specs.RowPacket.{first_even_parity_byte}
 use Rattle.ttx_packet.specs.declared.header.Header.{Header}
-use Rattle.ttx_page.specs.Differing.{row_differing}
-use Rattle.ttx_page.specs.PacketKind.{is_row, is_some_row, kind}
+use Rattle.ttx_page.specs.Differing.{row_difference}
+use Rattle.ttx_page.specs.PacketKind.{is_row, is_page_row, kind}
 use Rattle.ttx_page.specs.Span.{is_open_after, text_span}
 use Rattle.ttx_page.specs.declared.packet_kind.PacketKind.{PacketKind}
 use Rattle.ttx_page.specs.declared.packet_kind.PacketKind.TheVariants.{Row, ThisPage}
@@ -37,15 +37,15 @@ are_code_words from (suc n) packet =
     is_word_below (slice_index packet (from + n)) 16 && are_code_words from n packet
 
 -- The address is that of a page header, packet X/0.
-abbrev pub is_of_header : Option PacketAddress → Bool
-is_of_header None = false
-is_of_header (Some a) = a.packet_number == 0
+abbrev pub is_header_address : Option PacketAddress → Bool
+is_header_address None = false
+is_header_address (Some a) = a.packet_number == 0
 
 -- Both values of C11 are known, and they differ.
-abbrev pub is_other_mode : Option Bool → Option Bool → Bool
-is_other_mode (Some true) (Some false) = true
-is_other_mode (Some false) (Some true) = true
-is_other_mode _ _ = false
+abbrev pub has_different_mode : Option Bool → Option Bool → Bool
+has_different_mode (Some true) (Some false) = true
+has_different_mode (Some false) (Some true) = true
+has_different_mode _ _ = false
 
 -- The two bits are equal.
 abbrev pub is_same_bit : Bool → Bool → Bool
@@ -75,13 +75,13 @@ repeats_page complete page before h =
     && not (complete && is_open_after (kind page) before)
 
 -- The header h of the page has C4 (erase page) set or, if that is allowed, repeats the page.
-abbrev pub may_follow_as_header : Watched → List (List ℕ) → Header → Bool
-may_follow_as_header w before h = c4 h || (w.keeps && repeats_page w.complete w.page before h)
+abbrev pub is_allowed_header : Watched → List (List ℕ) → Header → Bool
+is_allowed_header w before h = c4 h || (w.keeps && repeats_page w.complete w.page before h)
 
 -- The header h of the page is allowed after these packets, and has the control bits of a subtitle
 -- page.
 abbrev pub is_subtitle_header : Watched → List (List ℕ) → Header → Bool
-is_subtitle_header w before h = may_follow_as_header w before h && has_subtitle_bits w.national h
+is_subtitle_header w before h = is_allowed_header w before h && has_subtitle_bits w.national h
 
 -- The packet is a header of the page that is not allowed after these packets, or has wrong control
 -- bits.
@@ -90,42 +90,43 @@ is_wrong_header w before (ThisPage h) = not (is_subtitle_header w before h)
 is_wrong_header w before _ = false
 
 -- The packet q exists, and its text differs from `codes`.
-abbrev pub is_other_text : Option (List ℕ) → List ℕ → Bool
-is_other_text None codes = false
-is_other_text (Some q) codes = not (row_differing (codes_of q) codes == 0)
+abbrev pub has_different_text : Option (List ℕ) → List ℕ → Bool
+has_different_text None codes = false
+has_different_text (Some q) codes = not (row_difference (codes_of q) codes == 0)
 
 -- The first packet of the row among these packets; `None` if the row was not sent.
-abbrev pub first_of_row : PageIdValue → List (List ℕ) → ℕ → Option (List ℕ)
-first_of_row page packets row = find (λ q. is_row row (kind page q)) packets
+abbrev pub first_packet_of_row : PageIdValue → List (List ℕ) → ℕ → Option (List ℕ)
+first_packet_of_row page packets row = find (λ q. is_row row (kind page q)) packets
 
 -- The packet p is a row whose text differs from the first packet of the same row among these
 -- packets.
-abbrev pub is_other_row : PageIdValue → List (List ℕ) → List ℕ → PacketKind → Bool
-is_other_row page packets p (Row row) = is_other_text (first_of_row page packets row) (codes_of p)
-is_other_row page packets p _ = false
+abbrev pub has_different_row : PageIdValue → List (List ℕ) → List ℕ → PacketKind → Bool
+has_different_row page packets p (Row row) = has_different_text (first_packet_of_row page packets
+    row) (codes_of p)
+has_different_row page packets p _ = false
 
 -- The address is that of a packet X/25 to X/28 of the page's magazine.
-abbrev pub is_of_enhancement : PageIdValue → Option PacketAddress → Bool
-is_of_enhancement page None = false
-is_of_enhancement page (Some a) =
+abbrev pub is_enhancement_address : PageIdValue → Option PacketAddress → Bool
+is_enhancement_address page None = false
+is_enhancement_address page (Some a) =
     a.magazine == page.magazine && nat_le 25 a.packet_number && nat_le a.packet_number 28
 
 -- The packet p, sent after the packets `before`, breaks the rule.
 unfoldable pub breaks : PacketRule → Watched → List (List ℕ) → List ℕ → Bool
 breaks rule.Address w before p = not (are_code_words 0 2 p)
-breaks rule.HeaderCode w before p = is_of_header (address p) && not (are_code_words 2 8 p)
+breaks rule.HeaderCode w before p = is_header_address (address p) && not (are_code_words 2 8 p)
 breaks rule.Mode w before p =
-    is_other_mode (option_map (λ (h : Header). c11 h) (first_header before))
+    has_different_mode (option_map (λ (h : Header). c11 h) (first_header before))
     (option_map (λ (h : Header). c11 h) (header p))
 breaks rule.Control w before p = is_wrong_header w before (kind w.page p)
 breaks rule.Parity w before p =
-    is_open_after (kind w.page) before && is_some_row (kind w.page p)
-    && is_some (first_even_byte p)
+    is_open_after (kind w.page) before && is_page_row (kind w.page p)
+    && is_some (first_even_parity_byte p)
 breaks rule.RowChanged w before p =
     is_open_after (kind w.page) before
-    && is_other_row w.page (text_span w.keeps (kind w.page) before) p (kind w.page p)
+    && has_different_row w.page (text_span w.keeps (kind w.page) before) p (kind w.page p)
 breaks rule.Enhancement w before p =
-    is_open_after (kind w.page) before && is_of_enhancement w.page (address p)
+    is_open_after (kind w.page) before && is_enhancement_address w.page (address p)
 
 -- The rules for a packet, in the order of reports.
 unfoldable pub packet_rules : List PacketRule

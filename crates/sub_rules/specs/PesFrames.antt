@@ -4,7 +4,7 @@ use Rattle.std.specs.Prelude.{◌≡◌, ℕ, ◌<◌, ◌≤◌, List, length, 
 use Rattle.std.specs.List.{AllZip, concat}
 use Rattle.ttx_pes.specs.DataUnit.{UnitValue}
 use Rattle.ttx_pes.specs.PesGrammar.{IsValidPesPacket, PesValue}
-use Rattle.ttx_pes.specs.Reading.{most_packets}
+use Rattle.ttx_pes.specs.Reading.{max_pes_packets}
 use Rattle.stl_file.specs.TimeCode.{day}
 use Rattle.sub_plan.specs.FrameTime.{Clock, pts_of}
 use Rattle.sub_rules.specs.PesPackets.{joined}
@@ -23,7 +23,7 @@ pub record Carries (origin : ℕ) (bytes : List ℕ) (frames : Transmission) : T
   pub values : List PesValue
   pub packets : List (List ℕ)
   pub each : AllZip IsValidPesPacket values packets
-  pub few : length packets ≤ most_packets
+  pub few : length packets ≤ max_pes_packets
   pub joined : bytes ≡ concat packets
   pub sent : AllZip (IsSentAs origin) values frames
   pub rising : IsRising frames
@@ -37,14 +37,14 @@ pub record IsReadAs (clock : Clock) (pes : PesValue) (s : SentFrame) : Type 0 wh
 -- The bytes are a PES file that carries these frames, if the clock converts each PTS to a frame
 -- number: valid PES packets, at most as many as a day has frames. Consecutive PES packets of one
 -- frame are merged, and the frame numbers increase.
-pub record CarriesBy
+pub record CarriesOnClock
     (clock : Clock) (within : ℕ) (bytes : List ℕ) (frames : Transmission)
     : Type 0 where
   pub values : List PesValue
   pub packets : List (List ℕ)
   pub sendings : Transmission
   pub each : AllZip IsValidPesPacket values packets
-  pub few : length packets ≤ most_packets
+  pub few : length packets ≤ max_pes_packets
   pub is_whole : bytes ≡ concat packets
   pub read : AllZip (IsReadAs clock) values sendings
   pub are : frames ≡ joined within sendings

@@ -9,21 +9,23 @@ use Rattle.std.specs.Prelude.{ℕ, zero, suc, ◌+◌, ◌-◌, ◌&&◌, ◌||�
 use Rattle.std.specs.Prelude.{List, []}
 use Rattle.std.specs.Prelude.{◌∷◌, ◌++◌, length, map, Option, Some, None, is_some, if◌then◌else◌}
 use Rattle.ttx_page.specs.PacketKind.{kind}
-use Rattle.ttx_page.specs.Span.{holds_beginning}
+use Rattle.ttx_page.specs.Span.{has_text_beginning}
 use Rattle.sub_rules.specs.Events.{closing_events, events_at_end, first_header_events}
-use Rattle.sub_rules.specs.Events.{first_reported, gap_length, is_late, latest, order_events}
-use Rattle.sub_rules.specs.Events.{packet_events, packets_reported, first_unfinished_before}
+use Rattle.sub_rules.specs.Events.{first_reported_fault, gap_length, is_late, latest_frame}
+use Rattle.sub_rules.specs.Events.{order_events}
+use Rattle.sub_rules.specs.Events.{packet_events, numbered_packet_events, first_unfinished_before}
 use Rattle.sub_rules.specs.Events.{active_faults_at}
 use Rattle.sub_rules.specs.Events.{unfinished_run_start, unread_fault}
-use Rattle.sub_rules.specs.Fault.{check_code, fault_row, place_of}
-use Rattle.sub_rules.specs.FrameRules.{Criteria, Unread, end_frame, frame_at, packets_before}
+use Rattle.sub_rules.specs.Fault.{code_of_check_fault, fault_row, place_of_fault}
+use Rattle.sub_rules.specs.FrameRules.{Criteria, UnreadReason, end_frame, frame_at, packets_before}
 use Rattle.sub_rules.specs.FrameRules.{packets_of_frame}
 use Rattle.sub_rules.specs.PesPackets.{PesPacket, frames_of, continues_with, joined}
 use Rattle.sub_rules.specs.PesPackets.{read_until_skipped}
 use Rattle.sub_rules.specs.PesPackets.{sent_after}
 use Rattle.sub_rules.specs.PesPackets.PesPacket.{Skipped, Sent}
 use Rattle.sub_rules.specs.Transmission.{SentFrame, Transmission}
-use Rattle.sub_rules.specs.Trusted.{CheckStep, has_no_active_faults, reports_none, reported_after}
+use Rattle.sub_rules.specs.Trusted.{CheckStep, has_no_active_faults, reports_no_event}
+use Rattle.sub_rules.specs.Trusted.{events_reported_after}
 use Rattle.sub_rules.specs.Trusted.CheckStep.{AtEnd, AtPes, Begins, Closes, Ends, GoesBack, Emits}
 use Rattle.sub_rules.specs.declared.event.Event.{Event}
 use Rattle.sub_rules.specs.declared.event.Event.TheVariants.{SkippedUntil, Reported}
@@ -34,12 +36,12 @@ use Rattle.sub_rules.specs.declared.fault_place.FaultPlace.TheVariants as place
 -- ---- frame ends
 
 -- The checker needs `GoesBack` steps: subtitles were rejected, and `within` is not 0.
-abbrev pub goes_back : Criteria → Bool
-goes_back g = g.any_refused && not (g.within == 0)
+abbrev pub needs_back_steps : Criteria → Bool
+needs_back_steps g = g.any_refused && not (g.within == 0)
 
 -- A `GoesBack` step with the first frame of the unfinished run, if the checker needs such steps.
 abbrev pub steps_before : Criteria → Option ℕ → List CheckStep
-steps_before g first_unfinished = if goes_back g then GoesBack first_unfinished ∷ [] else []
+steps_before g first_unfinished = if needs_back_steps g then GoesBack first_unfinished ∷ [] else []
 
 -- The steps at the end of frame f. If `within` is not 0, the first steps have the first frame with
 -- an unfinished page, and whether the page is overdue. The events follow. By this end, n frames of
@@ -56,7 +58,7 @@ steps_at_end g frames i n f =
 unfoldable pub steps_of_gap : Criteria → Transmission → ℕ → ℕ → List CheckStep
 steps_of_gap g frames i zero = []
 steps_of_gap g frames i (suc n) =
-    steps_of_gap g frames i n ++ steps_at_end g frames i i (latest frames i + suc n)
+    steps_of_gap g frames i n ++ steps_at_end g frames i i (latest_frame frames i + suc n)
 
 -- ---- steps for one PES packet
 
@@ -82,7 +84,7 @@ steps_of_ending g frames i =
     map Emits (first_header_events g frames i)
     ++ steps_at_end g frames i (suc i) (frame_at frames i)
     ++ Ends (frame_at frames i)
-    (holds_beginning g.watched.keeps (kind g.watched.page) (packets_of_frame frames i))
+    (has_text_beginning g.watched.keeps (kind g.watched.page) (packets_of_frame frames i))
     (has_no_active_faults (active_faults_at g frames (suc i) (frame_at frames i))) ∷ []
 
 -- The steps at the end of the last frame. If `within` is 0, there are none, since the frame has
@@ -96,7 +98,7 @@ steps_of_pending_end g (s ∷ sent) =
 abbrev pub steps_of_more : Criteria → Transmission → List (List ℕ) → List CheckStep
 steps_of_more g sent packets =
     map Emits
-    (packets_reported g.watched (end_frame sent)
+    (numbered_packet_events g.watched (end_frame sent)
     (length (packets_of_frame sent (length sent - 1)))
     (packets_before sent (length sent)) packets (length packets))
 
@@ -128,22 +130,22 @@ steps_of_each g sent pes (Skipped u ∷ pes_packets) =
     ∷ steps_of_each g sent (suc pes) pes_packets
 
 -- The events of a file without frames: the reason why the rest of the file cannot be read.
-abbrev pub reported_of_unread : ℕ → Option Unread → List Event
-reported_of_unread pes None = []
-reported_of_unread pes (Some u) = Reported (unread_fault pes (Some u)) ∷ []
+abbrev pub unread_fault_events : ℕ → Option UnreadReason → List Event
+unread_fault_events pes None = []
+unread_fault_events pes (Some u) = Reported (unread_fault pes (Some u)) ∷ []
 
 -- The events after the last PES packet of a file with `pes` PES packets and n frames.
-unfoldable pub closing_of_pes_packets : Criteria → Transmission → ℕ → ℕ → List Event
-closing_of_pes_packets g frames (suc pes) zero = reported_of_unread (suc pes) g.unread
-closing_of_pes_packets g frames pes n = closing_events g frames n
+unfoldable pub closing_events_of_pes_packets : Criteria → Transmission → ℕ → ℕ → List Event
+closing_events_of_pes_packets g frames (suc pes) zero = unread_fault_events (suc pes) g.unread
+closing_events_of_pes_packets g frames pes n = closing_events g frames n
 
 -- The steps after the last PES packet of a file with `pes` PES packets and n frames.
 abbrev pub steps_of_closing : Criteria → Transmission → ℕ → ℕ → List CheckStep
 steps_of_closing g frames pes n =
     AtPes pes
     ∷ Closes (is_some g.unread)
-    (g.any_refused || not (reports_none (closing_of_pes_packets g frames pes n)))
-    ∷ map Emits (closing_of_pes_packets g frames pes n)
+    (g.any_refused || not (reports_no_event (closing_events_of_pes_packets g frames pes n)))
+    ∷ map Emits (closing_events_of_pes_packets g frames pes n)
 
 -- The frames that the PES packets carry. If `within` is not 0, consecutive PES packets of one frame
 -- are merged.
@@ -170,8 +172,8 @@ is_after _ _ = false
 unfoldable pub continues : CheckFault → CheckFault → Bool
 continues last refusal =
     (fault_row refusal).is_skipped
-    && is_after (place_of last) (place_of refusal)
-    && ((check_code refusal).number == (check_code last).number)
+    && is_after (place_of_fault last) (place_of_fault refusal)
+    && ((code_of_check_fault refusal).number == (code_of_check_fault last).number)
 
 -- A run of consecutive skipped packets with the same fault: the fault of the last packet, and
 -- whether the run has several packets.
@@ -189,20 +191,20 @@ continues_after None refusal = false
 continues_after (Some last) refusal = continues last refusal
 
 -- The event continues the run of skipped packets.
-unfoldable pub joins : SkippedRun → Event → Bool
-joins run (Reported refusal) = continues_after run.last refusal
-joins run event = false
+unfoldable pub continues_skipped_run : SkippedRun → Event → Bool
+continues_skipped_run run (Reported refusal) = continues_after run.last refusal
+continues_skipped_run run event = false
 
 -- The run after this fault; no run if the packet of the fault is not skipped.
-abbrev pub run_with : CheckFault → Bool → SkippedRun
-run_with refusal many = record {
+abbrev pub run_of_fault : CheckFault → Bool → SkippedRun
+run_of_fault refusal many = record {
   last = if (fault_row refusal).is_skipped then Some refusal else None;
   many = many;
 }
 
 -- The run of skipped packets after an event.
 unfoldable pub skipped_run_after : SkippedRun → Event → SkippedRun
-skipped_run_after run (Reported refusal) = run_with refusal (continues_after run.last refusal)
+skipped_run_after run (Reported refusal) = run_of_fault refusal (continues_after run.last refusal)
 skipped_run_after run event = no_run
 
 -- The event that reports the last packet of a run.
@@ -211,40 +213,42 @@ until None = []
 until (Some refusal) = SkippedUntil refusal ∷ []
 
 -- The event at the end of a run with several packets; none for a single packet.
-abbrev pub ended_run : SkippedRun → List Event
-ended_run run = if run.many then until run.last else []
+abbrev pub run_ending_events : SkippedRun → List Event
+run_ending_events run = if run.many then until run.last else []
 
 -- The events to report when an event follows a run: none if it continues the run, otherwise the
 -- run's end and the event.
 unfoldable pub announced : SkippedRun → Event → List Event
-announced run event = if joins run event then [] else ended_run run ++ event ∷ []
+announced run event = if continues_skipped_run run event then [] else run_ending_events run ++ event
+    ∷ []
 
 -- The events to report for a list of events that follow a run.
-unfoldable pub all_announced : SkippedRun → List Event → List Event
-all_announced run [] = []
-all_announced run (e ∷ es) = announced run e ++ all_announced (skipped_run_after run e) es
+unfoldable pub announced_events : SkippedRun → List Event → List Event
+announced_events run [] = []
+announced_events run (e ∷ es) = announced run e ++ announced_events (skipped_run_after run e) es
 
 -- The run of skipped packets after a list of events.
-unfoldable pub skipped_after_all : SkippedRun → List Event → SkippedRun
-skipped_after_all run [] = run
-skipped_after_all run (e ∷ es) = skipped_after_all (skipped_run_after run e) es
+unfoldable pub skipped_run_after_events : SkippedRun → List Event → SkippedRun
+skipped_run_after_events run [] = run
+skipped_run_after_events run (e ∷ es) = skipped_run_after_events (skipped_run_after run e) es
 
 -- ---- all events of a PES file
 
 -- The events for the PES packets of a file, without the events at its end.
 unfoldable pub events_of_pes_packets : Criteria → List PesPacket → List Event
-events_of_pes_packets g pes_packets = all_announced no_run
-    (reported_after [] (steps_of_each g [] 0 pes_packets))
+events_of_pes_packets g pes_packets = announced_events no_run
+    (events_reported_after [] (steps_of_each g [] 0 pes_packets))
 
 -- The events of a PES file, with each skipped packet.
 unfoldable pub reported_of_pes_packets : Criteria → List PesPacket → List Event
-reported_of_pes_packets g pes_packets = reported_after [] (steps_of_pes_packets g pes_packets)
+reported_of_pes_packets g pes_packets = events_reported_after []
+    (steps_of_pes_packets g pes_packets)
 
 -- All events of a PES file, with runs of skipped PES packets grouped.
-unfoldable pub all_of_pes_packets : Criteria → List PesPacket → List Event
-all_of_pes_packets g pes_packets =
+unfoldable pub all_events_of_pes_packets : Criteria → List PesPacket → List Event
+all_events_of_pes_packets g pes_packets =
     let reported = reported_of_pes_packets g pes_packets in
-    all_announced no_run reported ++ ended_run (skipped_after_all no_run reported)
+    announced_events no_run reported ++ run_ending_events (skipped_run_after_events no_run reported)
 
 -- ---- the first fault of a PES file
 
@@ -259,7 +263,7 @@ abbrev pub LawOfFirstReported : Type 0
 LawOfFirstReported =
     (g : Criteria) (pes_packets : List PesPacket)
     → g.within ≡ 0
-    → first_reported (all_of_pes_packets g pes_packets)
-    ≡ first_reported
-    (all_of_pes_packets (until_skipped g pes_packets)
+    → first_reported_fault (all_events_of_pes_packets g pes_packets)
+    ≡ first_reported_fault
+    (all_events_of_pes_packets (until_skipped g pes_packets)
     (map Sent (read_until_skipped pes_packets g.unread).frames))

@@ -10,12 +10,12 @@ use Rattle.ttx_pes.specs.declared.fault.PesFault.{PesFault}
 use Rattle.ttx_pes.specs.PesGrammar.{PesValue}
 use Rattle.ttx_pes.specs.PesPackets.{IsPesPacket, PesPacketsValue, rest_after_pes_packet}
 use Rattle.ttx_pes.specs.PesPackets.{pes_packets_after}
-use Rattle.ttx_pes.specs.Reader.{FailsWithin}
+use Rattle.ttx_pes.specs.Reader.{FailsWithinPacket}
 use Rattle.ttx_pes.specs.SentUnits.{packets_of_units}
 use Rattle.sub_plan.specs.FrameTime.{Clock}
 use Rattle.sub_rules.specs.Events.{unread_fault}
-use Rattle.sub_rules.specs.FrameRules.{Unread, end_frame}
-use Rattle.sub_rules.specs.FrameRules.Unread.{BadPacket, NoFrame}
+use Rattle.sub_rules.specs.FrameRules.{UnreadReason, end_frame}
+use Rattle.sub_rules.specs.FrameRules.UnreadReason.{BadPacket, NoFrame}
 use Rattle.sub_rules.specs.Transmission.{SentFrame, Transmission}
 use Rattle.sub_rules.specs.declared.fault.CheckFault.{CheckFault}
 use Rattle.sub_rules.specs.declared.pes_packet.NextPesPacket.{NextPesPacket}
@@ -25,35 +25,35 @@ use Rattle.sub_rules.specs.declared.sending.Sending.{Sending}
 -- A PES packet of a file: it carries a frame, or is skipped for this reason.
 pub data PesPacket : Type 0 where
   Sent : SentFrame → PesPacket
-  Skipped : Unread → PesPacket
+  Skipped : UnreadReason → PesPacket
 
 -- The contents of a PES file: its PES packets, and why the rest of the file cannot be read.
 pub record PesPacketFileValue : Type 0 where
   pub pes_packets : List PesPacket
-  pub unread : Option Unread
+  pub unread : Option UnreadReason
 
 -- The PES packet with this frame and these Teletext packets. It is skipped if its PTS belongs to no
 -- frame.
-abbrev pub pes_packet_with : Option ℕ → List (List ℕ) → PesPacket
-pes_packet_with None packets = Skipped NoFrame
-pes_packet_with (Some frame) packets = Sent (record { frame = frame; packets = packets })
+abbrev pub sent_pes_packet : Option ℕ → List (List ℕ) → PesPacket
+sent_pes_packet None packets = Skipped NoFrame
+sent_pes_packet (Some frame) packets = Sent (record { frame = frame; packets = packets })
 
 -- The PES packet for a result of the reader. `clock` converts the PTS to a frame.
 unfoldable pub pes_packet_of : Clock → Result PesValue PesFault → PesPacket
-pes_packet_of clock (Ok v) = pes_packet_with (clock v.pts) (packets_of_units v.units)
+pes_packet_of clock (Ok v) = sent_pes_packet (clock v.pts) (packets_of_units v.units)
 pes_packet_of clock (Err f) = Skipped (BadPacket f)
 
 -- Why the rest of the file cannot be read, given the reader's fault; `None` if the entire file was
 -- read.
-abbrev pub unread_by : Option PesFault → Option Unread
-unread_by None = None
-unread_by (Some f) = Some (BadPacket f)
+abbrev pub unread_reason_of : Option PesFault → Option UnreadReason
+unread_reason_of None = None
+unread_reason_of (Some f) = Some (BadPacket f)
 
 -- The contents of a PES file with these PES packets.
 abbrev pub file_of_pes_packets : Clock → PesPacketsValue → PesPacketFileValue
 file_of_pes_packets clock value = record {
   pes_packets = map (pes_packet_of clock) value.pes_packets;
-  unread = unread_by value.left;
+  unread = unread_reason_of value.left;
 }
 
 -- The contents of a PES file after its first `given` packets.
@@ -65,13 +65,14 @@ abbrev pub pes_packet_file_of : Clock → List ℕ → PesPacketFileValue
 pes_packet_file_of clock bytes = pes_packets_at clock 0 bytes
 
 -- The bytes after `given` PES packets are exactly `pes_packets`, followed by the unread rest.
-abbrev pub ReadsPesPackets : Clock → ℕ → List ℕ → List PesPacket → Option Unread → Type 0
+abbrev pub ReadsPesPackets : Clock → ℕ → List ℕ → List PesPacket → Option UnreadReason → Type 0
 ReadsPesPackets clock given bytes pes_packets unread =
     pes_packets_at clock given bytes ≡ record { pes_packets = pes_packets; unread = unread }
 
 -- The bytes begin with `pes_packet`, the first of `pes_packets`; the others follow it.
 pub record ReadsPesPacket
-    (clock : Clock) (n : ℕ) (bytes : List ℕ) (pes_packets : List PesPacket) (unread : Option Unread)
+    (clock : Clock) (n : ℕ) (bytes : List ℕ) (pes_packets : List PesPacket)
+    (unread : Option UnreadReason)
     (pes_packet : PesPacket)
     : Type 0 where
   pub more : List PesPacket
@@ -88,7 +89,7 @@ IfSent answer IsSo = (sending : Sending) → answer ≡ Ok (Some (next.Sent send
 
 -- A result of `next_pes_packet` agrees with the bytes after n PES packets: it is the first of
 -- `pes_packets`, with the value v; or no packet is left, for the reason `unread`.
-abbrev pub ReportsPesPacket : Clock → ℕ → List ℕ → List PesPacket → Option Unread → PesValue
+abbrev pub ReportsPesPacket : Clock → ℕ → List ℕ → List PesPacket → Option UnreadReason → PesValue
     → Result (Option NextPesPacket) CheckFault → Type 0
 ReportsPesPacket clock n bytes pes_packets unread v (Ok None) = (pes_packets ≡ []) × (unread ≡ None)
 ReportsPesPacket clock n bytes pes_packets unread v (Ok (Some (next.Sent s))) =
@@ -96,11 +97,11 @@ ReportsPesPacket clock n bytes pes_packets unread v (Ok (Some (next.Sent s))) =
     (Sent (record { frame = s.frame; packets = packets_of_units v.units }))
     × (clock v.pts ≡ Some s.frame)
 ReportsPesPacket clock n bytes pes_packets unread v (Ok (Some (next.Skipped f))) =
-    (u : Unread)
+    (u : UnreadReason)
     × (f ≡ unread_fault n (Some u))
     × ReadsPesPacket clock n bytes pes_packets unread (Skipped u)
 ReportsPesPacket clock n bytes pes_packets unread v (Err f) =
-    (pes_packets ≡ []) × (u : Unread) × (unread ≡ Some u) × (f ≡ unread_fault n (Some u))
+    (pes_packets ≡ []) × (u : UnreadReason) × (unread ≡ Some u) × (f ≡ unread_fault n (Some u))
 
 -- The call consumed exactly one PES packet.
 pub record TakesOnePesPacket (old new : Option (List ℕ)) : Type 0 where
@@ -120,7 +121,7 @@ pub record TakesPesPackets (n : ℕ) (old new : Option (List ℕ)) : Type 0 wher
 pub record FailsAtPesPacket (n : ℕ) (old new : Option (List ℕ)) : Type 0 where
   pub following : Option (List ℕ)
   pub before : TakesPesPackets n old following
-  pub within : FailsWithin following new
+  pub within : FailsWithinPacket following new
 
 -- The frames of the PES packets that are sent; skipped packets have none.
 unfoldable pub frames_of : List PesPacket → Transmission
@@ -159,10 +160,10 @@ joined within frames = joined_after within [] frames
 -- The frames of a PES file, and why the rest of the file cannot be read.
 pub record PesFileValue : Type 0 where
   pub frames : Transmission
-  pub unread : Option Unread
+  pub unread : Option UnreadReason
 
 -- The frames of the PES packets before the first skipped one, and why reading ends there.
-unfoldable pub read_until_skipped : List PesPacket → Option Unread → PesFileValue
+unfoldable pub read_until_skipped : List PesPacket → Option UnreadReason → PesFileValue
 read_until_skipped [] unread = record { frames = []; unread = unread }
 read_until_skipped (Sent s ∷ pes_packets) unread =
     let rest = read_until_skipped pes_packets unread in
@@ -170,5 +171,5 @@ read_until_skipped (Sent s ∷ pes_packets) unread =
 read_until_skipped (Skipped u ∷ pes_packets) unread = record { frames = []; unread = Some u }
 
 -- The frames of a PES file before its first skipped packet, and why reading ends there.
-abbrev pub until_first_skipped : PesPacketFileValue → PesFileValue
-until_first_skipped file = read_until_skipped file.pes_packets file.unread
+abbrev pub file_until_first_skipped : PesPacketFileValue → PesFileValue
+file_until_first_skipped file = read_until_skipped file.pes_packets file.unread

@@ -1,23 +1,23 @@
 -- The frames of a PES file, given the PTS of frame 0 (EN 300 472), and why the rest of the file
 -- cannot be read.
 use Rattle.std.specs.Prelude.{◌≡◌, ◌↔◌, ℕ, List, Option}
-use Rattle.sub_rules.specs.FrameRules.{Unread}
+use Rattle.sub_rules.specs.FrameRules.{UnreadReason}
 use Rattle.sub_plan.specs.FrameTime.{Clock, clock_of}
 use Rattle.sub_plan.specs.Options.{OptionsValue}
-use Rattle.sub_rules.specs.PesFrames.{Carries, CarriesBy}
-use Rattle.sub_rules.specs.PesPackets.{PesFileValue, pes_packets_at, until_first_skipped}
+use Rattle.sub_rules.specs.PesFrames.{Carries, CarriesOnClock}
+use Rattle.sub_rules.specs.PesPackets.{PesFileValue, pes_packets_at, file_until_first_skipped}
 use Rattle.sub_rules.specs.Transmission.{Transmission}
 
 -- The frames in the bytes after `given` PES packets, up to the first packet that would be skipped.
 unfoldable pub file_at : Clock → ℕ → List ℕ → PesFileValue
-file_at clock given bytes = until_first_skipped (pes_packets_at clock given bytes)
+file_at clock given bytes = file_until_first_skipped (pes_packets_at clock given bytes)
 
 -- The frames of a PES file, up to the first packet that would be skipped.
 abbrev pub pes_file_of : Clock → List ℕ → PesFileValue
 pes_file_of clock bytes = file_at clock 0 bytes
 
 -- The bytes after `given` PES packets are exactly these frames, followed by the unread rest.
-abbrev pub ReadsAs : Clock → ℕ → List ℕ → Transmission → Option Unread → Type 0
+abbrev pub ReadsAs : Clock → ℕ → List ℕ → Transmission → Option UnreadReason → Type 0
 ReadsAs clock given bytes frames unread =
     file_at clock given bytes ≡ record { frames = frames; unread = unread }
 
@@ -27,4 +27,5 @@ abbrev pub LawOfExactFrames : Type 0
 LawOfExactFrames =
     (options : OptionsValue) (bytes : List ℕ) (frames : Transmission)
     → options.within ≡ 0
-    → CarriesBy (clock_of options) options.within bytes frames ↔ Carries options.origin bytes frames
+    → CarriesOnClock (clock_of options) options.within bytes frames ↔ Carries options.origin bytes
+    frames

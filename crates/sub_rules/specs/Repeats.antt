@@ -16,10 +16,10 @@ use Rattle.ttx_page.specs.Shown.{kept}
 use Rattle.ttx_page.specs.Span.{is_open_after, text_span}
 use Rattle.stl_rows.specs.Programme.{ProgrammeValue, first_tci, last_tco}
 use Rattle.sub_plan.specs.Options.{OptionsValue}
-use Rattle.sub_plan.specs.Schedule.{due_in}
-use Rattle.sub_rules.specs.Good.{HoldsHeader, IsCleanSpan, IsInOneMode, KeepsPace, KeepsRules}
+use Rattle.sub_plan.specs.Schedule.{due_page_in}
+use Rattle.sub_rules.specs.Good.{HoldsHeader, IsCleanSpan, HaveSameMode, KeepsPace, KeepsRules}
 use Rattle.sub_rules.specs.Good.{Repeats}
-use Rattle.sub_rules.specs.Kept.{ErasesOrRepeats, IsOfSubtitle, IsRight}
+use Rattle.sub_rules.specs.Kept.{ErasesOrRepeats, HasSubtitleHeaderBits, IsRight}
 use Rattle.sub_rules.specs.Transmission.{EachPacket, IsRising, Transmission, first_frame}
 use Rattle.sub_rules.specs.Transmission.{last_frame, on_air_until}
 
@@ -31,7 +31,7 @@ abbrev pub IsCorrectPage : Bool → ProgrammeValue → PageIdValue → Transmiss
 IsCorrectPage keeps programme page transmission f =
     (row column : ℕ)
     → IsCell row column
-    → IsRight keeps page (on_air_until transmission f) (due_in programme f) row column
+    → IsRight keeps page (on_air_until transmission f) (due_page_in programme f) row column
 
 -- The page has ended by the end of frame f: it is not open.
 abbrev pub HasEndedPage : PageIdValue → Transmission → ℕ → Type 0
@@ -48,7 +48,7 @@ IsDueWithin programme transmission options f row column code =
     × (first_frame transmission ≤ e)
     × (e ≤ f)
     × (f ≤ e + options.within)
-    × (code ≡ cell (due_in programme e) row column))
+    × (code ≡ cell (due_page_in programme e) row column))
 
 -- At the end of each frame from a to b, each cell has an allowed code: a space, or a code that was
 -- expected in the cell at that frame or at one of the `within` frames before it.
@@ -65,7 +65,7 @@ KeepsDueCodes keeps programme transmission options a b =
 -- ---- good transmissions if repeats may have C4 (erase page) clear
 
 -- Rules 1 to 6 of a good transmission. `keeps` says whether repeats may have C4 (erase page) clear.
-pub record KeepsRulesBy
+pub record KeepsRulesWithRepeats
     (keeps : Bool) (programme : ProgrammeValue) (transmission : Transmission)
     (options : OptionsValue)
     : Type 0 where
@@ -76,10 +76,11 @@ pub record KeepsRulesBy
   pub starts : IfSome (first_tci programme.records) (λ tci. first_frame transmission ≤ tci)
   pub lasts : IfSome (last_tco programme.records) (λ tco. tco ≤ last_frame transmission)
   pub exact : EachPacket HasExactCodeWords transmission
-  pub serial : EachPacket (λ one. EachPacket (IsInOneMode one) transmission) transmission
+  pub serial : EachPacket (λ one. EachPacket (HaveSameMode one) transmission) transmission
   -- Rule 4: each header of the page has the control bits of a subtitle page, and has C4 (erase
   -- page) set or, if `keeps` is true, repeats the page.
-  pub control : EachPacket (IsOfSubtitle programme.drawing.national options.page) transmission
+  pub control : EachPacket (HasSubtitleHeaderBits programme.drawing.national options.page)
+      transmission
   pub erases : IsFalse keeps → EachPacket (ErasesPage options.page) transmission
   pub keeping :
       (f n : ℕ)
@@ -101,7 +102,7 @@ pub record KeepsRulesBy
 
 -- Frame f is finished: at its end the page is correct and, if complete pages are required, has
 -- ended.
-pub record IsFinishedBy
+pub record IsFinishedFrame
     (keeps : Bool) (programme : ProgrammeValue) (transmission : Transmission)
     (options : OptionsValue) (f : ℕ)
     : Type 0 where
@@ -110,28 +111,28 @@ pub record IsFinishedBy
 
 -- At least one of the frames from a to b is finished: its page is correct and, if required,
 -- complete.
-abbrev pub SomeFinishedBy : Bool → ProgrammeValue → Transmission → OptionsValue → ℕ → ℕ → Type 0
-SomeFinishedBy keeps programme transmission options a b =
-    (f : ℕ) × (a ≤ f) × (f ≤ b) × IsFinishedBy keeps programme transmission options f
+abbrev pub HasFinishedFrame : Bool → ProgrammeValue → Transmission → OptionsValue → ℕ → ℕ → Type 0
+HasFinishedFrame keeps programme transmission options a b =
+    (f : ℕ) × (a ≤ f) × (f ≤ b) × IsFinishedFrame keeps programme transmission options f
 
 -- At least one of any `within` + 1 consecutive frames from a to b is finished: its page is correct
 -- and, if required, complete.
-abbrev pub FinishesAgainBy :
+abbrev pub FinishesRegularly :
     Bool → ProgrammeValue → Transmission → OptionsValue → ℕ → ℕ → Type 0
-FinishesAgainBy keeps programme transmission options a b =
+FinishesRegularly keeps programme transmission options a b =
     (start : ℕ)
     → a ≤ start
     → start + options.within ≤ b
-    → SomeFinishedBy keeps programme transmission options start (start + options.within)
+    → HasFinishedFrame keeps programme transmission options start (start + options.within)
 
 -- A good transmission of these subtitles if a page may take up to `within` frames to become
 -- correct. `keeps` says whether repeats may have C4 (erase page) clear.
-pub record GoodBy
+pub record GoodWithRepeats
     (keeps : Bool) (programme : ProgrammeValue) (transmission : Transmission)
     (options : OptionsValue)
     : Type 0 where
   -- Rules 1 to 6 of a good transmission.
-  pub rules : KeepsRulesBy keeps programme transmission options
+  pub rules : KeepsRulesWithRepeats keeps programme transmission options
   -- Rule 7: at the end of each frame, each cell has a space or a code that was expected in it at
   -- that frame or at one of the `within` frames before. At least one of any `within` + 1
   -- consecutive frames is finished, at least one frame of each subtitle, and the last frame.
@@ -139,18 +140,18 @@ pub record GoodBy
       KeepsDueCodes keeps programme transmission options (first_frame transmission)
       (last_frame transmission)
   pub again :
-      FinishesAgainBy keeps programme transmission options (first_frame transmission)
+      FinishesRegularly keeps programme transmission options (first_frame transmission)
       (last_frame transmission)
   pub subtitles :
-      All (λ t. SomeFinishedBy keeps programme transmission options t.tci (t.tco - 1))
+      All (λ t. HasFinishedFrame keeps programme transmission options t.tci (t.tco - 1))
       programme.records
-  pub ends : IsFinishedBy keeps programme transmission options (last_frame transmission)
+  pub ends : IsFinishedFrame keeps programme transmission options (last_frame transmission)
 
 -- If each header must have C4 (erase page) set, rules 1 to 6 are those of `Good`.
 abbrev pub LawOfNoRepeats : Type 0
 LawOfNoRepeats =
     (programme : ProgrammeValue) (transmission : Transmission) (options : OptionsValue)
-    → KeepsRulesBy false programme transmission options
+    → KeepsRulesWithRepeats false programme transmission options
     ↔ KeepsRules programme transmission options
 
 -- A transmission that is good if each header must have C4 (erase page) set is also good if repeats
@@ -158,14 +159,14 @@ LawOfNoRepeats =
 abbrev pub LawOfMayKeep : Type 0
 LawOfMayKeep =
     (programme : ProgrammeValue) (transmission : Transmission) (options : OptionsValue)
-    → GoodBy false programme transmission options
-    → GoodBy true programme transmission options
+    → GoodWithRepeats false programme transmission options
+    → GoodWithRepeats true programme transmission options
 
 -- If a transmission is good when repeats may have C4 (erase page) clear, and each header of the
 -- page has C4 set, it is also good when each header must have C4 set.
-abbrev pub LawOfNoneKeeps : Type 0
-LawOfNoneKeeps =
+abbrev pub LawOfErasingHeaders : Type 0
+LawOfErasingHeaders =
     (programme : ProgrammeValue) (transmission : Transmission) (options : OptionsValue)
     → EachPacket (ErasesPage options.page) transmission
-    → GoodBy true programme transmission options
-    → GoodBy false programme transmission options
+    → GoodWithRepeats true programme transmission options
+    → GoodWithRepeats false programme transmission options

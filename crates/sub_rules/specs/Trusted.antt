@@ -20,8 +20,8 @@ use Rattle.std.specs.Prelude.{◌++◌, Option, Some, None, is_none, is_some, na
 use Rattle.std.specs.Prelude.{if◌then◌else◌}
 use Rattle.std.specs.List.{list_any}
 use Rattle.std.specs.Option.{option_or}
-use Rattle.sub_rules.specs.Events.{broken_at, end_rules}
-use Rattle.sub_rules.specs.Fault.{invalidated_frame, fault_at_pes, fault_row}
+use Rattle.sub_rules.specs.Events.{place_of_broken_rule, end_rules}
+use Rattle.sub_rules.specs.Fault.{invalidated_frame, fault_with_pes_number, fault_row}
 use Rattle.sub_rules.specs.declared.event.Event.{Event}
 use Rattle.sub_rules.specs.declared.event.Event.TheVariants.{Reported, Trusted}
 use Rattle.sub_rules.specs.declared.fault.CheckFault.TheVariants as fault
@@ -71,17 +71,17 @@ first_unfinished_of (AtEnd f first_unfinished late ∷ past) = first_unfinished
 first_unfinished_of (m ∷ past) = first_unfinished_of past
 
 -- The first frame of the current run of frames with an unfinished page, if the page is overdue.
-unfoldable pub late_of : List CheckStep → Option ℕ
-late_of [] = None
-late_of (AtEnd f first_unfinished late ∷ past) = if late then first_unfinished else None
-late_of (m ∷ past) = late_of past
+unfoldable pub late_run_start : List CheckStep → Option ℕ
+late_run_start [] = None
+late_run_start (AtEnd f first_unfinished late ∷ past) = if late then first_unfinished else None
+late_run_start (m ∷ past) = late_run_start past
 
 -- The frame of the last `GoesBack` step: the first frame of the run of frames with an unfinished
 -- page, up to the frame before.
-unfoldable pub back_of : List CheckStep → Option ℕ
-back_of [] = None
-back_of (GoesBack first_unfinished ∷ past) = first_unfinished
-back_of (m ∷ past) = back_of past
+unfoldable pub back_frame_of : List CheckStep → Option ℕ
+back_frame_of [] = None
+back_frame_of (GoesBack first_unfinished ∷ past) = first_unfinished
+back_frame_of (m ∷ past) = back_frame_of past
 
 -- The step is an event.
 abbrev pub is_emitted : CheckStep → Bool
@@ -94,7 +94,7 @@ is_emitted m = false
 -- that affects receivers. For an overdue page, it is the first frame with the unfinished page.
 unfoldable pub invalidated_by : List CheckStep → Event → Option ℕ
 invalidated_by past (Reported f) =
-    invalidated_frame (last_packet_frame past) (late_of past) (fault_row f).invalidates
+    invalidated_frame (last_packet_frame past) (late_run_start past) (fault_row f).invalidates
     (fault_row f).place
 invalidated_by past event = None
 
@@ -113,7 +113,7 @@ stays_fault_free (m ∷ past) = stays_fault_free past
 
 -- No fault is active.
 abbrev pub has_no_active_faults : ActiveFaults → Bool
-has_no_active_faults s = not (list_any (λ rule. is_some (broken_at rule s)) end_rules)
+has_no_active_faults s = not (list_any (λ rule. is_some (place_of_broken_rule rule s)) end_rules)
 
 -- ---- runs of fault-free frames
 
@@ -131,18 +131,18 @@ run_of (Closes are_left more ∷ past) = None
 run_of (m ∷ past) = run_of past
 
 -- The frame f, if the page was finished at its end.
-abbrev pub correct_at : ℕ → Option ℕ → Option ℕ
-correct_at f first_unfinished = if is_none first_unfinished then Some f else None
+abbrev pub frame_if_finished : ℕ → Option ℕ → Option ℕ
+frame_if_finished f first_unfinished = if is_none first_unfinished then Some f else None
 
 -- The first frame of the current run, from its first header on, at whose end the page was correct.
 -- Has no meaning without a current run.
 unfoldable pub first_correct_of : List CheckStep → Option ℕ
 first_correct_of [] = None
 first_correct_of (AtEnd f first_unfinished late ∷ past) = option_or (first_correct_of past)
-    (correct_at f first_unfinished)
+    (frame_if_finished f first_unfinished)
 first_correct_of (Ends f has_beginning none ∷ past) =
     option_or (if is_none (run_of past) then None else first_correct_of past)
-    (correct_at f (first_unfinished_of past))
+    (frame_if_finished f (first_unfinished_of past))
 first_correct_of (m ∷ past) = first_correct_of past
 
 -- ---- trusted frames, and when they are reported
@@ -159,39 +159,41 @@ trusted run whole f = []
 abbrev pub trusted_up_to : List CheckStep → Option ℕ → List Event
 trusted_up_to past None = []
 trusted_up_to past (Some f) = trusted (run_of past) (first_correct_of past)
-    (unwrap_or (back_of past) f)
+    (unwrap_or (back_frame_of past) f)
 
 -- The first frame that is not trusted at the end of the file: the first frame with the unfinished
 -- page; otherwise the last frame, if unread bytes may belong to it; otherwise the frame after the
 -- last.
-abbrev pub closing_at : List CheckStep → Bool → ℕ
-closing_at past left =
+abbrev pub first_untrusted_at_close : List CheckStep → Bool → ℕ
+first_untrusted_at_close past left =
     unwrap_or (first_unfinished_of past)
-    (if left then unwrap_or (back_of past) (last_packet_frame past) else suc
+    (if left then unwrap_or (back_frame_of past) (last_packet_frame past) else suc
     (last_packet_frame past))
 
 -- The event with PES packet number `pes`, which counts skipped packets too.
-unfoldable pub at_pes : ℕ → Event → Event
-at_pes pes (Reported refusal) = Reported (fault_at_pes pes refusal)
-at_pes pes event = event
+unfoldable pub with_pes_number : ℕ → Event → Event
+with_pes_number pes (Reported refusal) = Reported (fault_with_pes_number pes refusal)
+with_pes_number pes event = event
 
 -- The list of events is empty.
-abbrev pub reports_none : List Event → Bool
-reports_none [] = true
-reports_none (e ∷ es) = false
+abbrev pub reports_no_event : List Event → Bool
+reports_no_event [] = true
+reports_no_event (e ∷ es) = false
 
 -- The events to report for a step: the trusted frames that end with this step, and then the event
 -- of the step. At the end of the file, trusted frames are reported only if any fault was reported.
-unfoldable pub reported_at : List CheckStep → CheckStep → List Event
-reported_at past (Emits e) = trusted_up_to past (invalidated_by past e) ++ at_pes (current_pes past)
+unfoldable pub events_reported_at_step : List CheckStep → CheckStep → List Event
+events_reported_at_step past (Emits e) = trusted_up_to past (invalidated_by past e) ++
+    with_pes_number (current_pes past)
     e ∷ []
-reported_at past (Closes left more) =
+events_reported_at_step past (Closes left more) =
     if list_any is_emitted past || more
-    then trusted (run_of past) (first_correct_of past) (closing_at past left)
+    then trusted (run_of past) (first_correct_of past) (first_untrusted_at_close past left)
     else []
-reported_at past m = []
+events_reported_at_step past m = []
 
 -- The events to report for a list of steps that follow the steps in `past`.
-unfoldable pub reported_after : List CheckStep → List CheckStep → List Event
-reported_after past [] = []
-reported_after past (m ∷ ms) = reported_at past m ++ reported_after (m ∷ past) ms
+unfoldable pub events_reported_after : List CheckStep → List CheckStep → List Event
+events_reported_after past [] = []
+events_reported_after past (m ∷ ms) = events_reported_at_step past m ++ events_reported_after
+    (m ∷ past) ms

@@ -5,7 +5,7 @@ use Rattle.ttx_page.specs.Receiver.{State, Hears}
 use Rattle.stl_rows.specs.Programme.{ProgrammeValue}
 use Rattle.sub_plan.specs.Options.{OptionsValue}
 use Rattle.sub_rules.specs.FrameRules.{frame_at}
-use Rattle.sub_plan.specs.Schedule.{due_in}
+use Rattle.sub_plan.specs.Schedule.{due_page_in}
 use Rattle.sub_rules.specs.Transmission.{Transmission, IsRising, last_frame, on_air_until}
 
 -- `read` is a prefix of the transmission, with increasing frame numbers, that ends at or before
@@ -33,4 +33,4 @@ pub record IsWrongEverywhere
       → IsFalse old.heard
       → IsFalse old.is_open
       → Hears options.page old (on_air_until read f) new
-      → cell new.page row column ≢ cell (due_in programme f) row column
+      → cell new.page row column ≢ cell (due_page_in programme f) row column

@@ -1,6 +1,7 @@
 //! The faults that are active at the end of a frame.
 ghost use Rattle.std.specs.Prelude.{◌≡◌, ◌↔◌, IsTrue};
-ghost use Rattle.sub_rules.specs.Events.{broken_at, no_active_faults, entire_frame};
+ghost use Rattle.sub_rules.specs.Events.{place_of_broken_rule, no_active_faults};
+ghost use Rattle.sub_rules.specs.Events.{entire_frame_place};
 ghost use Rattle.sub_rules.specs.Trusted.{has_no_active_faults};
 
 use crate::end_rule::EndRule;
@@ -48,21 +49,21 @@ impl ActiveFaults {
     /// Returns the place at which a rule is broken: the first wrong cell, or row 0 and column 0 for
     /// a rule about the entire page. Returns `None` if the rule is not broken.
     pub fn at(&self, rule: EndRule) -> Option<(u8, u8)>
-        ensures { result ≡ broken_at rule self.now }
+        ensures { result ≡ place_of_broken_rule rule self.now }
     {
         match rule {
             EndRule::Content => self.content,
-            EndRule::Gap => entire_frame(self.gap),
-            EndRule::Incomplete => entire_frame(self.incomplete),
-            EndRule::Undecided => entire_frame(self.undecided),
-            EndRule::Silent => entire_frame(self.silent),
+            EndRule::Gap => entire_frame_place(self.gap),
+            EndRule::Incomplete => entire_frame_place(self.incomplete),
+            EndRule::Undecided => entire_frame_place(self.undecided),
+            EndRule::Silent => entire_frame_place(self.silent),
         }
     }
 }
 
 // Returns row 0 and column 0 if a rule about the entire page is broken; otherwise `None`.
-fn entire_frame(is_broken: bool) -> Option<(u8, u8)>
-    ensures { result ≡ entire_frame is_broken }
+fn entire_frame_place(is_broken: bool) -> Option<(u8, u8)>
+    ensures { result ≡ entire_frame_place is_broken }
 {
     if is_broken { Some((0, 0)) } else { None }
 }

@@ -19,11 +19,11 @@ pub enum EndRule {
 }
 
 impl EndRule {
-    ghost use Rattle.sub_rules.specs.Fault.{rule_code};
+    ghost use Rattle.sub_rules.specs.Fault.{code_of_end_rule};
 
     /// Returns the number and name of the fault for a broken rule (not defined by a standard).
     pub fn code(self) -> FaultCode
-        ensures { result ≡ rule_code self }
+        ensures { result ≡ code_of_end_rule self }
     {
         match self {
             EndRule::Content => FaultCode::new(72, "Content"),

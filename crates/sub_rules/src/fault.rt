@@ -1,6 +1,7 @@
 //! The faults of a subtitle file and a PES file, with their places.
 ghost use Rattle.std.specs.Prelude.{◌≡◌, ◌≤◌, false, length, true};
-ghost use Rattle.sub_rules.specs.Fault.{coded_row, fault_row, rule_code, rule_row};
+ghost use Rattle.sub_rules.specs.Fault.{row_with_code, fault_row, code_of_end_rule};
+ghost use Rattle.sub_rules.specs.Fault.{row_with_number};
 ghost use Rattle.sub_rules.specs.declared.fault_place.FaultPlace.TheVariants.{Frame, Packet};
 
 use crate::end_rule::EndRule;
@@ -142,7 +143,8 @@ pub enum CheckFault {
 }
 
 impl CheckFault {
-    ghost use Rattle.sub_rules.specs.Fault.{check_code, fault_at_pes, place_of};
+    ghost use Rattle.sub_rules.specs.Fault.{code_of_check_fault, fault_with_pes_number};
+    ghost use Rattle.sub_rules.specs.Fault.{place_of_fault};
 
     /// Returns the row of the fault in the table of faults.
     pub fn row(self) -> FaultRow
@@ -151,12 +153,17 @@ impl CheckFault {
         match self {
             CheckFault::Subtitles(load) => load_row(load),
             CheckFault::Pes { pes, fault } => pes_row(pes, fault),
-            CheckFault::Empty => rule_row(60, "Empty", FaultPlace::Nowhere, false),
+            CheckFault::Empty => row_with_number(60, "Empty", FaultPlace::Nowhere, false),
             CheckFault::OffFrame { pes } => FaultRow {
                 is_skipped: true,
-                ..rule_row(61, "OffFrame", FaultPlace::Pes { pes }, true)
+                ..row_with_number(61, "OffFrame", FaultPlace::Pes { pes }, true)
             },
-            CheckFault::Order { pes } => rule_row(62, "Order", FaultPlace::Pes { pes }, true),
+            CheckFault::Order { pes } => row_with_number(
+                62,
+                "Order",
+                FaultPlace::Pes { pes },
+                true,
+            ),
             CheckFault::Early { frame } => frame_row(63, "Early", frame),
             CheckFault::Address { frame, packet } => packet_row(64, "Address", frame, packet, true),
             CheckFault::HeaderCode { frame, packet } => {
@@ -189,7 +196,7 @@ impl CheckFault {
 
     /// Returns the number and name of the fault (not defined by a standard).
     pub fn code(self) -> FaultCode
-        ensures { result ≡ check_code self }
+        ensures { result ≡ code_of_check_fault self }
     {
         self.row().code
     }
@@ -197,14 +204,14 @@ impl CheckFault {
     /// Returns the place of the fault: a TTI block or a text position in the subtitle file; or a
     /// PES packet, a frame, a Teletext packet or a cell.
     pub fn place(self) -> FaultPlace
-        ensures { result ≡ place_of self }
+        ensures { result ≡ place_of_fault self }
     {
         self.row().place
     }
 
     /// Returns the same fault with PES packet number `pes`, if its place is a PES packet.
-    pub fn at_pes(self, pes: u32) -> CheckFault
-        ensures { result ≡ fault_at_pes pes self }
+    pub fn with_pes_number(self, pes: u32) -> CheckFault
+        ensures { result ≡ fault_with_pes_number pes self }
     {
         match self {
             CheckFault::Order { .. } => CheckFault::Order { pes },
@@ -224,7 +231,7 @@ fn load_row(fault: LoadFault) -> FaultRow
         LoadFaultKind::Row(row) => FaultPlace::Text { block, at: row.at },
         _ => FaultPlace::Block { block },
     };
-    coded_row(fault.kind.code(), place, false)
+    row_with_code(fault.kind.code(), place, false)
 }
 
 // Returns the row of a fault of a PES packet in the table of faults.
@@ -232,14 +239,14 @@ fn pes_row(pes: u32, fault: PesFault) -> FaultRow
     ensures { result ≡ fault_row (CheckFault.Pes pes fault) }
 {
     FaultRow {
-        is_skipped: fault.is_of_pes_packet(),
-        ..coded_row(fault.code(), FaultPlace::Pes { pes }, true)
+        is_skipped: fault.is_packet_content_fault(),
+        ..row_with_code(fault.code(), FaultPlace::Pes { pes }, true)
     }
 }
 
 // Returns the table row of a fault whose PES packet is not skipped.
-fn coded_row(code: FaultCode, place: FaultPlace, invalidates: bool) -> FaultRow
-    ensures { result ≡ coded_row code place invalidates }
+fn row_with_code(code: FaultCode, place: FaultPlace, invalidates: bool) -> FaultRow
+    ensures { result ≡ row_with_code code place invalidates }
 {
     FaultRow {
         code,
@@ -249,11 +256,11 @@ fn coded_row(code: FaultCode, place: FaultPlace, invalidates: bool) -> FaultRow
     }
 }
 
-fn rule_row(number: u8, name: &'static str, place: FaultPlace, invalidates: bool) -> FaultRow
+fn row_with_number(number: u8, name: &'static str, place: FaultPlace, invalidates: bool) -> FaultRow
     requires { length name.now ≤ 16 }
-    ensures { result ≡ rule_row number name.now place invalidates }
+    ensures { result ≡ row_with_number number name.now place invalidates }
 {
-    coded_row(FaultCode::new(number, name), place, invalidates)
+    row_with_code(FaultCode::new(number, name), place, invalidates)
 }
 
 // Returns the row of a fault of a Teletext packet in the table of faults.
@@ -265,9 +272,9 @@ fn packet_row(
     invalidates: bool,
 ) -> FaultRow
     requires { length name.now ≤ 16 }
-    ensures { result ≡ rule_row number name.now (Packet frame packet) invalidates }
+    ensures { result ≡ row_with_number number name.now (Packet frame packet) invalidates }
 {
-    rule_row(
+    row_with_number(
         number,
         name,
         FaultPlace::Packet { frame, packet },
@@ -277,13 +284,13 @@ fn packet_row(
 
 fn frame_row(number: u8, name: &'static str, frame: u32) -> FaultRow
     requires { length name.now ≤ 16 }
-    ensures { result ≡ rule_row number name.now (Frame frame) false }
+    ensures { result ≡ row_with_number number name.now (Frame frame) false }
 {
-    rule_row(number, name, FaultPlace::Frame { frame }, false)
+    row_with_number(number, name, FaultPlace::Frame { frame }, false)
 }
 
 fn end_row(rule: EndRule, place: FaultPlace) -> FaultRow
-    ensures { result ≡ coded_row (rule_code rule) place true }
+    ensures { result ≡ row_with_code (code_of_end_rule rule) place true }
 {
-    coded_row(rule.code(), place, true)
+    row_with_code(rule.code(), place, true)
 }

@@ -1,17 +1,17 @@
 //! Reads a PES file, one PES packet at a time.
 ghost use Rattle.std.specs.Prelude.{◌≡◌, ◌≢◌, ℕ, ◌+◌, ◌<◌, ◌≤◌, List, IfErr, IfOk, IsSome, Option};
 ghost use Rattle.std.specs.Prelude.{Ok, Some, false, true};
-ghost use Rattle.sub_io.specs.Device.{CanFail, CountsIf, failed};
+ghost use Rattle.sub_io.specs.Device.{CanFail, CountsFailureIf, failed};
 ghost use Rattle.sub_io.specs.Reading.{IfKnown};
 ghost use Rattle.ttx_pes.specs.PesGrammar.{PesValue};
 ghost use Rattle.ttx_pes.specs.PesPackets.{rest_after_pes_packet};
-ghost use Rattle.ttx_pes.specs.Reader.{FailsWithin, TakesValidPesPacket};
-ghost use Rattle.ttx_pes.specs.Reading.{answer_at, most_packets};
+ghost use Rattle.ttx_pes.specs.Reader.{FailsWithinPacket, TakesValidPesPacket};
+ghost use Rattle.ttx_pes.specs.Reading.{answer_at, max_pes_packets};
 ghost use Rattle.ttx_pes.specs.declared.progress.Progress.TheVariants.{Reading};
 ghost use Rattle.stl_file.specs.TimeCode.{day};
 ghost use Rattle.sub_plan.specs.FrameTime.{clock_of};
 ghost use Rattle.sub_rules.specs.Fault.{is_pes_read, is_subtitle_fault};
-ghost use Rattle.sub_rules.specs.FrameRules.{Unread};
+ghost use Rattle.sub_rules.specs.FrameRules.{UnreadReason};
 ghost use Rattle.sub_rules.specs.PesPackets.{IfSent, OnPesPacket, PesPacket, ReadsPesPackets};
 ghost use Rattle.sub_rules.specs.PesPackets.{TakesOnePesPacket};
 ghost use Rattle.sub_rules.specs.PesPackets.{ReportsPesPacket};
@@ -49,8 +49,8 @@ pub fn next_pes_packet<P: PesPackets>(
 ) -> Result<Option<NextPesPacket>, CheckFault>
     requires failures { CanFail (P.failure_count source.old) }
     requires reading { reader.old.progress ≡ Reading pes }
-    requires few { pes ≤ most_packets }
-    ensures exact { (pes_packets : List PesPacket) (unread : Option Unread)
+    requires few { pes ≤ max_pes_packets }
+    ensures exact { (pes_packets : List PesPacket) (unread : Option UnreadReason)
         → IfKnown (P.remaining source.old) (λ bytes. failed is_pes_read result ≡ false
         → ReadsPesPackets (clock_of options.now) pes bytes pes_packets unread
         → ReportsPesPacket (clock_of options.now) pes bytes pes_packets unread reader.new.frame
@@ -65,7 +65,7 @@ pub fn next_pes_packet<P: PesPackets>(
         OnPesPacket result (P.remaining source.new ≡ Some (rest_after_pes_packet bytes))) }
     ensures progress { OnPesPacket result (reader.new.progress ≡ Reading (pes + 1)) }
     // A file with more PES packets than a day has frames is rejected.
-    ensures below { OnPesPacket result (pes < most_packets) }
+    ensures below { OnPesPacket result (pes < max_pes_packets) }
     // If `again` is set, the data units equal those of the previous PES packet.
     ensures again { IfSent result (λ sending. sending.again ≡ true
         → reader.new.frame.units ≡ reader.old.frame.units) }
@@ -81,17 +81,18 @@ pub fn next_pes_packet<P: PesPackets>(
     ensures place { IfErr result (λ f. is_pes_read f ≡ true
         → f ≡ CheckFault.Pes pes PesFault.Read) }
     ensures within { IfErr result (λ f. is_pes_read f ≡ true
-        → FailsWithin (P.remaining source.old) (P.left source.new)) }
+        → FailsWithinPacket (P.remaining source.old) (P.left source.new)) }
     // The call reads nothing beyond the PES packet.
     ensures settled { OnPesPacket result (P.left source.new ≡ P.remaining source.new) }
     // The call cannot fail if the source already has the bytes of the PES packet.
     ensures ready { P.ready source.old ≡ true → failed is_pes_read result ≡ false }
     ensures device { P.device source.new ≡ P.device source.old }
-    ensures count { CountsIf P.failure_count source.old (failed is_pes_read result) source.new }
+    ensures count { CountsFailureIf P.failure_count source.old (failed is_pes_read result)
+        source.new }
 {
     match reader.next(source) {
         Err(fault) => {
-            if !fault.is_of_pes_packet() {
+            if !fault.is_packet_content_fault() {
                 return Err(CheckFault::Pes { pes, fault });
             }
             reader.skip_packet();
@@ -106,8 +107,8 @@ pub fn next_pes_packet<P: PesPackets>(
 // Converts a PTS to a frame of the day. The PES packet is skipped if the PTS belongs to no frame.
 fn pes_packet_of(pts: u64, options: &Options, pes: u32, again: bool) -> NextPesPacket
     ensures exact { (v : PesValue) (bytes : List ℕ) (pes_packets : List PesPacket)
-        (unread : Option Unread)
-        → v.pts ≡ pts → pes ≤ most_packets → answer_at pes bytes ≡ Ok (Some v)
+        (unread : Option UnreadReason)
+        → v.pts ≡ pts → pes ≤ max_pes_packets → answer_at pes bytes ≡ Ok (Some v)
         → ReadsPesPackets (clock_of options.now) pes bytes pes_packets unread
         → ReportsPesPacket (clock_of options.now) pes bytes pes_packets unread v
         (Ok (Some result)) }

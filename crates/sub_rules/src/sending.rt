@@ -1,6 +1,6 @@
 //! The frame of a valid PES packet, and whether its contents repeat the previous ones.
 ghost use Rattle.std.specs.Prelude.{◌≡◌, ◌≤◌, length};
-ghost use Rattle.ttx_pes.specs.PesGrammar.{IsPesValue, most_units};
+ghost use Rattle.ttx_pes.specs.PesGrammar.{IsPesValue, max_units};
 
 use ttx_pes::{ComparingReader, SentUnits};
 
@@ -17,7 +17,7 @@ pub struct Sending {
 /// Returns the Teletext data units of the PES packet that `reader` read last.
 pub fn units_of(reader: &ComparingReader) -> SentUnits<'_>
     ensures value { result ≡ reader.now.frame.units }
-    ensures few { length result ≤ most_units }
+    ensures few { length result ≤ max_units }
     ensures frame { IsPesValue reader.now.frame }
 {
     reader.units()

@@ -9,96 +9,119 @@ use Rattle.std.proofs.lemmas.Bool.{cases_lt, true≢false}
 use Rattle.std.proofs.lemmas.Option.{none-some}
 use Rattle.std.specs.List.{list_any}
 use Rattle.ttx_page.specs.PacketKind.{kind}
-use Rattle.ttx_page.specs.Span.{holds_beginning}
-use Rattle.sub_rules.specs.Events.{end_before, events_at_end, first_header_events, active_faults_at}
+use Rattle.ttx_page.specs.Span.{has_text_beginning}
+use Rattle.sub_rules.specs.Events.{previous_end_frame, events_at_end, first_header_events}
+use Rattle.sub_rules.specs.Events.{active_faults_at}
 use Rattle.sub_rules.specs.Events.{active_faults_before}
-use Rattle.sub_rules.specs.FrameRules.{Criteria, Unread, frame_at, packets_of_frame}
-use Rattle.sub_rules.specs.PesPacketEvents.{closing_of_pes_packets, steps_at_end, steps_of_closing}
+use Rattle.sub_rules.specs.FrameRules.{Criteria, UnreadReason, frame_at, packets_of_frame}
+use Rattle.sub_rules.specs.PesPacketEvents.{closing_events_of_pes_packets, steps_at_end}
+use Rattle.sub_rules.specs.PesPacketEvents.{steps_of_closing}
 use Rattle.sub_rules.specs.PesPacketEvents.{steps_of_ending}
 use Rattle.sub_rules.specs.Transmission.{Transmission}
 use Rattle.sub_rules.specs.Trusted.CheckStep.{AtPes, Closes, Ends, Emits}
 use Rattle.sub_rules.specs.declared.event.Event.{Event}
 use Rattle.sub_rules.specs.declared.event.Event.TheVariants.{Trusted}
 use Rattle.sub_trusted.proofs.TrustedEndingLemmas.{ending}
-use Rattle.sub_trusted.proofs.TrustedKeptLemmas.{Closed, Opens, opens_emitted, run_found}
-use Rattle.sub_trusted.proofs.TrustedKeptLemmas.{run_at_most}
-use Rattle.sub_trusted.proofs.TrustedKeptLemmas.{no_faults_before}
-use Rattle.sub_trusted.proofs.TrustedKeptLemmas.{run_facts_of, correct_found}
-use Rattle.sub_trusted.proofs.TrustedLookLemmas.{WrongSince, ChecksFrameEnd, with_end}
-use Rattle.sub_trusted.proofs.AllTrustedStretchLemmas.{Fits, end_back, own_in}
-use Rattle.sub_trusted.proofs.LateInvalidationLemmas.{end_invalidation, header_none}
-use Rattle.sub_trusted.proofs.AllTrustedLeadLemmas.{IsReported, Leads, Leads-append, Leads-both}
-use Rattle.sub_trusted.proofs.AllTrustedLeadLemmas.{Leads-cons}
-use Rattle.sub_trusted.proofs.AllTrustedLeadLemmas.{Leads-nil, put_reported, reported_left}
-use Rattle.sub_trusted.proofs.EmittedStepLemmas.{AreEmitted, invalidation_of, is_order}
-use Rattle.sub_trusted.proofs.EmittedStepLemmas.{run_was_there}
-use Rattle.sub_trusted.proofs.EmittedStepLemmas.{emitted}
-use Rattle.sub_trusted.proofs.AllTrustedKeptLemmas.{Follows, invalidation_reported, end_follows}
-use Rattle.sub_trusted.proofs.AllTrustedKeptLemmas.{end_orders}
-use Rattle.sub_trusted.proofs.AllTrustedKeptLemmas.{end_past, follows_emitted, top, correct_kept}
-use Rattle.sub_trusted.proofs.AllTrustedKeptLemmas.{correct_now}
-use Rattle.sub_trusted.proofs.AllTrustedStepLemmas.{Open, FramesEnded, Sending, clean_without_doubt}
-use Rattle.sub_trusted.proofs.AllTrustedStepLemmas.{in_part}
-use Rattle.sub_trusted.proofs.AllTrustedStepLemmas.{later_in}
-use Rattle.sub_trusted.proofs.AllTrustedStepLemmas.{sending_emits}
-use Rattle.sub_trusted.proofs.TrustedFrameLemmas.{count_most, risen, risen_low}
-use Rattle.sub_rules.proofs.TrustedLemmas.{past_after}
-use Rattle.sub_rules.specs.Trusted.{CheckStep, back_of, closing_at, is_emitted, last_packet_frame}
-use Rattle.sub_rules.specs.Trusted.{late_of}
+use Rattle.sub_trusted.proofs.TrackerStateLemmas.{HasEndedFrames, HasBegunNextFrame}
+use Rattle.sub_trusted.proofs.TrackerStateLemmas.{begun_frame_continues_after_events}
+use Rattle.sub_trusted.proofs.TrackerStateLemmas.{run_continues_or_begins}
+use Rattle.sub_trusted.proofs.TrackerStateLemmas.{run_starts_by_last_frame}
+use Rattle.sub_trusted.proofs.TrackerStateLemmas.{no_faults_before}
+use Rattle.sub_trusted.proofs.TrackerStateLemmas.{tracked_run_has_its_facts}
+use Rattle.sub_trusted.proofs.TrackerStateLemmas.{correct_frame_continues_or_begins}
+use Rattle.sub_trusted.proofs.FrameEndStateLemmas.{IsWrongSince, ChecksFrameEnd}
+use Rattle.sub_trusted.proofs.FrameEndStateLemmas.{end_steps_are_followed}
+use Rattle.sub_trusted.proofs.AllTrustedStretchLemmas.{Fits, frame_before_is_an_end}
+use Rattle.sub_trusted.proofs.AllTrustedStretchLemmas.{own_frame_is_an_end}
+use Rattle.sub_trusted.proofs.LateInvalidationLemmas.{end_events_invalidate_run}
+use Rattle.sub_trusted.proofs.LateInvalidationLemmas.{header_fault_invalidates_nothing}
+use Rattle.sub_trusted.proofs.AllTrustedLeadLemmas.{IsReported, LeadsToReportOfRun}
+use Rattle.sub_trusted.proofs.AllTrustedLeadLemmas.{LeadsToReportOfRun-append}
+use Rattle.sub_trusted.proofs.AllTrustedLeadLemmas.{LeadsToReportOfRun-both}
+use Rattle.sub_trusted.proofs.AllTrustedLeadLemmas.{LeadsToReportOfRun-cons}
+use Rattle.sub_trusted.proofs.AllTrustedLeadLemmas.{LeadsToReportOfRun-nil}
+use Rattle.sub_trusted.proofs.AllTrustedLeadLemmas.{trusted_frames_contain_run}
+use Rattle.sub_trusted.proofs.AllTrustedLeadLemmas.{report_is_in_left_events}
+use Rattle.sub_trusted.proofs.EmittedStepLemmas.{AreEmitted, first_invalidated_frame}
+use Rattle.sub_trusted.proofs.EmittedStepLemmas.{is_order_fault}
+use Rattle.sub_trusted.proofs.EmittedStepLemmas.{kept_run_was_valid}
+use Rattle.sub_trusted.proofs.EmittedStepLemmas.{emits_steps_emit_events}
+use Rattle.sub_trusted.proofs.AllTrustedKeptLemmas.{FollowsRange}
+use Rattle.sub_trusted.proofs.AllTrustedKeptLemmas.{invalidation_reports_trusted_frames}
+use Rattle.sub_trusted.proofs.AllTrustedKeptLemmas.{following_continues_after_end}
+use Rattle.sub_trusted.proofs.AllTrustedKeptLemmas.{end_events_have_no_order_fault}
+use Rattle.sub_trusted.proofs.AllTrustedKeptLemmas.{invalidated_frame_is_after_stretch}
+use Rattle.sub_trusted.proofs.AllTrustedKeptLemmas.{following_continues_after_events, top}
+use Rattle.sub_trusted.proofs.AllTrustedKeptLemmas.{correct_frame_is_kept}
+use Rattle.sub_trusted.proofs.AllTrustedKeptLemmas.{finished_frame_is_correct}
+use Rattle.sub_trusted.proofs.AllTrustedStepLemmas.{FollowsInOpenFrame, FollowsAfterFrameEnds}
+use Rattle.sub_trusted.proofs.AllTrustedStepLemmas.{Sending, no_invalidation_keeps_clean}
+use Rattle.sub_trusted.proofs.AllTrustedStepLemmas.{run_frame_is_in_rising_part}
+use Rattle.sub_trusted.proofs.AllTrustedStepLemmas.{later_frame_is_in_stretch}
+use Rattle.sub_trusted.proofs.AllTrustedStepLemmas.{packet_events_lead_to_report}
+use Rattle.sub_trusted.proofs.TrustedFrameLemmas.{rising_count_is_the_greatest, rising_frame_count}
+use Rattle.sub_trusted.proofs.TrustedFrameLemmas.{rising_count_is_at_most_length}
+use Rattle.sub_rules.proofs.TrustedLemmas.{history_after}
+use Rattle.sub_rules.specs.Trusted.{CheckStep, back_frame_of, first_untrusted_at_close, is_emitted}
+use Rattle.sub_rules.specs.Trusted.{last_packet_frame}
+use Rattle.sub_rules.specs.Trusted.{late_run_start}
 use Rattle.sub_rules.specs.Trusted.{stays_fault_free}
 use Rattle.sub_laws.specs.CleanStretch.{IsEnd}
 use Rattle.sub_trusted.specs.TrustedFrames.{rising_part}
 use Rattle.sub_rules.specs.Trusted.{run_of}
 use Rattle.sub_rules.specs.Trusted.{first_unfinished_of, has_no_active_faults, reports_order_fault}
-use Rattle.sub_rules.specs.Trusted.{reports_none, reported_after}
-use Rattle.sub_rules.specs.Trusted.{reported_at, trusted, first_correct_of}
+use Rattle.sub_rules.specs.Trusted.{reports_no_event, events_reported_after}
+use Rattle.sub_rules.specs.Trusted.{events_reported_at_step, trusted, first_correct_of}
 use Rattle.std.specs.Option.{option_or}
 
-put_when : (c : Bool) (run whole : Option ℕ) (x from w : ℕ) → c ≡ true → run ≡ Some from
+run_is_reported_if_condition : (c : Bool) (run whole : Option ℕ) (x from w : ℕ) → c ≡ true → run ≡
+    Some from
     → whole ≡ Some w
     → w < x
     → Contains (if c then trusted run whole x else []) (Trusted from (x - 1))
-put_when c run whole x from w is run_eq first_correct_eq l =
-    rw is (put_reported run whole x from w run_eq first_correct_eq l)
+run_is_reported_if_condition c run whole x from w is run_eq first_correct_eq l =
+    rw is (trusted_frames_contain_run run whole x from w run_eq first_correct_eq l)
 
-header_orders : (g : Criteria) (frames : Transmission) (n : ℕ)
-    → list_any is_order (first_header_events g frames n) ≡ false
-unfolding first_header_events is_order reports_order_fault
-header_orders g frames n = grind (arith, nat_tests)
+header_events_have_no_order_fault : (g : Criteria) (frames : Transmission) (n : ℕ)
+    → list_any is_order_fault (first_header_events g frames n) ≡ false
+unfolding first_header_events is_order_fault reports_order_fault
+header_events_have_no_order_fault g frames n = grind (arith, nat_tests)
 
-closing_past : (first_unfinished back : Option ℕ) (left : Bool) (last b : ℕ)
+closing_frame_is_after_stretch : (first_unfinished back : Option ℕ) (left : Bool) (last b : ℕ)
     → ((r : ℕ) → first_unfinished ≡ Some r → b < r)
     → (b < last → (r : ℕ) → back ≡ Some r → b < r)
     → b ≤ last
     → (left ≡ true → b < last)
     → b < unwrap_or first_unfinished (if left then unwrap_or back last else suc last)
-closing_past first_unfinished back left last b h k low unread = grind (arith, nat_tests)
+closing_frame_is_after_stretch first_unfinished back left last b h k low unread = grind
+    (arith, nat_tests)
 
-in_run : (run whole : Option ℕ) (w : ℕ) → (if is_none run then None else whole) ≡ Some w
+correct_frame_is_in_run : (run whole : Option ℕ) (w : ℕ) → (if is_none run then None else whole) ≡
+    Some w
     → (from : ℕ) × (run ≡ Some from) × (whole ≡ Some w)
-in_run None whole w e = absurd (none-some w e)
-in_run (Some from) whole w e = (from, refl, e)
+correct_frame_is_in_run None whole w e = absurd (none-some w e)
+correct_frame_is_in_run (Some from) whole w e = (from, refl, e)
 
-run_at_header : (run : Option ℕ) (has : Bool) (f : ℕ) → has ≡ true
+run_starts_at_header : (run : Option ℕ) (has : Bool) (f : ℕ) → has ≡ true
     → ((from : ℕ) → run ≡ Some from → from ≤ f)
     → (from : ℕ) × (from ≤ f) × (option_or run (if has then Some f else None) ≡ Some from)
-run_at_header None has f header low = (f, le_refl f, rw header refl)
-run_at_header (Some from) has f header low = (from, low from refl, refl)
+run_starts_at_header None has f header low = (f, le_refl f, rw header refl)
+run_starts_at_header (Some from) has f header low = (from, low from refl, refl)
 
 module _ (g : Criteria) (frames : Transmission) (a b i : ℕ)
     (fits : Fits g frames a b i) where
-  abbrev Follow : ℕ → ℕ → List CheckStep → Type 0
-  Follow n p t = Follows g frames a b i fits n p t
+  abbrev FollowsStretch : ℕ → ℕ → List CheckStep → Type 0
+  FollowsStretch n p t = FollowsRange g frames a b i fits n p t
 
-  abbrev Lead : (List CheckStep → Type 0) → List CheckStep → List CheckStep → Type 0
-  Lead S t ms = Leads (top g frames a b i fits) b S t ms
+  abbrev LeadsToReport : (List CheckStep → Type 0) → List CheckStep → List CheckStep → Type 0
+  LeadsToReport S t ms = LeadsToReportOfRun (top g frames a b i fits) b S t ms
 
-  abbrev OpenHere : ℕ → List CheckStep → Type 0
-  OpenHere n t = Open g frames a b i fits n (packets_of_frame frames n) t
+  abbrev HasReceivedAllPackets : ℕ → List CheckStep → Type 0
+  HasReceivedAllPackets n t = FollowsInOpenFrame g frames a b i fits n (packets_of_frame frames n) t
 
   -- Frame n has ended, and the tracker still has the run that will report the range of frames.
-  record Finishing (n : ℕ) (t : List CheckStep) : Type 0 where
-    follows : Follow n (frame_at frames n + 1) t
+  record IsAfterEndEvents (n : ℕ) (t : List CheckStep) : Type 0 where
+    follows : FollowsStretch n (frame_at frames n + 1) t
     clean : i ≤ n → stays_fault_free t ≡ true
     fault_free : i ≤ n → has_no_active_faults
         (active_faults_at g frames (suc n) (frame_at frames n)) ≡ true
@@ -106,7 +129,7 @@ module _ (g : Criteria) (frames : Transmission) (a b i : ℕ)
     low : (from : ℕ) → run_of t ≡ Some from → from ≤ frame_at frames n
 
   abbrev has : ℕ → Bool
-  has n = holds_beginning g.watched.keeps (kind g.watched.page) (packets_of_frame frames n)
+  has n = has_text_beginning g.watched.keeps (kind g.watched.page) (packets_of_frame frames n)
 
   abbrev fault_free_at : ℕ → Bool
   fault_free_at n = has_no_active_faults (active_faults_at g frames (suc n) (frame_at frames n))
@@ -114,59 +137,69 @@ module _ (g : Criteria) (frames : Transmission) (a b i : ℕ)
   here : (n : ℕ) → i ≡ n → frame_at frames i ≡ frame_at frames n
   here n same = ap (frame_at frames) same
 
-  active_before_own : (n from : ℕ) (t : List CheckStep) → n < length frames
-      → Opens g frames 0 n (packets_of_frame frames n) t
+  no_fault_before_own_frame : (n from : ℕ) (t : List CheckStep) → n < length frames
+      → HasBegunNextFrame g frames 0 n (packets_of_frame frames n) t
       → run_of t ≡ Some from
       → has_no_active_faults (active_faults_before g frames n (frame_at frames n)) ≡ true
-  active_before_own n from t there opens is = grind
-      (arith, nat_tests, run_facts_of, no_faults_before)
+  no_fault_before_own_frame n from t there opens is = grind
+      (arith, nat_tests, tracked_run_has_its_facts, no_faults_before)
 
-  end_before_own : (n : ℕ) (t : List CheckStep) → n < length frames → OpenHere n t → i < n
+  previous_frame_is_an_end : (n : ℕ) (t : List CheckStep) → n < length frames →
+      HasReceivedAllPackets n t → i < n
       → IsEnd (rising_part frames) n (frame_at frames n - 1)
-  end_before_own n t there (opens, sending) l =
+  previous_frame_is_an_end n t there (opens, sending) l =
       let (from, low, run) = sending.follows.run l in
-      let h = run_facts_of g frames 0 n (frame_at frames n) from t opens.keeps opens.rises run in
+      let h = tracked_run_has_its_facts g frames 0 n (frame_at frames n) from t opens.keeps
+      opens.rises run in
       let up = h.up in
-      end_back frames n (frame_at frames n) h.some (in_part g frames a b i fits n there h)
+      frame_before_is_an_end frames n (frame_at frames n) h.some (run_frame_is_in_rising_part g
+      frames a b i fits n there h)
       (omega arith) (omega arith)
 
-  finishing : (n : ℕ) (t u v : List CheckStep) → n < length frames → OpenHere n t
+  end_steps_finish_frame : (n : ℕ) (t u v : List CheckStep) → n < length frames →
+      HasReceivedAllPackets n t
       → ChecksFrameEnd g frames (suc n) (frame_at frames n) t u
-      → WrongSince g frames n (frame_at frames n) u
+      → IsWrongSince g frames n (frame_at frames n) u
       → AreEmitted u v (events_at_end g frames n (suc n) (frame_at frames n))
-      → (i ≤ n → invalidation_of u (events_at_end g frames n (suc n) (frame_at frames n)) ≡ None)
-      → Finishing n v
-  finishing n t u v there (opens, sending) looks backs so none =
+      → (i ≤ n → first_invalidated_frame u (events_at_end g frames n (suc n) (frame_at frames n)) ≡
+      None)
+      → IsAfterEndEvents n v
+  end_steps_finish_frame n t u v there (opens, sending) looks backs so none =
       let f : ℕ = frame_at frames n in
       let es : List Event = events_at_end g frames n (suc n) f in
       record {
         follows =
-            follows_emitted g frames a b i fits n (f + 1) u v es
-            (end_follows g frames a b i fits n (suc n) f (f + 1) t u looks backs refl
+            following_continues_after_events g frames a b i fits n (f + 1) u v es
+            (following_continues_after_end g frames a b i fits n (suc n) f (f + 1) t u looks backs
+            refl
             sending.follows
-            (λ l. own_in frames n (later_in g frames a b i fits n
+            (λ l. own_frame_is_an_end frames n (later_frame_is_in_stretch g frames a b i fits n
             (packets_of_frame frames n) t there (opens, sending) l).0)
-            (end_before_own n t there (opens, sending))) so
-            (λ l. end_orders (active_faults_before g frames n f) (end_before frames n f)
+            (previous_frame_is_an_end n t there (opens, sending))) so
+            (λ l. end_events_have_no_order_fault (active_faults_before g frames n f)
+            (previous_end_frame frames n f)
             (active_faults_at g frames (suc n) f) f)
             (λ l. none (omega arith));
         clean = λ l.
-            so.clean_eq
-            ∙ clean_without_doubt (stays_fault_free u) (invalidation_of u es)
-            (looks.clean_eq ∙ sending.clean l)
+            so.clean_flags_agree
+            ∙ no_invalidation_keeps_clean (stays_fault_free u) (first_invalidated_frame u es)
+            (looks.clean_flags_agree ∙ sending.clean l)
             (none l);
         fault_free = λ l. elim (cases_lt i n) [
           | inl below ↦
               let (from, low, is) = sending.follows.run below in
-              (end_invalidation u (end_before frames n f) f (active_faults_before g frames n f)
-              (active_faults_at g frames (suc n) f)).fault_free (none l) (active_before_own n from t
+              (end_events_invalidate_run u (previous_end_frame frames n f) f
+              (active_faults_before g frames n f)
+              (active_faults_at g frames (suc n) f)).fault_free (none l) (no_fault_before_own_frame
+              n from t
               there opens is)
           | inr not_below ↦
               let at = here n (omega arith) in
               let low = fits.low in
               let high = fits.high in
               let in_it = fits.there in
-              fits.ends (suc n) f (own_in frames n (omega arith)) (omega arith) (omega arith)
+              fits.ends (suc n) f (own_frame_is_an_end frames n (omega arith)) (omega arith)
+              (omega arith)
         ];
         own = λ same past.
             let at = here n same in
@@ -174,73 +207,86 @@ module _ (g : Criteria) (frames : Transmission) (a b i : ℕ)
             let in_it = fits.there in
             so.first_unfinished_eq
             ∙ looks.first_unfinished_eq
-            ∙ fits.finished (suc n) f (own_in frames n (omega arith)) (omega arith);
+            ∙ fits.finished (suc n) f (own_frame_is_an_end frames n (omega arith)) (omega arith);
         low = λ from is.
             let run : run_of t ≡ Some from =
             sym looks.run_eq
-            ∙ (run_was_there (run_of u) (invalidation_of u es) from (sym so.run_eq ∙ is)).0 in
-            let first = run_at_most g frames n from (opens.keeps.run from run) in
-            let rise = (run_facts_of g frames 0 n f from t opens.keeps opens.rises run).up in
+            ∙ (kept_run_was_valid (run_of u) (first_invalidated_frame u es) from
+            (sym so.run_eq ∙ is)).0 in
+            let first = run_starts_by_last_frame g frames n from (opens.keeps.run from run) in
+            let rise = (tracked_run_has_its_facts g frames 0 n f from t opens.keeps opens.rises
+            run).up in
             omega arith;
       }
 
-  end_leads_to : (n : ℕ) (t : List CheckStep) → n < length frames → OpenHere n t
-      → Lead (Finishing n) t (steps_at_end g frames n (suc n) (frame_at frames n))
-  end_leads_to n t there (opens, sending) =
-      with_end g frames (Lead (Finishing n)) n (suc n) (frame_at frames n) t opens.keeps.at_once
+  end_steps_lead_to_finished_frame : (n : ℕ) (t : List CheckStep) → n < length frames →
+      HasReceivedAllPackets n t
+      → LeadsToReport (IsAfterEndEvents n) t (steps_at_end g frames n (suc n) (frame_at frames n))
+  end_steps_lead_to_finished_frame n t there (opens, sending) =
+      end_steps_are_followed g frames (LeadsToReport (IsAfterEndEvents n)) n (suc n)
+      (frame_at frames n) t opens.keeps.at_once
       opens.keeps.plain
-      (λ v step ms silent. Leads-cons (top g frames a b i fits) b (Finishing n) v step ms)
-      (λ u looks backs. go u looks backs (invalidation_of u es) refl)
+      (λ v step ms silent. LeadsToReportOfRun-cons (top g frames a b i fits) b (IsAfterEndEvents n)
+      v step ms)
+      (λ u looks backs. go u looks backs (first_invalidated_frame u es) refl)
     where
       es : List Event
       es = events_at_end g frames n (suc n) (frame_at frames n)
 
-      in_part_low : i < n → (n < risen frames) × (a ≤ frame_at frames n)
-      in_part_low l =
-          later_in g frames a b i fits n (packets_of_frame frames n) t there (opens, sending) l
+      frame_is_in_rising_part : i < n → (n < rising_frame_count frames) × (a ≤ frame_at frames n)
+      frame_is_in_rising_part l =
+          later_frame_is_in_stretch g frames a b i fits n (packets_of_frame frames n) t there
+          (opens, sending) l
 
       go : (u : List CheckStep) → ChecksFrameEnd g frames (suc n) (frame_at frames n) t u
-          → WrongSince g frames n (frame_at frames n) u
-          → (o : Option ℕ) → invalidation_of u es ≡ o
-          → Lead (Finishing n) u (map Emits es)
+          → IsWrongSince g frames n (frame_at frames n) u
+          → (o : Option ℕ) → first_invalidated_frame u es ≡ o
+          → LeadsToReport (IsAfterEndEvents n) u (map Emits es)
       go u looks backs None is =
           inr
-          (finishing n t u (past_after u (map Emits es)) there (opens, sending) looks backs
-          (emitted u es) (λ l. is))
+          (end_steps_finish_frame n t u (history_after u (map Emits es)) there (opens, sending)
+          looks backs
+          (emits_steps_emit_events u es) (λ l. is))
       go u looks backs (Some x) is = elim (cases_lt i n) [
         | inl l ↦
-            let both = in_part_low l in
-            invalidation_reported g frames a b i fits n (frame_at frames n + 1) u es x
-            (end_follows g frames a b i fits n (suc n) (frame_at frames n)
+            let both = frame_is_in_rising_part l in
+            invalidation_reports_trusted_frames g frames a b i fits n (frame_at frames n + 1) u es x
+            (following_continues_after_end g frames a b i fits n (suc n) (frame_at frames n)
             (frame_at frames n + 1) t u looks backs refl sending.follows
-            (λ below. own_in frames n (in_part_low below).0)
-            (end_before_own n t there (opens, sending))) l is
-            (end_past g frames a b i fits n (suc n) (frame_at frames n) x t u looks backs
-            (omega arith) (own_in frames n both.0) (end_before_own n t there (opens, sending) l)
-            both.1 is) (Finishing n)
+            (λ below. own_frame_is_an_end frames n (frame_is_in_rising_part below).0)
+            (previous_frame_is_an_end n t there (opens, sending))) l is
+            (invalidated_frame_is_after_stretch g frames a b i fits n (suc n) (frame_at frames n) x
+            t u looks backs
+            (omega arith) (own_frame_is_an_end frames n both.0) (previous_frame_is_an_end n t there
+            (opens, sending) l)
+            both.1 is) (IsAfterEndEvents n)
         | inr not_below ↦
             inr
-            (finishing n t u (past_after u (map Emits es)) there (opens, sending) looks backs
-            (emitted u es)
+            (end_steps_finish_frame n t u (history_after u (map Emits es)) there (opens, sending)
+            looks backs
+            (emits_steps_emit_events u es)
             (λ l.
             let at = here n (omega arith) in
             let low = fits.low in
             let high = fits.high in
             let in_it = fits.there in
-            (end_invalidation u (end_before frames n (frame_at frames n)) (frame_at frames n)
+            (end_events_invalidate_run u (previous_end_frame frames n (frame_at frames n))
+            (frame_at frames n)
             (active_faults_before g frames n (frame_at frames n))
             (active_faults_at g frames (suc n) (frame_at frames n))).calm
-            (fits.ends (suc n) (frame_at frames n) (own_in frames n (omega arith)) (omega arith)
+            (fits.ends (suc n) (frame_at frames n) (own_frame_is_an_end frames n (omega arith))
+            (omega arith)
             (omega arith))))
       ]
 
-  ended_now : (n : ℕ) (t : List CheckStep) → Finishing n t
-      → Follow (suc n) (frame_at frames (suc n - 1) + 1)
+  ending_frame_follows_stretch : (n : ℕ) (t : List CheckStep) → IsAfterEndEvents n t
+      → FollowsStretch (suc n) (frame_at frames (suc n - 1) + 1)
       (Ends (frame_at frames n) (has n) (fault_free_at n) ∷ t)
-  unfolding run_of first_correct_of last_packet_frame first_unfinished_of late_of back_of
+  unfolding run_of first_correct_of last_packet_frame first_unfinished_of late_run_start
+      back_frame_of
       stays_fault_free
       reports_order_fault
-  ended_now n t fin =
+  ending_frame_follows_stretch n t fin =
       let f : ℕ = frame_at frames n in
       let back : f ≡ frame_at frames (suc n - 1) = ap (frame_at frames) (omega arith) in
       let high = fits.high in
@@ -259,15 +305,18 @@ module _ (g : Criteria) (frames : Transmission) (a b i : ℕ)
                   let at = here n same in
                   let header : has n ≡ true =
                   subst (λ (k : ℕ). has k ≡ true) same fits.header in
-                  let (from, low, is) = run_at_header (run_of t) (has n) f header fin.low in
+                  let (from, low, is) = run_starts_at_header (run_of t) (has n) f header fin.low in
                   (from, omega arith, rw (clean, fault_free) is)
             ];
-        low = λ from w is held.
+        low = λ from w is receiver_state.
             let (clean, none, was) =
-            run_found (stays_fault_free t) (fault_free_at n) (run_of t) (has n) f from is in
-            elim (correct_found whole (first_unfinished_of t) f w held) [
+            run_continues_or_begins (stays_fault_free t) (fault_free_at n) (run_of t) (has n) f from
+            is in
+            elim (correct_frame_continues_or_begins whole (first_unfinished_of t) f w
+            receiver_state) [
               | inl before ↦
-                  let (first, run, earlier) = in_run (run_of t) (first_correct_of t) w before in
+                  let (first, run, earlier) = correct_frame_is_in_run (run_of t)
+                  (first_correct_of t) w before in
                   let under = fin.follows.low first w run earlier in
                   omega arith
               | inr (none_open, now) ↦ omega arith
@@ -276,14 +325,15 @@ module _ (g : Criteria) (frames : Transmission) (a b i : ℕ)
           | inl below ↦
               let (w, under, is) = fin.follows.whole below (omega arith) in
               let (from, low, run) = fin.follows.run below in
-              (w, under, correct_kept whole (first_unfinished_of t) f w (rw run is))
+              (w, under, correct_frame_is_kept whole (first_unfinished_of t) f w (rw run is))
           | inr not_below ↦
               let same : i ≡ n = omega arith in
               let at = here n same in
               let (w, under, is) =
-              correct_now whole (first_unfinished_of t) f (fin.own same (omega arith))
+              finished_frame_is_correct whole (first_unfinished_of t) f (fin.own same (omega arith))
               (λ w before.
-              let (first, run, earlier) = in_run (run_of t) (first_correct_of t) w before in
+              let (first, run, earlier) = correct_frame_is_in_run (run_of t) (first_correct_of t) w
+              before in
               let low = fin.follows.low first w run earlier in
               omega arith) in
               (w, omega arith, is)
@@ -299,85 +349,100 @@ module _ (g : Criteria) (frames : Transmission) (a b i : ℕ)
         ];
       }
 
-  pub ending_leads : (n : ℕ) (t : List CheckStep) → n < length frames → OpenHere n t
-      → Lead (FramesEnded g frames a b i fits (suc n)) t (steps_of_ending g frames n)
-  ending_leads n t there (opens, sending) =
+  pub ending_steps_lead_to_next_frame : (n : ℕ) (t : List CheckStep) → n < length frames →
+      HasReceivedAllPackets n t
+      → LeadsToReport (FollowsAfterFrameEnds g frames a b i fits (suc n)) t
+      (steps_of_ending g frames n)
+  ending_steps_lead_to_next_frame n t there (opens, sending) =
       let f : ℕ = frame_at frames n in
       let last : CheckStep = Ends f (has n) (fault_free_at n) in
       let q : ℕ = frame_at frames (suc n - 1) + 1 in
-      Leads-both (top g frames a b i fits) b (Closed g frames 0 (suc n)) (Follow (suc n) q) t
+      LeadsToReportOfRun-both (top g frames a b i fits) b (HasEndedFrames g frames 0 (suc n))
+      (FollowsStretch (suc n) q) t
       (steps_of_ending g frames n) (ending g frames 0 n t there opens).after
-      (Leads-append (top g frames a b i fits) b (Finishing n) (Follow (suc n) q) t
+      (LeadsToReportOfRun-append (top g frames a b i fits) b (IsAfterEndEvents n)
+      (FollowsStretch (suc n) q) t
       (map Emits (first_header_events g frames n) ++ steps_at_end g frames n (suc n) f) (last ∷ [])
-      (Leads-append (top g frames a b i fits) b (OpenHere n) (Finishing n) t
+      (LeadsToReportOfRun-append (top g frames a b i fits) b (HasReceivedAllPackets n)
+      (IsAfterEndEvents n) t
       (map Emits (first_header_events g frames n)) (steps_at_end g frames n (suc n) f) header
-      (λ u so. end_leads_to n u there so))
+      (λ u so. end_steps_lead_to_finished_frame n u there so))
       (λ v so.
-      Leads-cons (top g frames a b i fits) b (Follow (suc n) q) v last []
-      (Leads-nil (top g frames a b i fits) b (Follow (suc n) q) (last ∷ v)
-      (ended_now n v so))))
+      LeadsToReportOfRun-cons (top g frames a b i fits) b (FollowsStretch (suc n) q) v last []
+      (LeadsToReportOfRun-nil (top g frames a b i fits) b (FollowsStretch (suc n) q) (last ∷ v)
+      (ending_frame_follows_stretch n v so))))
     where
-      header : Lead (OpenHere n) t (map Emits (first_header_events g frames n))
+      header : LeadsToReport (HasReceivedAllPackets n) t
+          (map Emits (first_header_events g frames n))
       header =
           let es : List Event = first_header_events g frames n in
-          let none : invalidation_of t es ≡ None = header_none t g frames n in
+          let none : first_invalidated_frame t es ≡ None = header_fault_invalidates_nothing t g
+          frames n in
           let packets : List (List ℕ) = packets_of_frame frames n in
-          Leads-both (top g frames a b i fits) b (Opens g frames 0 n packets)
+          LeadsToReportOfRun-both (top g frames a b i fits) b (HasBegunNextFrame g frames 0 n
+          packets)
           (Sending g frames a b i fits n) t (map Emits es)
-          (opens_emitted g frames 0 n packets packets t (past_after t (map Emits es)) es opens
-          (emitted t es) (λ fault_free kept. kept))
-          (sending_emits g frames a b i fits n t es sending (header_orders g frames n)
+          (begun_frame_continues_after_events g frames 0 n packets packets t
+          (history_after t (map Emits es)) es opens
+          (emits_steps_emit_events t es) (λ fault_free kept. kept))
+          (packet_events_lead_to_report g frames a b i fits n t es sending
+          (header_events_have_no_order_fault g frames n)
           (λ same. none) (λ l x invalidation. absurd (none-some x (sym none ∙ invalidation))))
 
   pub closing_reported : (pes : ℕ) (t : List CheckStep)
-      → FramesEnded g frames a b i fits (length frames) t
+      → FollowsAfterFrameEnds g frames a b i fits (length frames) t
       → (list_any is_emitted t
       || (g.any_refused || not
-      (reports_none (closing_of_pes_packets g frames pes (length frames)))))
+      (reports_no_event (closing_events_of_pes_packets g frames pes (length frames)))))
       ≡ true
       → IsReported (top g frames a b i fits) b
-      (reported_after t (steps_of_closing g frames pes (length frames)))
-  unfolding reported_after reported_at run_of first_correct_of last_packet_frame first_unfinished_of
-      late_of back_of stays_fault_free
+      (events_reported_after t (steps_of_closing g frames pes (length frames)))
+  unfolding events_reported_after events_reported_at_step run_of first_correct_of last_packet_frame
+      first_unfinished_of
+      late_run_start back_frame_of stays_fault_free
       reports_order_fault
   closing_reported pes t (closed, follows) reported =
       let n : ℕ = length frames in
-      let fit = risen_low frames in
+      let fit = rising_count_is_at_most_length frames in
       let in_it = fits.there in
       let (from, low, is) = follows.run (omega arith) in
       let run = closed.keeps.run from is in
-      let most = count_most frames n n (le_refl n) run.rises in
-      let all : risen frames ≡ n = omega arith in
-      let back : frame_at frames (risen frames - 1) ≡ frame_at frames (n - 1) =
+      let most = rising_count_is_the_greatest frames n n (le_refl n) run.rises in
+      let all : rising_frame_count frames ≡ n = omega arith in
+      let back : frame_at frames (rising_frame_count frames - 1) ≡ frame_at frames (n - 1) =
       ap (λ (k : ℕ). frame_at frames (k - 1)) all in
       let here = closed.last (omega arith) in
       let high : b ≤ frame_at frames (n - 1) = let l = fits.last in omega arith in
       let (w, under, whole) = follows.whole (omega arith) (omega arith) in
-      let es : List Event = closing_of_pes_packets g frames pes n in
-      let more : Bool = g.any_refused || not (reports_none es) in
+      let es : List Event = closing_events_of_pes_packets g frames pes n in
+      let more : Bool = g.any_refused || not (reports_no_event es) in
       let t0 : List CheckStep = AtPes pes ∷ t in
       let t1 : List CheckStep = Closes (is_some g.unread) more ∷ t0 in
-      let x : ℕ = closing_at t (is_some g.unread) in
+      let x : ℕ = first_untrusted_at_close t (is_some g.unread) in
       let past : b < x =
-      closing_past (first_unfinished_of t) (back_of t) (is_some g.unread) (last_packet_frame t) b
+      closing_frame_is_after_stretch (first_unfinished_of t) (back_frame_of t) (is_some g.unread)
+      (last_packet_frame t) b
       (λ r first_unfinished. follows.first_unfinished (omega arith) (omega arith) r
       first_unfinished)
       (λ below r is. follows.back (omega arith) (omega arith) r is) (omega arith)
       (λ left.
-      let (u, unread) = unread_eq g.unread left in
+      let (u, unread) = unread_bytes_have_a_reason g.unread left in
       let l = fits.unread u unread in
       omega arith) in
-      reported_left (top g frames a b i fits) b (reported_at t0 (Closes (is_some g.unread) more))
-      (reported_after t1 (map Emits es)) (
+      report_is_in_left_events (top g frames a b i fits) b (events_reported_at_step t0
+      (Closes (is_some g.unread) more))
+      (events_reported_after t1 (map Emits es)) (
         from,
         x - 1,
         low,
         omega arith,
-        put_when (list_any is_emitted t || more) (run_of t) (first_correct_of t) x from w reported
+        run_is_reported_if_condition (list_any is_emitted t || more) (run_of t) (first_correct_of t)
+            x from w reported
             is whole
             (omega arith),
       )
     where
-      unread_eq : (o : Option Unread) → is_some o ≡ true → (u : Unread) × (o ≡ Some u)
-      unread_eq None e = absurd (true≢false (sym e))
-      unread_eq (Some u) e = (u, refl)
+      unread_bytes_have_a_reason : (o : Option UnreadReason) → is_some o ≡ true → (u : UnreadReason)
+          × (o ≡ Some u)
+      unread_bytes_have_a_reason None e = absurd (true≢false (sym e))
+      unread_bytes_have_a_reason (Some u) e = (u, refl)

@@ -9,162 +9,181 @@ use Rattle.std.specs.List.{list_any}
 use Rattle.sub_rules.specs.Trusted.CheckStep.{AtPes, Emits}
 use Rattle.sub_rules.specs.declared.event.Event.{Event}
 use Rattle.sub_rules.specs.declared.event.Event.TheVariants.{Reported, Trusted}
-use Rattle.sub_rules.proofs.TrustedLemmas.{past_after, past_after-append, reported_after-append}
-use Rattle.sub_trusted.proofs.InvalidationLemmas.{EachTrusted, OnTrusted}
-use Rattle.sub_laws.proofs.FirstFoundLemmas.{first_found}
-use Rattle.sub_rules.specs.Trusted.{CheckStep, at_pes, back_of, invalidated_by, last_packet_frame}
-use Rattle.sub_rules.specs.Trusted.{late_of}
+use Rattle.sub_rules.proofs.TrustedLemmas.{history_after, history_after-append}
+use Rattle.sub_rules.proofs.TrustedLemmas.{events_reported_after-append}
+use Rattle.sub_trusted.proofs.InvalidationLemmas.{HoldsForEachTrusted, HoldsIfTrusted}
+use Rattle.sub_laws.proofs.FirstFoundLemmas.{first_match}
+use Rattle.sub_rules.specs.Trusted.{CheckStep, with_pes_number, back_frame_of, invalidated_by}
+use Rattle.sub_rules.specs.Trusted.{last_packet_frame}
+use Rattle.sub_rules.specs.Trusted.{late_run_start}
 use Rattle.sub_rules.specs.Trusted.{current_pes, run_of, first_unfinished_of, stays_fault_free}
-use Rattle.sub_rules.specs.Trusted.{reports_order_fault, reported_after}
-use Rattle.sub_rules.specs.Trusted.{reported_at, trusted, trusted_up_to, first_correct_of}
+use Rattle.sub_rules.specs.Trusted.{reports_order_fault, events_reported_after}
+use Rattle.sub_rules.specs.Trusted.{events_reported_at_step, trusted, trusted_up_to}
+use Rattle.sub_rules.specs.Trusted.{first_correct_of}
 
 -- Frame numbers have increased in all steps so far.
 abbrev pub has_risen : List CheckStep → Bool
 has_risen t = not (list_any reports_order_fault t)
 
 -- The first frame that one of the events invalidates.
-abbrev pub invalidation_of : List CheckStep → List Event → Option ℕ
-invalidation_of t es = first_found (invalidated_by t) es
+abbrev pub first_invalidated_frame : List CheckStep → List Event → Option ℕ
+first_invalidated_frame t es = first_match (invalidated_by t) es
 
 -- The first frame that is not trusted when frame x is invalidated.
-abbrev pub back_to : List CheckStep → ℕ → ℕ
-back_to t x = unwrap_or (back_of t) x
+abbrev pub frame_after_going_back : List CheckStep → ℕ → ℕ
+frame_after_going_back t x = unwrap_or (back_frame_of t) x
 
-pub back_to_at_most : (t : List CheckStep) (x b : ℕ) → x ≤ b
-    → ((r : ℕ) → back_of t ≡ Some r → r ≤ b)
-    → back_to t x ≤ b
-back_to_at_most t x b low h = grind (arith, nat_tests)
+pub frame_going_back_is_bounded : (t : List CheckStep) (x b : ℕ) → x ≤ b
+    → ((r : ℕ) → back_frame_of t ≡ Some r → r ≤ b)
+    → frame_after_going_back t x ≤ b
+frame_going_back_is_bounded t x b low h = grind (arith, nat_tests)
 
-pub back_to_after : (t : List CheckStep) (x b : ℕ) → b < x
-    → ((r : ℕ) → back_of t ≡ Some r → b < r)
-    → b < back_to t x
-back_to_after t x b past h = grind (arith, nat_tests)
+pub frame_going_back_stays_after : (t : List CheckStep) (x b : ℕ) → b < x
+    → ((r : ℕ) → back_frame_of t ≡ Some r → b < r)
+    → b < frame_after_going_back t x
+frame_going_back_stays_after t x b past h = grind (arith, nat_tests)
 
 -- The run after events, which end it if they invalidate a frame.
 abbrev pub kept : Option ℕ → Option ℕ → Option ℕ
 kept run d = if is_none d then run else None
 
 -- The event reports that frame numbers do not increase.
-unfoldable pub is_order : Event → Bool
-is_order e = reports_order_fault (Emits e)
+unfoldable pub is_order_fault : Event → Bool
+is_order_fault e = reports_order_fault (Emits e)
 
 -- The state after the events `es` were reported.
 pub record AreEmitted (t u : List CheckStep) (es : List Event) : Type 0 where
-  pub run_eq : run_of u ≡ kept (run_of t) (invalidation_of t es)
+  pub run_eq : run_of u ≡ kept (run_of t) (first_invalidated_frame t es)
   pub first_correct_eq : first_correct_of u ≡ first_correct_of t
   pub last_is : last_packet_frame u ≡ last_packet_frame t
   pub first_unfinished_eq : first_unfinished_of u ≡ first_unfinished_of t
-  pub late_eq : late_of u ≡ late_of t
-  pub back_eq : back_of u ≡ back_of t
-  pub rises_is : has_risen u ≡ (has_risen t && not (list_any is_order es))
-  pub clean_eq : stays_fault_free u ≡ (stays_fault_free t && is_none (invalidation_of t es))
+  pub late_eq : late_run_start u ≡ late_run_start t
+  pub back_frames_agree : back_frame_of u ≡ back_frame_of t
+  pub rises_is : has_risen u ≡ (has_risen t && not (list_any is_order_fault es))
+  pub clean_flags_agree : stays_fault_free u ≡
+      (stays_fault_free t && is_none (first_invalidated_frame t es))
 
-invalidated_same : (t : List CheckStep) (e x : Event) → invalidated_by (Emits e ∷ t) x ≡
+emitted_event_keeps_invalidated_frame : (t : List CheckStep) (e x : Event) → invalidated_by
+    (Emits e ∷ t) x ≡
     invalidated_by t x
-unfolding invalidated_by last_packet_frame late_of
-invalidated_same t e (Reported f) = refl
-invalidated_same t e x = refl
+unfolding invalidated_by last_packet_frame late_run_start
+emitted_event_keeps_invalidated_frame t e (Reported f) = refl
+emitted_event_keeps_invalidated_frame t e x = refl
 
-pub invalidation_after : (t : List CheckStep) (e : Event) (es : List Event)
-    → invalidation_of (Emits e ∷ t) es ≡ invalidation_of t es
-invalidation_after t e [] = refl
-invalidation_after t e (x ∷ es) = rw (invalidated_same t e x, invalidation_after t e es) refl
+pub emitted_event_keeps_invalidation : (t : List CheckStep) (e : Event) (es : List Event)
+    → first_invalidated_frame (Emits e ∷ t) es ≡ first_invalidated_frame t es
+emitted_event_keeps_invalidation t e [] = refl
+emitted_event_keeps_invalidation t e (x ∷ es) = rw (
+  emitted_event_keeps_invalidated_frame t e x,
+  emitted_event_keeps_invalidation t e es,
+) refl
 
-pub emitted : (t : List CheckStep) (es : List Event) → AreEmitted t (past_after t (map Emits es)) es
-unfolding past_after run_of first_correct_of last_packet_frame first_unfinished_of late_of back_of
-    stays_fault_free is_order
-emitted t [] = grind (arith, nat_tests)
-emitted t (e ∷ es) = grind (arith, nat_tests, invalidation_after, (emitted (Emits e ∷ t) es))
+pub emits_steps_emit_events : (t : List CheckStep) (es : List Event) → AreEmitted t
+    (history_after t (map Emits es)) es
+unfolding history_after run_of first_correct_of last_packet_frame first_unfinished_of late_run_start
+    back_frame_of
+    stays_fault_free is_order_fault
+emits_steps_emit_events t [] = grind (arith, nat_tests)
+emits_steps_emit_events t (e ∷ es) = grind (
+  arith,
+  nat_tests,
+  emitted_event_keeps_invalidation,
+  (emits_steps_emit_events (Emits e ∷ t) es),
+)
 
 -- If the run continues after an event, it existed before, and the event invalidates no frame.
-pub run_was_there : (run d : Option ℕ) (from : ℕ) → kept run d ≡ Some from
+pub kept_run_was_valid : (run d : Option ℕ) (from : ℕ) → kept run d ≡ Some from
     → (run ≡ Some from) × (d ≡ None)
-run_was_there run d from e = grind (arith, nat_tests)
+kept_run_was_valid run d from e = grind (arith, nat_tests)
 
 -- An event about frame numbers that do not increase ends a run.
-order_invalidated : (t : List CheckStep) (e : Event) → invalidated_by t e ≡ None → is_order e ≡
+valid_event_is_no_order_fault : (t : List CheckStep) (e : Event) → invalidated_by t e ≡ None →
+    is_order_fault e ≡
     false
-unfolding is_order reports_order_fault invalidated_by
-order_invalidated t e is = grind (arith, nat_tests)
+unfolding is_order_fault reports_order_fault invalidated_by
+valid_event_is_no_order_fault t e is = grind (arith, nat_tests)
 
-pub orders_invalidated : (t : List CheckStep) (es : List Event) → invalidation_of t es ≡ None
-    → list_any is_order es ≡ false
-orders_invalidated t [] none = refl
-orders_invalidated t (e ∷ es) none = grind
-    (arith, nat_tests, order_invalidated, (orders_invalidated t es))
+pub valid_events_have_no_order_fault : (t : List CheckStep) (es : List Event) →
+    first_invalidated_frame t es ≡ None
+    → list_any is_order_fault es ≡ false
+valid_events_have_no_order_fault t [] none = refl
+valid_events_have_no_order_fault t (e ∷ es) none = grind
+    (arith, nat_tests, valid_event_is_no_order_fault, (valid_events_have_no_order_fault t es))
 
 -- The step that sets PES packet number `pes`, before the steps `t`.
-abbrev pub reported_of : ℕ → List CheckStep → List CheckStep
-reported_of pes t = AtPes pes ∷ t
+abbrev pub steps_with_packet_number : ℕ → List CheckStep → List CheckStep
+steps_with_packet_number pes t = AtPes pes ∷ t
 
 module _ (P : ℕ → ℕ → Type 0) where
-  on_at : (pes : ℕ) (e : Event) → OnTrusted P e → OnTrusted P (at_pes pes e)
-  unfolding at_pes
-  on_at pes (Trusted from to) p = p
-  on_at pes e p = tt
+  numbering_keeps_trusted_property : (pes : ℕ) (e : Event) → HoldsIfTrusted P e → HoldsIfTrusted P
+      (with_pes_number pes e)
+  unfolding with_pes_number
+  numbering_keeps_trusted_property pes (Trusted from to) p = p
+  numbering_keeps_trusted_property pes e p = tt
 
   -- The trusted frames of a run before frame x have the property P.
-  pub each_put : (run whole : Option ℕ) (x : ℕ)
+  pub trusted_frames_have_property : (run whole : Option ℕ) (x : ℕ)
       → ((from w : ℕ) → run ≡ Some from → whole ≡ Some w → w < x → P from (x - 1))
-      → EachTrusted P (trusted run whole x)
-  each_put run whole x h1 = grind (arith, nat_tests, ltb-true)
+      → HoldsForEachTrusted P (trusted run whole x)
+  trusted_frames_have_property run whole x h1 = grind (arith, nat_tests, ltb-true)
 
   -- If the trusted frames in the events, and those of the run up to the invalidated frame, have the
   -- property P, so do the trusted frames that the steps report.
-  each_emitted : (t : List CheckStep) (es : List Event) → EachTrusted P es
+  emitted_events_have_property : (t : List CheckStep) (es : List Event) → HoldsForEachTrusted P es
       → ((x from w : ℕ)
-      → invalidation_of t es ≡ Some x
+      → first_invalidated_frame t es ≡ Some x
       → run_of t ≡ Some from
       → first_correct_of t ≡ Some w
-      → w < back_to t x
-      → P from (back_to t x - 1))
-      → EachTrusted P (reported_after t (map Emits es))
-  unfolding reported_after reported_at run_of first_correct_of back_of
-  each_emitted t [] each h = All-nil (OnTrusted P)
-  each_emitted t (e ∷ es) each h =
+      → w < frame_after_going_back t x
+      → P from (frame_after_going_back t x - 1))
+      → HoldsForEachTrusted P (events_reported_after t (map Emits es))
+  unfolding events_reported_after events_reported_at_step run_of first_correct_of back_frame_of
+  emitted_events_have_property t [] each h = All-nil (HoldsIfTrusted P)
+  emitted_events_have_property t (e ∷ es) each h =
       let d : Option ℕ = invalidated_by t e in
       let now : List Event = trusted_up_to t d in
-      All-append (OnTrusted P) (now ++ at_pes (current_pes t) e ∷ []) _
-      (All-append (OnTrusted P) now (at_pes (current_pes t) e ∷ [])
+      All-append (HoldsIfTrusted P) (now ++ with_pes_number (current_pes t) e ∷ []) _
+      (All-append (HoldsIfTrusted P) now (with_pes_number (current_pes t) e ∷ [])
       (before (invalidated_by t e) refl)
-      (All-cons (OnTrusted P) (at_pes (current_pes t) e) []
-      (on_at (current_pes t) e (All-head (OnTrusted P) e es each)) (All-nil (OnTrusted P))))
-      (each_emitted (Emits e ∷ t) es (All-tail (OnTrusted P) e es each)
+      (All-cons (HoldsIfTrusted P) (with_pes_number (current_pes t) e) []
+      (numbering_keeps_trusted_property (current_pes t) e (All-head (HoldsIfTrusted P) e es each))
+      (All-nil (HoldsIfTrusted P))))
+      (emitted_events_have_property (Emits e ∷ t) es (All-tail (HoldsIfTrusted P) e es each)
       (λ x from w is run whole l.
       let all = h x from w in
-      let same = invalidation_after t e es in
+      let same = emitted_event_keeps_invalidation t e es in
       grind (arith, nat_tests)))
     where
       before : (d : Option ℕ) → invalidated_by t e ≡ d
-          → EachTrusted P (trusted_up_to t d)
-      before None is = All-nil (OnTrusted P)
+          → HoldsForEachTrusted P (trusted_up_to t d)
+      before None is = All-nil (HoldsIfTrusted P)
       before (Some x) is =
-          each_put (run_of t) (first_correct_of t) (back_to t x)
+          trusted_frames_have_property (run_of t) (first_correct_of t) (frame_after_going_back t x)
           (λ from w run whole l. let all = h x from w in grind arith)
 
   -- The trusted frames that the steps report have the property P, and the state afterwards has the
   -- property S.
   pub record Goes (S : List CheckStep → Type 0) (t : List CheckStep) (ms : List CheckStep) : Type
       0 where
-    pub each : EachTrusted P (reported_after t ms)
-    pub after : S (past_after t ms)
+    pub each : HoldsForEachTrusted P (events_reported_after t ms)
+    pub after : S (history_after t ms)
 
   pub Goes-nil : (S : List CheckStep → Type 0) (t : List CheckStep) → S t → Goes S t []
-  unfolding reported_after past_after
-  Goes-nil S t s = record { each = All-nil (OnTrusted P); after = s }
+  unfolding events_reported_after history_after
+  Goes-nil S t s = record { each = All-nil (HoldsIfTrusted P); after = s }
 
   pub Goes-cons : (S : List CheckStep → Type 0) (t : List CheckStep) (m : CheckStep)
       (ms : List CheckStep)
-      → reported_at t m ≡ []
+      → events_reported_at_step t m ≡ []
       → Goes S (m ∷ t) ms
       → Goes S t (m ∷ ms)
-  unfolding reported_after past_after
+  unfolding events_reported_after history_after
   Goes-cons S t m ms none rest = record { each = rw none rest.each; after = rest.after }
 
   pub Goes-pes : (S : List CheckStep → Type 0) (t : List CheckStep) (pes : ℕ) (ms : List CheckStep)
-      → Goes S (reported_of pes t) ms
+      → Goes S (steps_with_packet_number pes t) ms
       → Goes S t (AtPes pes ∷ ms)
-  unfolding reported_at
+  unfolding events_reported_at_step
   Goes-pes S t pes ms rest = Goes-cons S t (AtPes pes) ms refl rest
 
   pub Goes-append : (S U : List CheckStep → Type 0) (t : List CheckStep) (xs ys : List CheckStep)
@@ -172,23 +191,30 @@ module _ (P : ℕ → ℕ → Type 0) where
       → ((u : List CheckStep) → S u → Goes U u ys)
       → Goes U t (xs ++ ys)
   Goes-append S U t xs ys one rest =
-      let next : Goes U (past_after t xs) ys = rest (past_after t xs) one.after in
+      let next : Goes U (history_after t xs) ys = rest (history_after t xs) one.after in
       record {
-        each = subst (EachTrusted P) (sym (reported_after-append t xs ys))
-            (All-append (OnTrusted P) (reported_after t xs) (reported_after (past_after t xs) ys)
+        each = subst (HoldsForEachTrusted P) (sym (events_reported_after-append t xs ys))
+            (All-append (HoldsIfTrusted P) (events_reported_after t xs)
+            (events_reported_after (history_after t xs) ys)
             one.each
             next.each);
-        after = subst U (sym (past_after-append t xs ys)) next.after;
+        after = subst U (sym (history_after-append t xs ys)) next.after;
       }
 
   pub Goes-emits : (S : List CheckStep → Type 0) (t : List CheckStep) (es : List Event)
-      → EachTrusted P es
+      → HoldsForEachTrusted P es
       → ((x from w : ℕ)
-      → invalidation_of t es ≡ Some x
+      → first_invalidated_frame t es ≡ Some x
       → run_of t ≡ Some from
       → first_correct_of t ≡ Some w
-      → w < back_to t x
-      → P from (back_to t x - 1))
+      → w < frame_after_going_back t x
+      → P from (frame_after_going_back t x - 1))
       → ((u : List CheckStep) → AreEmitted t u es → S u)
       → Goes S t (map Emits es)
-  Goes-emits S t es each h after = grind (arith, nat_tests, each_emitted, past_after, emitted)
+  Goes-emits S t es each h after = grind (
+    arith,
+    nat_tests,
+    emitted_events_have_property,
+    history_after,
+    emits_steps_emit_events,
+  )

@@ -9,25 +9,30 @@ use Rattle.std.proofs.lemmas.Option.{none-some}
 use Rattle.ttx_page.specs.Page.{Rows, cell}
 use Rattle.sub_rules.specs.Events.{broken_cell, is_gap, is_incomplete, is_late}
 use Rattle.sub_rules.specs.Events.{is_overdue, is_silent}
-use Rattle.sub_rules.specs.Events.{is_unfinished, undecided_within, unexpected_cell}
-use Rattle.sub_rules.specs.Events.{wrong_after, wrong_cell}
+use Rattle.sub_rules.specs.Events.{is_unfinished, is_undecided_within, unexpected_cell}
+use Rattle.sub_rules.specs.Events.{first_wrong_cell_after, wrong_cell}
 use Rattle.sub_rules.specs.FrameRules.{Criteria, frame_at, packets_before}
 use Rattle.sub_rules.specs.Transmission.{Transmission}
 use Rattle.sub_laws.specs.CleanStretch.{IsEnd}
-use Rattle.sub_laws.proofs.DueCodeLemmas.{MayShow, none_unexpected, unexpected_none}
+use Rattle.sub_laws.proofs.DueCodeLemmas.{MayShow, expected_codes_are_not_unexpected}
+use Rattle.sub_laws.proofs.DueCodeLemmas.{no_unexpected_cell_shows_expected_codes}
 use Rattle.sub_laws.proofs.FrameByFrame.{IsFaultFree}
-use Rattle.sub_laws.proofs.PrefixLemmas.{RiseTo, end_high}
-use Rattle.sub_laws.proofs.ActiveFaultsLemmas.{known_without_refusals, due_known_at}
-use Rattle.sub_laws.proofs.ActiveFaultsLemmas.{due_known_before, fault_free_parts}
-use Rattle.sub_laws.proofs.ActiveFaultsLemmas.{unexpected_eq}
-use Rattle.sub_laws.proofs.UnfinishedLemmas.{none_first_unfinished, first_unfinished_at}
-use Rattle.sub_laws.proofs.UnfinishedLemmas.{first_unfinished_end, first_unfinished_none}
-use Rattle.sub_laws.proofs.UnfinishedLemmas.{first_unfinished_some}
+use Rattle.sub_laws.proofs.PrefixLemmas.{RiseTo, end_is_at_least_first}
+use Rattle.sub_laws.proofs.ActiveFaultsLemmas.{no_refusals_leave_all_decided}
+use Rattle.sub_laws.proofs.ActiveFaultsLemmas.{decided_range_includes_frame}
+use Rattle.sub_laws.proofs.ActiveFaultsLemmas.{decided_range_is_known}
+use Rattle.sub_laws.proofs.ActiveFaultsLemmas.{fault_free_means_no_active_fault}
+use Rattle.sub_laws.proofs.ActiveFaultsLemmas.{unexpected_cell_of_decided_page}
+use Rattle.sub_laws.proofs.UnfinishedLemmas.{finished_frame_starts_no_run, first_unfinished_at}
+use Rattle.sub_laws.proofs.UnfinishedLemmas.{run_start_at_end_is_exact}
+use Rattle.sub_laws.proofs.UnfinishedLemmas.{absent_run_means_finished_frame}
+use Rattle.sub_laws.proofs.UnfinishedLemmas.{run_start_is_first_unfinished}
 use Rattle.sub_laws.proofs.UnfinishedLemmas.{unfinished_at}
 
 -- The criteria with an expected page for each frame.
-abbrev pub criteria_known : Criteria → (ℕ → Rows) → (ℕ → Option ℕ) → Option ℕ → Option ℕ → Criteria
-criteria_known g due ending first_tci last_tco =
+abbrev pub criteria_with_known_pages : Criteria → (ℕ → Rows) → (ℕ → Option ℕ) → Option ℕ → Option ℕ
+    → Criteria
+criteria_with_known_pages g due ending first_tci last_tco =
     record g {
       due = due;
       ending = ending;
@@ -45,19 +50,19 @@ pub record HasSameCriteria (g : Criteria) (due : ℕ → Rows) (ending : ℕ →
 or_true : (b : Bool) → (b || true) ≡ true
 or_true b = grind (arith, nat_tests)
 
-late_true : (first_unfinished within f : ℕ) → first_unfinished + within ≤ f → nat_le
+overdue_run_is_late : (first_unfinished within f : ℕ) → first_unfinished + within ≤ f → nat_le
     (first_unfinished + within) f ≡ true
-late_true first_unfinished within f l = grind (arith, nat_tests)
+overdue_run_is_late first_unfinished within f l = grind (arith, nat_tests)
 
 module _ (g : Criteria) (due : ℕ → Rows) (ending : ℕ → Option ℕ) (first_tci last_tco : Option ℕ)
     (same_criteria : HasSameCriteria g due ending) where
   abbrev h : Criteria
-  h = criteria_known g due ending first_tci last_tco
+  h = criteria_with_known_pages g due ending first_tci last_tco
 
-  pub same_unfinished : (t : Transmission) (n f : ℕ) → g.undecided f ≡ false
+  pub known_page_is_unfinished_in_both : (t : Transmission) (n f : ℕ) → g.undecided f ≡ false
       → is_unfinished h t n f ≡ is_unfinished g t n f
   unfolding is_incomplete
-  same_unfinished t n f known = rw (known, same_criteria.due_eq f known) refl
+  known_page_is_unfinished_in_both t n f known = rw (known, same_criteria.due_eq f known) refl
 
   module _ (t : Transmission) (up : RiseTo t (length t)) where
     abbrev first : ℕ
@@ -66,40 +71,50 @@ module _ (g : Criteria) (due : ℕ → Rows) (ending : ℕ → Option ℕ) (firs
     abbrev un : ℕ → Bool
     un = unfinished_at g t up
 
-    abbrev un_known : ℕ → Bool
-    un_known = unfinished_at h t up
+    abbrev is_known_page_unfinished : ℕ → Bool
+    is_known_page_unfinished = unfinished_at h t up
 
-    unfinished_end_same : (f : ℕ) → g.undecided f ≡ false → un_known f ≡ un f
-    unfinished_end_same f known = rw (known, same_criteria.due_eq f known) refl
+    known_end_is_unfinished_in_both : (f : ℕ) → g.undecided f ≡ false → is_known_page_unfinished f ≡
+        un f
+    known_end_is_unfinished_in_both f known = rw (known, same_criteria.due_eq f known) refl
 
-    unfinished_end_of_more : (f : ℕ) → un f ≡ true → un_known f ≡ true
-    unfinished_end_of_more f e = grind (arith, nat_tests, unfinished_end_same, or_true)
+    unfinished_end_with_more_known : (f : ℕ) → un f ≡ true → is_known_page_unfinished f ≡ true
+    unfinished_end_with_more_known f e = grind (
+      arith,
+      nat_tests,
+      known_end_is_unfinished_in_both,
+      or_true,
+    )
 
     -- The expected page is known at the last `within` frames up to f, and at f.
     abbrev pub IsDueKnownUpTo : ℕ → Type 0
     IsDueKnownUpTo f = (e : ℕ) → first ≤ e → e ≤ f → f ≤ e + g.within → g.undecided e ≡ false
 
-    overdue_same : (k f : ℕ) → f ≡ first + k → IsDueKnownUpTo f
-        → (o p : Option ℕ) → first_unfinished_at un first k ≡ o → first_unfinished_at un_known first
+    overdue_tests_agree_if_known : (k f : ℕ) → f ≡ first + k → IsDueKnownUpTo f
+        → (o p : Option ℕ) → first_unfinished_at un first k ≡ o → first_unfinished_at
+        is_known_page_unfinished first
         k ≡ p
         → is_overdue h first p f ≡ is_overdue g first o f
-    overdue_same k f at known None None is so = refl
-    overdue_same k f at known None (Some r) is so =
+    overdue_tests_agree_if_known k f at known None None is so = refl
+    overdue_tests_agree_if_known k f at known None (Some r) is so =
         let own : g.undecided f ≡ false = known f (omega arith) (le_refl f) (omega arith) in
-        let whole : un f ≡ false = ap un at ∙ first_unfinished_none un first k is in
-        let none : un_known (first + k) ≡ false =
-        ap un_known (sym at) ∙ unfinished_end_same f own ∙ whole in
-        absurd (none-some r (sym (none_first_unfinished un_known first k none) ∙ so))
-    overdue_same k f at known (Some r) None is so =
-        let top = (first_unfinished_some un first k r is).high in
-        let open_here = (first_unfinished_some un first k r is).all f (omega arith) (omega arith) in
-        let none : un_known f ≡ false = ap un_known at ∙ first_unfinished_none un_known first k so
+        let whole : un f ≡ false = ap un at ∙ absent_run_means_finished_frame un first k is in
+        let none : is_known_page_unfinished (first + k) ≡ false =
+        ap is_known_page_unfinished (sym at) ∙ known_end_is_unfinished_in_both f own ∙ whole in
+        absurd (none-some r (sym (finished_frame_starts_no_run is_known_page_unfinished first k
+        none) ∙ so))
+    overdue_tests_agree_if_known k f at known (Some r) None is so =
+        let top = (run_start_is_first_unfinished un first k r is).high in
+        let open_here = (run_start_is_first_unfinished un first k r is).all f (omega arith)
+        (omega arith) in
+        let none : is_known_page_unfinished f ≡ false = ap is_known_page_unfinished at ∙
+        absent_run_means_finished_frame is_known_page_unfinished first k so
         in
-        absurd (true≢false (sym (unfinished_end_of_more f open_here) ∙ none))
-    overdue_same k f at known (Some s) (Some r) is so =
+        absurd (true≢false (sym (unfinished_end_with_more_known f open_here) ∙ none))
+    overdue_tests_agree_if_known k f at known (Some s) (Some r) is so =
         let own : g.undecided f ≡ false = known f (omega arith) (le_refl f) (omega arith) in
-        let one = first_unfinished_some un first k s is in
-        let other = first_unfinished_some un_known first k r so in
+        let one = run_start_is_first_unfinished un first k s is in
+        let other = run_start_is_first_unfinished is_known_page_unfinished first k r so in
         let low = one.low in
         let high = one.high in
         let bottom = other.low in
@@ -113,7 +128,7 @@ module _ (g : Criteria) (due : ℕ → Rows) (ending : ℕ → Option ℕ) (firs
               | inr (after, whole) ↦
                   absurd
                   (true≢false
-                  (sym (unfinished_end_of_more (r - 1) (one.all (r - 1) (omega arith)
+                  (sym (unfinished_end_with_more_known (r - 1) (one.all (r - 1) (omega arith)
                   (omega arith))) ∙ whole))
             ]
             | inr not_later ↦
@@ -128,50 +143,59 @@ module _ (g : Criteria) (due : ℕ → Rows) (ending : ℕ → Option ℕ) (firs
                         absurd
                         (true≢false
                         (sym (other.all (s - 1) (omega arith) (omega arith))
-                        ∙ unfinished_end_same (s - 1) sure
+                        ∙ known_end_is_unfinished_in_both (s - 1) sure
                         ∙ whole))
                   ]
                 ] in
-                rw (late_true s g.within f long, late_true r g.within f (omega arith)) refl
+                rw (
+                  overdue_run_is_late s g.within f long,
+                  overdue_run_is_late r g.within f
+                      (omega arith),
+                ) refl
           ]
         ]
 
     late_same : (n f : ℕ) → IsEnd t n f → IsDueKnownUpTo f → is_late h t n f ≡ is_late g t n f
     unfolding is_late
     late_same n f end known =
-        let low = end_high t up n f end in
+        let low = end_is_at_least_first t up n f end in
         let k : ℕ = f - first in
         let at : f ≡ first + k = omega arith in
         ap (λ (b : Bool). (g.within == 0) || b)
-        (ap (λ (o : Option ℕ). is_overdue h first o f) (first_unfinished_end h t up k n f end at)
-        ∙ overdue_same k f at known (first_unfinished_at un first k) (first_unfinished_at un_known
+        (ap (λ (o : Option ℕ). is_overdue h first o f) (run_start_at_end_is_exact h t up k n f end
+        at)
+        ∙ overdue_tests_agree_if_known k f at known (first_unfinished_at un first k)
+        (first_unfinished_at is_known_page_unfinished
         first k) refl refl
-        ∙ sym (ap (λ (o : Option ℕ). is_overdue g first o f) (first_unfinished_end g t up k n f end
+        ∙ sym (ap (λ (o : Option ℕ). is_overdue g first o f) (run_start_at_end_is_exact g t up k n f
+        end
         at)))
 
-    module _ (n f : ℕ) (sure : undecided_within g t f ≡ false) where
-      due_known_up_to : IsDueKnownUpTo f
-      due_known_up_to e low high near = due_known_before g t n f first g.within sure e high near
+    module _ (n f : ℕ) (sure : is_undecided_within g t f ≡ false) where
+      page_is_known_up_to_frame : IsDueKnownUpTo f
+      page_is_known_up_to_frame e low high near = decided_range_is_known g t n f first g.within sure
+          e high near
           (inl low)
 
       here : g.undecided f ≡ false
-      here = due_known_at g t n f sure
+      here = decided_range_includes_frame g t n f sure
 
-      wrong_in_other : wrong_cell g t n f ≡ None → wrong_cell h t n f ≡ None
-      wrong_in_other e =
+      no_wrong_cell_in_other_programme : wrong_cell g t n f ≡ None → wrong_cell h t n f ≡ None
+      no_wrong_cell_in_other_programme e =
           let none :
-          wrong_after g.watched.keeps g.watched.page (packets_before t n) (g.due f) ≡ None =
+          first_wrong_cell_after g.watched.keeps g.watched.page (packets_before t n) (g.due f) ≡
+          None =
           rw here at e in
           rw (same_criteria.due_eq f here) none
 
-      shows_in_other : (row column : ℕ)
+      code_may_show_in_other_programme : (row column : ℕ)
           → MayShow g.watched.keeps g.watched.page (packets_before t n) g.due first f g.within row
           column
           → MayShow g.watched.keeps g.watched.page (packets_before t n) due first f g.within row
           column
-      shows_in_other row column (inl blank) = inl blank
-      shows_in_other row column (inr (e, from, high, low, same)) =
-          let known = due_known_before g t n f first g.within sure e high low from in
+      code_may_show_in_other_programme row column (inl blank) = inl blank
+      code_may_show_in_other_programme row column (inr (e, from, high, low, same)) =
+          let known = decided_range_is_known g t n f first g.within sure e high low from in
           inr (
             e,
             from,
@@ -180,31 +204,36 @@ module _ (g : Criteria) (due : ℕ → Rows) (ending : ℕ → Option ℕ) (firs
             same ∙ sym (ap (λ (rows : Rows). cell rows row column) (same_criteria.due_eq e known)),
           )
 
-      unexpected_in_other : unexpected_cell g t n f ≡ None → unexpected_cell h t n f ≡ None
-      unexpected_in_other e =
-          unexpected_eq h t n f (known_without_refusals first f g.within)
-          ∙ none_unexpected g.watched.keeps g.watched.page (packets_before t n) due first f g.within
+      no_unexpected_cell_in_other_programme : unexpected_cell g t n f ≡ None → unexpected_cell h t n
+          f ≡ None
+      no_unexpected_cell_in_other_programme e =
+          unexpected_cell_of_decided_page h t n f (no_refusals_leave_all_decided first f g.within)
+          ∙ expected_codes_are_not_unexpected g.watched.keeps g.watched.page (packets_before t n)
+          due first f g.within
           (λ row column named.
-          shows_in_other row column
-          (unexpected_none g.watched.keeps g.watched.page (packets_before t n) g.due first f
+          code_may_show_in_other_programme row column
+          (no_unexpected_cell_shows_expected_codes g.watched.keeps g.watched.page
+          (packets_before t n) g.due first f
           g.within
-          (sym (unexpected_eq g t n f sure) ∙ e) row column named))
+          (sym (unexpected_cell_of_decided_page g t n f sure) ∙ e) row column named))
 
-      content_in_other : (b : Bool) → is_late h t n f ≡ b → is_late g t n f ≡ b
+      no_broken_cell_in_other_programme : (b : Bool) → is_late h t n f ≡ b → is_late g t n f ≡ b
           → broken_cell g t n f ≡ None
           → broken_cell h t n f ≡ None
-      content_in_other true so is e = rw so (wrong_in_other (rw is at e))
-      content_in_other false so is e = rw so (unexpected_in_other (rw is at e))
+      no_broken_cell_in_other_programme true so is e = rw so (no_wrong_cell_in_other_programme
+          (rw is at e))
+      no_broken_cell_in_other_programme false so is e = rw so (no_unexpected_cell_in_other_programme
+          (rw is at e))
 
-      pub equal_fault_free : IsEnd t n f → IsFaultFree g t n f → IsFaultFree h t n f
+      pub end_is_fault_free_in_both : IsEnd t n f → IsFaultFree g t n f → IsFaultFree h t n f
       unfolding is_gap is_incomplete is_silent
-      equal_fault_free end fault_free =
-          let parts = (fault_free_parts g t n f).0 fault_free in
-          let late = late_same n f end due_known_up_to in
-          (fault_free_parts h t n f).1 (
-            content_in_other (is_late g t n f) late refl parts.0,
+      end_is_fault_free_in_both end fault_free =
+          let parts = (fault_free_means_no_active_fault g t n f).0 fault_free in
+          let late = late_same n f end page_is_known_up_to_frame in
+          (fault_free_means_no_active_fault h t n f).1 (
+            no_broken_cell_in_other_programme (is_late g t n f) late refl parts.0,
             parts.1,
             ap (λ (b : Bool). b && is_incomplete g t n) late ∙ parts.2,
             parts.3,
-            known_without_refusals first f g.within,
+            no_refusals_leave_all_decided first f g.within,
           )

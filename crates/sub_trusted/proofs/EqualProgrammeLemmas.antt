@@ -5,49 +5,53 @@ use Rattle.std.proofs.Common.{◌≡◌, ℕ, ◌+◌, inl, inr, Bool, false}
 use Rattle.std.proofs.Common.{List, [], ◌∷◌, find, Option, option_map}
 use Rattle.std.proofs.Common.{ap, arith}
 use Rattle.stl_file.specs.Subtitle.{SubtitleValue}
-use Rattle.stl_rows.specs.DuePage.{drawn_or_blank, due, ends_at, is_due, tci_of_ending}
+use Rattle.stl_rows.specs.DuePage.{drawn_or_blank, due, ends_at, is_due, tci_of_subtitle_ending_at}
 use Rattle.stl_rows.specs.Programme.{ProgrammeValue, first_tci, last_tco}
 use Rattle.sub_plan.specs.Options.{OptionsValue}
-use Rattle.sub_rules.specs.FrameRules.{Unread}
-use Rattle.sub_laws.specs.CleanStretch.{criteria_unsure}
-use Rattle.sub_trusted.specs.EqualTrust.{HasOtherSubtitles, IsDueAmong, LawOfEqualTrust}
+use Rattle.sub_rules.specs.FrameRules.{UnreadReason}
+use Rattle.sub_laws.specs.CleanStretch.{criteria_with_refusals}
+use Rattle.sub_trusted.specs.EqualTrust.{HasOtherSubtitles, IsDueIfUndecided, LawOfEqualTrust}
 use Rattle.sub_trusted.proofs.EqualLateLemmas.{HasSameCriteria}
-use Rattle.sub_trusted.proofs.EqualTrustLemmas.{reported_in_other}
+use Rattle.sub_trusted.proofs.EqualTrustLemmas.{stretch_is_trusted_in_both}
 
 module _ (undecided : ℕ → Bool) (f : ℕ) (known : undecided f ≡ false) where
   -- A subtitle that is expected only in frames with an unknown expected page is not expected in
   -- frame f and does not end after it.
-  not_due : (t : SubtitleValue) → IsDueAmong undecided t → is_due f t ≡ false
-  not_due t is = grind (arith, nat_tests)
+  undecided_subtitle_is_not_due : (t : SubtitleValue) → IsDueIfUndecided undecided t → is_due f t ≡
+      false
+  undecided_subtitle_is_not_due t is = grind (arith, nat_tests)
 
-  not_ended : (t : SubtitleValue) → IsDueAmong undecided t → ends_at (f + 1) t ≡ false
-  not_ended t is = grind (arith, nat_tests)
+  undecided_subtitle_does_not_end : (t : SubtitleValue) → IsDueIfUndecided undecided t → ends_at
+      (f + 1) t ≡ false
+  undecided_subtitle_does_not_end t is = grind (arith, nat_tests)
 
-  same_found : (test : SubtitleValue → Bool)
-      → ((t : SubtitleValue) → IsDueAmong undecided t → test t ≡ false)
+  same_subtitle_is_found : (test : SubtitleValue → Bool)
+      → ((t : SubtitleValue) → IsDueIfUndecided undecided t → test t ≡ false)
       → (judged all : List SubtitleValue) → HasOtherSubtitles undecided judged all
       → find test all ≡ find test judged
-  same_found test none judged [] is = grind (arith, nat_tests)
-  same_found test none judged (t ∷ all) (inl (rest, same, more)) =
-      grind (arith, nat_tests, (same_found test none rest all more))
-  same_found test none judged (t ∷ all) (inr (other, more)) =
-      grind (arith, nat_tests, (same_found test none judged all more))
+  same_subtitle_is_found test none judged [] is = grind (arith, nat_tests)
+  same_subtitle_is_found test none judged (t ∷ all) (inl (rest, same, more)) =
+      grind (arith, nat_tests, (same_subtitle_is_found test none rest all more))
+  same_subtitle_is_found test none judged (t ∷ all) (inr (other, more)) =
+      grind (arith, nat_tests, (same_subtitle_is_found test none judged all more))
 
-module _ (programme : ProgrammeValue) (options : OptionsValue) (unread : Option Unread)
+module _ (programme : ProgrammeValue) (options : OptionsValue) (unread : Option UnreadReason)
     (any_refused : Bool) (undecided : ℕ → Bool) (records : List SubtitleValue)
     (others : HasOtherSubtitles undecided programme.records records) where
   equal_with :
-      HasSameCriteria (criteria_unsure programme options unread any_refused undecided)
-      (due programme.drawing records) (tci_of_ending records)
-  unfolding due tci_of_ending
+      HasSameCriteria (criteria_with_refusals programme options unread any_refused undecided)
+      (due programme.drawing records) (tci_of_subtitle_ending_at records)
+  unfolding due tci_of_subtitle_ending_at
   equal_with = record {
     due_eq = λ f known.
         ap (drawn_or_blank programme.drawing)
-        (same_found undecided f known (is_due f) (not_due undecided f known) programme.records
+        (same_subtitle_is_found undecided f known (is_due f) (undecided_subtitle_is_not_due
+        undecided f known) programme.records
         records others);
     ending_eq = λ f known.
         ap (option_map (λ (t : SubtitleValue). t.tci))
-        (same_found undecided f known (ends_at (f + 1)) (not_ended undecided f known)
+        (same_subtitle_is_found undecided f known (ends_at (f + 1)) (undecided_subtitle_does_not_end
+        undecided f known)
         programme.records records others);
   }
 
@@ -56,8 +60,10 @@ law_of_equal_trust programme options unread any_refused undecided records pes_pa
     others
     reported
     low high whole =
-    reported_in_other (criteria_unsure programme options unread any_refused undecided)
-    (due programme.drawing records) (tci_of_ending records) (first_tci records) (last_tco records)
+    stretch_is_trusted_in_both (criteria_with_refusals programme options unread any_refused
+    undecided)
+    (due programme.drawing records) (tci_of_subtitle_ending_at records) (first_tci records)
+    (last_tco records)
     (equal_with programme options unread any_refused undecided records others) pes_packets from to
     reported b
     low

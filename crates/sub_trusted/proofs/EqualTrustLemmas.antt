@@ -6,44 +6,50 @@ use Rattle.std.proofs.Common.{List, [], Contains, Option, Some, length, refl, ap
 use Rattle.std.proofs.Common.{arith}
 use Rattle.ttx_page.specs.Page.{Rows}
 use Rattle.ttx_page.specs.PacketKind.{kind}
-use Rattle.ttx_page.specs.Span.{holds_beginning}
+use Rattle.ttx_page.specs.Span.{has_text_beginning}
 use Rattle.sub_rules.specs.Events.{end_rules, no_active_faults, active_faults_at}
-use Rattle.sub_rules.specs.FrameRules.{Criteria, Unread, frame_at}
-use Rattle.sub_rules.specs.PesPacketEvents.{all_of_pes_packets, sent_by_pes_packets}
+use Rattle.sub_rules.specs.FrameRules.{Criteria, UnreadReason, frame_at}
+use Rattle.sub_rules.specs.PesPacketEvents.{all_events_of_pes_packets, sent_by_pes_packets}
 use Rattle.sub_rules.specs.PesPackets.{PesPacket}
 use Rattle.sub_rules.specs.Transmission.{Transmission}
 use Rattle.sub_rules.specs.Trusted.{has_no_active_faults}
 use Rattle.sub_rules.specs.declared.event.Event.TheVariants.{Trusted}
 use Rattle.sub_rules.specs.declared.active_faults.ActiveFaults.{ActiveFaults}
-use Rattle.sub_rules.proofs.EndRuleLemmas.{no_active_faults_eq}
+use Rattle.sub_rules.proofs.EndRuleLemmas.{no_active_faults_is_unique}
 use Rattle.sub_laws.specs.CleanStretch.{IsEnd, IsUnreported}
 use Rattle.sub_laws.proofs.FrameByFrame.{IsFaultFree}
-use Rattle.sub_laws.proofs.GoodLemmas.{rises_each}
-use Rattle.sub_laws.proofs.PrefixLemmas.{RiseTo, frame_at-take, packets-take, rises_to}
-use Rattle.sub_laws.proofs.ActiveFaultsLemmas.{due_known_at}
-use Rattle.sub_trusted.specs.EqualTrust.{AreTrusted, IsCorrectAt}
-use Rattle.sub_trusted.specs.TrustedFrames.{BeginsText, CanStay, rising_part}
-use Rattle.sub_trusted.proofs.EqualLateLemmas.{HasSameCriteria, equal_fault_free, criteria_known}
-use Rattle.sub_trusted.proofs.EqualLateLemmas.{same_unfinished}
+use Rattle.sub_laws.proofs.GoodLemmas.{rising_frames_rise_at_each_index}
+use Rattle.sub_laws.proofs.PrefixLemmas.{RiseTo, frame_at-take, packets-take}
+use Rattle.sub_laws.proofs.PrefixLemmas.{rising_frames_are_ordered}
+use Rattle.sub_laws.proofs.ActiveFaultsLemmas.{decided_range_includes_frame}
+use Rattle.sub_trusted.specs.EqualTrust.{AreTrusted, IsFinishedAt}
+use Rattle.sub_trusted.specs.TrustedFrames.{BeginsText, MayBeReportedAsTrusted, rising_part}
+use Rattle.sub_trusted.proofs.EqualLateLemmas.{HasSameCriteria, end_is_fault_free_in_both}
+use Rattle.sub_trusted.proofs.EqualLateLemmas.{criteria_with_known_pages}
+use Rattle.sub_trusted.proofs.EqualLateLemmas.{known_page_is_unfinished_in_both}
 use Rattle.sub_trusted.proofs.AllTrustedLemmas.{law_of_all_trusted}
-use Rattle.sub_trusted.proofs.TrustedFrameLemmas.{count_most, part_last, part_length, part_rises}
-use Rattle.sub_trusted.proofs.TrustedFrameLemmas.{j_less_than_m, rises_more, risen, risen_low}
-use Rattle.sub_trusted.proofs.TrustedFrameLemmas.{remains_fault_free}
+use Rattle.sub_trusted.proofs.TrustedFrameLemmas.{rising_count_is_the_greatest}
+use Rattle.sub_trusted.proofs.TrustedFrameLemmas.{rising_part_ends_at_count}
+use Rattle.sub_trusted.proofs.TrustedFrameLemmas.{rising_part_has_rising_count, rising_part_rises}
+use Rattle.sub_trusted.proofs.TrustedFrameLemmas.{run_begins_in_part, next_rising_frame_is_counted}
+use Rattle.sub_trusted.proofs.TrustedFrameLemmas.{rising_frame_count}
+use Rattle.sub_trusted.proofs.TrustedFrameLemmas.{rising_count_is_at_most_length}
+use Rattle.sub_trusted.proofs.TrustedFrameLemmas.{stretch_has_no_active_fault}
 use Rattle.sub_trusted.proofs.TrustedFrameLemmas.{unreported}
-use Rattle.sub_trusted.proofs.TrustedKeptLemmas.{MayStayBetween}
-use Rattle.sub_trusted.proofs.TrustedSkippedLemmas.{skipped_outside}
-use Rattle.sub_trusted.proofs.TrustedPesPacketLemmas.{all_pass_within, last_late}
-use Rattle.sub_trusted.proofs.TrustedRunLemmas.{StaysTo}
+use Rattle.sub_trusted.proofs.TrackerStateLemmas.{IsTrustedBetween}
+use Rattle.sub_trusted.proofs.TrustedSkippedLemmas.{skipped_packets_are_outside_stretch}
+use Rattle.sub_trusted.proofs.TrustedPesPacketLemmas.{all_events_trust_good_stretches, last_late}
+use Rattle.sub_trusted.proofs.TrustedRunLemmas.{RunLastsTo}
 
-none_active : has_no_active_faults no_active_faults ≡ true
+no_active_faults_has_none : has_no_active_faults no_active_faults ≡ true
 unfolding end_rules
-none_active = refl
+no_active_faults_has_none = refl
 
 module _ (g : Criteria) (due : ℕ → Rows) (ending : ℕ → Option ℕ) (first_tci last_tco : Option ℕ)
     (same_criteria : HasSameCriteria g due ending) (pes_packets : List PesPacket) (from to : ℕ)
-    (reported : Contains (all_of_pes_packets g pes_packets) (Trusted from to)) where
+    (reported : Contains (all_events_of_pes_packets g pes_packets) (Trusted from to)) where
   abbrev h : Criteria
-  h = criteria_known g due ending first_tci last_tco
+  h = criteria_with_known_pages g due ending first_tci last_tco
 
   abbrev frames : Transmission
   frames = sent_by_pes_packets g pes_packets
@@ -51,61 +57,83 @@ module _ (g : Criteria) (due : ℕ → Rows) (ending : ℕ → Option ℕ) (firs
   abbrev part : Transmission
   part = rising_part frames
 
-  may : MayStayBetween g frames 0 (last_late g frames) from to
-  may = grind (arith, nat_tests, last_late, all_pass_within)
+  may : IsTrustedBetween g frames 0 (last_late g frames) from to
+  may = grind (arith, nat_tests, last_late, all_events_trust_good_stretches)
 
-  stays : StaysTo g frames from to
-  stays = may.may_stay_correct.stays
+  stays : RunLastsTo g frames from to
+  stays = may.stretch_is_trusted_correct.stays
 
   fault_free : IsUnreported g part from to
   fault_free = unreported g frames from to stays
 
   up : RiseTo part (length part)
-  up = rises_each part fault_free.rising
+  up = rising_frames_rise_at_each_index part fault_free.rising
 
-  some : 0 < risen frames
-  some = let low = j_less_than_m g frames from to stays in omega arith
+  some : 0 < rising_frame_count frames
+  some = let low = run_begins_in_part g frames from to stays in omega arith
 
   still : (n f : ℕ) → IsEnd part n f → from ≤ f → f ≤ to → IsFaultFree h part n f
   unfolding active_faults_at
   still n f end low high =
-      equal_fault_free g due ending first_tci last_tco same_criteria part up n f
+      end_is_fault_free_in_both g due ending first_tci last_tco same_criteria part up n f
       (fault_free.undecided n f end low high) end
-      (no_active_faults_eq _ (remains_fault_free g frames from to stays n f end low high))
+      (no_active_faults_is_unique _ (stretch_has_no_active_fault g frames from to stays n f end low
+      high))
 
-  before_fall : risen frames < length frames → to < frame_at frames (risen frames - 1)
-  before_fall more =
-      let fits = count_most frames (length frames) stays.n stays.within stays.run.rises in
+  run_ends_before_falling_frame : rising_frame_count frames < length frames → to < frame_at frames
+      (rising_frame_count frames - 1)
+  run_ends_before_falling_frame more =
+      let fits = rising_count_is_the_greatest frames (length frames) stays.n stays.within
+      stays.run.rises in
       let below = stays.run.below in
       elim (stays.next (omega arith)) [
         | inl (rise, low) ↦
-            let later = rises_more frames stays.n (omega arith) stays.run.rises rise in
+            let later = next_rising_frame_is_counted frames stays.n (omega arith) stays.run.rises
+            rise in
             let order =
-            rises_to frames (risen frames) (part_rises frames) stays.n (risen frames - 1)
+            rising_frames_are_ordered frames (rising_frame_count frames) (rising_part_rises frames)
+            stays.n (rising_frame_count frames - 1)
             (omega arith) (omega arith) in
             omega arith
         | inr low ↦
             let order =
-            rises_to frames (risen frames) (part_rises frames) (stays.n - 1) (risen frames - 1)
+            rising_frames_are_ordered frames (rising_frame_count frames) (rising_part_rises frames)
+            (stays.n - 1) (rising_frame_count frames - 1)
             (omega arith) (omega arith) in
             omega arith
       ]
 
-  before_unread : (u : Unread) → g.unread ≡ Some u → to < frame_at frames (risen frames - 1)
-  before_unread u is =
-      grind (arith, nat_tests, risen, before_fall, risen_low, part_rises, last_late, may)
+  run_ends_before_unread_bytes : (u : UnreadReason) → g.unread ≡ Some u → to < frame_at frames
+      (rising_frame_count frames - 1)
+  run_ends_before_unread_bytes u is =
+      grind (
+        arith,
+        nat_tests,
+        rising_frame_count,
+        run_ends_before_falling_frame,
+        rising_count_is_at_most_length,
+        rising_part_rises,
+        last_late,
+        may,
+      )
 
   module _ (b : ℕ) (low : from ≤ b) (high : b ≤ to)
-      (whole : 0 < g.within → IsCorrectAt g pes_packets b) where
-    finished : 0 < g.within → IsCorrectAt h pes_packets b
+      (whole : 0 < g.within → IsFinishedAt g pes_packets b) where
+    finished : 0 < g.within → IsFinishedAt h pes_packets b
     unfolding active_faults_at
-    finished h1 = grind (arith, nat_tests, due_known_at, fault_free, same_unfinished)
+    finished h1 = grind (
+      arith,
+      nat_tests,
+      decided_range_includes_frame,
+      fault_free,
+      known_page_is_unfinished_in_both,
+    )
 
-    can : CanStay h pes_packets from b
+    can : MayBeReportedAsTrusted h pes_packets from b
     unfolding active_faults_at
     can =
-        let last = part_last frames some in
-        let size = part_length frames in
+        let last = rising_part_ends_at_count frames some in
+        let size = rising_part_has_rising_count frames in
         record {
           unreported = record {
             stretch = record {
@@ -125,27 +153,32 @@ module _ (g : Criteria) (due : ℕ → Rows) (ending : ℕ → Option ℕ) (firs
                 ap (λ (s : ActiveFaults). s.undecided) (still n f end after (omega arith));
           };
           fault_free = λ n f end after before.
-              ap has_no_active_faults (still n f end after (omega arith)) ∙ none_active;
+              ap has_no_active_faults (still n f end after (omega arith)) ∙
+              no_active_faults_has_none;
           finished = finished;
           skipped = λ earlier later u is more few.
-              elim (skipped_outside g pes_packets from to reported earlier later u is more few) [
+              elim (skipped_packets_are_outside_stretch g pes_packets from to reported earlier later
+              u is more few) [
                 | inl before ↦ inl before
                 | inr after ↦ inr (omega arith)
               ];
-          before_fall = λ more. let past = before_fall (omega arith) in omega arith;
-          before_unread = λ u is. let past = before_unread u is in omega arith;
+          run_ends_before_falling_frame = λ more. let past = run_ends_before_falling_frame
+              (omega arith) in omega arith;
+          run_ends_before_unread_bytes = λ u is. let past = run_ends_before_unread_bytes u is
+              in omega arith;
         }
 
-    pub reported_in_other : all_of_pes_packets h pes_packets ≢ [] → AreTrusted h pes_packets from b
-    reported_in_other something =
+    pub stretch_is_trusted_in_both : all_events_of_pes_packets h pes_packets ≢ [] → AreTrusted h
+        pes_packets from b
+    stretch_is_trusted_in_both something =
         let j : ℕ = stays.run.j in
-        let inside : j < risen frames = j_less_than_m g frames from to stays in
-        let size = part_length frames in
-        let at = frame_at-take frames (risen frames) j inside in
+        let inside : j < rising_frame_count frames = run_begins_in_part g frames from to stays in
+        let size = rising_part_has_rising_count frames in
+        let at = frame_at-take frames (rising_frame_count frames) j inside in
         let own = stays.run.at in
-        let ps = packets-take frames (risen frames) j inside in
+        let ps = packets-take frames (rising_frame_count frames) j inside in
         let header : BeginsText h part j =
-        ap (holds_beginning g.watched.keeps (kind g.watched.page)) ps ∙ stays.run.header in
+        ap (has_text_beginning g.watched.keeps (kind g.watched.page)) ps ∙ stays.run.header in
         let (first, last, start, end, c) =
         law_of_all_trusted h pes_packets from b j can (omega arith) (omega arith) (omega arith)
         header

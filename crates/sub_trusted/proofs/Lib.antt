@@ -15,8 +15,8 @@ pub mod TrustedAsReadLemmas
 pub mod TrustedEndingLemmas
 pub mod TrustedFinishedLemmas
 pub mod TrustedFrameLemmas
-pub mod TrustedKeptLemmas
-pub mod TrustedLookLemmas
+pub mod TrackerStateLemmas
+pub mod FrameEndStateLemmas
 pub mod TrustedOnAirLemmas
 pub mod TrustedSkippedLemmas
 pub mod TrustedPesPacketLemmas

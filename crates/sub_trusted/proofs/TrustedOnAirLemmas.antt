@@ -5,50 +5,54 @@ use Rattle.std.proofs.Common.{Contains, Option, refl, arith, le_refl}
 use Rattle.std.proofs.lemmas.Bool.{cases_lt}
 use Rattle.std.proofs.lemmas.List.Elements.{All-contains}
 use Rattle.ttx_page.specs.PacketKind.{kind}
-use Rattle.ttx_page.specs.Span.{holds_beginning}
+use Rattle.ttx_page.specs.Span.{has_text_beginning}
 use Rattle.stl_rows.specs.Programme.{IsProgramme, ProgrammeValue}
 use Rattle.sub_plan.specs.Options.{OptionsValue}
 use Rattle.sub_rules.specs.Events.{active_faults_at}
-use Rattle.sub_rules.specs.FrameRules.{Criteria, Unread, frame_at}
+use Rattle.sub_rules.specs.FrameRules.{Criteria, UnreadReason, frame_at}
 use Rattle.sub_rules.specs.Good.{HoldsHeader}
-use Rattle.sub_rules.specs.PesPacketEvents.{all_of_pes_packets, sent_by_pes_packets}
+use Rattle.sub_rules.specs.PesPacketEvents.{all_events_of_pes_packets, sent_by_pes_packets}
 use Rattle.sub_rules.specs.PesPackets.{PesPacket}
-use Rattle.sub_rules.specs.Repeats.{SomeFinishedBy}
+use Rattle.sub_rules.specs.Repeats.{HasFinishedFrame}
 use Rattle.sub_rules.specs.Transmission.{Transmission, first_frame, packets_of}
 use Rattle.sub_rules.specs.declared.event.Event.TheVariants.{Trusted}
-use Rattle.sub_laws.specs.CleanStretch.{IsUnreported, NoneOpen, criteria_unsure}
-use Rattle.sub_laws.specs.Repeats.{FinishesInTimeBy}
+use Rattle.sub_laws.specs.CleanStretch.{IsUnreported, HasNoOpenEnd, criteria_with_refusals}
+use Rattle.sub_laws.specs.Repeats.{FinishesInTime}
 use Rattle.sub_laws.specs.ReportedRepeats.{IsSufficientRepeats}
-use Rattle.sub_trusted.specs.TrustedFrames.{IsAsRead, LawOfTrusted, LawOfTrustedKnown, MayStay}
+use Rattle.sub_trusted.specs.TrustedFrames.{MatchesReadPackets, LawOfTrustedFrames, LawOfKnownPages}
+use Rattle.sub_trusted.specs.TrustedFrames.{MayStay}
 use Rattle.sub_trusted.specs.TrustedFrames.{rising_part}
-use Rattle.sub_trusted.specs.TrustedRepeats.{LawOfTrustedRepeats, MayStayBy}
+use Rattle.sub_trusted.specs.TrustedRepeats.{LawOfTrustedRepeats, MayStayWithRepeats}
 use Rattle.sub_laws.proofs.DelayLemmas.{law_of_repeated_stretch}
-use Rattle.sub_laws.proofs.GoodLemmas.{rises_each}
-use Rattle.sub_laws.proofs.NoneKeepsLemmas.{complete_unreported, sufficient_of}
-use Rattle.sub_laws.proofs.PrefixLemmas.{end_at, first-same, last-same}
-use Rattle.sub_laws.proofs.ActiveFaultsLemmas.{due_known_before}
+use Rattle.sub_laws.proofs.GoodLemmas.{rising_frames_rise_at_each_index}
+use Rattle.sub_laws.proofs.ErasingHeaderLemmas.{complete_unreported, sufficient_of}
+use Rattle.sub_laws.proofs.PrefixLemmas.{frame_has_its_end, first-same, last-same}
+use Rattle.sub_laws.proofs.ActiveFaultsLemmas.{decided_range_is_known}
 use Rattle.sub_laws.proofs.StretchLemmas.{law_of_stretch}
-use Rattle.sub_laws.proofs.SufficientDelayLemmas.{enough_repeats, finishes_unreported}
-use Rattle.sub_trusted.proofs.InvalidationLemmas.{OnTrusted}
-use Rattle.sub_trusted.proofs.TrustedAsReadLemmas.{beginning_in_other, complete_in_other}
-use Rattle.sub_trusted.proofs.TrustedAsReadLemmas.{finishes_in_other}
-use Rattle.sub_trusted.proofs.TrustedAsReadLemmas.{opens_in_other, some_in_other}
-use Rattle.sub_trusted.proofs.TrustedAsReadLemmas.{sufficient_in_other}
-use Rattle.sub_trusted.proofs.TrustedFinishedLemmas.{finished_there}
+use Rattle.sub_laws.proofs.SufficientDelayLemmas.{unreported_repeats_are_sufficient}
+use Rattle.sub_laws.proofs.SufficientDelayLemmas.{unreported_stretch_finishes_in_time}
+use Rattle.sub_trusted.proofs.InvalidationLemmas.{HoldsIfTrusted}
+use Rattle.sub_trusted.proofs.TrustedAsReadLemmas.{beginning_is_on_air, pages_are_complete_on_air}
+use Rattle.sub_trusted.proofs.TrustedAsReadLemmas.{stretch_finishes_on_air}
+use Rattle.sub_trusted.proofs.TrustedAsReadLemmas.{on_air_begins_with_header}
+use Rattle.sub_trusted.proofs.TrustedAsReadLemmas.{some_frame_finishes_on_air}
+use Rattle.sub_trusted.proofs.TrustedAsReadLemmas.{repeats_are_sufficient_on_air}
+use Rattle.sub_trusted.proofs.TrustedFinishedLemmas.{stretch_end_is_finished}
 use Rattle.sub_trusted.proofs.TrustedFrameLemmas.{closed, begins_with_header, unreported}
-use Rattle.sub_trusted.proofs.TrustedKeptLemmas.{MayStayCorrect}
-use Rattle.sub_trusted.proofs.TrustedSkippedLemmas.{skipped_outside}
-use Rattle.sub_trusted.proofs.TrustedPesPacketLemmas.{all_stay_within}
+use Rattle.sub_trusted.proofs.TrackerStateLemmas.{IsTrustedCorrect}
+use Rattle.sub_trusted.proofs.TrustedSkippedLemmas.{skipped_packets_are_outside_stretch}
+use Rattle.sub_trusted.proofs.TrustedPesPacketLemmas.{all_trusted_stretches_are_correct}
 
-module _ (programme : ProgrammeValue) (options : OptionsValue) (unread : Option Unread)
+module _ (programme : ProgrammeValue) (options : OptionsValue) (unread : Option UnreadReason)
     (any_refused : Bool) (undecided : ℕ → Bool) (pes_packets : List PesPacket) (from to : ℕ)
     (reported :
-    Contains (all_of_pes_packets (criteria_unsure programme options unread any_refused undecided)
+    Contains (all_events_of_pes_packets (criteria_with_refusals programme options unread any_refused
+    undecided)
     pes_packets)
     (Trusted from to))
   where
     abbrev g : Criteria
-    g = criteria_unsure programme options unread any_refused undecided
+    g = criteria_with_refusals programme options unread any_refused undecided
 
     abbrev frames : Transmission
     frames = sent_by_pes_packets g pes_packets
@@ -56,57 +60,64 @@ module _ (programme : ProgrammeValue) (options : OptionsValue) (unread : Option 
     abbrev part : Transmission
     part = rising_part frames
 
-    may : MayStayCorrect g frames from to
-    may = grind (arith, nat_tests, all_stay_within)
+    may : IsTrustedCorrect g frames from to
+    may = grind (arith, nat_tests, all_trusted_stretches_are_correct)
 
     fault_free : IsUnreported g part from to
     fault_free = unreported g frames from to may.stays
 
-    none_open_in_part : NoneOpen g part from to
+    none_open_in_part : HasNoOpenEnd g part from to
     none_open_in_part = closed g frames from to may.stays
 
-    begins : holds_beginning options.keeps (kind options.page) (packets_of part from) ≡ true
+    begins : has_text_beginning options.keeps (kind options.page) (packets_of part from) ≡ true
     begins = begins_with_header g frames from to may.stays
 
-    module _ (on_air : Transmission) (is : IsAsRead part on_air from to) where
+    module _ (on_air : Transmission) (is : MatchesReadPackets part on_air from to) where
       sufficient_repeats_hold : IsSufficientRepeats options.keeps programme on_air options from to
       sufficient_repeats_hold =
-          sufficient_in_other options.keeps programme options part on_air from to fault_free.rising
+          repeats_are_sufficient_on_air options.keeps programme options part on_air from to
+          fault_free.rising
           fault_free.stretch.from is begins
-          (enough_repeats programme options unread any_refused undecided part from to fault_free)
+          (unreported_repeats_are_sufficient programme options unread any_refused undecided part
+          from to fault_free)
 
       first_frame_begins_text :
-          holds_beginning options.keeps (kind options.page) (packets_of on_air from) ≡ true
+          has_text_beginning options.keeps (kind options.page) (packets_of on_air from) ≡ true
       first_frame_begins_text =
-          beginning_in_other options.keeps programme options part on_air from to fault_free.rising
+          beginning_is_on_air options.keeps programme options part on_air from to fault_free.rising
           fault_free.stretch.from is begins fault_free.stretch.in_order
 
       holds_header_at_start : HoldsHeader options.page on_air from
       holds_header_at_start =
-          opens_in_other options.keeps programme options part on_air from to fault_free.rising
+          on_air_begins_with_header options.keeps programme options part on_air from to
+          fault_free.rising
           fault_free.stretch.from is begins fault_free.stretch.in_order
 
       finishes_in_time_in_part : IsProgramme programme.drawing programme.records
-          → FinishesInTimeBy options.keeps programme on_air options from to
+          → FinishesInTime options.keeps programme on_air options from to
       finishes_in_time_in_part holds =
-          finishes_in_other options.keeps programme options part on_air from to fault_free.rising
+          stretch_finishes_on_air options.keeps programme options part on_air from to
+          fault_free.rising
           fault_free.stretch.from is begins
-          (finishes_unreported programme options unread any_refused undecided part from to
+          (unreported_stretch_finishes_in_time programme options unread any_refused undecided part
+          from to
           fault_free
           none_open_in_part
           holds)
 
       some_end_finished : 0 < options.within
-          → SomeFinishedBy options.keeps programme on_air options from to
+          → HasFinishedFrame options.keeps programme on_air options from to
       some_end_finished within =
           let some : (options.within == 0) ≡ false = grind (arith, nat_tests) in
-          some_in_other options.keeps programme options part on_air from to fault_free.rising
+          some_frame_finishes_on_air options.keeps programme options part on_air from to
+          fault_free.rising
           fault_free.stretch.from is begins from to (le_refl from) (le_refl to)
-          (finished_there programme options unread any_refused undecided frames from to may some)
+          (stretch_end_is_finished programme options unread any_refused undecided frames from to may
+          some)
 
-      may_stay : IsProgramme programme.drawing programme.records
-          → MayStayBy programme on_air options from to
-      may_stay holds = record {
+      trusted_stretch_is_sufficient : IsProgramme programme.drawing programme.records
+          → MayStayWithRepeats programme on_air options from to
+      trusted_stretch_is_sufficient holds = record {
         header = first_frame_begins_text;
         trusted =
             (law_of_repeated_stretch options.keeps programme on_air options from to
@@ -115,15 +126,16 @@ module _ (programme : ProgrammeValue) (options : OptionsValue) (unread : Option 
         finished = some_end_finished;
       }
 
-      may_stay_at_once : options.keeps ≡ false → options.within ≡ 0
+      undelayed_stretch_is_sufficient : options.keeps ≡ false → options.within ≡ 0
           → MayStay programme on_air options from to
-      may_stay_at_once none at_once = record {
+      undelayed_stretch_is_sufficient none at_once = record {
         header = holds_header_at_start;
         trusted =
             law_of_stretch programme on_air options from to
             (sufficient_of programme on_air options from to none at_once sufficient_repeats_hold);
         complete = λ asks.
-            complete_in_other options.keeps programme options part on_air from to fault_free.rising
+            pages_are_complete_on_air options.keeps programme options part on_air from to
+            fault_free.rising
             fault_free.stretch.from is begins
             (complete_unreported programme part options unread any_refused undecided from to at_once
             fault_free
@@ -135,27 +147,32 @@ law_of_trusted_repeats programme options unread any_refused undecided pes_packet
     reported =
     record {
       skipped =
-          skipped_outside (criteria_unsure programme options unread any_refused undecided)
+          skipped_packets_are_outside_stretch (criteria_with_refusals programme options unread
+          any_refused undecided)
           pes_packets
           from to
           reported;
       stays = λ on_air is.
-          may_stay programme options unread any_refused undecided pes_packets from to reported
+          trusted_stretch_is_sufficient programme options unread any_refused undecided pes_packets
+          from to reported
           on_air is
           holds;
     }
 
-pub law_of_trusted : LawOfTrusted
-law_of_trusted programme options unread any_refused undecided pes_packets from to none at_once
+pub law_of_trusted_frames : LawOfTrustedFrames
+law_of_trusted_frames programme options unread any_refused undecided pes_packets from to none
+    at_once
     reported =
     record {
       skipped =
-          skipped_outside (criteria_unsure programme options unread any_refused undecided)
+          skipped_packets_are_outside_stretch (criteria_with_refusals programme options unread
+          any_refused undecided)
           pes_packets
           from to
           reported;
       stays = λ on_air is.
-          may_stay_at_once programme options unread any_refused undecided pes_packets from to
+          undelayed_stretch_is_sufficient programme options unread any_refused undecided pes_packets
+          from to
           reported on_air
           is none at_once;
     }
@@ -172,22 +189,24 @@ known g part from to fault_free f x first near low high order =
     let ends = last-same part in
     let bottom = fault_free.stretch.from in
     let top = fault_free.stretch.to in
-    let up = rises_each part fault_free.rising in
+    let up = rising_frames_rise_at_each_index part fault_free.rising in
     let (n, end, on, l) =
-    end_at part up x fault_free.stretch.not_empty (omega arith) (omega arith) in
-    due_known_before g part n x (frame_at part 0) g.within (fault_free.undecided n x end low high) f
+    frame_has_its_end part up x fault_free.stretch.not_empty (omega arith) (omega arith) in
+    decided_range_is_known g part n x (frame_at part 0) g.within (fault_free.undecided n x end low
+    high) f
     order
     near
     (inl (omega arith))
 
-pub law_of_trusted_known : LawOfTrustedKnown
-law_of_trusted_known g pes_packets from to reported f first last near =
+pub law_of_known_pages : LawOfKnownPages
+law_of_known_pages g pes_packets from to reported f first last near =
     let frames : Transmission = sent_by_pes_packets g pes_packets in
     let part : Transmission = rising_part frames in
-    let may : MayStayCorrect g frames from to =
-    All-contains (OnTrusted (MayStayCorrect g frames)) (all_of_pes_packets g pes_packets)
+    let may : IsTrustedCorrect g frames from to =
+    All-contains (HoldsIfTrusted (IsTrustedCorrect g frames)) (all_events_of_pes_packets g
+    pes_packets)
     (Trusted from to)
-    (all_stay_within g frames pes_packets refl) reported in
+    (all_trusted_stretches_are_correct g frames pes_packets refl) reported in
     let fault_free : IsUnreported g part from to = unreported g frames from to may.stays in
     let order = fault_free.stretch.in_order in
     elim (cases_lt f from) [

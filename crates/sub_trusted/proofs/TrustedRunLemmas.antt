@@ -5,7 +5,7 @@ use Rattle.sub_rules.specs.FrameRules.{Criteria, end_frame, frame_at, packets_of
 use Rattle.sub_rules.specs.PacketTests.{breaks}
 use Rattle.sub_rules.specs.Transmission.{Transmission}
 use Rattle.sub_rules.specs.declared.packet_rule.PacketRule.{PacketRule}
-use Rattle.sub_laws.specs.CleanStretch.{IsEnd, is_needed}
+use Rattle.sub_laws.specs.CleanStretch.{IsEnd, is_needed_by_receivers}
 use Rattle.sub_laws.proofs.PrefixLemmas.{RiseTo, before, packet_at}
 use Rattle.sub_rules.specs.Trusted.{has_no_active_faults}
 use Rattle.sub_trusted.specs.TrustedFrames.{BeginsText}
@@ -26,7 +26,7 @@ module _ (g : Criteria) (frames : Transmission) where
   abbrev pub PacketsFaultFree : ℕ → ℕ → Type 0
   PacketsFaultFree n j =
       (r : PacketRule) (i k : ℕ)
-      → is_needed r ≡ true
+      → is_needed_by_receivers r ≡ true
       → j ≤ i
       → i < n
       → k < length (packets_of_frame frames i)
@@ -34,7 +34,7 @@ module _ (g : Criteria) (frames : Transmission) where
 
   -- A run of fault-free frames up to frame n - 1 of the transmission. Its first frame, `from`, has
   -- a header that erases the page.
-  pub record Run (n from : ℕ) : Type 0 where
+  pub record IsRun (n from : ℕ) : Type 0 where
     pub j : ℕ
     pub below : j < n
     pub at : frame_at frames j ≡ from
@@ -47,7 +47,7 @@ module _ (g : Criteria) (frames : Transmission) where
   pub record Stays (from x : ℕ) : Type 0 where
     pub n : ℕ
     pub within : n ≤ length frames
-    pub run : Run n from
+    pub run : IsRun n from
     pub before : from < x
     pub ends : EndsFaultFree n from x
     pub next :
@@ -56,5 +56,5 @@ module _ (g : Criteria) (frames : Transmission) where
         ⊎ (x ≤ frame_at frames (n - 1))
     pub last : n ≡ length frames → x ≤ end_frame frames + 1
 
-  abbrev pub StaysTo : ℕ → ℕ → Type 0
-  StaysTo from to = Stays from (to + 1)
+  abbrev pub RunLastsTo : ℕ → ℕ → Type 0
+  RunLastsTo from to = Stays from (to + 1)

@@ -5,15 +5,15 @@ use Rattle.stl_file.specs.Subtitle.{SubtitleValue}
 use Rattle.stl_rows.specs.Programme.{ProgrammeValue}
 use Rattle.sub_plan.specs.Options.{OptionsValue}
 use Rattle.sub_rules.specs.Events.{is_unfinished}
-use Rattle.sub_rules.specs.FrameRules.{Criteria, Unread, criteria_of}
-use Rattle.sub_rules.specs.PesPacketEvents.{all_of_pes_packets}
+use Rattle.sub_rules.specs.FrameRules.{Criteria, UnreadReason, criteria_of}
+use Rattle.sub_rules.specs.PesPacketEvents.{all_events_of_pes_packets}
 use Rattle.sub_rules.specs.PesPackets.{PesPacket}
 use Rattle.sub_rules.specs.declared.event.Event.TheVariants.{Trusted}
-use Rattle.sub_laws.specs.CleanStretch.{AtEnds, criteria_unsure}
-use Rattle.sub_trusted.specs.TrustedFrames.{rising_of}
+use Rattle.sub_laws.specs.CleanStretch.{HoldsAtFrameEnds, criteria_with_refusals}
+use Rattle.sub_trusted.specs.TrustedFrames.{rising_frames_of}
 
 -- The subtitle is expected only in frames whose expected page is unknown.
-pub record IsDueAmong (undecided : ℕ → Bool) (t : SubtitleValue) : Type 0 where
+pub record IsDueIfUndecided (undecided : ℕ → Bool) (t : SubtitleValue) : Type 0 where
   pub times : t.tci < t.tco
   pub within : (f : ℕ) → t.tci ≤ f → f < t.tco → IsTrue (undecided f)
 
@@ -23,13 +23,13 @@ abbrev pub HasOtherSubtitles : (ℕ → Bool) → List SubtitleValue → List Su
 HasOtherSubtitles undecided judged [] = judged ≡ []
 HasOtherSubtitles undecided judged (t ∷ all) =
     ((rest : List SubtitleValue) × (judged ≡ t ∷ rest) × HasOtherSubtitles undecided rest all)
-    ⊎ (IsDueAmong undecided t × HasOtherSubtitles undecided judged all)
+    ⊎ (IsDueIfUndecided undecided t × HasOtherSubtitles undecided judged all)
 
 -- The page is finished at the end of frame b.
-abbrev pub IsCorrectAt : Criteria → List PesPacket → ℕ → Type 0
-IsCorrectAt g pes_packets b =
-    AtEnds (λ n f. IsFalse (is_unfinished g (rising_of g pes_packets) n f))
-    (rising_of g pes_packets) b b
+abbrev pub IsFinishedAt : Criteria → List PesPacket → ℕ → Type 0
+IsFinishedAt g pes_packets b =
+    HoldsAtFrameEnds (λ n f. IsFalse (is_unfinished g (rising_frames_of g pes_packets) n f))
+    (rising_frames_of g pes_packets) b b
 
 -- One event reports that the frames `from` to `to` are trusted.
 abbrev pub AreTrusted : Criteria → List PesPacket → ℕ → ℕ → Type 0
@@ -38,7 +38,7 @@ AreTrusted g pes_packets from to =
     × (last : ℕ)
     × (first ≤ from)
     × (to ≤ last)
-    × Contains (all_of_pes_packets g pes_packets) (Trusted first last)
+    × Contains (all_events_of_pes_packets g pes_packets) (Trusted first last)
 
 -- Frames that are trusted although subtitles were rejected are also trusted for a file with any
 -- other subtitles in place of the rejected ones, if these are expected only in frames whose
@@ -46,18 +46,21 @@ AreTrusted g pes_packets from to =
 -- each frame with a finished page.
 abbrev pub LawOfEqualTrust : Type 0
 LawOfEqualTrust =
-    (programme : ProgrammeValue) (options : OptionsValue) (unread : Option Unread)
+    (programme : ProgrammeValue) (options : OptionsValue) (unread : Option UnreadReason)
     → (any_refused : Bool) (undecided : ℕ → Bool) (records : List SubtitleValue)
     → (pes_packets : List PesPacket) (from to b : ℕ)
     → HasOtherSubtitles undecided programme.records records
-    → Contains (all_of_pes_packets (criteria_unsure programme options unread any_refused undecided)
+    → Contains (all_events_of_pes_packets (criteria_with_refusals programme options unread
+    any_refused undecided)
     pes_packets)
     (Trusted from to)
     → from ≤ b
     → b ≤ to
     → (0 < options.within
-    → IsCorrectAt (criteria_unsure programme options unread any_refused undecided) pes_packets b)
-    → all_of_pes_packets (criteria_of (record programme { records = records }) options unread)
+    → IsFinishedAt (criteria_with_refusals programme options unread any_refused undecided)
+    pes_packets b)
+    → all_events_of_pes_packets (criteria_of (record programme { records = records }) options
+    unread)
     pes_packets
     ≢ []
     → AreTrusted (criteria_of (record programme { records = records }) options unread) pes_packets

@@ -4,56 +4,56 @@ use Rattle.std.specs.Prelude.{◌≡◌, ◌≢◌, ℕ, zero, suc, ◌+◌, ◌
 use Rattle.std.specs.Prelude.{List, [], ◌∷◌, ◌++◌, ◌⊎◌, Contains, length, take, Option, Some}
 use Rattle.std.specs.Prelude.{IsFalse, IsTrue, if◌then◌else◌, true}
 use Rattle.ttx_page.specs.PacketKind.{kind}
-use Rattle.ttx_page.specs.Span.{holds_beginning}
+use Rattle.ttx_page.specs.Span.{has_text_beginning}
 use Rattle.stl_rows.specs.Programme.{ProgrammeValue}
 use Rattle.sub_plan.specs.Options.{OptionsValue}
 use Rattle.sub_rules.specs.Events.{is_unfinished, active_faults_at}
-use Rattle.sub_rules.specs.FrameRules.{Criteria, Unread, frame_at, packets_of_frame}
+use Rattle.sub_rules.specs.FrameRules.{Criteria, UnreadReason, frame_at, packets_of_frame}
 use Rattle.sub_rules.specs.Good.{HoldsHeader}
-use Rattle.sub_rules.specs.PesPacketEvents.{all_of_pes_packets, sent_by_pes_packets}
+use Rattle.sub_rules.specs.PesPacketEvents.{all_events_of_pes_packets, sent_by_pes_packets}
 use Rattle.sub_rules.specs.PesPackets.{PesPacket}
 use Rattle.sub_rules.specs.PesPackets.PesPacket.{Skipped}
 use Rattle.sub_rules.specs.Transmission.{IsRising, Transmission, first_frame, last_frame}
 use Rattle.sub_rules.specs.Transmission.{packets_of}
 use Rattle.sub_rules.specs.Trusted.{has_no_active_faults}
 use Rattle.sub_rules.specs.declared.event.Event.TheVariants.{Trusted}
-use Rattle.sub_laws.specs.CleanStretch.{AtEnds, IsUnreported, criteria_unsure}
+use Rattle.sub_laws.specs.CleanStretch.{HoldsAtFrameEnds, IsUnreported, criteria_with_refusals}
 use Rattle.sub_laws.specs.OnScreen.{CompleteWithin}
 use Rattle.sub_laws.specs.Stretch.{MayBeTrusted}
 
 -- ---- the frames before a fault in the frame order
 
 -- Frame n of the transmission is its first frame, or is after the frame before it.
-unfoldable pub rises_at : Transmission → ℕ → Bool
-rises_at frames zero = true
-rises_at frames (suc i) = nat_lt (frame_at frames i) (frame_at frames (suc i))
+unfoldable pub is_rising_at : Transmission → ℕ → Bool
+is_rising_at frames zero = true
+is_rising_at frames (suc i) = nat_lt (frame_at frames i) (frame_at frames (suc i))
 
 -- The number of frames, of the first n of the transmission, before the first frame that is not
 -- after the one before it.
 unfoldable pub rising_count : Transmission → ℕ → ℕ
 rising_count frames zero = 0
 rising_count frames (suc n) =
-    if (rising_count frames n == n) && rises_at frames n then suc n else rising_count frames n
+    if (rising_count frames n == n) && is_rising_at frames n then suc n else rising_count frames n
 
 -- The frames of the transmission before the first frame that is not after the one before it.
 abbrev pub rising_part : Transmission → Transmission
 rising_part frames = take (rising_count frames (length frames)) frames
 
 -- The frames of the PES packets, up to the first frame that is not after the one before it.
-abbrev pub rising_of : Criteria → List PesPacket → Transmission
-rising_of g pes_packets = rising_part (sent_by_pes_packets g pes_packets)
+abbrev pub rising_frames_of : Criteria → List PesPacket → Transmission
+rising_frames_of g pes_packets = rising_part (sent_by_pes_packets g pes_packets)
 
 -- Frame i of the transmission has a header that erases the page. If C4 (erase page) must always be
 -- set, any header of the page counts.
 abbrev pub BeginsText : Criteria → Transmission → ℕ → Type 0
 BeginsText g frames i =
-    holds_beginning g.watched.keeps (kind g.watched.page) (packets_of_frame frames i) ≡ true
+    has_text_beginning g.watched.keeps (kind g.watched.page) (packets_of_frame frames i) ≡ true
 
 -- ---- packets on air before and after trusted frames
 
 -- The packets on air in the frames `from` to `to` are those that were read. Frame numbers on air
 -- increase. Before and after these frames, anything may be on air.
-pub record IsAsRead (read on_air : Transmission) (from to : ℕ) : Type 0 where
+pub record MatchesReadPackets (read on_air : Transmission) (from to : ℕ) : Type 0 where
   pub rising : IsRising on_air
   pub first : first_frame on_air ≤ first_frame read
   pub same : (f : ℕ) → from ≤ f → f ≤ to → packets_of on_air f ≡ packets_of read f
@@ -63,21 +63,22 @@ pub record IsAsRead (read on_air : Transmission) (from to : ℕ) : Type 0 where
 -- these frames.
 abbrev pub IsSkippedOutside : Criteria → List PesPacket → ℕ → ℕ → Type 0
 IsSkippedOutside g pes_packets from to =
-    (earlier later : List PesPacket) (u : Unread)
+    (earlier later : List PesPacket) (u : UnreadReason)
     → pes_packets ≡ earlier ++ Skipped u ∷ later
     → 0 < length (sent_by_pes_packets g earlier)
-    → length (sent_by_pes_packets g earlier) ≤ length (rising_of g pes_packets)
+    → length (sent_by_pes_packets g earlier) ≤ length (rising_frames_of g pes_packets)
     → (last_frame (sent_by_pes_packets g earlier) < from) ⊎
     (to < last_frame (sent_by_pes_packets g earlier))
 
 -- A property holds for any transmission that has the packets read in the frames `from` to `to`,
 -- whatever is on air before and after them.
-pub record StaysAsRead
+pub record StaysAsReadFromFile
     (g : Criteria) (pes_packets : List PesPacket) (from to : ℕ) (Stays : Transmission → Type 0)
     : Type 0 where
   -- No skipped PES packet was sent in these frames.
   pub skipped : IsSkippedOutside g pes_packets from to
-  pub stays : (on_air : Transmission) → IsAsRead (rising_of g pes_packets) on_air from to → Stays
+  pub stays : (on_air : Transmission) → MatchesReadPackets (rising_frames_of g pes_packets) on_air
+      from to → Stays
       on_air
 
 -- ---- guarantees for trusted frames
@@ -96,27 +97,29 @@ pub record MayStay
 -- If each header must have C4 (erase page) set and `within` is 0, the guarantees hold for trusted
 -- frames of a PES file, whatever is on air before and after them. So these frames need no repair.
 -- If subtitles were rejected, this holds for the reliable subtitles.
-abbrev pub LawOfTrusted : Type 0
-LawOfTrusted =
-    (programme : ProgrammeValue) (options : OptionsValue) (unread : Option Unread)
+abbrev pub LawOfTrustedFrames : Type 0
+LawOfTrustedFrames =
+    (programme : ProgrammeValue) (options : OptionsValue) (unread : Option UnreadReason)
     → (any_refused : Bool) (undecided : ℕ → Bool) (pes_packets : List PesPacket) (from to : ℕ)
     → IsFalse options.keeps
     → options.within ≡ 0
-    → Contains (all_of_pes_packets (criteria_unsure programme options unread any_refused undecided)
+    → Contains (all_events_of_pes_packets (criteria_with_refusals programme options unread
+    any_refused undecided)
     pes_packets)
     (Trusted from to)
-    → StaysAsRead (criteria_unsure programme options unread any_refused undecided) pes_packets from
+    → StaysAsReadFromFile (criteria_with_refusals programme options unread any_refused undecided)
+    pes_packets from
     to
     (λ on_air. MayStay programme on_air options from to)
 
 -- The expected page of each trusted frame is known, and so are the expected pages of the `within`
 -- frames before it, from the first frame that was read.
-abbrev pub LawOfTrustedKnown : Type 0
-LawOfTrustedKnown =
+abbrev pub LawOfKnownPages : Type 0
+LawOfKnownPages =
     (g : Criteria) (pes_packets : List PesPacket) (from to : ℕ)
-    → Contains (all_of_pes_packets g pes_packets) (Trusted from to)
+    → Contains (all_events_of_pes_packets g pes_packets) (Trusted from to)
     → (f : ℕ)
-    → first_frame (rising_of g pes_packets) ≤ f
+    → first_frame (rising_frames_of g pes_packets) ≤ f
     → f ≤ to
     → from ≤ f + g.within
     → IsFalse (g.undecided f)
@@ -127,25 +130,28 @@ LawOfTrustedKnown =
 -- fault is active at any of their ends, no skipped PES packet was sent in them, and if `within` is
 -- not 0, frame b is finished. They exclude the last frame before a frame number that does not
 -- increase or before unreadable bytes.
-pub record CanStay (g : Criteria) (pes_packets : List PesPacket) (a b : ℕ) : Type 0 where
-  pub unreported : IsUnreported g (rising_of g pes_packets) a b
-  pub fault_free :
-      AtEnds (λ n f. IsTrue
-      (has_no_active_faults (active_faults_at g (rising_of g pes_packets) n f)))
-      (rising_of g pes_packets) a b
-  pub finished :
-      0 < g.within
-      → AtEnds (λ n f. IsFalse (is_unfinished g (rising_of g pes_packets) n f))
-      (rising_of g pes_packets) b b
-  pub skipped : IsSkippedOutside g pes_packets a b
-  pub before_fall :
-      length (rising_of g pes_packets) < length (sent_by_pes_packets g pes_packets)
-      → b < last_frame (rising_of g pes_packets)
-  pub before_unread : (u : Unread) → g.unread ≡ Some u → b < last_frame (rising_of g pes_packets)
+pub record MayBeReportedAsTrusted (g : Criteria) (pes_packets : List PesPacket) (a b : ℕ) : Type 0
+  where
+    pub unreported : IsUnreported g (rising_frames_of g pes_packets) a b
+    pub fault_free :
+        HoldsAtFrameEnds (λ n f. IsTrue
+        (has_no_active_faults (active_faults_at g (rising_frames_of g pes_packets) n f)))
+        (rising_frames_of g pes_packets) a b
+    pub finished :
+        0 < g.within
+        → HoldsAtFrameEnds (λ n f. IsFalse (is_unfinished g (rising_frames_of g pes_packets) n f))
+        (rising_frames_of g pes_packets) b b
+    pub skipped : IsSkippedOutside g pes_packets a b
+    pub run_ends_before_falling_frame :
+        length (rising_frames_of g pes_packets) < length (sent_by_pes_packets g pes_packets)
+        → b < last_frame (rising_frames_of g pes_packets)
+    pub run_ends_before_unread_bytes : (u : UnreadReason) → g.unread ≡ Some u → b < last_frame
+        (rising_frames_of g pes_packets)
 
 -- The PES file has any event, or a subtitle was rejected.
 abbrev pub IsAnythingReported : Criteria → List PesPacket → Type 0
-IsAnythingReported g pes_packets = (all_of_pes_packets g pes_packets ≢ []) ⊎ IsTrue g.any_refused
+IsAnythingReported g pes_packets = (all_events_of_pes_packets g pes_packets ≢ []) ⊎ IsTrue
+    g.any_refused
 
 -- If the PES file has any event, or a subtitle was rejected, each range of frames that could be
 -- trusted is reported as trusted, in one event, from its first header that erases the page on. So
@@ -154,14 +160,14 @@ IsAnythingReported g pes_packets = (all_of_pes_packets g pes_packets ≢ []) ⊎
 abbrev pub LawOfAllTrusted : Type 0
 LawOfAllTrusted =
     (g : Criteria) (pes_packets : List PesPacket) (a b i : ℕ)
-    → CanStay g pes_packets a b
-    → i < length (rising_of g pes_packets)
-    → a ≤ frame_at (rising_of g pes_packets) i
-    → frame_at (rising_of g pes_packets) i ≤ b
-    → BeginsText g (rising_of g pes_packets) i
+    → MayBeReportedAsTrusted g pes_packets a b
+    → i < length (rising_frames_of g pes_packets)
+    → a ≤ frame_at (rising_frames_of g pes_packets) i
+    → frame_at (rising_frames_of g pes_packets) i ≤ b
+    → BeginsText g (rising_frames_of g pes_packets) i
     → IsAnythingReported g pes_packets
     → (from : ℕ)
     × (to : ℕ)
-    × (from ≤ frame_at (rising_of g pes_packets) i)
+    × (from ≤ frame_at (rising_frames_of g pes_packets) i)
     × (b ≤ to)
-    × Contains (all_of_pes_packets g pes_packets) (Trusted from to)
+    × Contains (all_events_of_pes_packets g pes_packets) (Trusted from to)

@@ -3,8 +3,8 @@
 //!
 //! The functions have no body: the contract of each states a law.
 ghost use Rattle.sub_trusted.specs.EqualTrust.{LawOfEqualTrust};
-ghost use Rattle.sub_trusted.specs.TrustedFrames.{LawOfAllTrusted, LawOfTrusted};
-ghost use Rattle.sub_trusted.specs.TrustedFrames.{LawOfTrustedKnown};
+ghost use Rattle.sub_trusted.specs.TrustedFrames.{LawOfAllTrusted, LawOfTrustedFrames};
+ghost use Rattle.sub_trusted.specs.TrustedFrames.{LawOfKnownPages};
 ghost use Rattle.sub_trusted.specs.TrustedRepeats.{LawOfTrustedRepeats};
 
 /// Trusted frames of a PES file can be broadcast unchanged, whatever is on air before and after
@@ -18,14 +18,14 @@ pub fn law_of_trusted_repeats()
 /// If each header must have C4 (erase page) set and `within` is 0, a receiver that is tuned in at a
 /// trusted frame shows the expected page after the next header. If complete pages are required, the
 /// page is also on its screen.
-pub fn law_of_trusted()
-    ensures { LawOfTrusted }
+pub fn law_of_trusted_frames()
+    ensures { LawOfTrustedFrames }
 {}
 
 /// The expected page of each trusted frame is known, even if subtitles were rejected, and so are
 /// the expected pages of the `within` frames before it.
-pub fn law_of_trusted_known()
-    ensures { LawOfTrustedKnown }
+pub fn law_of_known_pages()
+    ensures { LawOfKnownPages }
 {}
 
 /// Frames that are trusted although subtitles were rejected are also trusted for any file with

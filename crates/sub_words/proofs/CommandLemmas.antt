@@ -1,4 +1,4 @@
--- The contract of `clap`, applied to the program's commands.
+-- The contract of clap, applied to the program's commands.
 use Rattle.std.proofs.Common.{◌≡◌, ◌≢◌, ◌∙◌, true, false, List, [], Option, Some, None, Ok, Err}
 use Rattle.std.proofs.Common.{Bool, ◌||◌}
 use Rattle.std.proofs.Common.{refl, ap, subst, sym, inl, inr, arith, drop, get_or, ◌+◌, ◌≤◌}
@@ -23,12 +23,13 @@ use Rattle.clap.specs.declared.parser.matches.ArgMatches.TheViews.{out-SubComman
 use Rattle.clap.specs.declared.parser.matches.SubCommand.{SubCommand}
 use Rattle.clap.proofs.OnLiterals.{clap_on_literals}
 use Rattle.clap.proofs.WalkLemmas.{first_value-rows}
-use Rattle.sub_words.specs.Commands.{are_sound, clap_rule, command_in, clap_refusals, subttx_app}
+use Rattle.sub_words.specs.Commands.{are_valid_texts, clap_rule, command_in, clap_refusals}
+use Rattle.sub_words.specs.Commands.{subttx_app}
 use Rattle.sub_words.specs.Commands.{texts_of}
 use Rattle.sub_words.specs.declared.command.Argument.{Argument}
-use Rattle.sub_words.specs.Requests.{Requested, IsFaultIn, IsFaultOfCommand, IsReadExactly}
+use Rattle.sub_words.specs.Requests.{Requested, IsExpectedFault, IsFaultOfCommand, IsReadExactly}
 use Rattle.sub_words.specs.Requests.{IsReadGivenMemory}
-use Rattle.sub_words.specs.Requests.{request_by_command, requested_in, is_own}
+use Rattle.sub_words.specs.Requests.{request_by_command, command_request, is_found_after_clap}
 use Rattle.sub_request.specs.declared.request.Request.{Request}
 use Rattle.sub_request.specs.declared.request.UsageFault.{UsageFault}
 use Rattle.sub_request.specs.declared.request.UsageFault.TheVariants as fault
@@ -45,37 +46,40 @@ is_free-subttx : is_simple_and_free subttx_app ≡ true
 unfolding subttx_app clap_on_literals
 is_free-subttx = refl
 
-abbrev pub table_of : Bor Text × Bor (List Argument) → Text × List Rule
-table_of command = (command.0.now, map clap_rule command.1.now)
+abbrev pub command_table_entry : Bor Text × Bor (List Argument) → Text × List Rule
+command_table_entry command = (command.0.now, map clap_rule command.1.now)
 
-pub fold_more : {A B X : Type 0} (f : B → A → B) (of : X → A) (xs : List X) (i : ℕ) (d : X)
+pub fold_takes_next_element : {A B X : Type 0} (f : B → A → B) (of : X → A) (xs : List X) (i : ℕ)
+    (d : X)
     → (b new all : B)
     → i < length xs
     → fold f b (map of (drop i xs)) ≡ all
     → new ≡ f b (of (get_or xs i d))
     → fold f new (map of (drop (i + 1) xs)) ≡ all
-fold_more f of xs i d b new all within whole e =
+fold_takes_next_element f of xs i d b new all within whole e =
     ap (λ b'. fold f b' (map of (drop (i + 1) xs))) e
     ∙ sym (at_drop_more (λ rest. fold f b (map of rest)) xs i d within) ∙ whole
 
-pub any_more : {X : Type 0} (test : X → Bool) (xs : List X) (i : ℕ) (d : X) (all : Bool)
+pub any_skips_failing_element : {X : Type 0} (test : X → Bool) (xs : List X) (i : ℕ) (d : X)
+    (all : Bool)
     → i < length xs
     → test (get_or xs i d) ≡ false
     → list_any test (drop i xs) ≡ all
     → list_any test (drop (i + 1) xs) ≡ all
-any_more test xs i d all within none whole =
+any_skips_failing_element test xs i d all within none whole =
     ap (λ b. b || list_any test (drop (i + 1) xs)) (sym none)
     ∙ sym (at_drop_more (list_any test) xs i d within) ∙ whole
 
-pub fold_all : {A B X : Type 0} (f : B → A → B) (of : X → A) (xs : List X) (i : ℕ) (b all : B)
+pub fold_ends_with_the_list : {A B X : Type 0} (f : B → A → B) (of : X → A) (xs : List X) (i : ℕ)
+    (b all : B)
     → length xs ≤ i
     → fold f b (map of (drop i xs)) ≡ all
     → b ≡ all
-fold_all f of xs i b all over whole =
+fold_ends_with_the_list f of xs i b all over whole =
     sym (at_drop_all (λ rest. fold f b (map of rest)) xs i over) ∙ whole
 
-none-refused : (clap_refusals [] ≢ []) × (are_sound [] ≢ true)
-unfolding clap_refusals are_sound subttx_app clap_on_literals
+none-refused : (clap_refusals [] ≢ []) × (are_valid_texts [] ≢ true)
+unfolding clap_refusals are_valid_texts subttx_app clap_on_literals
 none-refused = (λ e. cc, λ e. cc)
 
 pub no-arguments : (arguments : List (Bor (List ℕ)))
@@ -96,22 +100,23 @@ some-arguments [] some e = some refl
 some-arguments (w ∷ ws) some e = cc
 
 own-fault : (requested : Result Requested UsageFault) (f : UsageFault)
-    → (requested ≡ Err f) × (is_own f ≡ true)
-    → IsFaultIn requested f
+    → (requested ≡ Err f) × (is_found_after_clap f ≡ true)
+    → IsExpectedFault requested f
 own-fault requested fault.Memory is = tt
 own-fault requested f is = is
 
-pub read_exactly : (requested : Result Requested UsageFault) (result : Result Request UsageFault)
+pub exact_reading_holds_with_memory : (requested : Result Requested UsageFault)
+    (result : Result Request UsageFault)
     → IsReadExactly requested result
     → IsReadGivenMemory requested result
-read_exactly requested (Ok r) is = is
-read_exactly requested (Err f) is = own-fault requested f is
+exact_reading_holds_with_memory requested (Ok r) is = is
+exact_reading_holds_with_memory requested (Err f) is = own-fault requested f is
 
 fault-read : (arguments : List Text) (requested : Result Requested UsageFault) (f : UsageFault)
     → arguments ≢ []
     → clap_refusals arguments ≡ []
     → request_by_command arguments ≡ Some requested
-    → IsFaultIn requested f
+    → IsExpectedFault requested f
     → IsFaultOfCommand arguments f
 fault-read arguments requested fault.Memory some taken is read = some
 fault-read arguments requested fault.Words some taken is read = cc
@@ -149,8 +154,8 @@ has_subcommand-parsed c m is_program from =
     let required : (out-Command c).subcommand_required ≡ true =
     ap (λ app. app.top.subcommand_required) is_program in
     let plain : (app_of c).top.is_plain ≡ true = ap (λ app. app.top.is_plain) is_program in
-    let local : (out-Command c).has_globals ≡ false = grind (arith, and_parts, not-true) in
-    (from.parsed (from.from.globals ∙ local)).checked.subcommand
+    let has_no_globals : (out-Command c).has_globals ≡ false = grind (arith, and_parts, not-true) in
+    (from.parsed (from.from.globals ∙ has_no_globals)).checked.subcommand
     (from.from.needs_subcommand ∙ required)
 
 pub refusals-parsed : (app : App) (arguments : List Text) (m : ArgMatches)
@@ -162,13 +167,13 @@ refusals-parsed app arguments m is_program fails =
     let P : App → Type 0 = λ a. is_simple_and_free a ≡ true → fault_of a arguments ≡ [] in
     subst P is_program fails is_free-subttx
 
-kind_among : (kinds : Kinds) (e : Error)
+error_kind_is_listed : (kinds : Kinds) (e : Error)
     → HasKind kinds e
     → kind_of e ≢ OutOfMemory
     → kinds ≢ []
-kind_among kinds e has other none = elim has [
+error_kind_is_listed kinds e has other none = elim has [
   | inl memory ↦ other memory
-  | inr among ↦ subst (IsAmong (kind_of e)) none among
+  | inr row_is_in_text_span ↦ subst (IsAmong (kind_of e)) none row_is_in_text_span
 ]
 
 -- If clap refuses the arguments for another reason than memory, the fault of the command line is
@@ -178,12 +183,13 @@ pub IsFaultOfCommand-refused : (app : App) (arguments : List Text) (e : Error)
     → (is_simple_and_free app ≡ true → FailsBy {T = ArgMatches} (fault_of app arguments) (Err e))
     → (takes app arguments ≡ true → kind_of e ≡ OutOfMemory)
     → kind_of e ≢ OutOfMemory
-    → (clap_refusals arguments ≢ []) × (are_sound arguments ≢ true)
-unfolding clap_refusals are_sound
+    → (clap_refusals arguments ≢ []) × (are_valid_texts arguments ≢ true)
+unfolding clap_refusals are_valid_texts
 IsFaultOfCommand-refused app arguments e is_program fails passes other =
     let P : App → Type 0 = λ a. is_simple_and_free a ≡ true → HasKind (fault_of a arguments) e in
     let Q : App → Type 0 = λ a. takes a arguments ≡ true → kind_of e ≡ OutOfMemory in (
-      kind_among (fault_of subttx_app arguments) e (subst P is_program fails is_free-subttx) other,
+      error_kind_is_listed (fault_of subttx_app arguments) e (subst P is_program fails
+          is_free-subttx) other,
       λ sound. other (subst Q is_program passes sound),
     )
 
@@ -192,7 +198,7 @@ pub request_by_command-met : {Z : Type 0} (arguments : List Text) (met : Option 
     → subcommand_rows met ≡ command_in arguments
     → Some name ≡ option_map (λ sub. (out-SubCommand (box_value sub)).name.now) met
     → Some rows ≡ option_map (λ p. p.1) (subcommand_rows met)
-    → request_by_command arguments ≡ Some (requested_in name rows)
+    → request_by_command arguments ≡ Some (command_request name rows)
 request_by_command-met arguments None name rows is e f = cc
 request_by_command-met arguments (Some sub) name rows is e f = rw (← is) cc
 

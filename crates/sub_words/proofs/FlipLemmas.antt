@@ -1,4 +1,4 @@
--- The option `--flip` changes at most one bit in each byte of a packet.
+-- The flips of listen change at most one bit in each byte of a packet.
 use Rattle.std.proofs.Common.{◌≡◌, ◌∙◌, ap, refl, sym, subst, arith, ℕ, zero, suc, ◌<◌}
 use Rattle.std.proofs.Common.{◌^◌, ◌==◌, inl, inr, Bool, true, false, List, []}
 use Rattle.std.proofs.Common.{◌∷◌, ◌++◌, slice_index, Option, Some, None}
@@ -13,11 +13,12 @@ use Rattle.ttx_packet.specs.OneBit.{AreNear}
 use Rattle.sub_request.specs.Flips.{with_flip, with_flips}
 use Rattle.sub_request.specs.declared.listening.Flip.{Flip}
 use Rattle.sub_words.specs.Laws.{LawOfFlips}
-use Rattle.sub_words.specs.Texts.{comma, flip_of_text, flips_of_text, is_same_byte, items_after}
+use Rattle.sub_words.specs.Texts.{comma, flip_of_text, flips_of_text, is_same_byte}
+use Rattle.sub_words.specs.Texts.{list_after_texts}
 
-is_near_itself : (sent : List ℕ) → AreNear sent sent
-is_near_itself [] = tt
-is_near_itself (x ∷ xs) = (inl refl, is_near_itself xs)
+packet_is_near_itself : (sent : List ℕ) → AreNear sent sent
+packet_is_near_itself [] = tt
+packet_is_near_itself (x ∷ xs) = (inl refl, packet_is_near_itself xs)
 
 near-set : (sent got : List ℕ) (k bit : ℕ)
     → AreNear sent got
@@ -37,7 +38,7 @@ with_flip-near : (f : Flip) (number : ℕ) (sent got : List ℕ)
     → AreNear sent got
     → (f.packet ≡ number → slice_index got f.byte ≡ slice_index sent f.byte)
     → AreNear sent (with_flip f number got)
-with_flip-near f number sent got near as_sent = grind (arith, nat_tests, near-set)
+with_flip-near f number sent got near unflipped_byte_is_as_sent = grind (arith, nat_tests, near-set)
 
 with_flip-other : (f g : Flip) (number : ℕ) (got : List ℕ)
     → g.packet ≡ number
@@ -56,7 +57,7 @@ with_flips-more (first ∷ flips) f number packet =
 -- have none.
 record IsNoise (sent : List ℕ) (number : ℕ) (flips : List Flip) : Type 0 where
   near : AreNear sent (with_flips flips number sent)
-  as_sent : (f : Flip)
+  unflipped_byte_is_as_sent : (f : Flip)
       → f.packet ≡ number
       → list_any (is_same_byte f) flips ≡ false
       → slice_index (with_flips flips number sent) f.byte ≡ slice_index sent f.byte
@@ -69,40 +70,44 @@ IsNoise-more sent number flips f noise other =
     let got = with_flips flips number sent in
     record {
       near = rw with_flips-more
-          (with_flip-near f number sent got noise.near (λ is. noise.as_sent f is other));
-      as_sent = λ g is apart.
+          (with_flip-near f number sent got noise.near (λ is. noise.unflipped_byte_is_as_sent f is
+          other));
+      unflipped_byte_is_as_sent = λ g is apart.
           let parts = or_parts (list_any (is_same_byte g) flips) _
           (sym (list_any-append (is_same_byte g) flips (f ∷ [])) ∙ apart) in
           rw with_flips-more (with_flip-other f g number got is (or_parts _ false parts.1).0
-          ∙ noise.as_sent g is parts.0);
+          ∙ noise.unflipped_byte_is_as_sent g is parts.0);
     }
 
-given_if_not : {A : Type 0} (b : Bool) (o : Option A) (x : A)
+else_branch_gives_value : {A : Type 0} (b : Bool) (o : Option A) (x : A)
     → (if b then None else o) ≡ Some x
     → (b ≡ false) × (o ≡ Some x)
-given_if_not true o x e = cc
-given_if_not false o x e = (refl, e)
+else_branch_gives_value true o x e = cc
+else_branch_gives_value false o x e = (refl, e)
 
-items_after-keeps : {A : Type 0} (parsed : List ℕ → Option A) (same : A → A → Bool)
+list_after_texts-keeps : {A : Type 0} (parsed : List ℕ → Option A) (same : A → A → Bool)
     → (P : List A → Type 0)
     → ((items : List A) (x : A) → P items → list_any (same x) items ≡ false → P (items ++ x ∷ []))
     → (items : List A) (texts : List (List ℕ)) (all : List A)
     → P items
-    → items_after parsed same items texts ≡ Some all
+    → list_after_texts parsed same items texts ≡ Some all
     → P all
-items_after-keeps parsed same P more items [] all holds e = subst P (same_Some items all e) holds
-items_after-keeps parsed same P more items (text ∷ texts) all holds e =
+list_after_texts-keeps parsed same P more items [] all holds e = subst P (same_Some items all e)
+    holds
+list_after_texts-keeps parsed same P more items (text ∷ texts) all holds e =
     option_and_then_some _ (parsed text) all e (λ x is found.
-    let parts = given_if_not (list_any (same x) items) _ all found in
-    items_after-keeps parsed same P more (items ++ x ∷ []) texts all (more items x holds parts.0)
+    let parts = else_branch_gives_value (list_any (same x) items) _ all found in
+    list_after_texts-keeps parsed same P more (items ++ x ∷ []) texts all
+    (more items x holds parts.0)
     parts.1)
 
 pub law_of_flips : LawOfFlips
 unfolding flips_of_text
 law_of_flips text flips number packet is =
     let texts = slice_split (λ c. c == comma) text in
-    let read : items_after flip_of_text is_same_byte [] texts ≡ Some flips =
+    let read : list_after_texts flip_of_text is_same_byte [] texts ≡ Some flips =
     grind (arith, nat_tests) in
-    (items_after-keeps flip_of_text is_same_byte (IsNoise packet number)
+    (list_after_texts-keeps flip_of_text is_same_byte (IsNoise packet number)
     (IsNoise-more packet number) [] texts flips
-    (record { near = is_near_itself packet; as_sent = λ f is apart. refl }) read).near
+    (record { near = packet_is_near_itself packet; unflipped_byte_is_as_sent = λ f is apart. refl })
+    read).near

@@ -16,9 +16,9 @@ use Rattle.std.proofs.lemmas.Result.{Ok-from_Ok_iff}
 use Rattle.std.proofs.lemmas.Str.Parse.{digits_value_short, numerals_by_value, parse_gives}
 use Rattle.std.proofs.lemmas.Str.Parse.{tells_all_ascii_digits}
 
-all_digits : (text : List ℕ) → list_all is_ascii_digit text ≡ all_ascii_digits text
-all_digits [] = refl
-all_digits (c ∷ cs) = ap (λ others. is_ascii_digit c && others) (all_digits cs)
+digit_tests_agree : (text : List ℕ) → list_all is_ascii_digit text ≡ all_ascii_digits text
+digit_tests_agree [] = refl
+digit_tests_agree (c ∷ cs) = ap (λ others. is_ascii_digit c && others) (digit_tests_agree cs)
 
 pub parse-digits : {E : Type 0} (text : List ℕ) (result : Result ℕ E)
     → 1 ≤ length text
@@ -28,20 +28,20 @@ pub parse-digits : {E : Type 0} (text : List ℕ) (result : Result ℕ E)
     → (result ≡ Ok (digits_value 10 text)) × (digits_value 10 text < 10 ^ 10)
 parse-digits text result some few digits parses =
     let own = numerals_by_value (λ ds. all_ascii_digits ds ≡ true) tells_all_ascii_digits in
-    let reported = sym (all_digits text) ∙ digits in
+    let reported = sym (digit_tests_agree text) ∙ digits in
     let small = digits_value_short own text 10 reported few in
     (parse_gives own 64 text result parses reported some (omega arith), small)
 
-hex_digit : (c : ℕ)
+hex_digit_is_below_16 : (c : ℕ)
     → is_ascii_hexdigit c ≡ true
     → (digit_value c < 16) × ((c == 43) ≡ false)
-hex_digit c is = grind (arith, nat_tests)
+hex_digit_is_below_16 c is = grind (arith, nat_tests)
 
 AllDigits-hex : (text : List ℕ) → list_all is_ascii_hexdigit text ≡ true → AllDigits 16 text
 AllDigits-hex [] are = tt
 AllDigits-hex (c ∷ cs) are =
     let parts = and_parts (is_ascii_hexdigit c) (list_all is_ascii_hexdigit cs) are in
-    ((hex_digit c parts.0).0, AllDigits-hex cs parts.1)
+    ((hex_digit_is_below_16 c parts.0).0, AllDigits-hex cs parts.1)
 
 without_leading_plus-hex : (text : List ℕ)
     → list_all is_ascii_hexdigit text ≡ true
@@ -49,7 +49,7 @@ without_leading_plus-hex : (text : List ℕ)
 without_leading_plus-hex [] are = refl
 without_leading_plus-hex (c ∷ cs) are =
     let parts = and_parts (is_ascii_hexdigit c) (list_all is_ascii_hexdigit cs) are in
-    rw ((hex_digit c parts.0).1) refl
+    rw ((hex_digit_is_below_16 c parts.0).1) refl
 
 pub read-hex_digits : {E : Type 0} (text : List ℕ) (result : Result ℕ E)
     → 1 ≤ length text

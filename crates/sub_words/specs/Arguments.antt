@@ -15,7 +15,7 @@ use Rattle.stl_rows.specs.declared.layout.Layout.{Layout}
 use Rattle.stl_rows.specs.declared.national.National.{National}
 use Rattle.stl_rows.specs.Layout.{default_layout}
 use Rattle.stl_rows.specs.LayoutText.{layout_of_text}
-use Rattle.stl_rows.specs.SubSets.{option_named}
+use Rattle.stl_rows.specs.SubSets.{named_option}
 use Rattle.sub_plan.specs.Options.{OptionsValue}
 use Rattle.sub_words.specs.PesTexts.{packet_size_of_text, pid_of_text, range_of_text}
 use Rattle.sub_words.specs.Texts.{frame_of_text, list_of_text, number_of_text}
@@ -29,8 +29,8 @@ abbrev pub argument : Text → List Row → Text
 argument id rows = unwrap_or (first_of id rows) []
 
 -- The flag is set. `clap` stores the text `true` or `false` for a flag.
-abbrev pub is_given : Text → List Row → Bool
-is_given id rows = bytes_eq (argument id rows) (codes "true")
+abbrev pub is_argument_present : Text → List Row → Bool
+is_argument_present id rows = bytes_eq (argument id rows) (codes "true")
 
 -- The number, if it is from `least` to `most`; otherwise `None`.
 abbrev pub between : ℕ → ℕ → Option ℕ → Option ℕ
@@ -46,7 +46,7 @@ options_of every rows = do
   every ← ok_or (between 1 day every) fault.Every
   origin ← ok_or (between 0 (2 ^ 33 - 1) (number_of_text (argument (codes "origin") rows)))
       fault.Origin
-  let requested = is_given (codes "complete") rows in
+  let requested = is_argument_present (codes "complete") rows in
       Ok (record {
         page = page;
         every = every;
@@ -65,8 +65,8 @@ with_within_value options rows = do
 
 -- The argument `[--pace K]` as an option: the maximum distance of PES packets, 1 to 2,160,000
 -- frames; without the argument there is no limit.
-abbrev pub pacing_of : OptionsValue → List Row → Result OptionsValue UsageFault
-pacing_of options rows =
+abbrev pub options_with_pace : OptionsValue → List Row → Result OptionsValue UsageFault
+options_with_pace options rows =
     option_map_or
     (λ text. do
       frames ← ok_or (between 1 day (number_of_text text)) fault.Pace
@@ -76,11 +76,11 @@ pacing_of options rows =
 -- The argument `[--keeping]` as an option: if the flag is set, repeats may keep the page.
 abbrev pub with_keeping_value : OptionsValue → List Row → OptionsValue
 with_keeping_value options rows =
-    if is_given (codes "keeping") rows then record options { keeps = true } else options
+    if is_argument_present (codes "keeping") rows then record options { keeps = true } else options
 
 -- The national option of the argument `[--option O]`.
 abbrev pub national_of : List Row → Result National UsageFault
-national_of rows = ok_or (option_named (argument (codes "option") rows)) fault.BadOption
+national_of rows = ok_or (named_option (argument (codes "option") rows)) fault.BadOption
 
 -- The layout of the argument `[--layout TEXT]`; the default layout without the argument.
 abbrev pub layout_of : List Row → Result Layout UsageFault
@@ -90,17 +90,18 @@ layout_of rows =
 
 -- The value of an optional argument: `Some None` if the user left the argument out, `None` if its
 -- text is invalid.
-abbrev pub given_as : {A : Type 0} → (Text → Option A) → Text → List Row → Option (Option A)
-given_as parsed id rows =
+abbrev pub parsed_if_present : {A : Type 0} → (Text → Option A) → Text → List Row → Option
+    (Option A)
+parsed_if_present parsed id rows =
     option_map_or (λ text. option_map Some (parsed text)) (first_of id rows) (Some None)
 
 -- The arguments `[--from TIME] [--to TIME] [--open]` as a scope: the frames at which subtitles may
 -- start, by default the whole day, and whether open subtitles are accepted.
 abbrev pub scope_of : List Row → Result Scope UsageFault
 scope_of rows = do
-  from ← ok_or (given_as frame_of_text (codes "from") rows) fault.BadTime
-  to ← ok_or (given_as frame_of_text (codes "to") rows) fault.BadTime
-  let takes_open = is_given (codes "open") rows in
+  from ← ok_or (parsed_if_present frame_of_text (codes "from") rows) fault.BadTime
+  to ← ok_or (parsed_if_present frame_of_text (codes "to") rows) fault.BadTime
+  let takes_open = is_argument_present (codes "open") rows in
       Ok (record { takes_open = takes_open; from = unwrap_or from 0; to = unwrap_or to day })
 
 -- The PID of the required argument `--pid P`.
@@ -116,7 +117,7 @@ packet_size_of rows =
 -- transport stream; the packet size is still checked, but has no effect.
 abbrev pub stream_of : List Row → Result (Option TransportStream) UsageFault
 stream_of rows = do
-  pid ← ok_or (given_as pid_of_text (codes "pid") rows) fault.Pid
+  pid ← ok_or (parsed_if_present pid_of_text (codes "pid") rows) fault.Pid
   packet_size ← packet_size_of rows
   Ok (option_map (λ pid. record { pid = pid; packet_size = packet_size }) pid)
 
@@ -125,31 +126,32 @@ stream_of rows = do
 abbrev pub survey_options_of : List Row → Result SurveyOptions UsageFault
 survey_options_of rows = do
   page ← ok_or (page_of_text (argument (codes "page") rows)) fault.BadPage
-  pid ← ok_or (given_as pid_of_text (codes "pid") rows) fault.Pid
-  packet_size ← ok_or (given_as packet_size_of_text (codes "packet-size") rows) fault.PacketSize
+  pid ← ok_or (parsed_if_present pid_of_text (codes "pid") rows) fault.Pid
+  packet_size ← ok_or (parsed_if_present packet_size_of_text (codes "packet-size") rows)
+      fault.PacketSize
   Ok (record { page = page; pid = pid; packet_size = packet_size })
 
 -- The range of PES packets of the argument `[--pes I-J]`, if the user gives one.
-abbrev pub range_given_of : List Row → Result (Option PesPacketRangeValue) UsageFault
-range_given_of rows = ok_or (given_as range_of_text (codes "pes") rows) fault.Range
+abbrev pub range_of_arguments : List Row → Result (Option PesPacketRangeValue) UsageFault
+range_of_arguments rows = ok_or (parsed_if_present range_of_text (codes "pes") rows) fault.Range
 
 -- The PES packets to read: the name of a file; the PID and packet size, if the file is a transport
 -- stream; and the range of packets, if it is limited.
-pub record PesRequested : Type 0 where
+pub record PesSelectionValue : Type 0 where
   pub name : Text
   pub stream : Option TransportStream
   pub range : Option PesPacketRangeValue
 
 -- The arguments `RECORDING [--pid P] [--packet-size S] [--pes I-J]` as the PES packets to read.
-unfoldable pub pes_selection_of : List Row → Result PesRequested UsageFault
+unfoldable pub pes_selection_of : List Row → Result PesSelectionValue UsageFault
 pes_selection_of rows = do
   stream ← stream_of rows
-  range ← range_given_of rows
+  range ← range_of_arguments rows
   Ok (record { name = argument (codes "recording") rows; stream = stream; range = range })
 
 -- The items of an argument with a list. Without the argument, the list is empty; an empty text is a
 -- fault.
-abbrev pub listed_of :
+abbrev pub parsed_list_of :
     {A : Type 0} → (Text → Option A) → (A → A → Bool) → Text → List Row → Option (List A)
-listed_of parsed same id rows = option_map_or (list_of_text parsed same) (first_of id rows)
+parsed_list_of parsed same id rows = option_map_or (list_of_text parsed same) (first_of id rows)
     (Some [])

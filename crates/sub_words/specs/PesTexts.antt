@@ -56,8 +56,8 @@ abbrev pub is_dash : ℕ → Bool
 is_dash c = c == dash
 
 -- The texts before and after the first dash; `None` if the text has no dash.
-abbrev pub around_dash : List ℕ → Option (List ℕ × List ℕ)
-around_dash text =
+abbrev pub texts_around_dash : List ℕ → Option (List ℕ × List ℕ)
+texts_around_dash text =
     if nat_lt (position_or_len is_dash text) (length text)
     then Some (before_first is_dash text, after_first is_dash text)
     else None
@@ -73,4 +73,4 @@ range_of_numbers first last = do
 
 -- The range of PES packets that a text describes: `I-J`, or `I-` to the end of the file.
 unfoldable pub range_of_text : List ℕ → Option PesPacketRangeValue
-range_of_text text = around_dash text >>= (λ numbers. range_of_numbers numbers.0 numbers.1)
+range_of_text text = texts_around_dash text >>= (λ numbers. range_of_numbers numbers.0 numbers.1)

@@ -9,7 +9,7 @@ use Rattle.ttx_packet.specs.PacketAddress.{◌>>=◌}
 use Rattle.stl_file.specs.TimeCode.{frame_of, is_time_code}
 use Rattle.sub_request.specs.declared.listening.Flip.{Flip}
 use Rattle.sub_request.specs.declared.listening.ReceiverKind.{ReceiverKind}
-use Rattle.sub_request.specs.declared.listening.ReceiverKind.TheVariants.{Anew, Blank}
+use Rattle.sub_request.specs.declared.listening.ReceiverKind.TheVariants.{BlankEachHeader, Blank}
 use Rattle.sub_request.specs.declared.listening.ReceiverKind.TheVariants.{DropRow, Keep}
 
 -- ---- decimal numbers
@@ -33,20 +33,20 @@ colon = 0x3A
 
 -- The items so far, followed by the items of more texts. `None` if a text is no item, or if an item
 -- equals an earlier item by the test `same`.
-abbrev pub items_after :
+abbrev pub list_after_texts :
     {A : Type 0} → (List ℕ → Option A) → (A → A → Bool) → List A → List (List ℕ)
     → Option (List A)
-items_after parsed same items [] = Some items
-items_after parsed same items (text ∷ texts) = do
+list_after_texts parsed same items [] = Some items
+list_after_texts parsed same items (text ∷ texts) = do
   x ← parsed text
-  if list_any (same x) items then None else items_after parsed same (items ++ x ∷ []) texts
+  if list_any (same x) items then None else list_after_texts parsed same (items ++ x ∷ []) texts
 
 -- The list that a text describes: 1 to 64 different items, separated by commas.
 abbrev pub list_of_text :
     {A : Type 0} → (List ℕ → Option A) → (A → A → Bool) → List ℕ → Option (List A)
 list_of_text parsed same text =
     let texts = slice_split (λ c. c == comma) text in
-    if nat_le (length texts) 64 then items_after parsed same [] texts else None
+    if nat_le (length texts) 64 then list_after_texts parsed same [] texts else None
 
 -- ---- the bits to flip
 
@@ -117,5 +117,5 @@ receiver_of_text text =
     if bytes_eq text (codes "blank") then Some Blank
     else if bytes_eq text (codes "keep") then Some Keep
     else if bytes_eq text (codes "drop") then Some DropRow
-    else if bytes_eq text (codes "anew") then Some Anew
+    else if bytes_eq text (codes "anew") then Some BlankEachHeader
     else None

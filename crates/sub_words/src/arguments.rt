@@ -2,14 +2,16 @@
 ghost use Rattle.std.specs.Prelude.{◌≡◌, IfErr, IfOk, ok_or, option_map, true};
 ghost use Rattle.std.specs.Result.{result_map_both};
 ghost use Rattle.clap.specs.Words.{first_of, found_of, rows_of};
-ghost use Rattle.sub_words.specs.Arguments.{with_within_value, argument, is_given, layout_of};
-ghost use Rattle.sub_words.specs.Arguments.{listed_of};
-ghost use Rattle.sub_words.specs.Arguments.{given_as, with_keeping_value, options_of, pacing_of};
+ghost use Rattle.sub_words.specs.Arguments.{with_within_value, argument, is_argument_present};
+ghost use Rattle.sub_words.specs.Arguments.{layout_of};
+ghost use Rattle.sub_words.specs.Arguments.{parsed_list_of};
+ghost use Rattle.sub_words.specs.Arguments.{parsed_if_present, with_keeping_value, options_of};
+ghost use Rattle.sub_words.specs.Arguments.{options_with_pace};
 ghost use Rattle.sub_words.specs.Arguments.{packet_size_of};
-ghost use Rattle.sub_words.specs.Arguments.{pes_selection_of, range_given_of, required_pid_of};
+ghost use Rattle.sub_words.specs.Arguments.{pes_selection_of, range_of_arguments, required_pid_of};
 ghost use Rattle.sub_words.specs.Arguments.{scope_of, stream_of, survey_options_of};
 ghost use Rattle.sub_words.specs.Texts.{frame_of_text};
-ghost use Rattle.sub_words.specs.Requests.{is_own, pes_requested};
+ghost use Rattle.sub_words.specs.Requests.{is_found_after_clap, pes_selection_value};
 
 use crate::lists::{Item, parse_list};
 use crate::numbers::parse_number;
@@ -43,7 +45,7 @@ pub fn text_at<'a>(matches: &ArgMatches<'a>, id: &str) -> &'a str
 
 /// Returns whether a flag is set. `clap` stores the text `true` or `false` for a flag.
 pub fn flag_at<'a>(matches: &ArgMatches<'a>, id: &str) -> bool
-    ensures { result ≡ is_given id.now (rows_of (found_of matches.now)) }
+    ensures { result ≡ is_argument_present id.now (rows_of (found_of matches.now)) }
 {
     text_at(matches, id) == "true"
 }
@@ -93,7 +95,7 @@ pub fn with_within_option<'a>(
 ///
 /// The only fault is `Pace`.
 pub fn pacing_at<'a>(matches: &ArgMatches<'a>, options: Options) -> Result<Options, UsageFault>
-    ensures { result ≡ pacing_of options (rows_of (found_of matches.now)) }
+    ensures { result ≡ options_with_pace options (rows_of (found_of matches.now)) }
 {
     let Some(text) = argument_at(matches, "pace") else {
         return Ok(options);
@@ -164,7 +166,8 @@ pub fn scope_at<'a>(matches: &ArgMatches<'a>) -> Result<Scope, UsageFault>
 // Returns the frame of an option with a time, or `None` if the user left the option out. The fault
 // is `BadTime`.
 fn frame_at<'a>(matches: &ArgMatches<'a>, id: &str) -> Result<Option<u32>, UsageFault>
-    ensures { result ≡ ok_or (given_as frame_of_text id.now (rows_of (found_of matches.now)))
+    ensures { result ≡ ok_or
+        (parsed_if_present frame_of_text id.now (rows_of (found_of matches.now)))
         UsageFault.BadTime }
 {
     match argument_at(matches, id) {
@@ -236,7 +239,7 @@ pub fn survey_options_at<'a>(matches: &ArgMatches<'a>) -> Result<SurveyOptions, 
 
 // Returns the range of PES packets of `--pes`, or `None` without `--pes`. The fault is `Range`.
 fn range_at<'a>(matches: &ArgMatches<'a>) -> Result<Option<PesPacketRange>, UsageFault>
-    ensures { result ≡ range_given_of (rows_of (found_of matches.now)) }
+    ensures { result ≡ range_of_arguments (rows_of (found_of matches.now)) }
 {
     match argument_at(matches, "pes") {
         Some(text) => Ok(Some(parse_range(text).ok_or(UsageFault::Range)?)),
@@ -249,13 +252,13 @@ fn range_at<'a>(matches: &ArgMatches<'a>) -> Result<Option<PesPacketRange>, Usag
 /// # Errors
 ///
 /// Returns the first fault of `Pid`, `PacketSize` and `Range`.
-// Callers of `pes_at` match on the result, since the prover has no rule for `?` on a struct that
-// contains a reference.
+// Callers of `pes_selection_at` match on the result, since the prover has no rule for `?` on a
+// struct that contains a reference.
 #[tactic(auto, unfolding(crate::specs::Arguments::pes_selection_of))]
-pub fn pes_at<'a>(matches: &ArgMatches<'a>) -> Result<PesSelection<'a>, UsageFault>
-    ensures value { result_map_both pes_requested (λ fault. fault) result
+pub fn pes_selection_at<'a>(matches: &ArgMatches<'a>) -> Result<PesSelection<'a>, UsageFault>
+    ensures value { result_map_both pes_selection_value (λ fault. fault) result
         ≡ pes_selection_of (rows_of (found_of matches.now)) }
-    ensures own { IfErr result (λ fault. is_own fault ≡ true) }
+    ensures own { IfErr result (λ fault. is_found_after_clap fault ≡ true) }
 {
     let stream = stream_at(matches)?;
     let range = range_at(matches)?;
@@ -278,7 +281,7 @@ pub fn list_at<'a, T: Item + Drop>(
     id: &str,
 ) -> Result<Option<Vec<T>>, UsageFault>
     ensures value { IfOk result (λ list. option_map (λ v. v.items) list
-        ≡ listed_of T.parsed T.same id.now (rows_of (found_of matches.now))) }
+        ≡ parsed_list_of T.parsed T.same id.now (rows_of (found_of matches.now))) }
     ensures memory { IfErr result (λ fault. fault ≡ UsageFault.Memory) }
 {
     match argument_at(matches, id) {

@@ -160,7 +160,7 @@ fn command_with<'a>(
 ) -> Result<Command<'a>, AllocError>
     ensures app { IfOk result (λ c.
         app_of c ≡ fold with_rule (new_app name.entry.now) (map clap_rule arguments.now)) }
-    ensures local { IfOk result (λ c. (out-Command c).has_globals ≡ false) }
+    ensures has_no_globals { IfOk result (λ c. (out-Command c).has_globals ≡ false) }
 {
     let mut command = Command::new(alloc, name);
     for argument in arguments {
@@ -172,7 +172,7 @@ fn command_with<'a>(
 // Converts an argument of the table to a rule for `clap`.
 fn clap_argument<'a>(alloc: Global, argument: Argument) -> Arg<'a>
     ensures rule { rule_of result ≡ clap_rule argument }
-    ensures local { result.global ≡ false }
+    ensures has_no_globals { result.global ≡ false }
 {
     match argument {
         Argument::Required(id) => Arg::new(alloc, id).required(true),

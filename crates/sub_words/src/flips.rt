@@ -15,10 +15,10 @@ impl Item for Flip {
 
     #[tactic(auto, unfolding(crate::specs::Texts::flip_of_text))]
     fn read(text: &str) -> Option<Flip> {
-        let packet = parse_number(field_of(text, 0)?)?;
-        let byte = parse_number(field_of(text, 1)?)?;
-        let bit = parse_number(field_of(text, 2)?)?;
-        if field_of(text, 3).is_some() || byte > 41 || bit < 1 || bit > 8 {
+        let packet = parse_number(nth_field(text, 0)?)?;
+        let byte = parse_number(nth_field(text, 1)?)?;
+        let bit = parse_number(nth_field(text, 2)?)?;
+        if nth_field(text, 3).is_some() || byte > 41 || bit < 1 || bit > 8 {
             return None;
         }
         let (byte, bit) = (byte as u8, bit as u8);
@@ -31,7 +31,7 @@ impl Item for Flip {
 }
 
 // Returns part `number` of a text that is split at its colons, counted from 0.
-fn field_of(text: &str, number: usize) -> Option<&str>
+fn nth_field(text: &str, number: usize) -> Option<&str>
     ensures { option_map (λ x. x.now) result
         ≡ slice_get (slice_split (λ c. c == colon) text.now) number }
 {

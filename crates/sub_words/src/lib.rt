@@ -10,7 +10,6 @@
 
 mod arguments;
 mod command;
-mod explaining;
 mod flips;
 mod help;
 mod laws;
@@ -20,12 +19,13 @@ mod parsing;
 mod pes_selection;
 mod reading;
 mod times;
+mod usage_explanation;
 mod version;
 
-pub use explaining::explain_usage;
 pub use laws::law_of_flips;
 pub use lists::{Item, parse_list};
 pub use numbers::parse_number;
 pub use parsing::ParseArguments;
 pub use pes_selection::{parse_packet_size, parse_pid, parse_range};
 pub use times::{parse_receiver, parse_time};
+pub use usage_explanation::explain_usage;

@@ -3,12 +3,12 @@ ghost use Rattle.std.specs.Prelude.{◌≡◌, ◌==◌, ℕ, Bool, IfOk, List, 
 ghost use Rattle.std.specs.Prelude.{Some, map};
 ghost use Rattle.std.specs.Prelude.{if◌then◌else◌, option_map};
 ghost use Rattle.std.specs.List.{list_any, slice_split};
-ghost use Rattle.sub_words.specs.Texts.{comma, items_after, list_of_text};
+ghost use Rattle.sub_words.specs.Texts.{comma, list_after_texts, list_of_text};
 
 use std::alloc::{AllocError, Allocator};
 
 /// The maximum number of items in a list of an option.
-const MOST_ITEMS: usize = 64;
+const MAX_ITEMS: usize = 64;
 
 /// An item of a list in the text of an option.
 pub trait Item: Copy {
@@ -42,7 +42,7 @@ pub fn parse_list<A: Allocator + Copy + Drop, T: Item + Drop>(
         option_map (λ v. v.items) list ≡ list_of_text T.parsed T.same text.now) }
 {
     let texts = texts_of(alloc, text)?;
-    if texts.len() > MOST_ITEMS {
+    if texts.len() > MAX_ITEMS {
         return Ok(None);
     }
     items_of(alloc, texts.as_slice())
@@ -63,7 +63,7 @@ fn items_of<A: Allocator + Drop, T: Item + Drop>(
     texts: &[&str],
 ) -> Result<Option<Vec<T, A>>, AllocError>
     ensures { IfOk result (λ list. option_map (λ v. v.items) list
-        ≡ items_after T.parsed T.same [] (map (λ x. x.now) texts.now)) }
+        ≡ list_after_texts T.parsed T.same [] (map (λ x. x.now) texts.now)) }
 {
     let mut list = Vec::new(alloc);
     let all = add_items(&mut list, texts)?;
@@ -77,7 +77,7 @@ fn add_items<A: Allocator, T: Item>(
     texts: &[&str],
 ) -> Result<bool, AllocError>
     ensures { IfOk result (λ all.
-        items_after T.parsed T.same list.old.items (map (λ x. x.now) texts.now)
+        list_after_texts T.parsed T.same list.old.items (map (λ x. x.now) texts.now)
         ≡ (if all then Some list.new.items else None)) }
 {
     for text in texts {
@@ -92,8 +92,8 @@ fn add_items<A: Allocator, T: Item>(
 // earlier item.
 fn add_item<A: Allocator, T: Item>(list: &mut Vec<T, A>, text: &str) -> Result<bool, AllocError>
     ensures { IfOk result (λ added. (more : List (List ℕ))
-        → items_after T.parsed T.same list.old.items (text.now ∷ more)
-        ≡ (if added then items_after T.parsed T.same list.new.items more else None)) }
+        → list_after_texts T.parsed T.same list.old.items (text.now ∷ more)
+        ≡ (if added then list_after_texts T.parsed T.same list.new.items more else None)) }
 {
     let Some(item) = T::read(text) else {
         return Ok(false);

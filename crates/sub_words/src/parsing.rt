@@ -56,7 +56,7 @@ fn parse_command<'a>(alloc: Global, arguments: &'a [&'a str]) -> Result<Request<
     if arguments.is_empty() {
         return Err(UsageFault::Words);
     }
-    let matches = matches_of(alloc, arguments)?;
+    let matches = parse_matches(alloc, arguments)?;
     match matches.subcommand() {
         Some((name, sub_matches)) => read_command(alloc, name, sub_matches),
         None => Err(UsageFault::Words),
@@ -64,7 +64,7 @@ fn parse_command<'a>(alloc: Global, arguments: &'a [&'a str]) -> Result<Request<
 }
 
 // Returns the matches of `clap` for the arguments.
-fn matches_of<'a>(alloc: Global, arguments: &'a [&'a str]) -> Result<ArgMatches<'a>, UsageFault>
+fn parse_matches<'a>(alloc: Global, arguments: &'a [&'a str]) -> Result<ArgMatches<'a>, UsageFault>
     requires { arguments.now ≢ [] }
     ensures command { IfOk result
         (λ m. subcommand_rows_of m ≡ command_in (texts_of arguments.now)) }

@@ -2,7 +2,8 @@
 ghost use Rattle.std.specs.Prelude.{◌≡◌, ◌<◌, ◌^◌, IfSome, option_map};
 ghost use Rattle.std.specs.Char.{is_ascii_hexdigit};
 ghost use Rattle.std.specs.List.{list_all};
-ghost use Rattle.sub_words.specs.PesTexts.{around_dash, digits_after_0x, number_of_hex_digits};
+ghost use Rattle.sub_words.specs.PesTexts.{texts_around_dash, digits_after_0x};
+ghost use Rattle.sub_words.specs.PesTexts.{number_of_hex_digits};
 ghost use Rattle.sub_words.specs.PesTexts.{packet_size_of_text, pid_of_text, range_of_text};
 
 use crate::numbers::parse_number;
@@ -71,7 +72,7 @@ pub fn parse_packet_size(text: &str) -> Option<PacketSize>
 pub fn parse_range(text: &str) -> Option<PesPacketRange>
     ensures { result ≡ range_of_text text.now }
 {
-    let (first, last) = around_dash(text)?;
+    let (first, last) = texts_around_dash(text)?;
     let first = parse_number(first)?;
     if last.is_empty() {
         return PesPacketRange::new(first, None);
@@ -81,8 +82,8 @@ pub fn parse_range(text: &str) -> Option<PesPacketRange>
 }
 
 // Returns the texts before and after the first dash, or `None` if the text has no dash.
-fn around_dash(text: &str) -> Option<(&str, &str)>
-    ensures { option_map (λ x. (x.0.now, x.1.now)) result ≡ around_dash text.now }
+fn texts_around_dash(text: &str) -> Option<(&str, &str)>
+    ensures { option_map (λ x. (x.0.now, x.1.now)) result ≡ texts_around_dash text.now }
 {
     text.split_once('-')
 }

@@ -1,14 +1,14 @@
 //! Reads the arguments of each command as a request.
 ghost use Rattle.clap.specs.Words.{found_of, rows_of};
-ghost use Rattle.sub_words.specs.Requests.{IsReadExactly, IsReadGivenMemory, requested_in};
-ghost use Rattle.sub_words.specs.Requests.{check_requested};
-ghost use Rattle.sub_words.specs.Requests.{extract_requested, listen_requested, normal_requested};
-ghost use Rattle.sub_words.specs.Requests.{packet_requested};
-ghost use Rattle.sub_words.specs.Requests.{packets_requested, schedule_requested, survey_requested};
+ghost use Rattle.sub_words.specs.Requests.{IsReadExactly, IsReadGivenMemory, command_request};
+ghost use Rattle.sub_words.specs.Requests.{check_request};
+ghost use Rattle.sub_words.specs.Requests.{extract_request, listen_request, normal_request};
+ghost use Rattle.sub_words.specs.Requests.{packet_request};
+ghost use Rattle.sub_words.specs.Requests.{packets_request, schedule_request, survey_request};
 
 use crate::arguments::{
-    flag_at, layout_at, list_at, options_at, pacing_at, packet_size_at, pes_at, pid_at, scope_at,
-    survey_options_at, text_at, with_keeping_flag, with_within_option,
+    flag_at, layout_at, list_at, options_at, pacing_at, packet_size_at, pes_selection_at, pid_at,
+    scope_at, survey_options_at, text_at, with_keeping_flag, with_within_option,
 };
 use crate::numbers::parse_number;
 use crate::times::{parse_receiver, parse_time};
@@ -23,13 +23,13 @@ use sub_request::{Listening, Request, TransportStream, UsageFault};
 ///
 /// Returns the first fault of the arguments by the program's own rules, or `Memory` if memory runs
 /// out before the fault is known: only the lists of `listen` need memory.
-#[tactic(auto, using(crate::proofs::CommandLemmas::read_exactly))]
+#[tactic(auto, using(crate::proofs::CommandLemmas::exact_reading_holds_with_memory))]
 pub fn read_command<'a>(
     alloc: Global,
     name: &str,
     matches: &ArgMatches<'a>,
 ) -> Result<Request<'a>, UsageFault>
-    ensures { IsReadGivenMemory (requested_in name.now (rows_of (found_of matches.now))) result }
+    ensures { IsReadGivenMemory (command_request name.now (rows_of (found_of matches.now))) result }
 {
     match name {
         "packet" => read_packet(matches),
@@ -48,7 +48,7 @@ pub fn read_command<'a>(
 
 // Reads the arguments of `packet HEX`.
 fn read_packet<'a>(matches: &ArgMatches<'a>) -> Result<Request<'a>, UsageFault>
-    ensures { IsReadExactly (packet_requested (rows_of (found_of matches.now))) result }
+    ensures { IsReadExactly (packet_request (rows_of (found_of matches.now))) result }
 {
     let mut bytes = [0u8; 42];
     match hex::decode_to_slice(text_at(matches, "hex"), &mut bytes) {
@@ -59,9 +59,9 @@ fn read_packet<'a>(matches: &ArgMatches<'a>) -> Result<Request<'a>, UsageFault>
 
 // Reads the arguments of `packets PES [--pid P] [--packet-size S] [--pes I-J]`.
 fn read_packets<'a>(matches: &ArgMatches<'a>) -> Result<Request<'a>, UsageFault>
-    ensures { IsReadExactly (packets_requested (rows_of (found_of matches.now))) result }
+    ensures { IsReadExactly (packets_request (rows_of (found_of matches.now))) result }
 {
-    match pes_at(matches) {
+    match pes_selection_at(matches) {
         Ok(pes) => Ok(Request::Packets { pes }),
         Err(fault) => Err(fault),
     }
@@ -69,7 +69,7 @@ fn read_packets<'a>(matches: &ArgMatches<'a>) -> Result<Request<'a>, UsageFault>
 
 // Reads the arguments of `normal IN OUT`.
 fn read_normal<'a>(matches: &ArgMatches<'a>) -> Result<Request<'a>, UsageFault>
-    ensures { IsReadExactly (normal_requested (rows_of (found_of matches.now))) result }
+    ensures { IsReadExactly (normal_request (rows_of (found_of matches.now))) result }
 {
     let input = text_at(matches, "in");
     let output = text_at(matches, "out");
@@ -82,7 +82,7 @@ fn read_normal<'a>(matches: &ArgMatches<'a>) -> Result<Request<'a>, UsageFault>
 // Reads the arguments of `schedule STL PES [--page P] [--every N] [--origin T] [--option O]
 // [--serial] [--layout TEXT] [--from TIME] [--to TIME] [--open]`.
 fn read_schedule<'a>(matches: &ArgMatches<'a>) -> Result<Request<'a>, UsageFault>
-    ensures { IsReadExactly (schedule_requested (rows_of (found_of matches.now))) result }
+    ensures { IsReadExactly (schedule_request (rows_of (found_of matches.now))) result }
 {
     let stl = text_at(matches, "stl");
     let pes = text_at(matches, "pes");
@@ -110,14 +110,14 @@ fn read_schedule<'a>(matches: &ArgMatches<'a>) -> Result<Request<'a>, UsageFault
 // N] [--pid P] [--packet-size S] [--pes I-J] [--layout TEXT] [--pace K] [--from TIME] [--to TIME]
 // [--open] [--keeping] [--complete] [--all]`.
 fn read_check<'a>(matches: &ArgMatches<'a>) -> Result<Request<'a>, UsageFault>
-    ensures { IsReadExactly (check_requested (rows_of (found_of matches.now))) result }
+    ensures { IsReadExactly (check_request (rows_of (found_of matches.now))) result }
 {
     let plain = options_at(matches, parse_number(text_at(matches, "every")))?;
     let Some(national) = National::parse(text_at(matches, "option")) else {
         return Err(UsageFault::BadOption);
     };
     let allowing = with_within_option(matches, plain)?;
-    let pes = match pes_at(matches) {
+    let pes = match pes_selection_at(matches) {
         Ok(pes) => pes,
         Err(fault) => return Err(fault),
     };
@@ -138,12 +138,12 @@ fn read_check<'a>(matches: &ArgMatches<'a>) -> Result<Request<'a>, UsageFault>
 // Reads the arguments of `listen PES [--page P] [--origin T] [--within N] [--complete] [--pid P]
 // [--packet-size S] [--pes I-J] --at TIME [--skip N] [--flip F] [--lose L] [--receiver R]`.
 fn read_listen<'a>(alloc: Global, matches: &ArgMatches<'a>) -> Result<Request<'a>, UsageFault>
-    ensures { IsReadGivenMemory (listen_requested (rows_of (found_of matches.now))) result }
+    ensures { IsReadGivenMemory (listen_request (rows_of (found_of matches.now))) result }
 {
     // `listen` does not use the repeat bound, so any valid repeat bound is enough.
     let plain = options_at(matches, Some(1))?;
     let options = with_within_option(matches, plain)?;
-    let pes = match pes_at(matches) {
+    let pes = match pes_selection_at(matches) {
         Ok(pes) => pes,
         Err(fault) => return Err(fault),
     };
@@ -175,7 +175,7 @@ fn read_listen<'a>(alloc: Global, matches: &ArgMatches<'a>) -> Result<Request<'a
 
 // Reads the arguments of `extract TS PES --pid P [--packet-size S]`.
 fn read_extract<'a>(matches: &ArgMatches<'a>) -> Result<Request<'a>, UsageFault>
-    ensures { IsReadExactly (extract_requested (rows_of (found_of matches.now))) result }
+    ensures { IsReadExactly (extract_request (rows_of (found_of matches.now))) result }
 {
     let recording = text_at(matches, "recording");
     let pes = text_at(matches, "pes");
@@ -193,7 +193,7 @@ fn read_extract<'a>(matches: &ArgMatches<'a>) -> Result<Request<'a>, UsageFault>
 
 // Reads the arguments of `survey RECORDING [--page P] [--pid P] [--packet-size S]`.
 fn read_survey<'a>(matches: &ArgMatches<'a>) -> Result<Request<'a>, UsageFault>
-    ensures { IsReadExactly (survey_requested (rows_of (found_of matches.now))) result }
+    ensures { IsReadExactly (survey_request (rows_of (found_of matches.now))) result }
 {
     let options = survey_options_at(matches)?;
     Ok(Request::Survey {

@@ -16,7 +16,7 @@ pub fn parse_receiver(text: &str) -> Option<ReceiverKind>
         "blank" => Some(ReceiverKind::Blank),
         "keep" => Some(ReceiverKind::Keep),
         "drop" => Some(ReceiverKind::DropRow),
-        "anew" => Some(ReceiverKind::Anew),
+        "anew" => Some(ReceiverKind::BlankEachHeader),
         _ => None,
     }
 }

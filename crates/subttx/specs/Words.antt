@@ -1,4 +1,4 @@
--- The arguments of the command line, as the system returns them (own).
+-- The arguments of the command line, as the system returns them (not defined by a standard).
 use Rattle.std.specs.Prelude.{◌≡◌, List, Result, Ok, Err, String, map, string_bytes}
 use Rattle.std.specs.IoError.{error_kind}
 use Rattle.std.specs.Vec.Iter.{into_iter_items}
@@ -11,15 +11,15 @@ use Rattle.sub_request.specs.declared.request.UsageFault.{UsageFault}
 use Rattle.sub_request.specs.declared.request.UsageFault.TheVariants as usage
 
 -- The fault if the system returned no arguments: memory ran out, or an argument is not valid text.
-abbrev pub no_arguments : ErrorKind → UsageFault
-no_arguments OutOfMemory = usage.Memory
-no_arguments _ = usage.Words
+abbrev pub argument_fault : ErrorKind → UsageFault
+argument_fault OutOfMemory = usage.Memory
+argument_fault _ = usage.Words
 
 -- The arguments as texts, or the fault if the system returned no arguments.
 abbrev pub arguments_given : {Z : Type 0}
     → Result (IntoIter (String Z) Z) Error → Result (List Text) UsageFault
 arguments_given (Ok arguments) = Ok (map string_bytes (into_iter_items arguments))
-arguments_given (Err error) = Err (no_arguments (error_kind error))
+arguments_given (Err error) = Err (argument_fault (error_kind error))
 
 -- The fault if the arguments are not parsed: memory ran out, or the system returned no arguments.
 abbrev pub IsLost : Result (List Text) UsageFault → UsageFault → Type 0

@@ -3,11 +3,13 @@
 //! Contracts know nothing about the bytes of the system's files, so the clauses about bytes are
 //! proved for files in memory.
 ghost use Rattle.std.specs.Prelude.{◌≡◌};
-ghost use Rattle.sub_headline.specs.Headline.{DecidesAcceptance, ImpliesChosen, ImpliesComplete};
-ghost use Rattle.sub_headline.specs.Headline.{ImpliesDrawn, ImpliesDropping, ImpliesFiles};
+ghost use Rattle.sub_headline.specs.Headline.{DecidesAcceptance, ImpliesChosenHeadline};
+ghost use Rattle.sub_headline.specs.Headline.{ImpliesCompletePages};
+ghost use Rattle.sub_headline.specs.Headline.{ImpliesDrawnHeadline, ImpliesDroppingHeadline};
+ghost use Rattle.sub_headline.specs.Headline.{ImpliesFileReading};
 ghost use Rattle.sub_headline.specs.Headline.{ImpliesHeadline};
-ghost use Rattle.sub_headline.specs.Headline.{ImpliesRecording, ImpliesRecordingFiles};
-ghost use Rattle.sub_headline.specs.Headline.{ImpliesRecordingToo, ImpliesScreens};
+ghost use Rattle.sub_headline.specs.Headline.{ImpliesRecordingHeadline, ImpliesRecordingReading};
+ghost use Rattle.sub_headline.specs.Headline.{ImpliesRecordingReceivers, ImpliesScreenContents};
 ghost use Rattle.subttx.specs.Words.{arguments_given};
 
 use crate::run;
@@ -37,15 +39,16 @@ pub fn run_in_memory<K: Sink + Drop>(
 ) -> u8
     requires { K.failure_count standard_output ≡ 0 }
     ensures headline { ImpliesHeadline (arguments_given given) files.old result }
-    ensures chosen { ImpliesChosen (arguments_given given) files.old result }
-    ensures dropping { ImpliesDropping (arguments_given given) files.old result }
-    ensures screens { ImpliesScreens (arguments_given given) files.old result }
-    ensures files { ImpliesFiles (arguments_given given) files.old result }
-    ensures complete { ImpliesComplete (arguments_given given) files.old result }
-    ensures recording { ImpliesRecording (arguments_given given) files.old result }
-    ensures recording_too { ImpliesRecordingToo (arguments_given given) files.old result }
-    ensures recording_files { ImpliesRecordingFiles (arguments_given given) files.old result }
-    ensures drawn { ImpliesDrawn (arguments_given given) files.old result }
+    ensures chosen { ImpliesChosenHeadline (arguments_given given) files.old result }
+    ensures dropping { ImpliesDroppingHeadline (arguments_given given) files.old result }
+    ensures screens { ImpliesScreenContents (arguments_given given) files.old result }
+    ensures files { ImpliesFileReading (arguments_given given) files.old result }
+    ensures complete { ImpliesCompletePages (arguments_given given) files.old result }
+    ensures recording { ImpliesRecordingHeadline (arguments_given given) files.old result }
+    ensures recording_receivers { ImpliesRecordingReceivers (arguments_given given) files.old
+        result }
+    ensures recording_files { ImpliesRecordingReading (arguments_given given) files.old result }
+    ensures drawn { ImpliesDrawnHeadline (arguments_given given) files.old result }
     ensures acceptance { DecidesAcceptance (arguments_given given) files.old result }
 {
     law_of_headline::<K>();

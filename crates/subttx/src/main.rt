@@ -8,10 +8,11 @@ mod arguments;
 mod in_memory;
 
 ghost use Rattle.std.specs.Prelude.{◌≡◌, IfErr, IfOk};
-ghost use Rattle.sub_io.specs.Buffered.{failures_and_refused};
-ghost use Rattle.sub_answer.specs.Ending.{BufferHoldsOneLineOnly, file_observations, lines_of};
+ghost use Rattle.sub_io.specs.Buffered.{failures_with_refused_writes};
+ghost use Rattle.sub_answer.specs.Ending.{BufferHoldsOneLineOnly, file_observations};
+ghost use Rattle.sub_answer.specs.Ending.{lines_of_buffer};
 ghost use Rattle.sub_files.specs.FileCalls.{CallsInOrder};
-ghost use Rattle.sub_headline.specs.Run.{Answered, EndsRun, IsCause, RunsProgram};
+ghost use Rattle.sub_headline.specs.Run.{RunAnswers, RunEnds, IsUsageFaultReason, RunsProgram};
 ghost use Rattle.subttx.specs.Words.{arguments_given};
 
 use crate::arguments::{collect_arguments, texts_of};
@@ -20,7 +21,7 @@ use std::env::Args;
 use std::process::ExitCode;
 use std::{env, io};
 use sub_answer::{Status, open_and_answer, print_and_flush_usage_fault};
-use sub_files::{BUFFER, ErrorReporter, FileSystem, NAMES, SystemFiles, room};
+use sub_files::{BUFFER_SIZE, ErrorReporter, FileSystem, NAMES_CAPACITY, SystemFiles, room};
 use sub_io::{BufferedSink, IntoWrite, Sink};
 use sub_request::{Request, UsageFault};
 use sub_words::{ParseArguments, explain_usage};
@@ -30,7 +31,7 @@ const SMALL_BUFFER_SIZE: usize = 64;
 
 fn main(rt: HostRuntime) -> ExitCode {
     let printer = ErrorReporter::standard_output(io::writer(&rt), &rt);
-    let mut names = [0; NAMES];
+    let mut names = [0; NAMES_CAPACITY];
     let run = run(
         rt.alloc(),
         env::args(&rt),
@@ -38,13 +39,13 @@ fn main(rt: HostRuntime) -> ExitCode {
         IntoWrite::new(printer),
     );
     if run.code == Status::Fault.code() {
-        explain_arguments(&rt);
+        print_argument_error(&rt);
     }
     ExitCode::from(run.code)
 }
 
 // If the arguments are invalid, prints the reason on standard error.
-fn explain_arguments(rt: &HostRuntime) {
+fn print_argument_error(rt: &HostRuntime) {
     match env::args(rt) {
         Ok(arguments) => {
             let Ok(arguments) = arguments.collect::<Vec<String>>(rt.alloc()) else {
@@ -85,7 +86,7 @@ fn run<D: FileSystem, K: Sink>(
         K.contents K.failure_count K.is_push
         standard_output result.standard_output result.code }
 {
-    match room(alloc, BUFFER) {
+    match room(alloc, BUFFER_SIZE) {
         Some(mut room) => {
             let mut out = BufferedSink::new(standard_output, room.as_mut_slice());
             let status = answer_or_print_fault(alloc, given, files, &mut out);
@@ -95,8 +96,8 @@ fn run<D: FileSystem, K: Sink>(
             }
         }
         None => {
-            let mut little = [0; SMALL_BUFFER_SIZE];
-            let mut out = BufferedSink::new(standard_output, &mut little);
+            let mut small_buffer = [0; SMALL_BUFFER_SIZE];
+            let mut out = BufferedSink::new(standard_output, &mut small_buffer);
             let status = print_and_flush_usage_fault(&UsageFault::Memory, &mut out);
             Ended {
                 code: status.code(),
@@ -113,16 +114,16 @@ fn answer_or_print_fault<D: FileSystem, K: Sink>(
     files: &mut D,
     out: &mut BufferedSink<'_, K>,
 ) -> Status
-    requires { failures_and_refused (K.failure_count out.old.device) out.old.refused ≡ 0 }
-    ensures { EndsRun (CallsInOrder D.is_call files.old files.new)
+    requires { failures_with_refused_writes (K.failure_count out.old.device) out.old.refused ≡ 0 }
+    ensures { RunEnds (CallsInOrder D.is_call files.old files.new)
         (file_observations D.Input.remaining D.Input.failure_count
         D.Output.contents D.Output.failure_count D.Output.is_stored)
         D.Output.is_close (arguments_given given)
         (BufferHoldsOneLineOnly K.contents K.failure_count K.is_push)
-        (lines_of K.contents K.failure_count out.old)
-        (lines_of K.contents K.failure_count out.new) result }
+        (lines_of_buffer K.contents K.failure_count out.old)
+        (lines_of_buffer K.contents K.failure_count out.new) result }
 {
-    match answer_given(alloc, given, files, out) {
+    match answer_parsed_arguments(alloc, given, files, out) {
         Ok(status) => status,
         Err(fault) => print_and_flush_usage_fault(&fault, out),
     }
@@ -133,22 +134,22 @@ fn answer_or_print_fault<D: FileSystem, K: Sink>(
 // # Errors
 //
 // Returns the fault that prevents an answer.
-fn answer_given<D: FileSystem, K: Sink>(
+fn answer_parsed_arguments<D: FileSystem, K: Sink>(
     alloc: Global,
     given: io::Result<Args>,
     files: &mut D,
     out: &mut BufferedSink<'_, K>,
 ) -> Result<Status, UsageFault>
-    requires { failures_and_refused (K.failure_count out.old.device) out.old.refused ≡ 0 }
-    ensures ends { IfOk result (Answered (CallsInOrder D.is_call files.old files.new)
+    requires { failures_with_refused_writes (K.failure_count out.old.device) out.old.refused ≡ 0 }
+    ensures ends { IfOk result (RunAnswers (CallsInOrder D.is_call files.old files.new)
         (file_observations D.Input.remaining D.Input.failure_count
         D.Output.contents D.Output.failure_count D.Output.is_stored)
         D.Output.is_close (arguments_given given)
         (BufferHoldsOneLineOnly K.contents K.failure_count K.is_push)
-        (lines_of K.contents K.failure_count out.old)
-        (lines_of K.contents K.failure_count out.new)) }
-    ensures unanswered { IfErr result (λ _. out.new ≡ out.old) }
-    ensures cause { IfErr result (IsCause (CallsInOrder D.is_call files.old files.new)
+        (lines_of_buffer K.contents K.failure_count out.old)
+        (lines_of_buffer K.contents K.failure_count out.new)) }
+    ensures leaves_output_unchanged { IfErr result (λ _. out.new ≡ out.old) }
+    ensures cause { IfErr result (IsUsageFaultReason (CallsInOrder D.is_call files.old files.new)
         (arguments_given given)) }
 {
     let arguments = collect_arguments(alloc, given)?;

@@ -2,15 +2,15 @@
 //! the next packet is read.
 ghost use Rattle.std.specs.Prelude.{◌≡◌, nat_eq, true};
 
-use crate::asserting::{assert_same, assert_same_in};
+use crate::asserting::{assert_same, assert_same_for_case};
 use fixtures::FIRST;
 use std::process::Abort;
 use sub_io::{FailAt, Live, MemSource, Stopped};
-use ttx_pes::{FilePesPackets, flush_first, holds_packet};
+use ttx_pes::{FilePesPackets, flush_first, has_enough_for_packet};
 
 // Asserts whether `bytes` contain a complete PES packet.
 fn assert_holds(rt: &impl Abort, bytes: &[u8], holds: bool) {
-    assert_same_in(rt, &holds_packet(bytes), &holds, &bytes.len());
+    assert_same_for_case(rt, &has_enough_for_packet(bytes), &holds, &bytes.len());
 }
 
 #[test]
@@ -28,11 +28,11 @@ fn reports_whether_a_packet_is_borrowed_complete(rt: HostRuntime) {
 
 // A device with pending output until it is flushed.
 #[derive(Drop)]
-struct Waiting {
+struct PendingDevice {
     calls: u64,
 }
 
-impl Live for Waiting {
+impl Live for PendingDevice {
     ghost has_pending_reports = { λ w. nat_eq w.calls 0 };
 
     ghost buffered = { λ _. 0 };
@@ -51,7 +51,7 @@ impl Live for Waiting {
 
 #[test]
 fn flushes_where_a_packet_is_not_borrowed(rt: HostRuntime) {
-    let mut device = Waiting { calls: 0 };
+    let mut device = PendingDevice { calls: 0 };
     let mut borrowed = MemSource::new(&FIRST);
     let pes_packets = FilePesPackets::new(&mut borrowed);
     assert_same(&rt, &flush_first(&pes_packets, &mut device), &Ok(()));

@@ -44,9 +44,9 @@ impl Source for Borrowed {
 
 // A sink that accepts as many bytes as the last byte of the slice states.
 #[derive(Drop)]
-struct TakesLast;
+struct LastByteSink;
 
-impl Sink for TakesLast {
+impl Sink for LastByteSink {
     ghost contents = { λ _. None };
 
     ghost failure_count = { λ _. 0 };
@@ -78,7 +78,7 @@ fn reads_once_and_only_where_nothing_is_buffered(rt: HostRuntime) {
 fn forwards_the_slice_that_it_borrows(rt: HostRuntime) {
     let mut source = FailAt::new(Borrowed { calls: 0 }, 9);
     assert_pulls(&rt, &mut source, Ok(5), &[1, 5, 5, 5, 5], 0);
-    let mut sink = FailAt::new(TakesLast, 9);
+    let mut sink = FailAt::new(LastByteSink, 9);
     assert_pushes(&rt, &mut sink, &[9, 9, 9, 9, 3], Ok(3), 0);
 }
 
@@ -117,8 +117,8 @@ fn flushes_nothing_when_it_ends(rt: HostRuntime) {
 fn flushes_nothing_after_a_failure(rt: HostRuntime) {
     let mut taken = [0; 12];
     let mut buffer = [0; 4];
-    let inside = FailAt::new(MemSink::new(&mut taken), 1);
-    let mut sink = BufferedSink::new(inside, &mut buffer);
+    let failing_sink = FailAt::new(MemSink::new(&mut taken), 1);
+    let mut sink = BufferedSink::new(failing_sink, &mut buffer);
     assert_puts(&rt, &mut sink, b"sub", Ok(()), 0);
     assert_puts(&rt, &mut sink, b"ttx", Ok(()), 0);
     assert_flushes(&rt, &mut sink, Err(Failed), 1);
@@ -130,7 +130,7 @@ fn flushes_nothing_after_a_failure(rt: HostRuntime) {
 #[test]
 fn a_long_push_goes_straight_through(rt: HostRuntime) {
     let mut buffer = [0; 4];
-    let mut sink = BufferedSink::new(TakesLast, &mut buffer);
+    let mut sink = BufferedSink::new(LastByteSink, &mut buffer);
     assert_pushes(&rt, &mut sink, &[9, 9, 9, 9, 3], Ok(3), 0);
     assert_pushes(&rt, &mut sink, &[9, 9, 2], Ok(3), 0);
     assert_pushes(&rt, &mut sink, &[9, 9, 9, 9, 3], Ok(1), 0);

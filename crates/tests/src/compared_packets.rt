@@ -1,6 +1,6 @@
 //! A reader that compares repeated PES packets.
 use crate::asserting::assert_same;
-use fixtures::{Drip, ROW, every_second};
+use fixtures::{Drip, ROW, pes_packets_each_second};
 use std::process::Abort;
 use sub_io::{FailAt, MemSource};
 use ttx_packet::Packet;
@@ -23,7 +23,7 @@ fn assert_compares(
 
 #[test]
 fn reports_a_data_field_that_is_sent_again(rt: HostRuntime) {
-    let file = every_second();
+    let file = pes_packets_each_second();
     let mut source = MemSource::new(&file);
     let mut pes_packets = FilePesPackets::new(&mut source);
     let mut reader = ComparingReader::new();
@@ -58,14 +58,16 @@ fn reports_a_data_field_that_is_sent_again(rt: HostRuntime) {
 
 #[test]
 fn goes_on_after_a_pes_packet_that_is_refused(rt: HostRuntime) {
-    let mut file = every_second();
+    let mut file = pes_packets_each_second();
     file[45] = 0x20; // data_identifier of the first PES packet
     let mut source = MemSource::new(&file);
     let mut pes_packets = FilePesPackets::new(&mut source);
     let mut reader = ComparingReader::new();
     let answer = reader.next(&mut pes_packets);
     assert_same(&rt, &answer, &Err(PesFault::DataId));
-    assert!(rt; PesFault::DataId.is_of_pes_packet() && !PesFault::Truncated.is_of_pes_packet());
+    assert!(rt;
+        PesFault::DataId.is_packet_content_fault() && !PesFault::Truncated.is_packet_content_fault()
+    );
     reader.skip_packet();
     assert_compares(
         &rt,
@@ -92,7 +94,7 @@ fn answer_before(file: &[u8; 552], bytes: u64) -> Result<Compared, PesFault> {
 
 #[test]
 fn a_fault_is_reported_before_the_pull_that_fails_after_it(rt: HostRuntime) {
-    let mut file = every_second();
+    let mut file = pes_packets_each_second();
     file[6] = 0x45; // flags
     assert_same(&rt, &answer_before(&file, 183), &Err(PesFault::Read));
     assert_same(&rt, &answer_before(&file, 184), &Err(PesFault::Flags));

@@ -2,10 +2,10 @@
 ghost use Rattle.std.specs.Prelude.{◌<◌};
 ghost use Rattle.sub_io.specs.Device.{CanFail};
 
-use crate::asserting::{assert_same, assert_same_in};
+use crate::asserting::{assert_same, assert_same_for_case};
 use crate::device_calls::{assert_fills, assert_flushes, assert_puts};
 use crate::interrupted::Interrupted;
-use fixtures::Counting;
+use fixtures::CountingSource;
 use std::io::Cursor;
 use std::process::Abort;
 use sub_io::{
@@ -22,12 +22,12 @@ fn gives_its_bytes_and_then_ends(rt: HostRuntime) {
 
 // Asserts how many of a source's five bytes are read into a slice of length `buffer`, and the
 // number of pulls.
-fn assert_gets(rt: &impl Abort, buffer: usize, got: usize, pulls: u64) {
+fn assert_gets(rt: &impl Abort, buffer: usize, actual: usize, pulls: u64) {
     let inner = MemSource::new(b"abcde");
-    let mut source = Counting { inner, pulls: 0 };
+    let mut source = CountingSource { inner, pulls: 0 };
     let mut to = [0; 9];
     assert!(rt; buffer <= 9);
-    assert_same(rt, &fill(&mut source, &mut to[..buffer]), &Ok(got));
+    assert_same(rt, &fill(&mut source, &mut to[..buffer]), &Ok(actual));
     assert_same(rt, &source.pulls, &pulls);
 }
 
@@ -93,7 +93,7 @@ fn assert_fails_to_read(rt: &impl Abort, number: u64) {
     for call in 0..4 {
         assert!(rt; source.failures() < 9);
         let filled = fill(&mut source, &mut [0; 2]);
-        assert_same_in(rt, &filled.is_err(), &(call == number), &call);
+        assert_same_for_case(rt, &filled.is_err(), &(call == number), &call);
     }
     assert_same(rt, &source.failures(), &1);
 }
@@ -110,7 +110,7 @@ fn assert_fails_to_write(rt: &impl Abort, number: u64) {
         } else {
             put_all(&mut sink, b"x")
         };
-        assert_same_in(rt, &put.is_err(), &(call == number), &call);
+        assert_same_for_case(rt, &put.is_err(), &(call == number), &call);
     }
     assert_same(rt, &sink.failures(), &1);
 }

@@ -18,7 +18,7 @@ fn subtitle(rt: &impl Abort, text: &[u8]) -> Subtitle {
 fn assert_draws(rt: &impl Abort, national: National, text: &[u8], column: usize, cells: &[u8]) {
     match draw(&subtitle(rt, text), national, Layout::default()) {
         Ok(page) => {
-            assert_same(rt, &(page.cells_not_blank() as usize), &cells.len());
+            assert_same(rt, &(page.count_nonblank_cells() as usize), &cells.len());
             assert!(rt; column <= 40);
             assert!(rt; page.row(22)[column..].starts_with(cells));
         }

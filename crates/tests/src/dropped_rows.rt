@@ -2,7 +2,7 @@
 //! a subtitle.
 ghost use Rattle.std.specs.Prelude.{◌<◌};
 
-use crate::asserting::{assert_same, assert_same_in};
+use crate::asserting::{assert_same, assert_same_for_case};
 use crate::receivers::old_page;
 use fixtures::{CLOSING, HEADER, ROW};
 use std::process::Abort;
@@ -51,7 +51,7 @@ fn assert_drops(rt: &impl Abort, number: usize, place: usize, bits: u8)
     receiver.hear_all(&sending(number, place, bits));
     let is_text = number == 1 && place >= 2;
     let want = if is_text { Page::blank() } else { whole };
-    assert_same_in(rt, receiver.page(), &want, &[number, place]);
+    assert_same_for_case(rt, receiver.page(), &want, &[number, place]);
     receiver.hear_all(&sending(0, 0, 0));
     assert_same(rt, receiver.page(), &whole);
 }

@@ -1,6 +1,6 @@
 //! The cells for the characters of each national option, and the texts that the option rejects. The
 //! characters of each sub-set were obtained from libzvbi.
-use crate::asserting::{assert_same, assert_same_in};
+use crate::asserting::{assert_same, assert_same_for_case};
 use fixtures::{TEN, block, file_of_two, gsi, head, put};
 use std::alloc::Global;
 use std::process::Abort;
@@ -30,7 +30,7 @@ fn boxed(rt: &impl Abort, column: usize, cells: &[u8]) -> [u8; 40] {
 fn assert_draws(rt: &impl Abort, national: National, texts: &[[&[u8]; 2]]) {
     for text in texts {
         match draw(&subtitle(rt, 5, 0, text[0]), national, Layout::default()) {
-            Ok(page) => assert_same_in(rt, page.row(5), &boxed(rt, 0, text[1]), &text[0]),
+            Ok(page) => assert_same_for_case(rt, page.row(5), &boxed(rt, 0, text[1]), &text[0]),
             Err(_) => panic!(rt; "{national:?} refuses a text"),
         }
     }
@@ -43,7 +43,7 @@ fn assert_refuses(rt: &impl Abort, national: National, at: u16, texts: &[&[u8]])
         at,
     });
     for text in texts {
-        assert_same_in(
+        assert_same_for_case(
             rt,
             &draw(&subtitle(rt, 5, 0, *text), national, Layout::default()).err(),
             &refused,
@@ -275,9 +275,9 @@ const OPTIONS: [National; 7] = [
 #[test]
 fn reads_the_word_of_an_option(rt: HostRuntime) {
     for (word, national) in WORDS.iter().zip(OPTIONS.iter()) {
-        assert_same_in(&rt, &National::parse(*word), &Some(*national), word);
+        assert_same_for_case(&rt, &National::parse(*word), &Some(*national), word);
     }
     for word in ["French", "fr", "portuguese", "polish", "", "french "] {
-        assert_same_in(&rt, &National::parse(word), &None, &word);
+        assert_same_for_case(&rt, &National::parse(word), &None, &word);
     }
 }

@@ -1,5 +1,5 @@
 //! Options of a transmission.
-use crate::asserting::{assert_same, assert_same_in};
+use crate::asserting::{assert_same, assert_same_for_case};
 use fixtures::options;
 use std::process::Abort;
 use sub_plan::{OptionFault, Options};
@@ -15,7 +15,7 @@ fn refuses_a_bound_before_an_origin(rt: HostRuntime) {
 }
 
 // Returns options with page 888, a repeat bound of 250 frames and this PTS of frame 0.
-fn of_origin(rt: &impl Abort, origin: u64) -> Options {
+fn options_for_origin(rt: &impl Abort, origin: u64) -> Options {
     match options("888", 250, origin) {
         Ok(options) => options,
         Err(_) => panic!(rt; "no options of origin {origin}"),
@@ -24,7 +24,7 @@ fn of_origin(rt: &impl Abort, origin: u64) -> Options {
 
 // Asserts the PTS of a frame, and the frame of this PTS, given the PTS of frame 0.
 fn assert_times(rt: &impl Abort, origin: u64, frame: u32, pts: u64) {
-    let options = of_origin(rt, origin);
+    let options = options_for_origin(rt, origin);
     assert!(rt; frame < 2_160_000);
     assert_same(rt, &options.pts_of(frame), &pts);
     assert_same(rt, &options.frame_of(pts), &Some(frame));
@@ -38,7 +38,7 @@ fn reports_frames_and_their_times(rt: HostRuntime) {
     assert_times(&rt, 1, 2_159_999, 7_775_996_401);
     // The PTS of frame 2,160,000, which is beyond the end of the day; a PTS between two frames; and
     // a number with more bits than a PTS.
-    let options = of_origin(&rt, 0);
+    let options = options_for_origin(&rt, 0);
     for pts in [7_776_000_000, 3601, 0x2_0000_0000] {
         assert_same(&rt, &options.frame_of(pts), &None);
     }
@@ -46,14 +46,14 @@ fn reports_frames_and_their_times(rt: HostRuntime) {
 
 #[test]
 fn requires_complete_pages_where_it_is_requested(rt: HostRuntime) {
-    let plain = of_origin(&rt, 7);
+    let plain = options_for_origin(&rt, 7);
     let asking = plain.asking_complete();
     assert!(rt; !plain.asks_complete() && asking.asks_complete() && asking.origin() == 7);
 }
 
 // Returns options with this PTS of frame 0 and this value of `within`.
 fn allowing(rt: &impl Abort, origin: u64, frames: u64) -> Options {
-    match of_origin(rt, origin).allowing(frames) {
+    match options_for_origin(rt, origin).allowing(frames) {
         Ok(options) => options,
         Err(_) => panic!(rt; "{frames} frames are not allowed"),
     }
@@ -61,25 +61,25 @@ fn allowing(rt: &impl Abort, origin: u64, frames: u64) -> Options {
 
 #[test]
 fn allows_two_seconds_at_most(rt: HostRuntime) {
-    assert_same(&rt, &of_origin(&rt, 7).within(), &0);
+    assert_same(&rt, &options_for_origin(&rt, 7).within(), &0);
     for frames in [0, 1, 50] {
         let options = allowing(&rt, 7, frames);
         assert_same(&rt, &(options.within(), options.origin()), &(frames, 7));
     }
     for frames in [51, u64::MAX] {
-        let fault = of_origin(&rt, 7).allowing(frames).err();
+        let fault = options_for_origin(&rt, 7).allowing(frames).err();
         assert_same(&rt, &fault, &Some(OptionFault::Within));
     }
     // The earlier options remain, and `within` 0 gives the default options.
-    let asking = of_origin(&rt, 7).asking_complete().allowing(3);
+    let asking = options_for_origin(&rt, 7).asking_complete().allowing(3);
     assert!(rt; asking.is_ok_and(|options| options.asks_complete() && options.within() == 3));
     let none = allowing(&rt, 7, 3).allowing(0);
-    assert!(rt; none.is_ok_and(|options| options == of_origin(&rt, 7)));
+    assert!(rt; none.is_ok_and(|options| options == options_for_origin(&rt, 7)));
 }
 
 #[test]
 fn requires_a_pace_of_a_day_at_most(rt: HostRuntime) {
-    let plain = of_origin(&rt, 7);
+    let plain = options_for_origin(&rt, 7);
     assert_same(&rt, &plain.pace(), &None);
     for frames in [1, 2_160_000] {
         let paced = plain.pacing(frames).map(|options| options.pace());
@@ -95,7 +95,7 @@ fn requires_a_pace_of_a_day_at_most(rt: HostRuntime) {
 
 #[test]
 fn keeps_whether_repeats_may_keep(rt: HostRuntime) {
-    let plain = of_origin(&rt, 7);
+    let plain = options_for_origin(&rt, 7);
     assert!(rt; !plain.may_keep() && plain.keeping().may_keep());
     let asking = plain.keeping().asking_complete();
     assert!(rt; !plain.asking_complete().may_keep() && asking.may_keep());
@@ -110,7 +110,7 @@ fn keeps_whether_repeats_may_keep(rt: HostRuntime) {
 // Asserts the frame of a PTS, given the PTS of frame 0 and `within`.
 fn assert_read_as(rt: &impl Abort, origin: u64, frames: u64, pts: u64, frame: Option<u32>) {
     let options = allowing(rt, origin, frames);
-    assert_same_in(rt, &options.frame_of(pts), &frame, &(origin, frames, pts));
+    assert_same_for_case(rt, &options.frame_of(pts), &frame, &(origin, frames, pts));
 }
 
 #[test]

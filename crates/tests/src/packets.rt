@@ -1,5 +1,5 @@
 //! Packets, page numbers, and codes that are not in the tables of libzvbi.
-use crate::asserting::{assert_same, assert_same_in};
+use crate::asserting::{assert_same, assert_same_for_case};
 use bitflags::Flags;
 use fixtures::{HEADER, packet_of};
 use std::process::Abort;
@@ -73,7 +73,7 @@ fn reads_addresses(rt: HostRuntime) {
         [0x02, 0x15, 1, 0],
     ] {
         let packet = Packet::new(packet_of(&[low, high]));
-        assert_same_in(&rt, &packet.address(), &Some((magazine, number)), &number);
+        assert_same_for_case(&rt, &packet.address(), &Some((magazine, number)), &number);
     }
     let wrong = Packet::new(packet_of(&[0x16, 0x15])); // two bits
     assert_same(&rt, &wrong.address(), &None);
@@ -104,7 +104,7 @@ fn finds_the_only_even_byte_at_each_place(rt: HostRuntime) {
         bytes[column as usize + 2] = 0xA0;
         let packet = Packet::new(bytes);
         assert_same(&rt, &packet.first_even(), &Some(column));
-        assert_same_in(
+        assert_same_for_case(
             &rt,
             &packet.first_even(),
             &plain_first_even(&packet),
@@ -124,7 +124,7 @@ fn codes_hamming_8_4(rt: HostRuntime) {
 // Asserts the magazine and the page number for a text.
 fn assert_names(rt: &impl Abort, text: &str, magazine: u8, page: u8) {
     let id = PageId::parse(text).expect(rt, "a page");
-    assert_same_in(rt, &(id.magazine(), id.page()), &(magazine, page), &text);
+    assert_same_for_case(rt, &(id.magazine(), id.page()), &(magazine, page), &text);
 }
 
 #[test]
@@ -134,6 +134,6 @@ fn reads_page_numbers(rt: HostRuntime) {
     // Invalid texts: magazines 0 and 9; a page that can't be displayed; and texts that are too
     // short or too long, or contain other characters than digits.
     for text in ["088", "988", "8FF", "88", "8G8", "8888"] {
-        assert_same_in(&rt, &PageId::parse(text).is_err(), &true, &text);
+        assert_same_for_case(&rt, &PageId::parse(text).is_err(), &true, &text);
     }
 }

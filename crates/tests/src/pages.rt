@@ -1,6 +1,6 @@
 //! The cells of pages, and the first cell in which two pages differ.
 use crate::asserting::assert_same;
-use ttx_page::{Page, differing_columns};
+use ttx_page::{Page, count_differing_columns};
 
 #[test]
 fn sets_and_compares_rows(rt: HostRuntime) {
@@ -27,13 +27,13 @@ fn sets_and_compares_rows(rt: HostRuntime) {
 fn counts_cells(rt: HostRuntime) {
     let blank = Page::blank();
     let mut codes = [0x20; 40];
-    assert_same(&rt, &differing_columns(&codes, blank.row(1)), &0);
+    assert_same(&rt, &count_differing_columns(&codes, blank.row(1)), &0);
     codes[0] = 0x0D;
     codes[39] = 0x0A;
-    assert_same(&rt, &differing_columns(&codes, blank.row(1)), &2);
+    assert_same(&rt, &count_differing_columns(&codes, blank.row(1)), &2);
     let mut page = blank;
     page.set_row(1, &codes);
     page.set_row(24, &codes);
-    assert_same(&rt, &page.cells_not_blank(), &4);
-    assert_same(&rt, &blank.cells_not_blank(), &0);
+    assert_same(&rt, &page.count_nonblank_cells(), &4);
+    assert_same(&rt, &blank.count_nonblank_cells(), &0);
 }

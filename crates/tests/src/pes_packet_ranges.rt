@@ -1,9 +1,9 @@
 //! A range of the PES packets of a file, read one PES packet at a time.
 ghost use Rattle.sub_io.specs.Device.{CanFail};
 
-use crate::asserting::{assert_same, assert_same_in};
+use crate::asserting::{assert_same, assert_same_for_case};
 use crate::given_pes_packets::{Given, take_all};
-use fixtures::{Counting, Drip, every_second};
+use fixtures::{CountingSource, Drip, pes_packets_each_second};
 use std::process::Abort;
 use sub_io::{BufferedSource, FailAt, MemSink, MemSource};
 use ttx_pes::{
@@ -38,8 +38,8 @@ fn assert_next<P: PesPackets>(
     let mut given = Given {
         sink: MemSink::new(&mut buffer),
     };
-    assert_same_in(rt, &take_all(pes_packets, &mut given), &Ok(end), case);
-    assert_same_in(rt, &given.sink.written(), &expected, case);
+    assert_same_for_case(rt, &take_all(pes_packets, &mut given), &Ok(end), case);
+    assert_same_for_case(rt, &given.sink.written(), &expected, case);
 }
 
 // Asserts the output for a range of three PES packets of 184 bytes each, followed by a few other
@@ -53,7 +53,7 @@ fn assert_output(
     end: Received<()>,
 ) {
     let mut file = [0xAB; 560];
-    file[..552].copy_from_slice(&every_second());
+    file[..552].copy_from_slice(&pes_packets_each_second());
     assert!(rt; cut <= 560 && want.0 <= want.1 && want.1 <= cut);
     let (whole, _) = file.split_at(cut);
     let (upto, _) = whole.split_at(want.1);
@@ -63,7 +63,7 @@ fn assert_output(
     let mut source = MemSource::new(whole);
     let mut all = FilePesPackets::new(&mut source);
     let mut pes_packets = part_of(&mut all, range);
-    assert_same_in(rt, &pes_packets.find_first(), &Ok(want.2), &case);
+    assert_same_for_case(rt, &pes_packets.find_first(), &Ok(want.2), &case);
     assert_next(rt, &mut pes_packets, expected, end, &case);
     let mut drip = Drip { rest: whole };
     let mut all = FilePesPackets::new(&mut drip);
@@ -109,7 +109,7 @@ fn has_no_range_that_ends_before_it_begins(rt: HostRuntime) {
 
 #[test]
 fn reads_nothing_after_the_last_pes_packet(rt: HostRuntime) {
-    let file = every_second();
+    let file = pes_packets_each_second();
     // The first pull after 368 bytes would fail, but is not necessary.
     let mut source = FailAt::new(Drip { rest: &file }, 368);
     let mut all = FilePesPackets::new(&mut source);
@@ -125,7 +125,7 @@ fn reads_nothing_after_the_last_pes_packet(rt: HostRuntime) {
 
 #[test]
 fn reports_where_it_failed_before_the_range(rt: HostRuntime) {
-    let file = every_second();
+    let file = pes_packets_each_second();
     let mut source = FailAt::new(Drip { rest: &file }, 200);
     let mut all = FilePesPackets::new(&mut source);
     let mut pes_packets = part_of(&mut all, range(&rt, 2, None));
@@ -138,7 +138,7 @@ fn reports_where_it_failed_before_the_range(rt: HostRuntime) {
 
 #[test]
 fn takes_pes_packets_that_are_not_borrowed_complete(rt: HostRuntime) {
-    let file = every_second();
+    let file = pes_packets_each_second();
     let mut buffer = [0; 250];
     let mut source = BufferedSource::new(MemSource::new(&file), &mut buffer);
     let mut pes_packets = FilePesPackets::new(&mut source);
@@ -147,8 +147,8 @@ fn takes_pes_packets_that_are_not_borrowed_complete(rt: HostRuntime) {
 
 #[test]
 fn skips_a_pes_packet_that_is_borrowed_by_one_call(rt: HostRuntime) {
-    let file = every_second();
-    let mut source = Counting {
+    let file = pes_packets_each_second();
+    let mut source = CountingSource {
         inner: MemSource::new(&file),
         pulls: 0,
     };

@@ -3,8 +3,8 @@
 ghost use Rattle.std.specs.Prelude.{◌≡◌, ◌<◌, length};
 ghost use Rattle.sub_io.specs.Device.{CanFail};
 
-use crate::asserting::{assert_same, assert_same_in};
-use fixtures::{CLOSING, Drip, Endless, FIRST, HEADER, ROW, Trickle};
+use crate::asserting::{assert_same, assert_same_for_case};
+use fixtures::{CLOSING, Drip, FIRST, HEADER, OneByteSink, ROW, RepeatingSource};
 use std::process::Abort;
 use sub_io::{FailAt, MemSink, MemSource, Sink, Source};
 use ttx_packet::Packet;
@@ -69,7 +69,7 @@ fn finds_the_end_again_and_again(rt: HostRuntime) {
 
 #[test]
 fn refuses_a_byte_after_the_pes_packets_of_a_day(rt: HostRuntime) {
-    let mut source = Endless {
+    let mut source = RepeatingSource {
         rest: &[],
         again: &FIRST,
     };
@@ -87,7 +87,7 @@ fn refuses_a_byte_after_the_pes_packets_of_a_day(rt: HostRuntime) {
 }
 
 // Returns the PES packet of frame 10:00:00:00 with 25 row packets.
-fn put_25(rt: &impl Abort) -> [u8; 1656] {
+fn pes_packet_of_25(rt: &impl Abort) -> [u8; 1656] {
     let mut buffer = [0; 1656];
     let mut sink = MemSink::new(&mut buffer);
     let put = put_frame(&mut sink, 3_240_000_000, &[Packet::new(ROW); 25]);
@@ -104,7 +104,7 @@ fn assert_bytes_at(rt: &impl Abort, bytes: &[u8; 1656], at: usize, want: &[u8]) 
 
 #[test]
 fn puts_25_packets_in_seven_payloads(rt: HostRuntime) {
-    let bytes = put_25(&rt);
+    let bytes = pes_packet_of_25(&rt);
     assert_bytes_at(&rt, &bytes, 4, &[0x05, 0x02]);
     assert_bytes_at(&rt, &bytes, 9, &[0x27, 0x04, 0x79, 0xF4, 0x01]);
     // The last two units of the PES packet are stuffing units.
@@ -114,7 +114,7 @@ fn puts_25_packets_in_seven_payloads(rt: HostRuntime) {
 
 #[test]
 fn numbers_the_lines_of_25_packets(rt: HostRuntime) {
-    let bytes = put_25(&rt);
+    let bytes = pes_packet_of_25(&rt);
     // The data units are on lines 7 to 22 of the first field, and from line 7 on in the second
     // field.
     for number in 0..25u8 {
@@ -130,7 +130,7 @@ fn numbers_the_lines_of_25_packets(rt: HostRuntime) {
 #[test]
 fn a_repeated_pes_packet_is_put_with_the_pts_that_was_set_last(rt: HostRuntime) {
     let packets = [Packet::new(HEADER), Packet::new(ROW), Packet::new(CLOSING)];
-    let mut packet = RepeatedPacket::of_packets(&packets);
+    let mut packet = RepeatedPacket::from_packets(&packets);
     packet.set_pts(1);
     packet.set_pts(3_240_000_000);
     let mut buffer = [0; 184];
@@ -152,7 +152,7 @@ fn a_frame_gives_back_a_36th_unit(rt: HostRuntime) {
     let mut frame = PesFrame::new(0);
     let unit = Unit::default();
     for number in 0..35 {
-        assert_same_in(&rt, &frame.add(unit), &Ok(()), &number);
+        assert_same_for_case(&rt, &frame.add(unit), &Ok(()), &number);
     }
     assert_same(&rt, &frame.add(unit), &Err(unit));
 }
@@ -200,16 +200,16 @@ fn a_failing_pull_is_reported_at_once_and_ends_the_reader(rt: HostRuntime) {
 fn a_failing_push_ends_the_writer(rt: HostRuntime) {
     let frame = first_frame();
     for number in 0..184 {
-        let mut sink = FailAt::new(Trickle, number);
+        let mut sink = FailAt::new(OneByteSink, number);
         let mut writer = PesWriter::new();
-        assert_same_in(
+        assert_same_for_case(
             &rt,
             &writer.put(&mut sink, &frame),
             &Err(PesFault::Write),
             &number,
         );
         assert!(rt; sink.failures() == 1);
-        assert_same_in(
+        assert_same_for_case(
             &rt,
             &writer.put(&mut sink, &frame),
             &Err(PesFault::Ended),
@@ -217,7 +217,7 @@ fn a_failing_push_ends_the_writer(rt: HostRuntime) {
         );
     }
     // The sink accepts one byte per push, so 184 pushes are necessary.
-    let answer = PesWriter::new().put(&mut FailAt::new(Trickle, 184), &frame);
+    let answer = PesWriter::new().put(&mut FailAt::new(OneByteSink, 184), &frame);
     assert_same(&rt, &answer, &Ok(()));
 }
 
@@ -227,8 +227,8 @@ fn assert_leaves(rt: &impl Abort, frame: &PesFrame, len: usize) {
     assert!(rt; len < 184);
     let mut sink = MemSink::new(&mut buffer[..len]);
     let answer = PesWriter::new().put(&mut sink, frame);
-    assert_same_in(rt, &answer, &Err(PesFault::Write), &len);
-    assert_same_in(rt, &sink.written(), &&FIRST[..len], &len);
+    assert_same_for_case(rt, &answer, &Err(PesFault::Write), &len);
+    assert_same_for_case(rt, &sink.written(), &&FIRST[..len], &len);
 }
 
 #[test]

@@ -2,7 +2,7 @@
 //! rejected files.
 ghost use Rattle.std.specs.Prelude.{⊤, false};
 
-use crate::asserting::{assert_same, assert_same_in};
+use crate::asserting::{assert_same, assert_same_for_case};
 use fixtures::{HEAD, HI, TEN, block, file_of_two, gsi, head, put};
 use linked_list_allocator::LocalHeap;
 use std::alloc::Global;
@@ -11,9 +11,9 @@ use std::test::Fail;
 use stl_file::Scope;
 use stl_rows::{
     Drawing, Judging, Layout, LoadFault, LoadFaultKind, National, Programme, load, load_all,
-    load_in,
+    load_with_allocator,
 };
-use sub_io::{Audience, MemSource, Stopped};
+use sub_io::{MemSource, ReportSink, Stopped};
 use ttx_page::Page;
 
 // Asserts the next frame at which the expected page may change, and the first cell other than a
@@ -26,7 +26,7 @@ fn assert_due(
     first: Option<(u8, u8)>,
 ) {
     let cell = programme.due_page(frame).first_difference(&Page::blank());
-    assert_same_in(
+    assert_same_for_case(
         rt,
         &(programme.next_edge(frame), cell),
         &(edge, first),
@@ -35,7 +35,7 @@ fn assert_due(
 }
 
 // Asserts the expected pages of a programme with two subtitles of two seconds each.
-fn assert_both_due(rt: &impl Abort, programme: &Programme) {
+fn assert_both_subtitles_due(rt: &impl Abort, programme: &Programme) {
     assert_due(rt, programme, TEN - 1, Some(TEN), None);
     assert_due(rt, programme, TEN, Some(TEN + 50), Some((22, 16)));
     assert_due(rt, programme, TEN + 49, Some(TEN + 50), Some((22, 16)));
@@ -54,12 +54,25 @@ fn assert_holds(rt: &impl Abort, programme: &Programme) {
 
 // Asserts the frames at which the two subtitles of a programme end, and the TCIs of these
 // subtitles.
-fn assert_both_end(rt: &impl Abort, programme: &Programme) {
+fn assert_both_subtitles_end(rt: &impl Abort, programme: &Programme) {
     for frame in [0, TEN - 1, TEN, TEN + 49, TEN + 51, TEN + 99, TEN + 101] {
-        assert_same_in(rt, &programme.tci_of_ending(frame), &None, &frame);
+        assert_same_for_case(
+            rt,
+            &programme.tci_of_subtitle_ending_at(frame),
+            &None,
+            &frame,
+        );
     }
-    assert_same(rt, &programme.tci_of_ending(TEN + 50), &Some(TEN));
-    assert_same(rt, &programme.tci_of_ending(TEN + 100), &Some(TEN + 50));
+    assert_same(
+        rt,
+        &programme.tci_of_subtitle_ending_at(TEN + 50),
+        &Some(TEN),
+    );
+    assert_same(
+        rt,
+        &programme.tci_of_subtitle_ending_at(TEN + 100),
+        &Some(TEN + 50),
+    );
 }
 
 #[test]
@@ -76,8 +89,8 @@ fn loads_subtitles_in_order(rt: HostRuntime) -> Result<(), Fail> {
     assert_holds(&rt, &programme);
     assert!(rt; programme.len() == 2);
     assert_same(&rt, &programme.subtitle(1).text(), &&b"A"[..]);
-    assert_both_due(&rt, &programme);
-    assert_both_end(&rt, &programme);
+    assert_both_subtitles_due(&rt, &programme);
+    assert_both_subtitles_end(&rt, &programme);
     Ok(())
 }
 
@@ -101,7 +114,7 @@ fn refused_block(rt: &(impl Abort + Alloc<A = Global>), file: &[u8], size: usize
         layout: Layout::default(),
         scope: Scope::whole(),
     };
-    match load_in(&heap, &mut MemSource::new(file), drawing) {
+    match load_with_allocator(&heap, &mut MemSource::new(file), drawing) {
         Ok(subtitles) => {
             assert_same(rt, &subtitles.len(), &9);
             None
@@ -137,7 +150,7 @@ struct Counts {
     reported: u32,
 }
 
-impl Audience<LoadFault> for Counts {
+impl ReportSink<LoadFault> for Counts {
     ghost is_reported = { λ _ _ _. ⊤ };
 
     ghost has_stopped = { λ _. false };
@@ -151,7 +164,7 @@ impl Audience<LoadFault> for Counts {
 // Asserts whether the expected page is known at these frames.
 fn assert_undecided(rt: &impl Abort, judging: &Judging<'_>, frames: &[u32], undecided: bool) {
     for frame in frames {
-        assert_same_in(rt, &judging.is_undecided(*frame), &undecided, frame);
+        assert_same_for_case(rt, &judging.is_undecided(*frame), &undecided, frame);
     }
 }
 

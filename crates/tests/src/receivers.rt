@@ -1,5 +1,5 @@
 //! The states of receivers of the types `Keep` and `Blank` after a few packets (EN 300 706).
-use crate::asserting::{assert_same, assert_same_in};
+use crate::asserting::{assert_same, assert_same_for_case};
 use fixtures::packet_of;
 use std::process::Abort;
 use ttx_packet::{Packet, PageId};
@@ -62,14 +62,14 @@ fn assert_becomes<R: Receiver + Drop>(
     let page_id = PageId::parse("888").expect(rt, "page 888");
     let mut receiver = R::tune(page_id, old_page());
     hear_all(&mut receiver, &packets(starts));
-    assert_same_in(
+    assert_same_for_case(
         rt,
         &[receiver.heard(), receiver.open()],
         &heard_and_open,
         starts,
     );
     let page = receiver.page();
-    assert_same_in(rt, &[page.cell(22, 0), page.cell(22, 1)], &cells, starts);
+    assert_same_for_case(rt, &[page.cell(22, 0), page.cell(22, 1)], &cells, starts);
 }
 
 // Asserts the states of both receivers after three packets: whether a header was received, whether
@@ -121,7 +121,7 @@ fn assert_shows(rt: &impl Abort, starts: &[[u8; 10]; 3], want: Option<u8>) {
         Some(page) => Some(page.cell(22, 0)),
         None => None,
     };
-    assert_same_in(rt, &cell, &want, starts);
+    assert_same_for_case(rt, &cell, &want, starts);
 }
 
 #[test]
@@ -135,24 +135,24 @@ fn shows_a_page_when_another_page_ends_it(rt: HostRuntime) {
 }
 
 // Asserts the kind of a packet for a receiver of page 888.
-fn assert_is(rt: &impl Abort, start: [u8; 10], want: PacketKind) {
+fn assert_code_is(rt: &impl Abort, start: [u8; 10], want: PacketKind) {
     let page_id = PageId::parse("888").expect(rt, "page 888");
-    assert_same_in(rt, &PacketKind::of(page_id, &packet(start)), &want, &start);
+    assert_same_for_case(rt, &PacketKind::of(page_id, &packet(start)), &want, &start);
 }
 
 #[test]
 fn reports_what_a_packet_is(rt: HostRuntime) {
-    assert_is(&rt, CLOSING, PacketKind::EndsPage);
-    assert_is(&rt, SERIAL_188, PacketKind::EndsPage);
-    assert_is(&rt, PAGE_188, PacketKind::Other);
-    assert_is(&rt, ROW_22, PacketKind::Row(22));
-    assert_is(&rt, ROW_122, PacketKind::Other);
-    assert_is(&rt, NO_ADDRESS, PacketKind::Other);
+    assert_code_is(&rt, CLOSING, PacketKind::EndsPage);
+    assert_code_is(&rt, SERIAL_188, PacketKind::EndsPage);
+    assert_code_is(&rt, PAGE_188, PacketKind::Other);
+    assert_code_is(&rt, ROW_22, PacketKind::Row(22));
+    assert_code_is(&rt, ROW_122, PacketKind::Other);
+    assert_code_is(&rt, NO_ADDRESS, PacketKind::Other);
     let header = packet(HEADER).header().expect(&rt, "a header");
-    assert_is(&rt, HEADER, PacketKind::ThisPage(header));
+    assert_code_is(&rt, HEADER, PacketKind::ThisPage(header));
     let page_id = PageId::parse("888").expect(&rt, "page 888");
     assert_same(&rt, &Keep::tune(page_id, Page::blank()).watched(), &page_id);
-    let another = packet(PAGE_188);
-    let (_, header) = PacketKind::with_header(page_id, &another);
-    assert_same(&rt, &header, &another.header());
+    let header_of_page_188 = packet(PAGE_188);
+    let (_, header) = PacketKind::classify_with_header(page_id, &header_of_page_188);
+    assert_same(&rt, &header, &header_of_page_188.header());
 }

@@ -7,7 +7,7 @@ use sub_io::MemSource;
 
 // Returns the block numbers after a subtitle, after a rejected subtitle of two blocks, and at the
 // end of the file.
-fn blocks_found(file: &[u8]) -> [u32; 3] {
+fn block_numbers_read(file: &[u8]) -> [u32; 3] {
     let mut source = MemSource::new(file);
     let mut subtitle = Subtitle::empty();
     let mut blocks = [0; 3];
@@ -34,7 +34,7 @@ fn blocks_found(file: &[u8]) -> [u32; 3] {
 fn finds_what_comes_after_a_refused_subtitle(rt: HostRuntime) {
     let mut file = file_of_three(2, 1);
     file[1155] = 0; // EBN: the third block is the last one of the second subtitle
-    assert_same(&rt, &blocks_found(&file), &[1, 2, 3]);
+    assert_same(&rt, &block_numbers_read(&file), &[1, 2, 3]);
 }
 
 // Returns the number of subtitles, at most two, that are read before any other result. The file has

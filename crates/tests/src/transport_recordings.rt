@@ -46,28 +46,28 @@ pub(crate) const GAP_MARKER_REST: [u8; 178] = [0xFF; 178];
 pub(crate) const ZEROS: [u8; 2820] = [0; 2820];
 
 /// Writes byte strings to a sink one after another, as long as the sink has room.
-pub(crate) fn put_pes_packets(sink: &mut MemSink<'_>, pes_packets: &[&[u8]]) {
+pub(crate) fn write_pes_packets(sink: &mut MemSink<'_>, pes_packets: &[&[u8]]) {
     for pes_packet in pes_packets {
-        put_pes_packet(sink, pes_packet);
+        write_pes_packet(sink, pes_packet);
     }
 }
 
 // Writes a byte string to a sink, as long as the sink has room.
-fn put_pes_packet(sink: &mut MemSink<'_>, pes_packet: &[u8]) {
+fn write_pes_packet(sink: &mut MemSink<'_>, pes_packet: &[u8]) {
     if sink.failures() == 0 {
         let _ = put_all(sink, pes_packet);
     }
 }
 
 // Writes the bytes after the last PES packet to a sink, as long as the sink has room.
-fn put_rest<P: PesPackets>(sink: &mut MemSink<'_>, pes_packets: &mut P)
+fn write_remaining_bytes<P: PesPackets>(sink: &mut MemSink<'_>, pes_packets: &mut P)
     requires rest { P.is_rest pes_packets.old ≡ true }
     requires failures { CanFail (P.failure_count pes_packets.old) }
 {
     let mut buffer = [0; REST_BUFFER_SIZE];
     if let Ok(count) = pes_packets.read_rest(&mut buffer) {
         let (rest, _) = buffer.split_at(count);
-        put_pes_packet(sink, rest);
+        write_pes_packet(sink, rest);
     }
 }
 
@@ -83,7 +83,7 @@ impl TakePesPacket for Gathered<'_> {
     ghost is_take = { λ old pes_packet answer new. ⊤ };
 
     fn take(&mut self, pes_packet: &[u8]) {
-        put_pes_packet(&mut self.sink, pes_packet);
+        write_pes_packet(&mut self.sink, pes_packet);
     }
 }
 
@@ -98,10 +98,10 @@ pub(crate) fn assert_output_of(
 ) {
     let mut recording_buffer = [0; 8192];
     let mut recorded = MemSink::new(&mut recording_buffer);
-    put_pes_packets(&mut recorded, recording);
+    write_pes_packets(&mut recorded, recording);
     let mut expected_buffer = [0; 2048];
     let mut expected_bytes = MemSink::new(&mut expected_buffer);
-    put_pes_packets(&mut expected_bytes, expected);
+    write_pes_packets(&mut expected_bytes, expected);
     let Some(pid) = Pid::new(number) else {
         return assert!(rt; false);
     };
@@ -118,7 +118,7 @@ pub(crate) fn assert_output_of(
         match pes_packets.next(&mut gathered) {
             Ok(Received::PesPacket(())) => {}
             Ok(Received::Rest(_)) => {
-                put_rest(&mut gathered.sink, &mut pes_packets);
+                write_remaining_bytes(&mut gathered.sink, &mut pes_packets);
                 break;
             }
             _ => break,

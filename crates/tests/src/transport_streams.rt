@@ -3,7 +3,7 @@
 use crate::transport_recordings::{
     BACK_1, BEGINS_0, BEGINS_1, BEGINS_2, BEGINS_9, FILL, GAP_MARKER_HEAD, GAP_MARKER_REST,
     Gathered, JUMP, JUMP_FILL, NULL, PREFIX_0, WRONG_1, ZEROS, assert_output, assert_output_of,
-    put_pes_packets,
+    write_pes_packets,
 };
 use fixtures::{FIRST, SECOND};
 use mpeg_ts::{PacketSize, Pid, RecordingPesPackets};
@@ -173,8 +173,10 @@ fn reads_packets_of_other_sizes(rt: HostRuntime) {
     let stamped: [&[u8]; 6] = [&stamp, &BEGINS_0, &FIRST, &stamp, &BEGINS_1, &SECOND];
     assert_output_of(&rt, 0x101, PacketSize::TimeStamped, &stamped, &both);
     let zeros: [u8; 4] = [0; 4];
-    let as_plain: [&[u8]; 6] = [&zeros, &BEGINS_0, &FIRST, &zeros, &BEGINS_1, &SECOND];
-    assert_output(&rt, &as_plain, &[]);
+    let with_time_stamps_of_zero: [&[u8]; 6] = [
+        &zeros, &BEGINS_0, &FIRST, &zeros, &BEGINS_1, &SECOND,
+    ];
+    assert_output(&rt, &with_time_stamps_of_zero, &[]);
     let code: &[u8] = &FILL[..16];
     let coded: [&[u8]; 5] = [&BEGINS_0, &FIRST, code, &BEGINS_1, &SECOND];
     assert_output_of(&rt, 0x101, PacketSize::ErrorCorrected, &coded, &both);
@@ -234,7 +236,7 @@ fn gives_a_gap_marker_and_then_the_pes_packet_that_is_ready(rt: HostRuntime) {
     let mut recording_buffer = [0; 1024];
     let mut recorded = MemSink::new(&mut recording_buffer);
     let start: [u8; 4] = [0x00, 0x00, 0x01, 0xBE];
-    put_pes_packets(
+    write_pes_packets(
         &mut recorded,
         &[
             &BEGINS_0,
@@ -284,7 +286,7 @@ fn gives_a_gap_marker_and_then_the_pes_packet_that_is_ready(rt: HostRuntime) {
 fn gives_a_pes_packet_before_it_reads_more(rt: HostRuntime) {
     let mut recording_buffer = [0; 1024];
     let mut recorded = MemSink::new(&mut recording_buffer);
-    put_pes_packets(&mut recorded, &[&BEGINS_0, &FIRST, &BEGINS_1, &SECOND]);
+    write_pes_packets(&mut recorded, &[&BEGINS_0, &FIRST, &BEGINS_1, &SECOND]);
     let Some(pid) = Pid::new(0x101) else {
         return assert!(rt; false);
     };

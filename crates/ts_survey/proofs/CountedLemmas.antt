@@ -6,34 +6,37 @@ use Rattle.std.proofs.lemmas.List.{drop-append-le}
 use Rattle.mpeg_ts.specs.PacketSize.{bytes_of}
 use Rattle.mpeg_ts.specs.PacketsInStep.{lead_size}
 use Rattle.ttx_page.specs.Receiver.{RunsBy}
-use Rattle.ts_survey.specs.Requested.{keeps_requested}
-use Rattle.ts_survey.specs.Counted.{BeginsAt, BeginsStream, CountsRecording, CountsStream}
-use Rattle.ts_survey.specs.Counted.{ReadsStream, IsAtPlace, StaysRead, TakesAny, TakesStarted}
-use Rattle.ts_survey.specs.Following.{any_pes_packet}
-use Rattle.ts_survey.specs.InStep.{TakesAll, counted_on, items_from, packet_count, skipped_in}
-use Rattle.ts_survey.specs.Listed.{GoesOn}
-use Rattle.ts_survey.specs.Stream.{TakesOn, is_unknown}
+use Rattle.ts_survey.specs.Requested.{packet_keeps_requested}
+use Rattle.ts_survey.specs.Counted.{BeginsAfterSkipping, IsAtStreamStart, CountsRecording}
+use Rattle.ts_survey.specs.Counted.{CountsStream}
+use Rattle.ts_survey.specs.Counted.{ReadsStream, HasReadUpToBuffer, ReadsNoMoreOfStream}
+use Rattle.ts_survey.specs.Counted.{AnyReceiverTakes, TakesStartedStream}
+use Rattle.ts_survey.specs.Following.{accepts_any_pes_packet}
+use Rattle.ts_survey.specs.InStep.{TakesAll, saturating_count, items_from, packet_count}
+use Rattle.ts_survey.specs.InStep.{skipped_byte_count}
+use Rattle.ts_survey.specs.Listed.{KeepsKind}
+use Rattle.ts_survey.specs.Stream.{TakesPartOfStream, is_unknown}
 use Rattle.ts_survey.specs.declared.multiplex.Multiplex.{Multiplex}
 use Rattle.ts_survey.specs.declared.packets_in_step.PacketsInStep.{PacketsInStep}
 use Rattle.ts_survey.specs.declared.recording.Kind.{Kind}
 use Rattle.ts_survey.specs.declared.recording.Kind.TheVariants.{Nothing, Pes, Stream, Unknown}
 use Rattle.ts_survey.proofs.InStepLemmas.{law_of_two_calls}
 
-runs-any : (packets : List (List ℕ)) → RunsBy {S = Unit {0}} any_pes_packet (tt {0}) packets
+runs-any : (packets : List (List ℕ)) → RunsBy {S = Unit {0}} accepts_any_pes_packet (tt {0}) packets
     (tt {0})
 runs-any [] = refl
 runs-any (p ∷ ps) = (tt, tt, runs-any ps)
 
 taken-any :
     (old new : PacketsInStep) (before after : Multiplex) (bytes : List ℕ) (is_end : Bool) (used : ℕ)
-    → TakesAll keeps_requested old before bytes is_end used new after
-    → TakesAny old bytes is_end used new
+    → TakesAll packet_keeps_requested old before bytes is_end used new after
+    → AnyReceiverTakes old bytes is_end used new
 taken-any old new before after bytes is_end used takes = record {
   within = takes.within;
   found = record {
     found = takes.found.found;
-    stand = takes.found.stand;
-    up_to = takes.found.up_to;
+    items_split_after_found = takes.found.items_split_after_found;
+    place_follows_items = takes.found.place_follows_items;
     taken = runs-any _;
     run = takes.found.run;
     number = takes.found.number;
@@ -45,24 +48,25 @@ taken-any old new before after bytes is_end used takes = record {
 }
 
 begun-read :
-    (passed : ℕ) (first new : PacketsInStep) (start after : Multiplex)
+    (skipped_before : ℕ) (first new : PacketsInStep) (start after : Multiplex)
     (received bytes buffered : List ℕ) (is_end : Bool) (used : ℕ)
-    → passed ≤ length received
-    → bytes ≡ drop passed received
+    → skipped_before ≤ length received
+    → bytes ≡ drop skipped_before received
     → buffered ≡ drop used bytes
-    → BeginsAt passed first
-    → TakesAll keeps_requested first start bytes is_end used new after
+    → BeginsAfterSkipping skipped_before first
+    → TakesAll packet_keeps_requested first start bytes is_end used new after
     → ReadsStream received buffered is_end new
-begun-read passed first new start after received bytes buffered is_end used within is left begins
+begun-read skipped_before first new start after received bytes buffered is_end used within is left
+    begins
     takes =
     record {
-      passed = passed;
+      skipped_before = skipped_before;
       within = within;
       first = first;
       begins = begins;
       used = used;
       taken =
-          subst (λ l. TakesAny first l is_end used new) is
+          subst (λ l. AnyReceiverTakes first l is_end used new) is
           (taken-any first new start after bytes is_end used takes);
       left = left ∙ ap (drop used) is;
     }
@@ -74,27 +78,29 @@ read-on :
     → ReadsStream received buffered false mid
     → bytes ≡ buffered ++ more
     → next ≡ drop used bytes
-    → TakesAll keeps_requested mid reported bytes is_end used new after
+    → TakesAll packet_keeps_requested mid reported bytes is_end used new after
     → ReadsStream (received ++ more) next is_end new
 read-on mid new reported after received more buffered bytes next is_end used read is left takes =
-    let one = drop read.passed received in
-    let all = drop read.passed (received ++ more) in
-    let ahead : one ++ more ≡ all = sym (drop-append-le read.passed received more read.within) in
+    let one = drop read.skipped_before received in
+    let all = drop read.skipped_before (received ++ more) in
+    let ahead : one ++ more ≡ all = sym (drop-append-le read.skipped_before received more
+    read.within) in
     let whole : bytes ≡ drop read.used one ++ more = is ∙ ap (λ l. l ++ more) read.left in
     let following : drop read.used one ++ more ≡ drop read.used all =
     sym (drop-append-le read.used one more read.taken.within) ∙ ap (drop read.used) ahead in
     record {
-      passed = read.passed;
+      skipped_before = read.skipped_before;
       within = omega (arith, read.within, length-append received more);
       first = read.first;
       begins = read.begins;
       used = read.used + used;
       taken =
-          subst (λ l. TakesAny read.first l is_end (read.used + used) new) ahead
-          (law_of_two_calls {T = Unit {0}} any_pes_packet read.first mid new tt tt tt one more
+          subst (λ l. AnyReceiverTakes read.first l is_end (read.used + used) new) ahead
+          (law_of_two_calls {T = Unit {0}} accepts_any_pes_packet read.first mid new tt tt tt one
+          more
           is_end
           read.used used read.taken
-          (subst (λ l. TakesAny mid l is_end used new) whole
+          (subst (λ l. AnyReceiverTakes mid l is_end used new) whole
           (taken-any mid new reported after bytes is_end used takes)));
       left =
           left
@@ -102,28 +108,28 @@ read-on mid new reported after received more buffered bytes next is_end used rea
           ∙ drop-drop used read.used all;
     }
 
-pub takes-begun : (passed : ℕ) (mid new : Kind) (bytes : List ℕ) (is_end : Bool) (used : ℕ)
-    → BeginsStream passed mid
-    → TakesOn mid bytes is_end used new
-    → GoesOn mid new
-    → TakesStarted passed bytes is_end used new
-takes-begun passed Unknown Unknown bytes is_end used begins takes on = tt
-takes-begun passed Unknown (Pes g) bytes is_end used begins takes on = tt
-takes-begun passed Unknown (Stream q n) bytes is_end used begins takes on = absurd on
-takes-begun passed Unknown Nothing bytes is_end used begins takes on = tt
-takes-begun passed (Pes f) Unknown bytes is_end used begins takes on = tt
-takes-begun passed (Pes f) (Pes g) bytes is_end used begins takes on = tt
-takes-begun passed (Pes f) (Stream q n) bytes is_end used begins takes on = absurd on
-takes-begun passed (Pes f) Nothing bytes is_end used begins takes on = tt
-takes-begun passed (Stream p m) Unknown bytes is_end used begins takes on = tt
-takes-begun passed (Stream p m) (Pes g) bytes is_end used begins takes on = tt
-takes-begun passed (Stream p m) (Stream q n) bytes is_end used begins takes on =
+pub takes-begun : (skipped_before : ℕ) (mid new : Kind) (bytes : List ℕ) (is_end : Bool) (used : ℕ)
+    → IsAtStreamStart skipped_before mid
+    → TakesPartOfStream mid bytes is_end used new
+    → KeepsKind mid new
+    → TakesStartedStream skipped_before bytes is_end used new
+takes-begun skipped_before Unknown Unknown bytes is_end used begins takes on = tt
+takes-begun skipped_before Unknown (Pes g) bytes is_end used begins takes on = tt
+takes-begun skipped_before Unknown (Stream q n) bytes is_end used begins takes on = absurd on
+takes-begun skipped_before Unknown Nothing bytes is_end used begins takes on = tt
+takes-begun skipped_before (Pes f) Unknown bytes is_end used begins takes on = tt
+takes-begun skipped_before (Pes f) (Pes g) bytes is_end used begins takes on = tt
+takes-begun skipped_before (Pes f) (Stream q n) bytes is_end used begins takes on = absurd on
+takes-begun skipped_before (Pes f) Nothing bytes is_end used begins takes on = tt
+takes-begun skipped_before (Stream p m) Unknown bytes is_end used begins takes on = tt
+takes-begun skipped_before (Stream p m) (Pes g) bytes is_end used begins takes on = tt
+takes-begun skipped_before (Stream p m) (Stream q n) bytes is_end used begins takes on =
     record { first = p; begins = begins; start = m; taken = takes }
-takes-begun passed (Stream p m) Nothing bytes is_end used begins takes on = tt
-takes-begun passed Nothing Unknown bytes is_end used begins takes on = tt
-takes-begun passed Nothing (Pes g) bytes is_end used begins takes on = tt
-takes-begun passed Nothing (Stream q n) bytes is_end used begins takes on = absurd on
-takes-begun passed Nothing Nothing bytes is_end used begins takes on = tt
+takes-begun skipped_before (Stream p m) Nothing bytes is_end used begins takes on = tt
+takes-begun skipped_before Nothing Unknown bytes is_end used begins takes on = tt
+takes-begun skipped_before Nothing (Pes g) bytes is_end used begins takes on = tt
+takes-begun skipped_before Nothing (Stream q n) bytes is_end used begins takes on = absurd on
+takes-begun skipped_before Nothing Nothing bytes is_end used begins takes on = tt
 
 is_at_place-begun :
     (new : Kind) (skipped skipped_now used : ℕ) (received more buffered bytes next : List ℕ)
@@ -134,8 +140,8 @@ is_at_place-begun :
     → next ≡ drop used bytes
     → used ≤ length bytes
     → (is_unknown new ≡ true → skipped_now ≡ skipped + used)
-    → TakesStarted skipped bytes is_end used new
-    → IsAtPlace new skipped_now (received ++ more) next is_end
+    → TakesStartedStream skipped bytes is_end used new
+    → HasReadUpToBuffer new skipped_now (received ++ more) next is_end
 is_at_place-begun
     Unknown skipped skipped_now used received more buffered bytes next is_end within is whole left
     fits
@@ -177,14 +183,14 @@ is_at_place-begun
 is_at_place-on :
     (old new : Kind) (skipped skipped_now used : ℕ) (received more buffered bytes next : List ℕ)
     (is_end : Bool)
-    → IsAtPlace old skipped received buffered false
+    → HasReadUpToBuffer old skipped received buffered false
     → bytes ≡ buffered ++ more
     → next ≡ drop used bytes
     → used ≤ length bytes
     → (is_unknown old ≡ true → is_unknown new ≡ true → skipped_now ≡ skipped + used)
-    → (is_unknown old ≡ true → TakesStarted skipped bytes is_end used new)
-    → (is_unknown old ≡ false → GoesOn old new × TakesOn old bytes is_end used new)
-    → IsAtPlace new skipped_now (received ++ more) next is_end
+    → (is_unknown old ≡ true → TakesStartedStream skipped bytes is_end used new)
+    → (is_unknown old ≡ false → KeepsKind old new × TakesPartOfStream old bytes is_end used new)
+    → HasReadUpToBuffer new skipped_now (received ++ more) next is_end
 is_at_place-on
     Unknown new skipped skipped_now used received more buffered bytes next is_end is_at_place whole
     left fits
@@ -250,41 +256,41 @@ is_at_place-on
 pub is_at_place-next :
     (old new : Kind) (skipped skipped_now used : ℕ) (received more buffered now bytes next : List ℕ)
     (is_end : Bool)
-    → IsAtPlace old skipped received buffered false
+    → HasReadUpToBuffer old skipped received buffered false
     → now ≡ buffered ++ more
     → bytes ≡ now
     → next ≡ drop used now
     → used ≤ length bytes
     → (is_unknown old ≡ true → is_unknown new ≡ true → skipped_now ≡ skipped + used)
-    → (is_unknown old ≡ true → TakesStarted skipped bytes is_end used new)
-    → (is_unknown old ≡ false → GoesOn old new)
-    → (is_unknown old ≡ false → TakesOn old bytes is_end used new)
-    → IsAtPlace new skipped_now (received ++ more) next is_end
+    → (is_unknown old ≡ true → TakesStartedStream skipped bytes is_end used new)
+    → (is_unknown old ≡ false → KeepsKind old new)
+    → (is_unknown old ≡ false → TakesPartOfStream old bytes is_end used new)
+    → HasReadUpToBuffer new skipped_now (received ++ more) next is_end
 is_at_place-next
     old new skipped skipped_now used received more buffered now bytes next is_end is_at_place
-    more_eq same passed
+    more_eq same skipped_before
     fits known begun on taken =
     is_at_place-on old new skipped skipped_now used received more buffered bytes next is_end
     is_at_place
-    (same ∙ more_eq) (passed ∙ ap (drop used) (sym same)) fits known begun
+    (same ∙ more_eq) (skipped_before ∙ ap (drop used) (sym same)) fits known begun
     (λ is. (on is, taken is))
 
 pub is_at_place-start : (kind : Kind) (skipped : ℕ) (buffered : List ℕ)
     → kind ≡ Unknown
     → skipped ≡ 0
     → buffered ≡ []
-    → IsAtPlace kind skipped [] buffered false
+    → HasReadUpToBuffer kind skipped [] buffered false
 is_at_place-start kind skipped buffered unknown none empty =
-    subst (λ k. IsAtPlace k skipped [] buffered false) (sym unknown)
+    subst (λ k. HasReadUpToBuffer k skipped [] buffered false) (sym unknown)
     (subst (λ n. (n ≤ 0) × (buffered ≡ drop n [])) (sym none) (omega arith, empty))
 
 pub is_at_place-kept :
     (old new : Kind) (skipped skipped_now : ℕ) (received buffered : List ℕ) (is_end : Bool)
-    → GoesOn old new
-    → StaysRead old new
+    → KeepsKind old new
+    → ReadsNoMoreOfStream old new
     → skipped_now ≡ skipped
-    → IsAtPlace old skipped received buffered is_end
-    → IsAtPlace new skipped_now received buffered is_end
+    → HasReadUpToBuffer old skipped received buffered is_end
+    → HasReadUpToBuffer new skipped_now received buffered is_end
 is_at_place-kept Unknown Unknown skipped skipped_now received buffered is_end on stays same
     is_at_place =
     subst (λ n. (n ≤ length received) × (buffered ≡ drop n received)) (sym same) is_at_place
@@ -329,15 +335,15 @@ counted-stream : (received buffered : List ℕ) (packets : PacketsInStep)
     → CountsStream received packets
 counted-stream received buffered packets read =
     let first = read.first in
-    let bytes = drop read.passed received in
+    let bytes = drop read.skipped_before received in
     let found = read.taken.found in
     let place = read.used + packets.lead in
     let same = found.size in
     let distance = bytes_of first.size in
     let count = packet_count found.found in
-    let skipped = skipped_in found.found in
+    let skipped = skipped_byte_count found.found in
     record {
-      passed = read.passed;
+      skipped_before = read.skipped_before;
       within = read.within;
       found = found.found;
       items =
@@ -345,25 +351,25 @@ counted-stream received buffered packets read =
           ∙ ap (λ n. items_from distance true (drop n bytes)) (sym read.begins.lead)
           ∙ ap (λ b. items_from distance b (drop first.lead bytes)) (sym read.begins.in_step)
           ∙ ap (λ l. items_from distance first.in_step (drop first.lead l)) (sym (append-nil bytes))
-          ∙ found.stand [] (λ is. refl)
+          ∙ found.items_split_after_found [] (λ is. refl)
           ∙ ap (λ l. found.found ++ items_from distance packets.in_step (drop place l))
           (append-nil bytes)
           ∙ ap (λ s. found.found ++ items_from (bytes_of s) packets.in_step (drop place bytes))
           (sym same)
           ∙ ap (λ l. found.found ++ l) (read.taken.all refl)
           ∙ append-nil found.found;
-      number = found.number ∙ ap (λ n. counted_on n count) read.begins.number;
+      number = found.number ∙ ap (λ n. saturating_count n count) read.begins.number;
       skipped =
           found.skipped
-          ∙ ap (λ n. counted_on n (skipped + (length bytes - place))) read.begins.skipped
-          ∙ ap (λ n. counted_on read.passed (skipped + (length bytes - n)))
-          (found.up_to
+          ∙ ap (λ n. saturating_count n (skipped + (length bytes - place))) read.begins.skipped
+          ∙ ap (λ n. saturating_count read.skipped_before (skipped + (length bytes - n)))
+          (found.place_follows_items
           ∙ ap (λ n. n + distance * count + skipped) read.begins.lead
           ∙ ap (λ s. lead_size (bytes_of s) + bytes_of s * count + skipped) (sym same));
     }
 
 pub counted-all : (kind : Kind) (skipped : ℕ) (received buffered : List ℕ)
-    → IsAtPlace kind skipped received buffered true
+    → HasReadUpToBuffer kind skipped received buffered true
     → CountsRecording received kind
 counted-all Unknown skipped received buffered is_at_place = tt
 counted-all (Pes f) skipped received buffered is_at_place = tt

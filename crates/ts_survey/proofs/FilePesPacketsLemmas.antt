@@ -2,35 +2,36 @@
 use Rattle.std.proofs.Common.{◌≡◌, ◌<◌, ℕ, List, arith, drop, length, subst, sym}
 use Rattle.std.proofs.lemmas.Bool.Decides.{nat_tests}
 use Rattle.std.specs.Prelude.{Some, None}
-use Rattle.ts_survey.specs.FilePesPackets.{CountsPesPackets, complete_size, counts_next}
-use Rattle.ts_survey.specs.FilePesPackets.{counts_none}
-use Rattle.ts_survey.specs.InStep.{counted_on}
+use Rattle.ts_survey.specs.FilePesPackets.{CountsPesPackets, complete_packet_size}
+use Rattle.ts_survey.specs.FilePesPackets.{next_packet_counted}
+use Rattle.ts_survey.specs.FilePesPackets.{no_complete_packet}
+use Rattle.ts_survey.specs.InStep.{saturating_count}
 
 pub counts-next : (first old now new size : ℕ) (all bytes more rest : List ℕ)
     → ((left : List ℕ) (count : ℕ)
     → CountsPesPackets old bytes left count
     → CountsPesPackets first all left count)
-    → Some size ≡ complete_size bytes
+    → Some size ≡ complete_packet_size bytes
     → more ≡ drop size bytes
-    → now ≡ counted_on old 1
+    → now ≡ saturating_count old 1
     → CountsPesPackets now more rest new
     → CountsPesPackets first all rest new
 counts-next first old now new size all bytes more rest before is left one counts =
     before rest new
-    (counts_next old new size bytes rest (sym is)
-    (subst (λ l. CountsPesPackets (counted_on old 1) l rest new) left
+    (next_packet_counted old new size bytes rest (sym is)
+    (subst (λ l. CountsPesPackets (saturating_count old 1) l rest new) left
     (subst (λ n. CountsPesPackets n more rest new) one counts)))
 
 pub counts-end : (first new : ℕ) (all rest : List ℕ)
     → ((left : List ℕ) (count : ℕ)
     → CountsPesPackets new rest left count
     → CountsPesPackets first all left count)
-    → None ≡ complete_size rest
+    → None ≡ complete_packet_size rest
     → CountsPesPackets first all rest new
-counts-end first new all rest before none = before rest new (counts_none new rest (sym none))
+counts-end first new all rest before none = before rest new (no_complete_packet new rest (sym none))
 
-pub no-size : (bytes : List ℕ) → length bytes < 6 → None ≡ complete_size bytes
-unfolding complete_size
+pub no-size : (bytes : List ℕ) → length bytes < 6 → None ≡ complete_packet_size bytes
+unfolding complete_packet_size
 no-size bytes few = grind (arith, nat_tests)
 
 pub ruleset counted_one_by_one = (counts-next, counts-end, no-size)

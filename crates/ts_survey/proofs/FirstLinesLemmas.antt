@@ -7,11 +7,13 @@ use Rattle.std.proofs.lemmas.List.Folds.{concat-append}
 use Rattle.std.specs.List.{concat}
 use Rattle.std.specs.Prelude.{length}
 use Rattle.mpeg_ts.specs.PacketSize.{bytes_of}
-use Rattle.ts_survey.specs.FirstLines.{FindsKind, requested_texts, begins_pes, head_size}
-use Rattle.ts_survey.specs.FirstLines.{head_so_far}
-use Rattle.ts_survey.specs.FirstLines.{head_reported, head_texts, is_pes, kind_texts, size_line}
+use Rattle.ts_survey.specs.FirstLines.{FindsKind, requested_texts, begins_with_pes_packet}
+use Rattle.ts_survey.specs.FirstLines.{head_size}
+use Rattle.ts_survey.specs.FirstLines.{head_texts_if_received}
+use Rattle.ts_survey.specs.FirstLines.{newly_reported_head, head_texts, is_pes, kind_texts}
+use Rattle.ts_survey.specs.FirstLines.{size_line}
 use Rattle.ts_survey.specs.Lines.{AddsTexts}
-use Rattle.ts_survey.specs.Listed.{GoesOn, IsReported}
+use Rattle.ts_survey.specs.Listed.{KeepsKind, IsReported}
 use Rattle.ts_survey.specs.Stream.{is_unknown}
 use Rattle.ts_survey.specs.declared.recording.Kind.{Kind}
 use Rattle.ts_survey.specs.declared.recording.Kind.TheVariants.{Nothing, Pes, Stream, Unknown}
@@ -25,7 +27,7 @@ no-items [] none = refl
 no-items (x ∷ xs) none = absurd (omega arith)
 
 kinds-on : (old new : Kind)
-    → GoesOn old new
+    → KeepsKind old new
     → (kind_texts new ≡ kind_texts old)
     × (is_unknown new ≡ is_unknown old)
     × (is_pes new ≡ is_pes old)
@@ -70,8 +72,9 @@ pub reported-start : (recording : Recording)
 reported-start recording unknown none = record {
   more = [];
   reported =
-      sym (ap (λ kind. concat (head_so_far recording.has_head [] ++ kind_texts kind) ++ []) unknown
-      ∙ ap (λ has. concat (head_so_far has [] ++ []) ++ []) none);
+      sym (ap (λ kind. concat (head_texts_if_received recording.has_head [] ++ kind_texts kind) ++
+      []) unknown
+      ∙ ap (λ has. concat (head_texts_if_received has [] ++ []) ++ []) none);
   unknown = λ is. refl;
   none = λ no. ap is_unknown unknown;
   pes = λ has. let e = sym none ∙ has in cc;
@@ -79,13 +82,13 @@ reported-start recording unknown none = record {
 
 same-head : (has : Bool) (head other : List ℕ)
     → (has ≡ true → other ≡ head)
-    → head_so_far has other ≡ head_so_far has head
+    → head_texts_if_received has other ≡ head_texts_if_received has head
 same-head true head other same = ap head_texts (same refl)
 same-head false head other same = refl
 
 reported-more : (old new : Recording) (received all listing more : List ℕ)
     → IsReported old received listing
-    → GoesOn old.kind new.kind
+    → KeepsKind old.kind new.kind
     → new.has_head ≡ old.has_head
     → (old.has_head ≡ true → take head_size all ≡ take head_size received)
     → (is_unknown old.kind ≡ true → more ≡ [])
@@ -98,9 +101,10 @@ reported-more old new received all listing more reported on same begins none =
           ∙ append_assoc _ reported.more more
           ∙ ap (λ l. concat (l ++ kind_texts old.kind) ++ (reported.more ++ more))
           (sym (same-head old.has_head (take head_size received) head begins))
-          ∙ ap (λ words. concat (head_so_far old.has_head head ++ words) ++ (reported.more ++ more))
+          ∙ ap (λ words. concat (head_texts_if_received old.has_head head ++ words) ++
+          (reported.more ++ more))
           (sym (kinds-on old.kind new.kind on).0)
-          ∙ ap (λ has. concat (head_so_far has head ++ kind_texts new.kind) ++
+          ∙ ap (λ has. concat (head_texts_if_received has head ++ kind_texts new.kind) ++
           (reported.more ++ more))
           (sym same);
       unknown = λ is.
@@ -111,29 +115,30 @@ reported-more old new received all listing more reported on same begins none =
           let had = sym same ∙ has in
           (kinds-on old.kind new.kind on).2
           ∙ reported.pes had
-          ∙ ap begins_pes (sym (begins had));
+          ∙ ap begins_with_pes_packet (sym (begins had));
     }
 
 pub reported-kept : (old new : Recording) (received listing : List ℕ)
     → IsReported old received listing
-    → GoesOn old.kind new.kind
+    → KeepsKind old.kind new.kind
     → new.has_head ≡ old.has_head
     → IsReported new received listing
 reported-kept old new received listing reported on same =
     subst (λ l. IsReported new received l) (append-nil listing)
     (reported-more old new received received listing [] reported on same (λ has. refl) (λ is. refl))
 
-heads : (before after : Bool) (received all bytes : List ℕ)
+head_texts_continue : (before after : Bool) (received all bytes : List ℕ)
     → (before ≡ true → after ≡ true)
     → (before ≡ true → take head_size all ≡ take head_size received)
     → (before ≡ false → all ≡ bytes)
-    → head_so_far after (take head_size all)
-    ≡ head_so_far before (take head_size received) ++ head_reported before bytes after
-heads true true received all bytes stays begins first =
+    → head_texts_if_received after (take head_size all)
+    ≡ head_texts_if_received before (take head_size received) ++ newly_reported_head before bytes
+    after
+head_texts_continue true true received all bytes stays begins first =
     ap head_texts (begins refl) ∙ sym (append-nil (head_texts (take head_size received)))
-heads true false received all bytes stays begins first = let e = stays refl in cc
-heads false after received all bytes stays begins first =
-    ap (λ l. head_so_far after (take head_size l)) (first refl)
+head_texts_continue true false received all bytes stays begins first = let e = stays refl in cc
+head_texts_continue false after received all bytes stays begins first =
+    ap (λ l. head_texts_if_received after (take head_size l)) (first refl)
 
 pub found-following-head :
     (old mid new : Recording) (bytes : List ℕ) (before between after : Text)
@@ -143,27 +148,30 @@ pub found-following-head :
     → mid.kind ≡ Unknown
     → (mid.out_of_memory ≡ false
     → AddsTexts before (head_texts (take head_size bytes) ++ kind_texts mid.kind) between)
-    → (mid.out_of_memory ≡ false → is_pes mid.kind ≡ begins_pes (take head_size bytes))
+    → (mid.out_of_memory ≡ false → is_pes mid.kind ≡ begins_with_pes_packet (take head_size bytes))
     → (new.out_of_memory ≡ false → mid.out_of_memory ≡ false)
     → (new.out_of_memory ≡ false → AddsTexts between (kind_texts new.kind) after)
     → is_pes new.kind ≡ false
     → FindsKind old bytes before after new
 found-following-head
-    old mid new bytes before between after was has same unknown head pes short kind not = record {
+    old mid new bytes before between after was has same unknown head pes memory_state kind
+    not = record {
       reported = λ enough.
           let words = head_texts (take head_size bytes) in
-          let e : head_reported old.has_head bytes new.has_head ≡ words ++ kind_texts mid.kind =
-          ap (λ had. head_reported had bytes new.has_head) was
-          ∙ ap (λ is. head_so_far is (take head_size bytes)) (same ∙ has)
+          let e : newly_reported_head old.has_head bytes new.has_head ≡ words ++ kind_texts
+          mid.kind =
+          ap (λ had. newly_reported_head had bytes new.has_head) was
+          ∙ ap (λ is. head_texts_if_received is (take head_size bytes)) (same ∙ has)
           ∙ sym (append-nil words)
           ∙ ap (λ k. words ++ kind_texts k) (sym unknown) in
           subst (λ l. AddsTexts before (l ++ kind_texts new.kind) after) (sym e)
-          (adds-words (words ++ kind_texts mid.kind) (kind_texts new.kind) (head (short enough))
+          (adds-words (words ++ kind_texts mid.kind) (kind_texts new.kind)
+          (head (memory_state enough))
           (kind enough));
       stays = λ is. same ∙ has;
       none = λ is. let e = sym (same ∙ has) ∙ is in cc;
-      pes = λ enough had is. not ∙ sym (ap is_pes unknown) ∙ pes (short enough);
-      not_pes = λ had. not;
+      pes = λ enough had is. not ∙ sym (ap is_pes unknown) ∙ pes (memory_state enough);
+      kind_is_not_pes = λ had. not;
     }
 
 pub found-with-head : (old new : Recording) (bytes : List ℕ) (before after : Text)
@@ -175,13 +183,13 @@ pub found-with-head : (old new : Recording) (bytes : List ℕ) (before after : T
 found-with-head old new bytes before after has same kind not = record {
   reported = λ enough.
       let words = kind_texts new.kind in
-      subst (λ was. AddsTexts before (head_reported was bytes new.has_head ++ words) after)
+      subst (λ was. AddsTexts before (newly_reported_head was bytes new.has_head ++ words) after)
       (sym has)
       (kind enough);
   stays = λ is. same ∙ is;
   none = λ is. let e = sym (same ∙ has) ∙ is in cc;
   pes = λ enough had is. let e = sym has ∙ had in cc;
-  not_pes = λ had. not;
+  kind_is_not_pes = λ had. not;
 }
 
 unknown-is-no-pes : (kind : Kind) → is_unknown kind ≡ true → is_pes kind ≡ false
@@ -200,18 +208,21 @@ found-pes :
     → (old.has_head ≡ true → take head_size all ≡ take head_size received)
     → (old.has_head ≡ false → all ≡ bytes)
     → new.has_head ≡ true
-    → is_pes new.kind ≡ begins_pes (take head_size all)
+    → is_pes new.kind ≡ begins_with_pes_packet (take head_size all)
 found-pes
-    true old new received all bytes listing first last had reported is finds enough begins same
+    true old new received all bytes listing first last had reported is kind_is_found enough begins
+    same
     has =
-    finds.not_pes had
+    kind_is_found.kind_is_not_pes had
     ∙ sym (unknown-is-no-pes old.kind is)
     ∙ reported.pes had
-    ∙ ap begins_pes (sym (begins had))
+    ∙ ap begins_with_pes_packet (sym (begins had))
 found-pes
-    false old new received all bytes listing first last had reported is finds enough begins same
+    false old new received all bytes listing first last had reported is kind_is_found enough begins
+    same
     has =
-    finds.pes enough had has ∙ ap (λ l. begins_pes (take head_size l)) (sym (same had))
+    kind_is_found.pes enough had has ∙ ap (λ l. begins_with_pes_packet (take head_size l))
+    (sym (same had))
 
 reported-found : (old new : Recording) (received all bytes listing text : List ℕ)
     (first last : Text)
@@ -226,11 +237,12 @@ reported-found : (old new : Recording) (received all bytes listing text : List �
     → (is_unknown new.kind ≡ true → text ≡ [])
     → IsReported new all (listing ++ (last.bytes.items ++ text))
 reported-found
-    old new received all bytes listing text first last reported is finds enough empty whole begins
+    old new received all bytes listing text first last reported is kind_is_found enough empty whole
+    begins
     same
     none =
-    let had = head_so_far old.has_head (take head_size received) in
-    let more = head_reported old.has_head bytes new.has_head in
+    let had = head_texts_if_received old.has_head (take head_size received) in
+    let more = newly_reported_head old.has_head bytes new.has_head in
     let known = kind_texts new.kind in
     let was : listing ≡ concat had =
     reported.reported
@@ -239,7 +251,7 @@ reported-found
     ∙ ap (λ l. concat (had ++ l)) (unknown-words old.kind is)
     ∙ ap concat (append-nil had) in
     let now : last.bytes.items ≡ concat (more ++ known) =
-    (finds.reported enough).added whole ∙ ap (λ l. l ++ concat (more ++ known)) empty in
+    (kind_is_found.reported enough).added whole ∙ ap (λ l. l ++ concat (more ++ known)) empty in
     record {
       more = text;
       reported =
@@ -249,12 +261,13 @@ reported-found
           ∙ ap (λ l. l ++ text) (sym (concat-append had (more ++ known)))
           ∙ ap (λ l. concat l ++ text) (sym (append_assoc had more known))
           ∙ ap (λ l. concat (l ++ known) ++ text)
-          (sym (heads old.has_head new.has_head received all bytes finds.stays begins same));
+          (sym (head_texts_continue old.has_head new.has_head received all bytes kind_is_found.stays
+          begins same));
       unknown = none;
-      none = finds.none;
+      none = kind_is_found.none;
       pes = λ has.
           found-pes old.has_head old new received all bytes listing first last refl reported is
-          finds enough
+          kind_is_found enough
           begins same has;
     }
 
@@ -264,7 +277,7 @@ reported-by : (is : Bool) (old new : Recording) (received all bytes listing text
     → IsReported old received listing
     → (is_unknown old.kind ≡ true → FindsKind old bytes first last new)
     → (is_unknown old.kind ≡ false
-    → (last ≡ first) × (new.has_head ≡ old.has_head) × GoesOn old.kind new.kind)
+    → (last ≡ first) × (new.has_head ≡ old.has_head) × KeepsKind old.kind new.kind)
     → new.out_of_memory ≡ false
     → first.bytes.items ≡ []
     → last.is_lost ≡ false
@@ -273,14 +286,17 @@ reported-by : (is : Bool) (old new : Recording) (received all bytes listing text
     → (is_unknown new.kind ≡ true → text ≡ [])
     → IsReported new all (listing ++ (last.bytes.items ++ text))
 reported-by
-    true old new received all bytes listing text first last is reported finds goes enough empty
+    true old new received all bytes listing text first last is reported kind_is_found goes enough
+    empty
     whole begins
     same none =
-    reported-found old new received all bytes listing text first last reported is (finds is) enough
+    reported-found old new received all bytes listing text first last reported is (kind_is_found is)
+    enough
     empty whole
     begins same none
 reported-by
-    false old new received all _ listing text first last is reported finds goes _ empty _ begins
+    false old new received all _ listing text first last is reported kind_is_found goes _ empty
+    _ begins
     _ none =
     let on = goes is in
     let no_more : last.bytes.items ≡ [] = ap (λ t. t.bytes.items) on.0 ∙ empty in
@@ -293,7 +309,7 @@ pub reported-on : (old new : Recording) (received all bytes listing text : List 
     → IsReported old received listing
     → (is_unknown old.kind ≡ true → FindsKind old bytes first last new)
     → (is_unknown old.kind ≡ false
-    → (last ≡ first) × (new.has_head ≡ old.has_head) × GoesOn old.kind new.kind)
+    → (last ≡ first) × (new.has_head ≡ old.has_head) × KeepsKind old.kind new.kind)
     → new.out_of_memory ≡ false
     → length first.bytes.items ≡ 0
     → last.is_lost ≡ false
@@ -301,9 +317,10 @@ pub reported-on : (old new : Recording) (received all bytes listing text : List 
     → (old.has_head ≡ false → all ≡ bytes)
     → (is_unknown new.kind ≡ true → text ≡ [])
     → IsReported new all (listing ++ (last.bytes.items ++ text))
-reported-on old new received all bytes listing text first last reported finds goes enough empty =
+reported-on old new received all bytes listing text first last reported kind_is_found goes enough
+    empty =
     reported-by (is_unknown old.kind) old new received all bytes listing text first last refl
-    reported finds
+    reported kind_is_found
     goes enough (no-items first.bytes.items empty)
 
 -- Once the bytes of the line `head` have been received, further bytes do not change that line.
@@ -337,8 +354,8 @@ pub still-buffered : (received buffered now after more : List ℕ) (used : ℕ)
     → used ≡ 0
     → after ≡ drop used now
     → after ≡ received ++ more
-still-buffered received buffered now after more used is more_eq none passed =
-    passed ∙ ap (λ n. drop n now) none ∙ more_eq ∙ ap (λ l. l ++ more) is
+still-buffered received buffered now after more used is more_eq none skipped_before =
+    skipped_before ∙ ap (λ n. drop n now) none ∙ more_eq ∙ ap (λ l. l ++ more) is
 
 pub was-none : (had has : Bool) → (had ≡ true → has ≡ true) → has ≡ false → had ≡ false
 was-none true has stays none = let e = sym (stays refl) ∙ none in cc

@@ -8,13 +8,14 @@ use Rattle.std.specs.Prelude.{IfSome, length}
 use Rattle.mpeg_ts.specs.declared.packet_size.PacketSize.{PacketSize}
 use Rattle.mpeg_ts.specs.declared.survey_options.SurveyOptions.{SurveyOptions}
 use Rattle.ttx_page.specs.Receiver.{RunsBy}
-use Rattle.ts_survey.specs.Requested.{KeepsRequested, keeps_requested, others_followed}
-use Rattle.ts_survey.specs.Counted.{IsAtPlace}
-use Rattle.ts_survey.specs.FirstLines.{head_size, head_so_far, kind_texts}
+use Rattle.ts_survey.specs.Requested.{KeepsRequested, packet_keeps_requested}
+use Rattle.ts_survey.specs.Requested.{unrequested_followed_pids}
+use Rattle.ts_survey.specs.Counted.{HasReadUpToBuffer}
+use Rattle.ts_survey.specs.FirstLines.{head_size, head_texts_if_received, kind_texts}
 use Rattle.ts_survey.specs.InStep.{TakesAll}
 use Rattle.ts_survey.specs.Lines.{AddsTexts}
-use Rattle.ts_survey.specs.Listed.{GoesOn, IsAsRequested, IsReported, ReportsEnd, ReportsSurvey}
-use Rattle.ts_survey.specs.Listed.{over_line, packets_in, skipped_of}
+use Rattle.ts_survey.specs.Listed.{KeepsKind, IsAsRequested, IsReported, ReportsEnd, ReportsSurvey}
+use Rattle.ts_survey.specs.Listed.{counts_line, stream_packet_count, skipped_count_of_recording}
 use Rattle.ts_survey.specs.Stream.{is_unknown}
 use Rattle.ts_survey.specs.declared.multiplex.Multiplex.{Multiplex}
 use Rattle.ts_survey.specs.declared.packets_in_step.PacketsInStep.{PacketsInStep}
@@ -26,10 +27,10 @@ use Rattle.ts_survey.proofs.CountedLemmas.{counted-all, takes-begun}
 use Rattle.ts_survey.proofs.FirstLinesLemmas.{no-items}
 
 runs-keep : (old new : Multiplex) (packets : List (List ℕ))
-    → RunsBy keeps_requested old packets new
+    → RunsBy packet_keeps_requested old packets new
     → KeepsRequested old new
 runs-keep old new [] run =
-    (ap (λ m. m.requested) run, ap (λ m. m.page) run, ap (λ m. others_followed m) run)
+    (ap (λ m. m.requested) run, ap (λ m. m.page) run, ap (λ m. unrequested_followed_pids m) run)
 runs-keep old new (p ∷ ps) run =
     let rest = runs-keep run.0 new ps run.2 in
     (rest.0 ∙ run.1.0, rest.1 ∙ run.1.1, rest.2 ∙ run.1.2)
@@ -38,12 +39,12 @@ pub goes-on :
     (packets after : PacketsInStep) (multiplex reported : Multiplex) (bytes : List ℕ)
     (is_end : Bool)
     (used : ℕ)
-    → TakesAll keeps_requested packets multiplex bytes is_end used after reported
-    → GoesOn (Stream packets multiplex) (Stream after reported)
+    → TakesAll packet_keeps_requested packets multiplex bytes is_end used after reported
+    → KeepsKind (Stream packets multiplex) (Stream after reported)
 goes-on packets after multiplex reported bytes is_end used takes =
     record { size = takes.found.size; keeps = runs-keep multiplex reported _ takes.found.taken }
 
-pub goes-same : (kind : Kind) → GoesOn kind kind
+pub goes-same : (kind : Kind) → KeepsKind kind kind
 goes-same Unknown = tt
 goes-same (Pes f) = tt
 goes-same (Stream p m) = record { size = refl; keeps = (refl, refl, refl) }
@@ -59,7 +60,7 @@ size-on requested old new same is = subst (λ one. IfSome requested (λ size. on
     is
 
 pub as-requested-on : (options : SurveyOptions) (old new : Kind)
-    → GoesOn old new
+    → KeepsKind old new
     → IsAsRequested options old
     → IsAsRequested options new
 as-requested-on options Unknown Unknown on requested = tt
@@ -86,7 +87,7 @@ as-requested-on options Nothing Nothing on requested = tt
 
 pub as-requested-as : (options other : SurveyOptions) (old new : Kind)
     → other ≡ options
-    → GoesOn old new
+    → KeepsKind old new
     → IsAsRequested options old
     → IsAsRequested other new
 as-requested-as options other old new same on requested =
@@ -132,15 +133,15 @@ has-head true kind known none = refl
 has-head false kind known none = let e = sym (none refl) ∙ known in cc
 
 pub ends-reported : (recording : Recording) (mid new : Text) (skipped number : ℕ)
-    → skipped ≡ skipped_of recording
-    → number ≡ packets_in recording.kind
-    → AddsTexts mid (over_line skipped number) new
+    → skipped ≡ skipped_count_of_recording recording
+    → number ≡ stream_packet_count recording.kind
+    → AddsTexts mid (counts_line skipped number) new
     → ReportsEnd recording new
 ends-reported recording mid new skipped number is are over = record {
   before = mid;
   over =
-      subst (λ n. AddsTexts mid (over_line (skipped_of recording) n) new) are
-      (subst (λ n. AddsTexts mid (over_line n number) new) is over);
+      subst (λ n. AddsTexts mid (counts_line (skipped_count_of_recording recording) n) new) are
+      (subst (λ n. AddsTexts mid (counts_line n number) new) is over);
 }
 
 pub reported-end :
@@ -148,7 +149,7 @@ pub reported-end :
     (first last : Text) (received buffered before : List ℕ)
     → Consumes left end received
     → IsAtEnd end
-    → IsAtPlace recording.kind recording.skipped received buffered true
+    → HasReadUpToBuffer recording.kind recording.skipped received buffered true
     → Appends start old before
     → (ends : ReportsEnd recording last)
     → IsReported recording received (before ++ (first.bytes.items ++ ends.before.bytes.items))
@@ -164,7 +165,8 @@ reported-end
     let kind = recording.kind in
     let head = take head_size received in
     let mid = ends.before.bytes.items in
-    let words = concat (over_line (skipped_of recording) (packets_in kind)) in
+    let words = concat (counts_line (skipped_count_of_recording recording)
+    (stream_packet_count kind)) in
     let is_head = has-head recording.has_head kind known reported.none in
     let same : last.bytes.items ≡ mid ++ words = ends.over.added whole in (
       before ++ (first.bytes.items ++ last.bytes.items),
@@ -184,7 +186,8 @@ reported-end
             ∙ sym (append_assoc before (first.bytes.items ++ mid) words)
             ∙ ap (λ l. l ++ words)
             (reported.reported
-            ∙ ap (λ has. concat (head_so_far has head ++ kind_texts kind) ++ reported.more)
+            ∙ ap (λ has. concat (head_texts_if_received has head ++ kind_texts kind) ++
+            reported.more)
             is_head);
       },
     )

@@ -8,18 +8,19 @@ use Rattle.std.proofs.lemmas.List.Edits.{take-paste}
 use lib.Seq.{paste}
 use Rattle.ts_survey.specs.ReadBuffer.{BuffersMore}
 
-received_after : (prefix to post rest : List ℕ) (size n : ℕ)
+received_bytes_append : (prefix to post rest : List ℕ) (size n : ℕ)
     → length prefix + n ≤ size
     → n ≤ length to
     → take (length prefix + n) (take size ((prefix ++ (to ++ post)) ++ rest)) ≡ prefix ++ take n to
-received_after prefix to post rest size n fits some =
+received_bytes_append prefix to post rest size n fits some =
     take-take (length prefix + n) size ((prefix ++ (to ++ post)) ++ rest) fits
     ∙ ap (take (length prefix + n)) (append_assoc prefix (to ++ post) rest)
     ∙ take-append-add prefix ((to ++ post) ++ rest) n
     ∙ ap (λ l. prefix ++ l)
     (ap (take n) (append_assoc to post rest) ∙ take-append-le n to (post ++ rest) some)
 
-pub holds_more : (items slice to post rest : List ℕ) (size len n : ℕ) (left next : Option (List ℕ))
+pub pull_buffers_more_bytes : (items slice to post rest : List ℕ) (size len n : ℕ)
+    (left next : Option (List ℕ))
     → slice ≡ items
     → len ≤ length items
     → len + n ≤ size
@@ -27,18 +28,19 @@ pub holds_more : (items slice to post rest : List ℕ) (size len n : ℕ) (left 
     → Consumes left next (take n to)
     → BuffersMore (take len items)
     (take (len + n) (take size ((take len slice ++ (to ++ post)) ++ rest))) left next
-holds_more items slice to post rest size len n left next same within fits some consumed =
+pull_buffers_more_bytes items slice to post rest size len n left next same within fits some
+    consumed =
     let prefix = take len items in
     let e : length prefix ≡ len = length-take-le len items within in
     record {
       received = take n to;
       buffered = rw same
           (ap (λ k. take (k + n) (take size ((prefix ++ (to ++ post)) ++ rest))) (sym e)
-          ∙ received_after prefix to post rest size n (rw e fits) some);
+          ∙ received_bytes_append prefix to post rest size n (rw e fits) some);
       consumed = consumed;
     }
 
-pub buffered_without : (items slice moved rest : List ℕ) (size len count : ℕ)
+pub skipping_drops_buffered_bytes : (items slice moved rest : List ℕ) (size len count : ℕ)
     → slice ≡ items
     → count ≤ len
     → len ≤ length items
@@ -46,7 +48,7 @@ pub buffered_without : (items slice moved rest : List ℕ) (size len count : ℕ
     → length moved ≡ length slice
     → moved ≡ paste slice 0 (drop count slice) (len - count)
     → take (len - count) (take size (moved ++ rest)) ≡ drop count (take len items)
-buffered_without items slice moved rest size len count same some within fits long now =
+skipping_drops_buffered_bytes items slice moved rest size len count same some within fits long now =
     let left = len - count in
     let whole : count + left ≡ len = omega arith in
     let none : left ≡ 0 + left = omega arith in

@@ -2,7 +2,7 @@
 use Rattle.std.proofs.Common.{◌≡◌, zero, suc, ◌<◌, ◌++◌, ◌∙◌, ◌∷◌, [], ℕ, Bool, List, Option}
 use Rattle.std.proofs.Common.{true, ap, arith, length, map, refl}
 use Rattle.std.proofs.Common.{if◌then◌else◌, slice_index_or, slice_set}
-use Rattle.ts_survey.specs.Requested.{is_requested, not_requested, pid_followed}
+use Rattle.ts_survey.specs.Requested.{is_requested, unrequested_pids, followed_pid}
 use Rattle.ts_survey.specs.declared.carrier.Carrier.{Carrier}
 
 pub map-same : {A V : Type 0} (f : A → V) (xs : List A) (i : ℕ) (x d : A)
@@ -14,10 +14,10 @@ map-same f (y ∷ ys) zero x d below is = ap (λ v. v ∷ map f ys) is
 map-same f (y ∷ ys) (suc i) x d below is =
     ap (λ vs. f y ∷ vs) (map-same f ys i x d (omega arith) is)
 
-passed-over : (is : Bool) (pid : ℕ) (rest : List ℕ)
+skipped_before-over : (is : Bool) (pid : ℕ) (rest : List ℕ)
     → is ≡ true
     → (if is then rest else pid ∷ rest) ≡ rest
-passed-over is pid rest known = ap (λ one. if one then rest else pid ∷ rest) known
+skipped_before-over is pid rest known = ap (λ one. if one then rest else pid ∷ rest) known
 
 same-before : (is : Bool) (pid : ℕ) (more rest : List ℕ)
     → more ≡ rest
@@ -26,9 +26,10 @@ same-before is pid more rest same = ap (λ l. if is then l else pid ∷ l) same
 
 more-requested : (requested : Option ℕ) (carriers : List Carrier) (one : Carrier)
     → is_requested requested one.pid ≡ true
-    → not_requested requested (map pid_followed (carriers ++ one ∷ []))
-    ≡ not_requested requested (map pid_followed carriers)
-more-requested requested [] one known = passed-over (is_requested requested one.pid) one.pid []
+    → unrequested_pids requested (map followed_pid (carriers ++ one ∷ []))
+    ≡ unrequested_pids requested (map followed_pid carriers)
+more-requested requested [] one known = skipped_before-over (is_requested requested one.pid) one.pid
+    []
     known
 more-requested requested (c ∷ cs) one known =
     same-before (is_requested requested c.pid) c.pid _ _ (more-requested requested cs one known)
@@ -37,24 +38,24 @@ pub one-more-requested : (requested : Option ℕ) (pid : ℕ) (old new : List Ca
     → is_requested requested pid ≡ true
     → one.pid ≡ pid
     → new ≡ old ++ one ∷ []
-    → not_requested requested (map pid_followed new) ≡ not_requested requested
-    (map pid_followed old)
+    → unrequested_pids requested (map followed_pid new) ≡ unrequested_pids requested
+    (map followed_pid old)
 one-more-requested requested pid old new one known same more =
-    ap (λ l. not_requested requested (map pid_followed l)) more
+    ap (λ l. unrequested_pids requested (map followed_pid l)) more
     ∙ more-requested requested old one (ap (is_requested requested) same ∙ known)
 
 pub pids-kept : (carriers : List Carrier) (i : ℕ) (one other : Carrier)
     → i < length carriers
     → one.pid ≡ (slice_index_or carriers i other).pid
-    → map pid_followed (slice_set carriers i one) ≡ map pid_followed carriers
-pids-kept carriers i one other below same = map-same pid_followed carriers i one other below same
+    → map followed_pid (slice_set carriers i one) ≡ map followed_pid carriers
+pids-kept carriers i one other below same = map-same followed_pid carriers i one other below same
 
 pub others-kept : (requested : Option ℕ) (carriers : List Carrier) (i : ℕ) (one other : Carrier)
     → i < length carriers
     → one.pid ≡ (slice_index_or carriers i other).pid
-    → not_requested requested (map pid_followed (slice_set carriers i one))
-    ≡ not_requested requested (map pid_followed carriers)
+    → unrequested_pids requested (map followed_pid (slice_set carriers i one))
+    ≡ unrequested_pids requested (map followed_pid carriers)
 others-kept requested carriers i one other below same =
-    ap (not_requested requested) (pids-kept carriers i one other below same)
+    ap (unrequested_pids requested) (pids-kept carriers i one other below same)
 
 pub ruleset one_changed = (pids-kept, others-kept)

@@ -15,12 +15,12 @@
 use Rattle.std.specs.Prelude.{ℕ, ◌+◌, ◌*◌, ◌/◌, ◌%◌, ◌==◌, ◌&&◌, ◌||◌, not, nat_lt, Bool}
 use Rattle.std.specs.Prelude.{if◌then◌else◌, List, [], length, slice_index, Option, Some}
 use Rattle.std.specs.Prelude.{None}
-use Rattle.mpeg_ts.specs.TransportPacket.{has_adaptation, has_payload, is_wrong, payload}
+use Rattle.mpeg_ts.specs.TransportPacket.{has_adaptation_field, has_payload, is_erroneous, payload}
 
 -- The bit random_access_indicator of a transport packet.
-abbrev pub begins_access : List ℕ → Bool
-begins_access p =
-    has_adaptation p && not (slice_index p 4 == 0) && (slice_index p 5 / 0x40 % 2 == 1)
+abbrev pub has_random_access_indicator : List ℕ → Bool
+has_random_access_indicator p =
+    has_adaptation_field p && not (slice_index p 4 == 0) && (slice_index p 5 / 0x40 % 2 == 1)
 
 -- The transport packet is scrambled: transport_scrambling_control is not 00.
 abbrev pub is_scrambled : List ℕ → Bool
@@ -28,35 +28,35 @@ is_scrambled p = not (slice_index p 3 / 0x40 == 0)
 
 -- The transport packet has an adaptation field that can be used: transport_error_indicator is not
 -- set.
-abbrev pub has_usable_adaptation : List ℕ → Bool
-has_usable_adaptation p = has_adaptation p && (slice_index p 1 / 0x80 == 0)
+abbrev pub has_usable_adaptation_field : List ℕ → Bool
+has_usable_adaptation_field p = has_adaptation_field p && (slice_index p 1 / 0x80 == 0)
 
 -- The field program_clock_reference_base of a transport packet, if its adaptation field has it and
 -- can be used.
 abbrev pub pcr_base : List ℕ → Option ℕ
 pcr_base p =
-    if not (has_usable_adaptation p) || nat_lt (slice_index p 4) 7
+    if not (has_usable_adaptation_field p) || nat_lt (slice_index p 4) 7
     || (slice_index p 5 / 0x10 % 2 == 0) then None
     else Some (slice_index p 6 * 0x200_0000 + slice_index p 7 * 0x2_0000 + slice_index p 8 * 0x200
     + slice_index p 9 * 2 + slice_index p 10 / 0x80)
 
 -- The payload of a transport packet, or an empty list if the packet has no payload or is unusable.
-abbrev pub payload_in : List ℕ → List ℕ
-payload_in p = if has_payload p && not (is_wrong p) then payload p else []
+abbrev pub payload_if_usable : List ℕ → List ℕ
+payload_if_usable p = if has_payload p && not (is_erroneous p) then payload p else []
 
 -- The time at an offset of a PES header, 33 bits of a clock of 90 kHz.
-abbrev pub time_at : List ℕ → ℕ → ℕ
-time_at pes n =
+abbrev pub timestamp_at : List ℕ → ℕ → ℕ
+timestamp_at pes n =
     slice_index pes n / 2 % 8 * 0x4000_0000 + slice_index pes (n + 1) * 0x40_0000
     + slice_index pes (n + 2) / 2 * 0x8000 + slice_index pes (n + 3) * 0x80
     + slice_index pes (n + 4) / 2
 
 -- The PTS of a PES packet, or `None` if it has none. A gap marker, whose byte 6 is FF, has no PTS.
-abbrev pub pts_stated : List ℕ → Option ℕ
-pts_stated pes =
+abbrev pub pts_of_pes_packet : List ℕ → Option ℕ
+pts_of_pes_packet pes =
     if nat_lt (length pes) 14 || nat_lt (slice_index pes 7) 0x80 || (slice_index pes 6 == 0xFF)
     then None
-    else Some (time_at pes 9)
+    else Some (timestamp_at pes 9)
 
 -- When the first picture of a PES packet with this PTS is decoded: its DTS, or its PTS if
 -- PTS_DTS_flags announce no DTS (ISO/IEC 13818-1). `None` if the bytes end within the DTS.
@@ -65,9 +65,9 @@ first_decoding_time pes None = None
 first_decoding_time pes (Some pts) =
     if nat_lt (slice_index pes 7) 0xC0 then Some pts
     else if nat_lt (length pes) 19 then None
-    else Some (time_at pes 14)
+    else Some (timestamp_at pes 14)
 
 -- When the first picture of a PES packet is decoded. `None` if the PES packet has no PTS, or its
 -- bytes end within the DTS.
 abbrev pub decoding_time : List ℕ → Option ℕ
-decoding_time pes = first_decoding_time pes (pts_stated pes)
+decoding_time pes = first_decoding_time pes (pts_of_pes_packet pes)

@@ -2,34 +2,35 @@
 use Rattle.std.specs.Prelude.{ℕ, ◌+◌, ◌-◌, ◌*◌, ◌/◌, ◌%◌, ◌^◌, ◌==◌, ◌&&◌, ◌||◌, not, nat_lt}
 use Rattle.std.specs.Prelude.{Bool, if◌then◌else◌, List, bit_and, bit_xor}
 use Rattle.std.specs.Prelude.{count_ones, slice_index, Option, Some, None}
-use Rattle.ttx_packet.specs.Hamming84.{decoded}
+use Rattle.ttx_packet.specs.Hamming84.{decoded_nibble}
 
 -- The number of a character set: its seven bits, or 128 for a set that cannot be read.
-abbrev pub set_number : Option ℕ → ℕ
-set_number None = 128
-set_number (Some set) = set % 128
+abbrev pub character_set_number : Option ℕ → ℕ
+character_set_number None = 128
+character_set_number (Some set) = set % 128
 
 -- The index of the line of a character set, by the packet number 28 or 29, the designation 0 or 4,
 -- and the set. Each line is reported once.
-abbrev pub line_place : ℕ → ℕ → Option ℕ → ℕ
-line_place number designation set =
-    (if number == 28 then 0 else 512) + (if designation == 0 then 0 else 256) + set_number set
+abbrev pub set_line_index : ℕ → ℕ → Option ℕ → ℕ
+set_line_index number designation set =
+    (if number == 28 then 0 else 512) + (if designation == 0 then 0 else 256) + character_set_number
+    set
 
 -- ---- Hamming 24/18 (EN 300 706, 8.3): 24 bits, counted from 1, the lowest of the first byte
 
 -- The digit of a Hamming 24/18 test: 0 if the number of ones among the tested bits is odd, so that
 -- the test passes. If the test fails, the place of the wrong bit has this digit.
-abbrev pub digit_if_failed : ℕ → ℕ → ℕ → ℕ
-digit_if_failed word bits digit = if count_ones (bit_and word bits) % 2 == 1 then 0 else digit
+abbrev pub digit_of_failed_test : ℕ → ℕ → ℕ → ℕ
+digit_of_failed_test word bits digit = if count_ones (bit_and word bits) % 2 == 1 then 0 else digit
 
 -- The place of the wrong bit, from the Hamming 24/18 tests A to E of the bits up to 23 whose place
 -- has the digit 1, 2, 4, 8 or 16. If one bit is wrong, the sum of the digits is its place, or 0 for
 -- bit 24.
-abbrev pub wrong_place : ℕ → ℕ
-wrong_place word =
-    digit_if_failed word 0x55_5555 1 + digit_if_failed word 0x66_6666 2
-    + digit_if_failed word 0x78_7878 4 + digit_if_failed word 0x00_7F80 8
-    + digit_if_failed word 0x7F_8000 16
+abbrev pub wrong_bit_position : ℕ → ℕ
+wrong_bit_position word =
+    digit_of_failed_test word 0x55_5555 1 + digit_of_failed_test word 0x66_6666 2
+    + digit_of_failed_test word 0x78_7878 4 + digit_of_failed_test word 0x00_7F80 8
+    + digit_of_failed_test word 0x7F_8000 16
 
 -- The word with the bit at a place flipped. Place 0 leaves the word unchanged.
 abbrev pub with_bit_flipped : ℕ → ℕ → ℕ
@@ -43,44 +44,45 @@ data_bits word =
 
 -- The data bits of a Hamming 24/18 word, with a single wrong bit corrected. Test F, of all bits,
 -- passes if no bit is wrong or two bits are. `None` if two bits are wrong.
-abbrev pub carried_bits : ℕ → Option ℕ
-carried_bits word =
+abbrev pub corrected_data_bits : ℕ → Option ℕ
+corrected_data_bits word =
     if count_ones word % 2 == 1
-    then (if wrong_place word == 0 then Some (data_bits word) else None)
-    else (if nat_lt 23 (wrong_place word) then None
-    else Some (data_bits (with_bit_flipped word (wrong_place word))))
+    then (if wrong_bit_position word == 0 then Some (data_bits word) else None)
+    else (if nat_lt 23 (wrong_bit_position word) then None
+    else Some (data_bits (with_bit_flipped word (wrong_bit_position word))))
 
 -- The data bits of the three bytes of a Hamming 24/18 word.
 abbrev pub triplet : ℕ → ℕ → ℕ → Option ℕ
-triplet first second third = carried_bits (first + second * 0x100 + third * 0x1_0000)
+triplet first second third = corrected_data_bits (first + second * 0x100 + third * 0x1_0000)
 
 -- ---- the contents of a packet (EN 300 706, X/28 and M/29, designations 0 and 4, triplet 1)
 
 -- The character set in bits 8 to 14 of triplet 1. A packet X/28 has a set only if bits 1 to 4, the
 -- page function, have the value for a page that is shown.
-abbrev pub set_in : ℕ → Option ℕ → Option (Option ℕ)
-set_in number None = Some None
-set_in number (Some bits) =
+abbrev pub set_from_triplet : ℕ → Option ℕ → Option (Option ℕ)
+set_from_triplet number None = Some None
+set_from_triplet number (Some bits) =
     if (number == 28) && not (bits % 0x10 == 0) then None else Some (Some (bits / 0x80 % 0x80))
 
 -- The character set together with its designation.
-abbrev pub with_designation : ℕ → Option (Option ℕ) → Option (ℕ × Option ℕ)
-with_designation designation None = None
-with_designation designation (Some set) = Some (designation, set)
+abbrev pub pair_with_designation : ℕ → Option (Option ℕ) → Option (ℕ × Option ℕ)
+pair_with_designation designation None = None
+pair_with_designation designation (Some set) = Some (designation, set)
 
 -- The designation and the character set of a packet, if its designation byte can be decoded and is
 -- 0 or 4.
-abbrev pub set_by : Option ℕ → ℕ → List ℕ → Option (ℕ × Option ℕ)
-set_by None number p = None
-set_by (Some designation) number p =
+abbrev pub set_with_designation : Option ℕ → ℕ → List ℕ → Option (ℕ × Option ℕ)
+set_with_designation None number p = None
+set_with_designation (Some designation) number p =
     if (designation == 0) || (designation == 4)
-    then with_designation designation
-    (set_in number (triplet (slice_index p 3) (slice_index p 4) (slice_index p 5)))
+    then pair_with_designation designation
+    (set_from_triplet number (triplet (slice_index p 3) (slice_index p 4) (slice_index p 5)))
     else None
 
 -- The designation and the character set of a packet of the page's magazine. A packet X/28 counts
 -- only after a header of the page.
-abbrev pub set_stated : ℕ → Bool → List ℕ → Option (ℕ × Option ℕ)
-set_stated number is_own p =
-    if (number == 29) || ((number == 28) && is_own) then set_by (decoded (slice_index p 2)) number p
+abbrev pub set_of_packet : ℕ → Bool → List ℕ → Option (ℕ × Option ℕ)
+set_of_packet number is_requested_page p =
+    if (number == 29) || ((number == 28) && is_requested_page) then set_with_designation
+    (decoded_nibble (slice_index p 2)) number p
     else None

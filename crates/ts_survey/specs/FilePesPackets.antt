@@ -3,7 +3,7 @@
 use Rattle.std.specs.Prelude.{◌≡◌, ℕ, ◌&&◌, ◌||◌, not, nat_le, nat_lt, Bool, if◌then◌else◌}
 use Rattle.std.specs.Prelude.{List, length, drop, Option, Some, None}
 use Rattle.ttx_pes.specs.Reading.{is_start, stated_size}
-use Rattle.ts_survey.specs.InStep.{counted_on}
+use Rattle.ts_survey.specs.InStep.{saturating_count}
 
 -- The bytes begin with a start code other than the start code of a PES packet with private data.
 abbrev pub has_other_start_code : List ℕ → Bool
@@ -11,8 +11,8 @@ has_other_start_code bytes = nat_le 6 (length bytes) && not (is_start bytes)
 
 -- The size in bytes of the complete PES packet at the front of the bytes, or `None` if they begin
 -- with no complete PES packet.
-unfoldable pub complete_size : List ℕ → Option ℕ
-complete_size bytes =
+unfoldable pub complete_packet_size : List ℕ → Option ℕ
+complete_packet_size bytes =
     if nat_lt (length bytes) 6 || not (is_start bytes)
     || nat_lt (length bytes) (stated_size bytes) then None
     else Some (stated_size bytes)
@@ -20,12 +20,12 @@ complete_size bytes =
 -- The complete PES packets at the front of the bytes were counted, in order, each once. The rest of
 -- the bytes begins with no complete PES packet.
 pub data CountsPesPackets : ℕ → List ℕ → List ℕ → ℕ → Type 0 where
-  counts_none :
+  no_complete_packet :
       (count : ℕ) (rest : List ℕ)
-      → complete_size rest ≡ None
+      → complete_packet_size rest ≡ None
       → CountsPesPackets count rest rest count
-  counts_next :
+  next_packet_counted :
       (old new size : ℕ) (bytes rest : List ℕ)
-      → complete_size bytes ≡ Some size
-      → CountsPesPackets (counted_on old 1) (drop size bytes) rest new
+      → complete_packet_size bytes ≡ Some size
+      → CountsPesPackets (saturating_count old 1) (drop size bytes) rest new
       → CountsPesPackets old bytes rest new

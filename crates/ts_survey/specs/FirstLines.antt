@@ -4,9 +4,9 @@ use Rattle.std.specs.Prelude.{◌≡◌, ◌==◌, ◌&&◌, ◌||◌, not, nat_
 use Rattle.std.specs.Prelude.{if◌then◌else◌, List, [], ◌∷◌, ◌++◌, Option, Some, None, codes, length}
 use Rattle.std.specs.Prelude.{slice_index, take}
 use Rattle.mpeg_ts.specs.PacketSize.{bytes_of}
-use Rattle.ts_survey.specs.Lines.{AddsTexts, line_end, number_word}
+use Rattle.ts_survey.specs.Lines.{AddsTexts, line_end, space_and_number}
 use Rattle.ts_survey.specs.Stream.{is_unknown}
-use Rattle.ts_survey.specs.Text.{hex_word}
+use Rattle.ts_survey.specs.Text.{hex_text}
 use Rattle.ts_survey.specs.declared.recording.Kind.{Kind}
 use Rattle.ts_survey.specs.declared.recording.Kind.TheVariants.{Nothing, Pes, Stream, Unknown}
 use Rattle.ts_survey.specs.declared.recording.Recording.{Recording}
@@ -19,21 +19,21 @@ abbrev pub head_size : ℕ
 head_size = 11
 
 -- A space, unless the word after it is empty.
-abbrev pub space_of : List ℕ → List ℕ
-space_of word = if length word == 0 then [] else codes " "
+abbrev pub space_before_word : List ℕ → List ℕ
+space_before_word word = if length word == 0 then [] else codes " "
 
 -- The line `survey 1`, and the line `head HEX` with the first bytes of the recording.
 abbrev pub head_texts : List ℕ → List (List ℕ)
 head_texts head =
-    codes "survey 1\nhead" ∷ space_of head ∷ hex_word head ∷ line_end ∷ []
+    codes "survey 1\nhead" ∷ space_before_word head ∷ hex_text head ∷ line_end ∷ []
 
 -- The line `size N` with the packet size.
 abbrev pub size_line : ℕ → List (List ℕ)
-size_line size = codes "size" ∷ number_word size ∷ line_end ∷ []
+size_line size = codes "size" ∷ space_and_number size ∷ line_end ∷ []
 
 -- The line `teletext PID`, printed when a PID is first followed.
 abbrev pub teletext_line : ℕ → List (List ℕ)
-teletext_line pid = codes "teletext" ∷ number_word pid ∷ line_end ∷ []
+teletext_line pid = codes "teletext" ∷ space_and_number pid ∷ line_end ∷ []
 
 -- The line of the requested PID, which is followed from the first packet; no line if no PID is
 -- requested.
@@ -55,8 +55,8 @@ kind_texts Nothing = codes "nothing\n" ∷ []
 -- The recording begins like a file of PES packets: with packet_start_code_prefix and the stream_id
 -- of private_stream_1 (EN 300 472). A time stamp before the first transport packet may have the
 -- same bytes, but then the sync byte follows.
-abbrev pub begins_pes : List ℕ → Bool
-begins_pes head =
+abbrev pub begins_with_pes_packet : List ℕ → Bool
+begins_with_pes_packet head =
     nat_le 4 (length head) && (slice_index head 0 == 0) && (slice_index head 1 == 0)
     && (slice_index head 2 == 1) && (slice_index head 3 == 0xBD)
     && (nat_lt (length head) 5 || not (slice_index head 4 == 0x47))
@@ -67,12 +67,13 @@ is_pes (Pes file) = true
 is_pes _ = false
 
 -- The lines `survey 1` and `head`, once the first bytes of the recording are received.
-abbrev pub head_so_far : Bool → List ℕ → List (List ℕ)
-head_so_far has_head head = if has_head then head_texts head else []
+abbrev pub head_texts_if_received : Bool → List ℕ → List (List ℕ)
+head_texts_if_received has_head head = if has_head then head_texts head else []
 
 -- The lines `survey 1` and `head`, unless they were printed before.
-abbrev pub head_reported : Bool → List ℕ → Bool → List (List ℕ)
-head_reported before bytes after = if before then [] else head_so_far after (take head_size bytes)
+abbrev pub newly_reported_head : Bool → List ℕ → Bool → List (List ℕ)
+newly_reported_head before bytes after = if before then [] else head_texts_if_received after
+    (take head_size bytes)
 
 -- When the kind of a recording was determined, exactly the lines of that kind were printed.
 pub record FindsKind (old : Recording) (bytes : List ℕ) (before after : Text) (new : Recording)
@@ -80,10 +81,10 @@ pub record FindsKind (old : Recording) (bytes : List ℕ) (before after : Text) 
   pub reported :
       new.out_of_memory ≡ false
       → AddsTexts before
-      (head_reported old.has_head bytes new.has_head ++ kind_texts new.kind) after
+      (newly_reported_head old.has_head bytes new.has_head ++ kind_texts new.kind) after
   pub stays : old.has_head ≡ true → new.has_head ≡ true
   pub none : new.has_head ≡ false → is_unknown new.kind ≡ true
   pub pes :
       new.out_of_memory ≡ false → old.has_head ≡ false → new.has_head ≡ true
-      → is_pes new.kind ≡ begins_pes (take head_size bytes)
-  pub not_pes : old.has_head ≡ true → is_pes new.kind ≡ false
+      → is_pes new.kind ≡ begins_with_pes_packet (take head_size bytes)
+  pub kind_is_not_pes : old.has_head ≡ true → is_pes new.kind ≡ false

@@ -2,18 +2,19 @@
 -- that data.
 use Rattle.std.specs.Prelude.{◌≡◌, ℕ, List, [], ◌∷◌, ◌++◌, MatchBool}
 use Rattle.std.specs.List.{concat}
-use Rattle.mpeg_ts.specs.Carried.{carried}
-use Rattle.mpeg_ts.specs.GoodPackets.{Note, notes}
-use Rattle.mpeg_ts.specs.Joining.{JoiningValue, after_note, delivered, has_ended, initial_joining}
+use Rattle.mpeg_ts.specs.CarriedPackets.{carried_bytes}
+use Rattle.mpeg_ts.specs.GoodPackets.{PidEvent, pid_events}
+use Rattle.mpeg_ts.specs.Joining.{JoiningValue, after_pid_event, without_pending, has_ended}
+use Rattle.mpeg_ts.specs.Joining.{initial_joining}
 use Rattle.mpeg_ts.specs.PacketsInStep.{items_of}
 use Rattle.ttx_page.specs.Receiver.{RunsBy}
 
--- The contract of a receiver with `any_pes_packet` does not restrict its state.
-abbrev pub any_pes_packet : {T : Type 0} → T → List ℕ → T → Type 0
-any_pes_packet old pes_packet new = Unit {0}
+-- The contract of a receiver with `accepts_any_pes_packet` does not restrict its state.
+abbrev pub accepts_any_pes_packet : {T : Type 0} → T → List ℕ → T → Type 0
+accepts_any_pes_packet old pes_packet new = Unit {0}
 
 -- A receiver received these bytes in parts.
-pub record TakesBytes
+pub record ReceivesBytes
     {T : Type 0} (IsTaken : T → List ℕ → T → Type 0) (old : T) (bytes : List ℕ) (new : T)
     : Type 0 where
   pub pes_packets : List (List ℕ)
@@ -21,7 +22,7 @@ pub record TakesBytes
   pub run : RunsBy IsTaken old pes_packets new
 
 -- A receiver got the next part of the bytes that are ready, or no bytes if none are ready.
-pub record GivesNext
+pub record PassesOnNextPart
     {T : Type 0} (IsTaken : T → List ℕ → T → Type 0) (before : JoiningValue) (old : T)
     (after : JoiningValue) (new : T)
     : Type 0 where
@@ -33,20 +34,20 @@ pub record GivesNext
 
 -- The events of a PID are processed one after another: after each event, the receiver gets all data
 -- that the event completes.
-abbrev pub FollowsNotes :
-    {T : Type 0} → (T → List ℕ → T → Type 0) → JoiningValue → T → List Note → T → Type 0
-FollowsNotes IsTaken j old [] new = new ≡ old
-FollowsNotes {T} IsTaken j old (note ∷ more) new =
+abbrev pub ReceivesEventOutput :
+    {T : Type 0} → (T → List ℕ → T → Type 0) → JoiningValue → T → List PidEvent → T → Type 0
+ReceivesEventOutput IsTaken j old [] new = new ≡ old
+ReceivesEventOutput {T} IsTaken j old (note ∷ more) new =
     MatchBool (has_ended j.part)
-    (FollowsNotes IsTaken j old more new)
-    ((mid : T) × TakesBytes IsTaken old (after_note j note).pending mid
-    × FollowsNotes IsTaken (delivered (after_note j note)) mid more new)
+    (ReceivesEventOutput IsTaken j old more new)
+    ((mid : T) × ReceivesBytes IsTaken old (after_pid_event j note).pending mid
+    × ReceivesEventOutput IsTaken (without_pending (after_pid_event j note)) mid more new)
 
 -- The data received from the transport packets of a PID is the data that they carry in the
 -- recording.
-abbrev pub LawOfFollowing : {T : Type 0} → (T → List ℕ → T → Type 0) → Type 0
-LawOfFollowing {T} IsTaken =
+abbrev pub LawOfReceivedData : {T : Type 0} → (T → List ℕ → T → Type 0) → Type 0
+LawOfReceivedData {T} IsTaken =
     (number distance : ℕ) (recording : List ℕ) (old new : T)
-    → FollowsNotes IsTaken initial_joining old
-    (notes distance number 0 (items_of distance recording)) new
-    → TakesBytes IsTaken old (carried number distance recording) new
+    → ReceivesEventOutput IsTaken initial_joining old
+    (pid_events distance number 0 (items_of distance recording)) new
+    → ReceivesBytes IsTaken old (carried_bytes number distance recording) new

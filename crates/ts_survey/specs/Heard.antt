@@ -6,8 +6,8 @@ use Rattle.std.specs.Borrow.{Bor}
 use Rattle.ttx_packet.specs.BitOrder.{mirror}
 
 -- The offset of the first data unit in a PES packet: after the header and data_identifier.
-abbrev pub first_place : List ℕ → ℕ
-first_place pes = if nat_lt 9 (length pes) then 10 + slice_index pes 8 else length pes
+abbrev pub first_unit_offset : List ℕ → ℕ
+first_unit_offset pes = if nat_lt 9 (length pes) then 10 + slice_index pes 8 else length pes
 
 -- The data unit carries a Teletext packet: data_unit_id is an id for Teletext, and data_unit_length
 -- is the length for a packet.

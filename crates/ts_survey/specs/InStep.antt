@@ -9,8 +9,8 @@ use Rattle.ttx_page.specs.Receiver.{RunsBy}
 use Rattle.ts_survey.specs.declared.packets_in_step.PacketsInStep.{PacketsInStep}
 
 -- Adds `more` to a count, saturating at 64 bits.
-abbrev pub counted_on : ℕ → ℕ → ℕ
-counted_on number more = min (number + more) 0xFFFF_FFFF_FFFF_FFFF
+abbrev pub saturating_count : ℕ → ℕ → ℕ
+saturating_count number more = min (number + more) 0xFFFF_FFFF_FFFF_FFFF
 
 -- The items at the front of the bytes.
 unfoldable pub items_from : ℕ → Bool → List ℕ → List Item
@@ -23,32 +23,33 @@ packet_count (Packet p ∷ more) = suc (packet_count more)
 packet_count (Skipped ∷ more) = packet_count more
 
 -- The number of bytes among the items that belong to no transport packet.
-unfoldable pub skipped_in : List Item → ℕ
-skipped_in [] = 0
-skipped_in (Packet p ∷ more) = skipped_in more
-skipped_in (Skipped ∷ more) = suc (skipped_in more)
+unfoldable pub skipped_byte_count : List Item → ℕ
+skipped_byte_count [] = 0
+skipped_byte_count (Packet p ∷ more) = skipped_byte_count more
+skipped_byte_count (Skipped ∷ more) = suc (skipped_byte_count more)
 
 -- The number of bytes skipped in a row at the end of these items, if `run` bytes were skipped
 -- directly before them.
-unfoldable pub skipped_after : ℕ → List Item → ℕ
-skipped_after run [] = run
-skipped_after run (Packet p ∷ more) = skipped_after 0 more
-skipped_after run (Skipped ∷ more) = skipped_after (counted_on run 1) more
+unfoldable pub trailing_skipped_count : ℕ → List Item → ℕ
+trailing_skipped_count run [] = run
+trailing_skipped_count run (Packet p ∷ more) = trailing_skipped_count 0 more
+trailing_skipped_count run (Skipped ∷ more) = trailing_skipped_count (saturating_count run 1) more
 
 -- Missing packets are reported at the last byte of a gap, as []. In a gap of the size of 15
 -- packets, packets of a PID may be missing without a break of the counter. After a shorter loss,
 -- the next continuity_counter (4 bits; ISO/IEC 13818-1, 2.4.3.3) is neither the last counter, as in
 -- a repeat, nor the counter after it.
-abbrev pub loss_reported : ℕ → ℕ → List (List ℕ)
-loss_reported distance run = if run == loss_size distance then [] ∷ [] else []
+abbrev pub gap_report : ℕ → ℕ → List (List ℕ)
+gap_report distance run = if run == loss_size distance then [] ∷ [] else []
 
 -- The packets that are passed to the receiver for these items, after `run` skipped bytes: each
 -- transport packet, and [] for each gap.
-unfoldable pub reported_of : ℕ → ℕ → List Item → List (List ℕ)
-reported_of distance run [] = []
-reported_of distance run (Packet p ∷ more) = p ∷ reported_of distance 0 more
-reported_of distance run (Skipped ∷ more) =
-    loss_reported distance (counted_on run 1) ++ reported_of distance (counted_on run 1) more
+unfoldable pub reports_of_items : ℕ → ℕ → List Item → List (List ℕ)
+reports_of_items distance run [] = []
+reports_of_items distance run (Packet p ∷ more) = p ∷ reports_of_items distance 0 more
+reports_of_items distance run (Skipped ∷ more) =
+    gap_report distance (saturating_count run 1) ++ reports_of_items distance
+    (saturating_count run 1) more
 
 -- At the end of the recording, the number of bytes after `place`, which belong to no packet; 0
 -- before the end.
@@ -64,16 +65,17 @@ pub record ItemsFound
     (bytes : List ℕ) (is_end : Bool) (place rest : ℕ) (new : PacketsInStep) (after : T)
     : Type 0 where
   pub found : List Item
-  pub stand :
+  pub items_split_after_found :
       (more : List ℕ)
       → (is_end ≡ true → more ≡ [])
       → items_from (bytes_of old.size) old.in_step (drop old.lead (bytes ++ more))
       ≡ found ++ items_from (bytes_of old.size) new.in_step (drop place (bytes ++ more))
-  pub up_to : place ≡ old.lead + bytes_of old.size * packet_count found + skipped_in found
-  pub taken : RunsBy IsTaken before (reported_of (bytes_of old.size) old.run found) after
-  pub run : new.run ≡ skipped_after old.run found
-  pub number : new.number ≡ counted_on old.number (packet_count found)
-  pub skipped : new.skipped ≡ counted_on old.skipped (skipped_in found + rest)
+  pub place_follows_items : place ≡ old.lead + bytes_of old.size * packet_count found +
+      skipped_byte_count found
+  pub taken : RunsBy IsTaken before (reports_of_items (bytes_of old.size) old.run found) after
+  pub run : new.run ≡ trailing_skipped_count old.run found
+  pub number : new.number ≡ saturating_count old.number (packet_count found)
+  pub skipped : new.skipped ≡ saturating_count old.skipped (skipped_byte_count found + rest)
   pub size : new.size ≡ old.size
 
 -- The packets in the bytes were processed, and `used` bytes are no longer needed. Too few bytes are

@@ -2,16 +2,16 @@
 use Rattle.std.specs.Prelude.{ℕ, List, [], ◌∷◌}
 use Rattle.std.specs.Prelude.{decimal}
 use Rattle.std.specs.List.{concat}
-use Rattle.ts_survey.specs.Text.{Adds}
+use Rattle.ts_survey.specs.Text.{AddsBytes}
 use Rattle.ts_survey.specs.declared.text.Text.{Text}
 
 -- These words were added to the text, one after another.
 abbrev pub AddsTexts : Text → List (List ℕ) → Text → Type 0
-AddsTexts old words new = Adds old (concat words) new
+AddsTexts old words new = AddsBytes old (concat words) new
 
 -- A space and a number in decimal.
-abbrev pub number_word : ℕ → List ℕ
-number_word number = 0x20 ∷ decimal number
+abbrev pub space_and_number : ℕ → List ℕ
+space_and_number number = 0x20 ∷ decimal number
 
 -- The end of a line of output.
 abbrev pub line_end : List ℕ

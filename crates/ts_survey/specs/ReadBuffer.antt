@@ -9,8 +9,8 @@ read_buffer_size = 135168
 
 -- The maximum number of bytes that stay in the buffer after they were examined. All bytes of the
 -- longest PES packet of a file except its last byte may stay.
-abbrev pub most_retained_bytes : ℕ
-most_retained_bytes = 65541
+abbrev pub max_retained_bytes : ℕ
+max_retained_bytes = 65541
 
 -- Bytes of a source were read, and appended to the buffer.
 pub record BuffersMore (old new : List ℕ) (left next : Option (List ℕ)) : Type 0 where

@@ -10,28 +10,28 @@ is_requested None pid = true
 is_requested (Some requested) pid = requested == pid
 
 -- Those of the PIDs that are not requested.
-abbrev pub not_requested : Option ℕ → List ℕ → List ℕ
-not_requested requested [] = []
-not_requested requested (pid ∷ pids) =
-    if is_requested requested pid then not_requested requested pids else pid ∷ not_requested
+abbrev pub unrequested_pids : Option ℕ → List ℕ → List ℕ
+unrequested_pids requested [] = []
+unrequested_pids requested (pid ∷ pids) =
+    if is_requested requested pid then unrequested_pids requested pids else pid ∷ unrequested_pids
     requested pids
 
 -- The PID that a carrier follows.
-abbrev pub pid_followed : Carrier → ℕ
-pid_followed carrier = carrier.pid
+abbrev pub followed_pid : Carrier → ℕ
+followed_pid carrier = carrier.pid
 
 -- The PIDs that are followed although they are not requested.
-abbrev pub others_followed : Multiplex → List ℕ
-others_followed m = not_requested m.requested (map pid_followed m.carriers.items)
+abbrev pub unrequested_followed_pids : Multiplex → List ℕ
+unrequested_followed_pids m = unrequested_pids m.requested (map followed_pid m.carriers.items)
 
 -- The requested PID and page stay the same, and no further PID that is not requested is followed.
 abbrev pub KeepsRequested : Multiplex → Multiplex → Type 0
 KeepsRequested old new =
     (new.requested ≡ old.requested)
     × (new.page ≡ old.page)
-    × (others_followed new ≡ others_followed old)
+    × (unrequested_followed_pids new ≡ unrequested_followed_pids old)
 
 -- Processing a packet, or a loss of packets, changes neither the requested PID nor the requested
 -- page.
-abbrev pub keeps_requested : Multiplex → List ℕ → Multiplex → Type 0
-keeps_requested old packet new = KeepsRequested old new
+abbrev pub packet_keeps_requested : Multiplex → List ℕ → Multiplex → Type 0
+packet_keeps_requested old packet new = KeepsRequested old new

@@ -41,26 +41,27 @@ section_size bytes = if nat_lt (length bytes) 3 then None else Some (3 + length_
 -- ---- CRC_32 (annex A): the polynomial 04C11DB7, from FFFFFFFF on
 
 -- The CRC_32 after one more bit.
-unfoldable pub crc_shifted : ℕ → ℕ
-crc_shifted crc =
+unfoldable pub crc_after_bit : ℕ → ℕ
+crc_after_bit crc =
     if nat_le 0x8000_0000 crc then bit_xor (2 * (crc - 0x8000_0000)) 0x04C1_1DB7 else 2 * crc
 
 -- The CRC_32 after one more byte.
-unfoldable pub crc_after : ℕ → ℕ → ℕ
-crc_after crc byte =
-    crc_shifted (crc_shifted (crc_shifted (crc_shifted (crc_shifted (crc_shifted (crc_shifted
-    (crc_shifted (bit_xor crc (byte * 0x100_0000)))))))))
+unfoldable pub crc_after_byte : ℕ → ℕ → ℕ
+crc_after_byte crc byte =
+    crc_after_bit (crc_after_bit
+    (crc_after_bit (crc_after_bit (crc_after_bit (crc_after_bit (crc_after_bit
+    (crc_after_bit (bit_xor crc (byte * 0x100_0000)))))))))
 
 -- The CRC_32 of a list of bytes.
 abbrev pub crc_of : List ℕ → ℕ
-crc_of bytes = fold crc_after 0xFFFF_FFFF bytes
+crc_of bytes = fold crc_after_byte 0xFFFF_FFFF bytes
 
 -- ---- the contents of sections
 
 -- The name of a section, which distinguishes it from other sections: table_id, the number after it,
 -- and section_number.
-abbrev pub name_of : List ℕ → Option SectionName
-name_of s =
+abbrev pub section_name_of : List ℕ → Option SectionName
+section_name_of s =
     if nat_lt (length s) 12 then None
     else Some (record {
       table = slice_index s 0;
@@ -114,8 +115,8 @@ descriptor_at bytes place end =
 
 -- The descriptor lists Teletext pages: by its descriptor_tag it is a VBI_teletext_descriptor, 46,
 -- or a teletext_descriptor, 56 (ETSI EN 300 468).
-abbrev pub is_of_teletext : Descriptor → Bool
-is_of_teletext d = (d.tag == 0x46) || (d.tag == 0x56)
+abbrev pub lists_teletext_pages : Descriptor → Bool
+lists_teletext_pages d = (d.tag == 0x46) || (d.tag == 0x56)
 
 -- The page that a teletext_descriptor names at an offset (ETSI EN 300 468): ISO_639_language_code
 -- (24 bits), teletext_type (5), teletext_magazine_number (3), teletext_page_number (8).

@@ -5,15 +5,15 @@ use Rattle.ts_survey.specs.declared.reporting.SurveyFault.{SurveyFault}
 use Rattle.ts_survey.specs.declared.reporting.SurveyFault.TheVariants.{Read, Write}
 
 -- Some text was appended to the sink.
-abbrev pub Grows : Option (List ℕ) → Option (List ℕ) → Type 0
-Grows old new = (text : List ℕ) × Appends old new text
+abbrev pub AppendsSomeText : Option (List ℕ) → Option (List ℕ) → Type 0
+AppendsSomeText old new = (text : List ℕ) × Appends old new text
 
 -- The fault means that the source of the recording failed.
-abbrev pub is_survey_read : SurveyFault → Bool
-is_survey_read Read = true
-is_survey_read _ = false
+abbrev pub is_survey_read_failure : SurveyFault → Bool
+is_survey_read_failure Read = true
+is_survey_read_failure _ = false
 
 -- The fault means that the sink failed.
-abbrev pub is_survey_write : SurveyFault → Bool
-is_survey_write Write = true
-is_survey_write _ = false
+abbrev pub is_survey_write_failure : SurveyFault → Bool
+is_survey_write_failure Write = true
+is_survey_write_failure _ = false

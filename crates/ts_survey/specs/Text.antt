@@ -6,10 +6,10 @@ use Rattle.ts_survey.specs.declared.text.Text.{Text}
 
 -- The bytes were added to a text. If memory runs out, the text is lost, and no more bytes are
 -- added.
-pub record Adds (old : Text) (bytes : List ℕ) (new : Text) : Type 0 where
+pub record AddsBytes (old : Text) (bytes : List ℕ) (new : Text) : Type 0 where
   pub added : new.is_lost ≡ false → new.bytes.items ≡ old.bytes.items ++ bytes
   pub stays_lost : old.is_lost ≡ true → new.is_lost ≡ true
 
 -- The bytes in hexadecimal, in lower case.
-abbrev pub hex_word : List ℕ → List ℕ
-hex_word bytes = encode_lower bytes
+abbrev pub hex_text : List ℕ → List ℕ
+hex_text bytes = encode_lower bytes

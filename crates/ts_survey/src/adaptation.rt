@@ -1,18 +1,20 @@
 //! Reads adaptation fields (ISO/IEC 13818-1, adaptation_field), and the times in the header of a
 //! PES packet.
 ghost use Rattle.std.specs.Prelude.{◌≡◌, ◌≤◌, ◌<◌, ◌+◌, ◌^◌, length, IfSome};
-ghost use Rattle.ts_survey.specs.Adaptation.{begins_access, decoding_time, has_usable_adaptation};
-ghost use Rattle.ts_survey.specs.Adaptation.{is_scrambled, payload_in, pcr_base, pts_stated};
-ghost use Rattle.ts_survey.specs.Adaptation.{time_at};
+ghost use Rattle.ts_survey.specs.Adaptation.{has_random_access_indicator, decoding_time};
+ghost use Rattle.ts_survey.specs.Adaptation.{has_usable_adaptation_field};
+ghost use Rattle.ts_survey.specs.Adaptation.{is_scrambled, payload_if_usable, pcr_base};
+ghost use Rattle.ts_survey.specs.Adaptation.{pts_of_pes_packet};
+ghost use Rattle.ts_survey.specs.Adaptation.{timestamp_at};
 
-use mpeg_ts::{PACKET, has_adaptation, has_payload, is_wrong, payload_of};
+use mpeg_ts::{PACKET, has_adaptation_field, has_payload, is_erroneous, payload_of};
 
 /// Returns random_access_indicator of a transport packet: a picture that can be shown alone begins
 /// in it.
-pub fn begins_access(packet: &[u8; PACKET]) -> bool
-    ensures { result ≡ begins_access packet.now }
+pub fn has_random_access_indicator(packet: &[u8; PACKET]) -> bool
+    ensures { result ≡ has_random_access_indicator packet.now }
 {
-    has_adaptation(packet) && packet[4] != 0 && packet[5] / 0x40 % 2 == 1
+    has_adaptation_field(packet) && packet[4] != 0 && packet[5] / 0x40 % 2 == 1
 }
 
 /// Returns whether a transport packet is scrambled: transport_scrambling_control is not 00.
@@ -24,10 +26,10 @@ pub fn is_scrambled(packet: &[u8; PACKET]) -> bool
 
 /// Returns whether a transport packet has an adaptation field that can be used:
 /// transport_error_indicator is not set.
-pub fn has_usable_adaptation(packet: &[u8; PACKET]) -> bool
-    ensures { result ≡ has_usable_adaptation packet.now }
+pub fn has_usable_adaptation_field(packet: &[u8; PACKET]) -> bool
+    ensures { result ≡ has_usable_adaptation_field packet.now }
 {
-    has_adaptation(packet) && packet[1] / 0x80 == 0
+    has_adaptation_field(packet) && packet[1] / 0x80 == 0
 }
 
 /// Returns program_clock_reference_base, 33 bits, if the adaptation field of the transport packet
@@ -36,7 +38,7 @@ pub fn pcr_base(packet: &[u8; PACKET]) -> Option<u64>
     ensures value { result ≡ pcr_base packet.now }
     ensures range { IfSome result (λ pcr. pcr < 2 ^ 33) }
 {
-    if !has_usable_adaptation(packet) || packet[4] < 7 || packet[5] / 0x10 % 2 == 0 {
+    if !has_usable_adaptation_field(packet) || packet[4] < 7 || packet[5] / 0x10 % 2 == 0 {
         return None;
     }
     Some(
@@ -50,10 +52,10 @@ pub fn pcr_base(packet: &[u8; PACKET]) -> Option<u64>
 
 /// Returns the payload of a transport packet, or an empty slice if the packet has no payload or is
 /// unusable.
-pub fn payload_in(packet: &[u8; PACKET]) -> &[u8]
-    ensures { result.now ≡ payload_in packet.now }
+pub fn payload_if_usable(packet: &[u8; PACKET]) -> &[u8]
+    ensures { result.now ≡ payload_if_usable packet.now }
 {
-    if has_payload(packet) && !is_wrong(packet) {
+    if has_payload(packet) && !is_erroneous(packet) {
         payload_of(packet)
     } else {
         &[]
@@ -62,20 +64,20 @@ pub fn payload_in(packet: &[u8; PACKET]) -> &[u8]
 
 /// Returns the PTS in the first bytes of a PES packet (ISO/IEC 13818-1, PES_packet). Returns `None`
 /// if the header has no PTS, and for a gap marker. Marker bits are not checked.
-pub fn pts_stated(pes: &[u8]) -> Option<u64>
-    ensures value { result ≡ pts_stated pes.now }
+pub fn pts_of_pes_packet(pes: &[u8]) -> Option<u64>
+    ensures value { result ≡ pts_of_pes_packet pes.now }
     ensures range { IfSome result (λ pts. pts < 2 ^ 33) }
 {
     if pes.len() < 14 || pes[7] < 0x80 || pes[6] == 0xFF {
         return None;
     }
-    Some(time_at(pes, 9))
+    Some(timestamp_at(pes, 9))
 }
 
 // Returns the time at an offset of a PES header, 33 bits of a clock of 90 kHz.
-fn time_at(pes: &[u8], place: usize) -> u64
+fn timestamp_at(pes: &[u8], place: usize) -> u64
     requires { place + 5 ≤ length pes.now }
-    ensures value { result ≡ time_at pes.now place }
+    ensures value { result ≡ timestamp_at pes.now place }
     ensures range { result < 2 ^ 33 }
 {
     (pes[place] / 2 % 8) as u64 * 0x4000_0000
@@ -91,12 +93,12 @@ pub fn decoding_time(pes: &[u8]) -> Option<u64>
     ensures value { result ≡ decoding_time pes.now }
     ensures range { IfSome result (λ time. time < 2 ^ 33) }
 {
-    let pts = pts_stated(pes)?;
+    let pts = pts_of_pes_packet(pes)?;
     if pes[7] < 0xC0 {
         return Some(pts);
     }
     if pes.len() < 19 {
         return None;
     }
-    Some(time_at(pes, 14))
+    Some(timestamp_at(pes, 14))
 }

@@ -27,17 +27,17 @@ pub fn report_stream(stream: &Stream, text: &mut Text) {
 /// section has at most 4,098 bytes.
 pub fn report_pages(section: &[u8], stream: &Stream, text: &mut Text) -> bool {
     let end = stream.end.min(section.len());
-    let mut has_pages = false;
+    let mut has_reported_pages = false;
     let mut place = stream.first;
     for _ in 0..2048u32 {
         let Some(descriptor) = descriptor_at(section, place.min(0xFFFF), end) else {
-            return has_pages;
+            return has_reported_pages;
         };
-        let names_any = report_named(section, &descriptor, stream.pid, text);
-        has_pages = has_pages || names_any;
+        let has_named_pages = report_named(section, &descriptor, stream.pid, text);
+        has_reported_pages = has_reported_pages || has_named_pages;
         place = descriptor.end;
     }
-    has_pages
+    has_reported_pages
 }
 
 // Prints the Teletext pages of a descriptor, and returns whether it has any.
@@ -47,24 +47,24 @@ fn report_named(section: &[u8], descriptor: &Descriptor, pid: u16, text: &mut Te
     if !names_pages(descriptor) {
         return false;
     }
-    report_from(section, descriptor.first, descriptor.end, pid, text)
+    report_pages_from(section, descriptor.first, descriptor.end, pid, text)
 }
 
 // Prints the Teletext pages between two offsets of a section, and returns whether any were found.
-fn report_from(section: &[u8], first: usize, end: usize, pid: u16, text: &mut Text) -> bool
+fn report_pages_from(section: &[u8], first: usize, end: usize, pid: u16, text: &mut Text) -> bool
     requires { end ≤ length section.now }
 {
-    let mut has_pages = false;
+    let mut has_reported_pages = false;
     let mut at = first;
     for _ in 0..64u32 {
         let Some(page) = page_at(section, at.min(0xFFFF), end) else {
-            return has_pages;
+            return has_reported_pages;
         };
-        has_pages = true;
+        has_reported_pages = true;
         report_page(pid, &page, text);
         at = at.saturating_add(5);
     }
-    has_pages
+    has_reported_pages
 }
 
 // Prints the line of an announced Teletext page.

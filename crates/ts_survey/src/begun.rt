@@ -8,7 +8,7 @@ use crate::text::Text;
 
 /// Compares a PTS that began in packet number `number` of a PID with the last picture of its
 /// programme, and with the PCR of its clock.
-pub fn begin_pts(
+pub fn process_new_pts(
     carrier: &mut Carrier,
     picture: Option<Picture>,
     clocks: &[Clock],
@@ -34,7 +34,7 @@ fn pcr_to_compare(
     pts: u64,
     number: u64,
 ) -> Option<u64> {
-    if !carrier.is_due(pts) {
+    if !carrier.is_report_due(pts) {
         return None;
     }
     match clocks.get(place as usize) {

@@ -2,21 +2,21 @@
 ghost use Rattle.std.specs.Prelude.{◌≡◌, IfSome};
 
 use crate::adaptation::is_scrambled;
-use crate::clock::{IrregularPcr, SECOND};
+use crate::clock::{CLOCK_TICKS_PER_SECOND, IrregularPcr};
 use crate::given::Given;
 use crate::lead::{Lead, Picture};
 use crate::pes_header::PesHeader;
 use crate::pes_lines::PesLines;
 use crate::pid_packets::PidPackets;
 use crate::pid_state::{Pids, counter_distance};
-use crate::text::{Text, forward};
+use crate::text::{Text, forward_distance};
 use arrayvec::ArrayVec;
-use mpeg_ts::{PACKET, announces_jump, begins, counter_of, has_payload, is_wrong, payload_of};
+use mpeg_ts::{PACKET, announces_jump, begins, counter_of, has_payload, is_erroneous, payload_of};
 use std::alloc::Global;
 use ttx_packet::PageId;
 
 /// The maximum number of irregular PCRs that wait for more data.
-const PENDING: usize = 4;
+const MAX_PENDING_PCRS: usize = 4;
 
 /// The number of packets after an irregular PCR in which counter breaks of other PIDs are looked
 /// for.
@@ -25,7 +25,7 @@ pub const INSPECTED_PACKETS: u64 = 5000;
 /// An irregular PCR, and the PTS before and after it.
 #[derive(Clone, Copy, Default)]
 struct Pending {
-    strange: IrregularPcr,
+    irregular_pcr: IrregularPcr,
     before: Option<u64>,
     after: Option<u64>,
 }
@@ -34,7 +34,7 @@ struct Pending {
 #[derive(Drop)]
 pub struct Carrier {
     pid: u16,
-    packets_of: PidPackets<Given>,
+    pid_packets_state: PidPackets<Given>,
     // The counter of the last good packet, and whether a jump was announced after that packet.
     counter: Option<u8>,
     has_jump: bool,
@@ -44,9 +44,9 @@ pub struct Carrier {
     // The PTS of the last PES packet that began, of the last PES packet that was compared with the
     // clock, and of the last PES packet that began before the last PCR.
     begun: Option<u64>,
-    sampled: Option<u64>,
-    before_pcr: Option<u64>,
-    pending: ArrayVec<Pending, PENDING>,
+    last_sampled_pts: Option<u64>,
+    packet_before_pcr: Option<u64>,
+    pending: ArrayVec<Pending, MAX_PENDING_PCRS>,
     lead: Lead,
 }
 
@@ -58,15 +58,15 @@ impl Carrier {
         let lines = PesLines::new(alloc, pid, page)?;
         Some(Carrier {
             pid,
-            packets_of: PidPackets::new(Given::new(lines)),
+            pid_packets_state: PidPackets::new(Given::new(lines)),
             counter: None,
             has_jump: false,
             packets: 0,
             scrambled: 0,
             header: PesHeader::new(),
             begun: None,
-            sampled: None,
-            before_pcr: None,
+            last_sampled_pts: None,
+            packet_before_pcr: None,
             pending: ArrayVec::new(),
             lead: Lead::new(),
         })
@@ -82,20 +82,20 @@ impl Carrier {
         ensures { self.new.pid ≡ self.old.pid }
     {
         self.packets = self.packets.saturating_add(1);
-        self.note_scrambled(packet);
+        self.count_if_scrambled(packet);
         let begun = self.note(packet);
-        self.packets_of.to.go_on();
-        self.packets_of.take(packet, text);
+        self.pid_packets_state.to.go_on();
+        self.pid_packets_state.take(packet, text);
         begun
     }
 
     // Counts a transport packet if it is scrambled.
-    fn note_scrambled(&mut self, packet: &[u8; PACKET])
+    fn count_if_scrambled(&mut self, packet: &[u8; PACKET])
         ensures { self.new.pid ≡ self.old.pid }
     {
         if is_scrambled(packet) {
             self.scrambled = self.scrambled.saturating_add(1);
-            self.packets_of.to.add_scrambled();
+            self.pid_packets_state.to.count_scrambled_packet();
         }
     }
 
@@ -105,20 +105,20 @@ impl Carrier {
     fn note(&mut self, packet: &[u8; PACKET]) -> Option<u64>
         ensures { self.new.pid ≡ self.old.pid }
     {
-        if is_wrong(packet) {
+        if is_erroneous(packet) {
             return None;
         }
         if !has_payload(packet) {
             self.has_jump = self.has_jump || announces_jump(packet);
             return None;
         }
-        if self.packets_of.is_repeat(packet) {
+        if self.pid_packets_state.is_repeat(packet) {
             return None;
         }
-        let is_seam = self.packets_of.is_after_seam(packet);
-        self.packets_of.to.note_seam(is_seam);
-        self.packets_of.to.note_begin(begins(packet));
-        let follows = self.count_lost(packet);
+        let is_seam = self.pid_packets_state.is_after_seam(packet);
+        self.pid_packets_state.to.note_seam(is_seam);
+        self.pid_packets_state.to.note_begin(begins(packet));
+        let follows = self.count_lost_packets(packet);
         if self
             .header
             .take(payload_of(packet), begins(packet), follows)
@@ -143,44 +143,44 @@ impl Carrier {
 
     // Counts packets that are lost before a good packet, by its counter. Returns whether the packet
     // follows the last good packet.
-    fn count_lost(&mut self, packet: &[u8; PACKET]) -> bool
+    fn count_lost_packets(&mut self, packet: &[u8; PACKET]) -> bool
         ensures { self.new.pid ≡ self.old.pid }
     {
         let is_jump = self.has_jump || announces_jump(packet);
-        let lost = lost_before(self.counter, is_jump, packet);
-        self.packets_of.to.add_lost(lost as u64);
+        let lost = lost_packets_before(self.counter, is_jump, packet);
+        self.pid_packets_state.to.add_lost_packets(lost as u64);
         self.counter = Some(counter_of(packet));
         self.has_jump = false;
         lost == 0 && !is_jump
     }
 
     /// Records that packets of the PID may be missing, since many bytes were skipped.
-    pub fn note_loss(&mut self)
+    pub fn record_loss(&mut self)
         ensures { self.new.pid ≡ self.old.pid }
     {
-        self.packets_of.note_loss();
+        self.pid_packets_state.record_loss();
     }
 
     /// Records a PCR of the PID's programme, and the PTS that began before the PCR.
-    pub fn note_pcr(&mut self, strange: Option<IrregularPcr>, pids: &Pids, text: &mut Text)
+    pub fn note_pcr(&mut self, irregular_pcr: Option<IrregularPcr>, pids: &Pids, text: &mut Text)
         ensures { self.new.pid ≡ self.old.pid }
     {
-        if let Some(strange) = strange {
-            self.add_pending(strange, pids, text);
+        if let Some(irregular_pcr) = irregular_pcr {
+            self.add_pending(irregular_pcr, pids, text);
         }
-        self.before_pcr = self.begun;
+        self.packet_before_pcr = self.begun;
     }
 
     // Stores an irregular PCR. If no room is left, prints the oldest stored PCR at once.
-    fn add_pending(&mut self, strange: IrregularPcr, pids: &Pids, text: &mut Text)
+    fn add_pending(&mut self, irregular_pcr: IrregularPcr, pids: &Pids, text: &mut Text)
         ensures { self.new.pid ≡ self.old.pid }
     {
-        if self.pending.len() == PENDING {
+        if self.pending.len() == MAX_PENDING_PCRS {
             self.report_first(pids, text);
         }
         let _ = self.pending.try_push(Pending {
-            strange,
-            before: self.before_pcr,
+            irregular_pcr,
+            before: self.packet_before_pcr,
             after: None,
         });
     }
@@ -193,23 +193,23 @@ impl Carrier {
         for one in self.pending.as_mut_slice().iter_mut() {
             one.after = one.after.or(Some(pts));
         }
-        if !self.is_due(pts) {
+        if !self.is_report_due(pts) {
             return;
         }
         if let Some(pcr) = pcr {
-            self.sampled = Some(pts);
+            self.last_sampled_pts = Some(pts);
             report_ahead(self.pid, pts, pcr, text);
         }
     }
 
     /// Returns whether a PTS is a second or more from the last PTS that was compared with the
     /// clock, and no data is missing before it.
-    pub fn is_due(&self, pts: u64) -> bool {
-        if self.packets_of.to.is_broken() {
+    pub fn is_report_due(&self, pts: u64) -> bool {
+        if self.pid_packets_state.to.is_broken() {
             return false;
         }
-        match self.sampled {
-            Some(last) => forward(last, pts) >= SECOND,
+        match self.last_sampled_pts {
+            Some(last) => forward_distance(last, pts) >= CLOCK_TICKS_PER_SECOND,
             None => true,
         }
     }
@@ -226,21 +226,21 @@ impl Carrier {
     pub fn settle(&mut self, number: Option<u64>, pids: &Pids, text: &mut Text)
         ensures { self.new.pid ≡ self.old.pid }
     {
-        for _ in 0..PENDING {
-            if !self.settle_first(number, pids, text) {
+        for _ in 0..MAX_PENDING_PCRS {
+            if !self.report_first_if_settled(number, pids, text) {
                 return;
             }
         }
     }
 
     // Prints the first irregular PCR if it needs no more data, and returns whether it was printed.
-    fn settle_first(&mut self, number: Option<u64>, pids: &Pids, text: &mut Text) -> bool
+    fn report_first_if_settled(&mut self, number: Option<u64>, pids: &Pids, text: &mut Text) -> bool
         ensures { self.new.pid ≡ self.old.pid }
     {
         let Some(one) = self.pending.as_slice().first() else {
             return false;
         };
-        let second = one.strange.second;
+        let second = one.irregular_pcr.second;
         let is_settled = match number {
             Some(number) => number > second.saturating_add(INSPECTED_PACKETS),
             None => true,
@@ -258,7 +258,11 @@ impl Carrier {
         let Some(one) = self.pending.as_slice().first() else {
             return;
         };
-        let reported = pids.reported_between(self.pid, one.strange.first, one.strange.second);
+        let reported = pids.break_word_between(
+            self.pid,
+            one.irregular_pcr.first,
+            one.irregular_pcr.second,
+        );
         report_clock(self.pid, one, reported, text);
         let _ = self.pending.remove(0);
     }
@@ -272,18 +276,18 @@ impl Carrier {
     pub fn flush(&mut self, text: &mut Text)
         ensures { self.new.pid ≡ self.old.pid }
     {
-        self.packets_of.to.flush(text);
+        self.pid_packets_state.to.flush(text);
     }
 
     /// Ends the recording: prints the remaining lines of the PID, the counts last.
     pub fn end(&self, text: &mut Text) {
-        self.packets_of.to.end(text);
+        self.pid_packets_state.to.end(text);
         self.report_end(text);
     }
 
     // Prints how many packets the PID had, and how many PES packets and gap markers resulted.
     fn report_end(&self, text: &mut Text) {
-        let given = &self.packets_of.to;
+        let given = &self.pid_packets_state.to;
         text.put(b"end");
         text.number(self.pid as u64);
         text.number(given.count());
@@ -298,7 +302,7 @@ impl Carrier {
 }
 
 // Returns how many packets are lost before a good packet that is no repeat.
-fn lost_before(counter: Option<u8>, is_jump: bool, packet: &[u8; PACKET]) -> u8 {
+fn lost_packets_before(counter: Option<u8>, is_jump: bool, packet: &[u8; PACKET]) -> u8 {
     match counter {
         Some(last) if !is_jump => {
             counter_distance(last, counter_of(packet)).wrapping_sub(1) % 0x10
@@ -312,7 +316,7 @@ fn report_ahead(pid: u16, pts: u64, pcr: u64, text: &mut Text) {
     text.put(b"ahead");
     text.number(pid as u64);
     text.number(pts);
-    text.ticks(forward(pcr, pts));
+    text.ticks(forward_distance(pcr, pts));
     text.put(b"\n");
 }
 
@@ -322,10 +326,14 @@ fn report_clock(pid: u16, one: &Pending, reported: &[u8], text: &mut Text) {
     text.number(pid as u64);
     text.time(one.before);
     text.time(one.after);
-    text.ticks(one.strange.ticks);
-    text.number(one.strange.second.saturating_sub(one.strange.first));
-    text.number(one.strange.usual);
-    text.number(one.strange.usual_packets);
+    text.ticks(one.irregular_pcr.ticks);
+    text.number(
+        one.irregular_pcr
+            .second
+            .saturating_sub(one.irregular_pcr.first),
+    );
+    text.number(one.irregular_pcr.median_ticks);
+    text.number(one.irregular_pcr.median_packet_count);
     text.put(reported);
     text.put(b"\n");
 }

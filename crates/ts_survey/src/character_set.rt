@@ -8,12 +8,12 @@ use ttx_packet::{Packet, unham};
 
 /// The number of possible lines, each of which is printed once: packet 28 or 29, designation 0 or
 /// 4, 128 character sets or an unreadable one.
-const LINES: usize = 1024;
+const LINE_COUNT: usize = 1024;
 
 /// The lines of character sets that were printed.
 #[derive(Drop)]
 pub struct CharacterSets {
-    reported: [bool; LINES],
+    reported: [bool; LINE_COUNT],
 }
 
 // Returns the 18 data bits of three Hamming 24/18 bytes (EN 300 706, 8.3), with one wrong bit
@@ -21,14 +21,14 @@ pub struct CharacterSets {
 fn triplet(first: u8, second: u8, third: u8) -> Option<u32>
     ensures { result ≡ specs.triplet first second third }
 {
-    carried_bits(first as u32 + second as u32 * 0x100 + third as u32 * 0x1_0000)
+    corrected_data_bits(first as u32 + second as u32 * 0x100 + third as u32 * 0x1_0000)
 }
 
 // Returns the data bits of a Hamming 24/18 word of 24 bits, or `None` if two bits are wrong.
-fn carried_bits(word: u32) -> Option<u32>
-    ensures { result ≡ specs.carried_bits word }
+fn corrected_data_bits(word: u32) -> Option<u32>
+    ensures { result ≡ specs.corrected_data_bits word }
 {
-    let wrong = wrong_place(word);
+    let wrong = wrong_bit_position(word);
     if word.count_ones() % 2 == 1 {
         return if wrong == 0 {
             Some(data_bits(word))
@@ -43,8 +43,8 @@ fn carried_bits(word: u32) -> Option<u32>
 }
 
 // Returns the place of a single wrong bit in a Hamming 24/18 word, or 0 for the last bit.
-fn wrong_place(word: u32) -> u32
-    ensures { result ≡ specs.wrong_place word }
+fn wrong_bit_position(word: u32) -> u32
+    ensures { result ≡ specs.wrong_bit_position word }
 {
     failed(word, 0x55_5555, 1)
         + failed(word, 0x66_6666, 2)
@@ -55,7 +55,7 @@ fn wrong_place(word: u32) -> u32
 
 // Returns `digit` if the Hamming 24/18 test of these bits fails, and otherwise 0.
 fn failed(word: u32, bits: u32, digit: u32) -> u32
-    ensures value { result ≡ specs.digit_if_failed word bits digit }
+    ensures value { result ≡ specs.digit_of_failed_test word bits digit }
     ensures range { result ≤ digit }
 {
     if (word & bits).count_ones() % 2 == 1 {
@@ -87,8 +87,8 @@ fn data_bits(word: u32) -> u32
 
 // Returns the character set in the bits of triplet 1. Returns `None` if the page function in the
 // bits is not the function of pages that are shown.
-fn set_in(number: u8, bits: Option<u32>) -> Option<Option<u32>>
-    ensures { result ≡ specs.set_in number bits }
+fn set_from_triplet(number: u8, bits: Option<u32>) -> Option<Option<u32>>
+    ensures { result ≡ specs.set_from_triplet number bits }
 {
     match bits {
         None => Some(None),
@@ -102,10 +102,10 @@ fn set_in(number: u8, bits: Option<u32>) -> Option<Option<u32>>
 }
 
 // Returns the designation of a packet, and its character set.
-fn set_stated(packet: &Packet, number: u8, is_own: bool) -> Option<(u8, Option<u32>)>
-    ensures { result ≡ specs.set_stated number is_own packet.now }
+fn set_of_packet(packet: &Packet, number: u8, is_requested_page: bool) -> Option<(u8, Option<u32>)>
+    ensures { result ≡ specs.set_of_packet number is_requested_page packet.now }
 {
-    if number != 29 && (number != 28 || !is_own) {
+    if number != 29 && (number != 28 || !is_requested_page) {
         return None;
     }
     let bytes = packet.bytes();
@@ -113,17 +113,17 @@ fn set_stated(packet: &Packet, number: u8, is_own: bool) -> Option<(u8, Option<u
     if designation != 0 && designation != 4 {
         return None;
     }
-    let set = set_in(number, triplet(bytes[3], bytes[4], bytes[5]))?;
+    let set = set_from_triplet(number, triplet(bytes[3], bytes[4], bytes[5]))?;
     Some((designation, set))
 }
 
-fn none_reported() -> [bool; LINES] {
-    [false; LINES]
+fn no_lines_reported() -> [bool; LINE_COUNT] {
+    [false; LINE_COUNT]
 }
 
 // Returns the index of the line of a character set among all possible lines.
-fn line_place(number: u8, designation: u8, set: Option<u32>) -> usize
-    ensures value { result ≡ specs.line_place number designation set }
+fn set_line_index(number: u8, designation: u8, set: Option<u32>) -> usize
+    ensures value { result ≡ specs.set_line_index number designation set }
     ensures range { result < 1024 }
 {
     let packet = if number == 28 { 0 } else { 512 };
@@ -140,11 +140,11 @@ fn report_set(number: u8, designation: u8, set: Option<u32>, pid: u16, text: &mu
     text.number(pid as u64);
     text.number(number as u64);
     text.number(designation as u64);
-    end_set(set, text);
+    end_set_line(set, text);
 }
 
 // Prints the region and option of a character set at the end of its line.
-fn end_set(set: Option<u32>, text: &mut Text) {
+fn end_set_line(set: Option<u32>, text: &mut Text) {
     match set {
         Some(set) => {
             text.number((set / 8 % 0x10) as u64);
@@ -159,21 +159,28 @@ impl CharacterSets {
     /// Creates the state before the first line.
     pub fn new() -> CharacterSets {
         CharacterSets {
-            reported: none_reported(),
+            reported: no_lines_reported(),
         }
     }
 
-    /// Processes a packet of the page's magazine that is no header. `is_own`: the last header of
-    /// the magazine is a header of the page.
-    pub fn hear(&mut self, packet: &Packet, number: u8, is_own: bool, pid: u16, text: &mut Text) {
-        if let Some((designation, set)) = set_stated(packet, number, is_own) {
+    /// Processes a packet of the page's magazine that is no header. `is_requested_page`: the last
+    /// header of the magazine is a header of the page.
+    pub fn hear(
+        &mut self,
+        packet: &Packet,
+        number: u8,
+        is_requested_page: bool,
+        pid: u16,
+        text: &mut Text,
+    ) {
+        if let Some((designation, set)) = set_of_packet(packet, number, is_requested_page) {
             self.report(number, designation, set, pid, text);
         }
     }
 
     // Prints the line of a character set, unless it was printed before.
     fn report(&mut self, number: u8, designation: u8, set: Option<u32>, pid: u16, text: &mut Text) {
-        let place = line_place(number, designation, set);
+        let place = set_line_index(number, designation, set);
         let was_reported = self.reported[place];
         self.reported[place] = true;
         if !was_reported {

@@ -1,32 +1,32 @@
 //! The clock of a programme: its PCRs, and which of them are irregular.
 
-use crate::text::{CLOCK, Text, forward};
+use crate::text::{CLOCK_PERIOD, Text, forward_distance};
 use mpeg_ts::{PACKET, announces_jump};
 
 /// The number of ticks of a PTS or PCR base in a second.
-pub const SECOND: u64 = 90_000;
+pub const CLOCK_TICKS_PER_SECOND: u64 = 90_000;
 
 /// The shortest interval in ticks after which a PCR may count as late: 0.1 s (ISO/IEC 13818-1).
-const LEAST_LATENESS: u64 = 9_000;
+const MIN_REPORTED_LATENESS: u64 = 9_000;
 
 /// The number of last intervals whose median is the usual interval, and the least number of
 /// intervals that determines a median.
 const MEDIAN_INTERVALS: usize = 100;
 
-const FEWEST: usize = 5;
+const MIN_INTERVALS: usize = 5;
 
 /// The last numbers of a series, such as the intervals between PCRs in ticks.
 #[derive(Clone, Copy)]
-struct Numbers {
+struct RecentNumbers {
     kept: [u64; MEDIAN_INTERVALS],
     count: usize,
     next: usize,
 }
 
-impl Numbers {
+impl RecentNumbers {
     // Creates an empty list of numbers.
-    fn new() -> Numbers {
-        Numbers {
+    fn new() -> RecentNumbers {
+        RecentNumbers {
             kept: [0; MEDIAN_INTERVALS],
             count: 0,
             next: 0,
@@ -35,7 +35,7 @@ impl Numbers {
 
     // Adds a number, in place of the oldest number if the list is full.
     fn add(&mut self, number: u64) {
-        put_at(&mut self.kept, self.next, number);
+        store_number_at(&mut self.kept, self.next, number);
         self.next = (self.next % MEDIAN_INTERVALS + 1) % MEDIAN_INTERVALS;
         if self.count < MEDIAN_INTERVALS {
             self.count += 1;
@@ -44,7 +44,7 @@ impl Numbers {
 
     // Returns the median of the numbers, or the upper median if their count is even; 0 if the list
     // is empty.
-    fn middle(&self) -> u64 {
+    fn median_interval(&self) -> u64 {
         let mut sorted = self.kept;
         let (some, _) = sorted.split_at_mut(self.count.min(MEDIAN_INTERVALS));
         median_of(some)
@@ -52,7 +52,7 @@ impl Numbers {
 }
 
 // Stores a number at an index, if the index is within the array.
-fn put_at(kept: &mut [u64; MEDIAN_INTERVALS], place: usize, number: u64) {
+fn store_number_at(kept: &mut [u64; MEDIAN_INTERVALS], place: usize, number: u64) {
     if place < MEDIAN_INTERVALS {
         kept[place] = number;
     }
@@ -69,11 +69,13 @@ fn median_of(numbers: &mut [u64]) -> u64 {
 
 // Returns whether an interval of this many ticks is usual, given the number of known intervals and
 // their median.
-fn is_usual(ticks: u64, count: usize, middle: u64) -> bool {
-    if ticks >= CLOCK / 2 {
+fn is_usual_interval(ticks: u64, count: usize, median_interval: u64) -> bool {
+    if ticks >= CLOCK_PERIOD / 2 {
         return false;
     }
-    ticks <= LEAST_LATENESS || count < FEWEST || ticks <= middle.saturating_mul(3)
+    ticks <= MIN_REPORTED_LATENESS
+        || count < MIN_INTERVALS
+        || ticks <= median_interval.saturating_mul(3)
 }
 
 /// An irregular PCR, which is late or smaller than the PCR before it: the numbers of the packets
@@ -83,8 +85,8 @@ pub struct IrregularPcr {
     pub first: u64,
     pub second: u64,
     pub ticks: u64,
-    pub usual: u64,
-    pub usual_packets: u64,
+    pub median_ticks: u64,
+    pub median_packet_count: u64,
 }
 
 /// The PCRs of a PID.
@@ -93,8 +95,8 @@ pub struct Clock {
     pid: u16,
     last: Option<(u64, u64)>,
     is_announced: bool,
-    ticks: Numbers,
-    packets: Numbers,
+    ticks: RecentNumbers,
+    packets: RecentNumbers,
     reported: Option<u64>,
 }
 
@@ -105,8 +107,8 @@ impl Clock {
             pid,
             last: None,
             is_announced: false,
-            ticks: Numbers::new(),
-            packets: Numbers::new(),
+            ticks: RecentNumbers::new(),
+            packets: RecentNumbers::new(),
             reported: None,
         }
     }
@@ -124,28 +126,28 @@ impl Clock {
     /// Processes a PCR in packet number `number`, and prints the PCR once a second. Returns the
     /// interval before the PCR if the PCR is irregular.
     pub fn take(&mut self, pcr: u64, number: u64, text: &mut Text) -> Option<IrregularPcr> {
-        let is_due = match self.reported {
+        let is_report_due = match self.reported {
             None => true,
-            Some(reported) => forward(reported, pcr) >= SECOND,
+            Some(reported) => forward_distance(reported, pcr) >= CLOCK_TICKS_PER_SECOND,
         };
-        if is_due {
+        if is_report_due {
             self.reported = Some(pcr);
             self.report(pcr, text);
         }
-        let strange = match self.last {
+        let irregular_pcr = match self.last {
             Some((last, at)) if !self.is_announced => self.compare(last, at, pcr, number),
             _ => None,
         };
         self.last = Some((pcr, number));
         self.is_announced = false;
-        strange
+        irregular_pcr
     }
 
     // Compares a PCR with the PCR before it.
     fn compare(&mut self, last: u64, at: u64, pcr: u64, number: u64) -> Option<IrregularPcr> {
-        let ticks = forward(last, pcr);
+        let ticks = forward_distance(last, pcr);
         let packets = number.saturating_sub(at);
-        if self.is_usual(ticks) {
+        if self.is_usual_interval(ticks) {
             self.ticks.add(ticks);
             self.packets.add(packets);
             return None;
@@ -154,15 +156,15 @@ impl Clock {
             first: at,
             second: number,
             ticks,
-            usual: self.ticks.middle(),
-            usual_packets: self.packets.middle(),
+            median_ticks: self.ticks.median_interval(),
+            median_packet_count: self.packets.median_interval(),
         })
     }
 
     // Returns whether the interval before a PCR is usual. The first intervals determine which
     // intervals are usual.
-    fn is_usual(&self, ticks: u64) -> bool {
-        is_usual(ticks, self.ticks.count, self.ticks.middle())
+    fn is_usual_interval(&self, ticks: u64) -> bool {
+        is_usual_interval(ticks, self.ticks.count, self.ticks.median_interval())
     }
 
     /// Returns the last PCR if it is recent: fewer than 256 packets ago, or fewer than four times
@@ -171,7 +173,7 @@ impl Clock {
         let Some((pcr, at)) = self.last else {
             return None;
         };
-        let buffer = self.packets.middle().max(64).saturating_mul(4);
+        let buffer = self.packets.median_interval().max(64).saturating_mul(4);
         if number.saturating_sub(at) < buffer {
             Some(pcr)
         } else {

@@ -4,7 +4,7 @@
 use crate::pes_lines::PesLines;
 use crate::pid_packets::TakesPesPackets;
 use crate::text::Text;
-use ttx_pes::{is_gap_marker, size_of};
+use ttx_pes::{decode_packet_size, is_gap_marker};
 
 /// The state of receiving the data of a PID.
 #[derive(Drop)]
@@ -44,7 +44,7 @@ impl Given {
     }
 
     /// Adds to the number of lost packets.
-    pub fn add_lost(&mut self, count: u64) {
+    pub fn add_lost_packets(&mut self, count: u64) {
         self.lost = self.lost.saturating_add(count);
     }
 
@@ -64,7 +64,7 @@ impl Given {
     }
 
     /// Counts a scrambled transport packet of the PID.
-    pub fn add_scrambled(&mut self) {
+    pub fn count_scrambled_packet(&mut self) {
         self.scrambled = self.scrambled.saturating_add(1);
     }
 
@@ -103,7 +103,7 @@ impl Given {
     }
 
     // Processes a gap marker for missing packets, which is printed before the next PES packet.
-    fn take_missing(&mut self) {
+    fn take_missing_packets(&mut self) {
         self.has_gap_marker = true;
         self.is_after_gap = true;
         self.is_broken = true;
@@ -111,7 +111,7 @@ impl Given {
 
     // Processes a PES packet, or a gap marker that the PID itself carries. Prints a pending gap
     // marker before it.
-    fn take_known(&mut self, pes_packet: &[u8], text: &mut Text) {
+    fn take_pes_or_gap_marker(&mut self, pes_packet: &[u8], text: &mut Text) {
         self.report_gap_marker(text);
         self.is_cut = false;
         self.is_after_gap = is_gap_marker(pes_packet);
@@ -160,25 +160,25 @@ impl TakesPesPackets for Given {
     /// Processes a PES packet, a gap marker, or other bytes, after which nothing more is received.
     fn take(&mut self, pes_packet: &[u8], is_missing: bool, text: &mut Text) {
         if is_missing {
-            self.take_missing();
+            self.take_missing_packets();
             return;
         }
-        match refusal_of(pes_packet) {
+        match fault_number_of(pes_packet) {
             Some(number) => {
                 self.refusal = number;
                 self.is_after_gap = false;
                 self.report_gap_marker(text);
             }
-            None => self.take_known(pes_packet, text),
+            None => self.take_pes_or_gap_marker(pes_packet, text),
         }
     }
 }
 
 // Returns the number of the fault of bytes that are no PES packet with Teletext. Returns `None` for
 // a PES packet with Teletext and for a gap marker.
-fn refusal_of(bytes: &[u8]) -> Option<u16> {
+fn fault_number_of(bytes: &[u8]) -> Option<u16> {
     let head = bytes.first_chunk()?;
-    match size_of(head) {
+    match decode_packet_size(head) {
         Ok(_) => None,
         Err(fault) => Some(u16::from(fault.code().number())),
     }

@@ -65,9 +65,9 @@ impl Heard {
         let _ = self.characters.try_push(character);
     }
 
-    /// Adds the character of an event if `is_so` is set.
-    pub fn add_if(&mut self, is_so: bool, character: u8) {
-        if is_so {
+    /// Adds the character of an event if `condition` is set.
+    pub fn add_if(&mut self, condition: bool, character: u8) {
+        if condition {
             self.add(character);
         }
     }

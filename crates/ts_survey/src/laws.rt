@@ -3,7 +3,7 @@
 //!
 //! The functions do nothing: the contract of each function is a law about the definitions in
 //! `specs/`.
-ghost use Rattle.ts_survey.specs.Following.{LawOfFollowing};
+ghost use Rattle.ts_survey.specs.Following.{LawOfReceivedData};
 ghost use Rattle.ts_survey.specs.InStep.{LawOfTwoCalls};
 
 use crate::packets_in_step::TakesPackets;
@@ -11,9 +11,9 @@ use crate::pid_packets::TakesPesPackets;
 
 /// The data received part by part from the packets of a PID is the data that they carry in the
 /// recording: PES packets, and gap markers for missing data.
-#[tactic(auto, using(crate::proofs::FollowingLemmas::law_of_following))]
-pub fn law_of_following<T: TakesPesPackets>()
-    ensures { LawOfFollowing T.is_taken }
+#[tactic(auto, using(crate::proofs::FollowingLemmas::law_of_received_data))]
+pub fn law_of_received_data<T: TakesPesPackets>()
+    ensures { LawOfReceivedData T.is_taken }
 {}
 
 /// The packets and gaps in bytes that arrive in two calls are processed like those in bytes that

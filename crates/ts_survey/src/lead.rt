@@ -1,7 +1,7 @@
 //! Prints once a second how far the Teletext of a PID is ahead of the pictures of its programme.
 
-use crate::clock::SECOND;
-use crate::text::{Text, forward};
+use crate::clock::CLOCK_TICKS_PER_SECOND;
+use crate::text::{Text, forward_distance};
 
 /// The last picture of a video PID that has a decoding time, and the number of its PES packet.
 #[derive(Clone, Copy)]
@@ -32,7 +32,7 @@ impl Lead {
     /// Processes a PES packet of the PID with this PTS, after a picture. Prints a line if the PES
     /// packet is the first after that picture, and a second has passed since the last line.
     pub fn take(&mut self, pid: u16, pts: u64, picture: &Picture, text: &mut Text) {
-        if !self.go_to(picture) || !self.is_due(pts) {
+        if !self.move_to_picture(picture) || !self.is_report_due(pts) {
             return;
         }
         self.last = Some(pts);
@@ -41,7 +41,7 @@ impl Lead {
 
     // Moves to a picture, and returns whether it differs from the picture before. After a change of
     // the video PID the next line is printed at once.
-    fn go_to(&mut self, picture: &Picture) -> bool {
+    fn move_to_picture(&mut self, picture: &Picture) -> bool {
         let before = self.following;
         self.following = Some((picture.video, picture.number));
         match before {
@@ -54,9 +54,9 @@ impl Lead {
     }
 
     // Returns whether a PTS is a second or more after the PTS of the last line, or before it.
-    fn is_due(&self, pts: u64) -> bool {
+    fn is_report_due(&self, pts: u64) -> bool {
         match self.last {
-            Some(last) => forward(last, pts) >= SECOND,
+            Some(last) => forward_distance(last, pts) >= CLOCK_TICKS_PER_SECOND,
             None => true,
         }
     }
@@ -67,7 +67,7 @@ fn put_lead(pid: u16, pts: u64, picture: &Picture, text: &mut Text) {
     text.put(b"lead");
     text.number(pid as u64);
     text.number(pts);
-    text.ticks(forward(picture.time, pts));
+    text.ticks(forward_distance(picture.time, pts));
     text.number(picture.video as u64);
     text.number(picture.number);
     text.put(b"\n");

@@ -1,15 +1,15 @@
 //! Processes the packets of a transport stream for `survey`, one after another.
 ghost use Rattle.std.specs.Prelude.{◌≡◌, ◌<◌, [], IfSome};
 ghost use Rattle.std.specs.Prelude.{length, true};
-ghost use Rattle.ts_survey.specs.Requested.{KeepsRequested, is_requested, keeps_requested};
-ghost use Rattle.ts_survey.specs.Requested.{others_followed};
+ghost use Rattle.ts_survey.specs.Requested.{KeepsRequested, is_requested, packet_keeps_requested};
+ghost use Rattle.ts_survey.specs.Requested.{unrequested_followed_pids};
 ghost use Rattle.ts_survey.specs.FirstLines.{requested_texts, teletext_line};
 ghost use Rattle.ts_survey.specs.Lines.{AddsTexts};
 ghost use Rattle.ts_survey.specs.Payload as specs;
 
-use crate::adaptation::{has_usable_adaptation, payload_in, pcr_base};
+use crate::adaptation::{has_usable_adaptation_field, payload_if_usable, pcr_base};
 use crate::announcements::{report_pages, report_programme, report_stream};
-use crate::begun::begin_pts;
+use crate::begun::process_new_pts;
 use crate::carrier::{Carrier, INSPECTED_PACKETS};
 use crate::clock::{Clock, IrregularPcr};
 use crate::lead::Picture;
@@ -18,14 +18,14 @@ use crate::pes_header::stream_id_in;
 use crate::pictures::Pictures;
 use crate::pid_state::{NO_INDEX, NULL_PID, PacketLink, PidState, Pids, link_of};
 use crate::section::{FIRST_PMT, Stream, pmt_pid_at, programme_of, stream_at};
-use crate::tables::{SECTION_CAPACITY, Section, Tables, parts_of};
+use crate::tables::{SECTION_CAPACITY, Section, Tables, split_at_pointer_field};
 use crate::text::Text;
 use mpeg_ts::{PACKET, announces_jump, begins, pid_of};
 use std::alloc::Global;
 use ttx_packet::PageId;
 
 /// The maximum number of PIDs with Teletext, of clocks and of video PIDs that are followed.
-const MOST: usize = 64;
+const CAPACITY: usize = 64;
 
 /// The state of processing a transport stream.
 #[derive(Drop)]
@@ -38,7 +38,7 @@ pub struct Multiplex {
     // The number of the last transport packet.
     number: u64,
     // The number of the packet at which irregular PCRs are examined again.
-    settle_at: u64,
+    next_settle_packet: u64,
     out_of_memory: bool,
     pids: Pids,
     tables: Tables,
@@ -57,7 +57,7 @@ impl Multiplex {
         text: &mut Text,
     ) -> Option<Multiplex>
         ensures requested { IfSome result (λ multiplex. (multiplex.requested ≡ requested)
-            × (multiplex.page ≡ page) × (others_followed multiplex ≡ [])) }
+            × (multiplex.page ≡ page) × (unrequested_followed_pids multiplex ≡ [])) }
         // If a PID is requested, the line `teletext` of that PID is printed.
         ensures reported { IfSome result (λ multiplex. AddsTexts text.old
             (requested_texts multiplex.requested) text.new) }
@@ -68,7 +68,7 @@ impl Multiplex {
             page,
             requested,
             number: 0,
-            settle_at: u64::MAX,
+            next_settle_packet: u64::MAX,
             out_of_memory: false,
             pids,
             tables: Tables::new(alloc),
@@ -113,7 +113,7 @@ impl Multiplex {
             Some(requested) => requested == pid,
             None => true,
         };
-        if state.carrier != NO_INDEX || !is_requested || self.carriers.len() >= MOST {
+        if state.carrier != NO_INDEX || !is_requested || self.carriers.len() >= CAPACITY {
             return;
         }
         if self.add_carrier(pid, text).is_none() {
@@ -148,7 +148,7 @@ impl Multiplex {
     {
         let mut state = self.pids.get(pid);
         let place = self.clocks.len();
-        if pid == NULL_PID || state.clock != NO_INDEX || place >= MOST {
+        if pid == NULL_PID || state.clock != NO_INDEX || place >= CAPACITY {
             return;
         }
         if self.clocks.push(Clock::new(pid)).is_err() {
@@ -165,7 +165,7 @@ impl Multiplex {
     {
         let mut state = self.pids.get(pid);
         let place = self.videos.len();
-        if state.video != NO_INDEX || place >= MOST {
+        if state.video != NO_INDEX || place >= CAPACITY {
             return;
         }
         if self.videos.push(Pictures::new(pid)).is_err() {
@@ -178,7 +178,7 @@ impl Multiplex {
 
     // Processes a packet of a PID with Teletext.
     #[tactic(auto, using(crate::proofs::RequestedLemmas::one_changed))]
-    fn carry(&mut self, state: &PidState, packet: &[u8; PACKET], text: &mut Text)
+    fn process_teletext_packet(&mut self, state: &PidState, packet: &[u8; PACKET], text: &mut Text)
         ensures requested { KeepsRequested self.old self.new }
     {
         let Some(carrier) = self.carriers.get_mut(state.carrier as usize) else {
@@ -201,7 +201,7 @@ impl Multiplex {
         let Some(carrier) = self.carriers.get_mut(state.carrier as usize) else {
             return;
         };
-        begin_pts(
+        process_new_pts(
             carrier,
             picture,
             self.clocks.as_slice(),
@@ -220,8 +220,8 @@ impl Multiplex {
         let Some(pictures) = self.videos.get(state.video as usize) else {
             return;
         };
-        if begins(packet) || pictures.needs_each() {
-            self.show_on(
+        if begins(packet) || pictures.needs_every_packet() {
+            self.process_needed_packet(
                 state.video,
                 state.kind,
                 link_of(state, packet),
@@ -234,7 +234,7 @@ impl Multiplex {
     // Processes a packet that is needed. Not inlined, since few packets are needed, and inlining
     // would take registers from the loop over all packets.
     #[inline(never)]
-    fn show_on(
+    fn process_needed_packet(
         &mut self,
         place: u8,
         kind: u8,
@@ -268,7 +268,7 @@ impl Multiplex {
     fn read_clock(&mut self, place: u8, packet: &[u8; PACKET], text: &mut Text)
         ensures requested { KeepsRequested self.old self.new }
     {
-        if !has_usable_adaptation(packet) {
+        if !has_usable_adaptation_field(packet) {
             return;
         }
         let Some(clock) = self.clocks.get_mut(place as usize) else {
@@ -278,21 +278,21 @@ impl Multiplex {
         let Some(pcr) = pcr_base(packet) else {
             return;
         };
-        let strange = clock.take(pcr, self.number, text);
+        let irregular_pcr = clock.take(pcr, self.number, text);
         let pid = clock.pid();
-        if strange.is_some() {
+        if irregular_pcr.is_some() {
             let at = self.number.saturating_add(INSPECTED_PACKETS + 1);
-            self.settle_at = self.settle_at.min(at);
+            self.next_settle_packet = self.next_settle_packet.min(at);
         }
-        self.note_pcr(pid, strange, text);
+        self.note_pcr(pid, irregular_pcr, text);
     }
 
     // Passes a PCR of this PCR_PID to each followed PID of the programme.
-    fn note_pcr(&mut self, clock_pid: u16, strange: Option<IrregularPcr>, text: &mut Text)
+    fn note_pcr(&mut self, clock_pid: u16, irregular_pcr: Option<IrregularPcr>, text: &mut Text)
         ensures requested { KeepsRequested self.old self.new }
     {
         for carrier in self.carriers.iter_mut() {
-            note_pcr_of(carrier, &self.pids, clock_pid, strange, text);
+            note_pcr_for_carrier(carrier, &self.pids, clock_pid, irregular_pcr, text);
         }
     }
 
@@ -305,7 +305,7 @@ impl Multiplex {
             carrier.settle(Some(number), &self.pids, text);
             is_waiting = is_waiting || carrier.is_waiting();
         }
-        self.settle_at = if is_waiting {
+        self.next_settle_packet = if is_waiting {
             number.saturating_add(1)
         } else {
             u64::MAX
@@ -313,13 +313,13 @@ impl Multiplex {
     }
 
     // Prints all irregular PCRs that are waiting for more data.
-    fn settle_all(&mut self, text: &mut Text)
+    fn report_all_pending_pcrs(&mut self, text: &mut Text)
         ensures requested { KeepsRequested self.old self.new }
     {
         for carrier in self.carriers.iter_mut() {
             carrier.settle(None, &self.pids, text);
         }
-        self.settle_at = u64::MAX;
+        self.next_settle_packet = u64::MAX;
     }
 
     // Processes a packet of a PID: reads its sections and its clock, and examines which data begins
@@ -342,24 +342,24 @@ impl Multiplex {
     // Reads a packet in which data begins or whose PID is followed, and processes the packet if its
     // PID has pictures or Teletext.
     #[inline(always)]
-    fn read_on(&mut self, pid: u16, state: &PidState, packet: &[u8; PACKET], text: &mut Text)
+    fn read_ahead(&mut self, pid: u16, state: &PidState, packet: &[u8; PACKET], text: &mut Text)
         ensures requested { KeepsRequested self.old self.new }
     {
         self.read(pid, state, packet, text);
         let state = self.pids.get(pid);
-        self.follow_on(&state, packet, text);
+        self.process_followed_packet(&state, packet, text);
     }
 
     // Processes a packet of a PID with pictures or Teletext.
     #[inline(always)]
-    fn follow_on(&mut self, state: &PidState, packet: &[u8; PACKET], text: &mut Text)
+    fn process_followed_packet(&mut self, state: &PidState, packet: &[u8; PACKET], text: &mut Text)
         ensures requested { KeepsRequested self.old self.new }
     {
         if state.video != NO_INDEX {
             self.show(state, packet, text);
         }
         if state.carrier != NO_INDEX {
-            self.carry(state, packet, text);
+            self.process_teletext_packet(state, packet, text);
         }
     }
 
@@ -368,11 +368,11 @@ impl Multiplex {
     fn inspect(&mut self, pid: u16, packet: &[u8; PACKET], text: &mut Text)
         ensures requested { KeepsRequested self.old self.new }
     {
-        let payload = payload_in(packet);
+        let payload = payload_if_usable(packet);
         let Some(stream_id) = stream_id_in(payload) else {
             return;
         };
-        if begins_teletext(payload) {
+        if begins_with_teletext(payload) {
             self.follow(pid, text);
         } else if stream_id != 0xBD || has_data_identifier(payload) {
             let mut state = self.pids.get(pid);
@@ -388,7 +388,7 @@ impl Multiplex {
     fn read_sections(&mut self, table: u8, packet: &[u8; PACKET], text: &mut Text)
         ensures requested { KeepsRequested self.old self.new }
     {
-        let (before, following) = parts_of(packet, payload_in(packet));
+        let (before, following) = split_at_pointer_field(packet, payload_if_usable(packet));
         self.tables.take(table, before, false);
         self.read_tables(table, text);
         if let Some(following) = following {
@@ -416,7 +416,7 @@ impl Multiplex {
         if !self.tables.next(table, &mut section) {
             return false;
         }
-        if self.tables.is_new(section.as_slice()) {
+        if self.tables.is_new_section(section.as_slice()) {
             self.read_section(table, section.as_slice(), text);
         }
         true
@@ -496,33 +496,33 @@ impl Multiplex {
     pub fn end(&mut self, text: &mut Text)
         ensures requested { KeepsRequested self.old self.new }
     {
-        self.settle_all(text);
-        self.end_pictures(text);
-        self.end_pids(text);
-        self.end_clocks(text);
+        self.report_all_pending_pcrs(text);
+        self.report_final_pictures(text);
+        self.report_final_pids(text);
+        self.report_final_clocks(text);
     }
 
-    fn end_pictures(&self, text: &mut Text) {
+    fn report_final_pictures(&self, text: &mut Text) {
         for video in self.videos.iter() {
             video.end(text);
         }
     }
 
     // Prints the final lines of the followed PIDs, one PID after another.
-    fn end_pids(&self, text: &mut Text) {
+    fn report_final_pids(&self, text: &mut Text) {
         for pid in 0..NULL_PID {
-            self.end_pid(pid, text);
+            self.report_final_pid(pid, text);
         }
     }
 
-    fn end_pid(&self, pid: u16, text: &mut Text) {
+    fn report_final_pid(&self, pid: u16, text: &mut Text) {
         let place = self.pids.get(pid).carrier;
         if let Some(carrier) = self.carriers.get(place as usize) {
             carrier.end(text);
         }
     }
 
-    fn end_clocks(&self, text: &mut Text) {
+    fn report_final_clocks(&self, text: &mut Text) {
         for clock in self.clocks.iter() {
             clock.end(text);
         }
@@ -532,11 +532,11 @@ impl Multiplex {
 impl TakesPackets for Multiplex {
     // The requested PID and page stay the same, and no further PID that is not requested is
     // followed.
-    ghost is_taken = { keeps_requested };
+    ghost is_taken = { packet_keeps_requested };
 
     /// Processes transport packet number `number`.
     fn take(&mut self, number: u64, packet: &[u8; PACKET], text: &mut Text)
-        ensures { keeps_requested self.old packet.now self.new }
+        ensures { packet_keeps_requested self.old packet.now self.new }
     {
         self.number = number;
         let pid = pid_of(packet);
@@ -547,35 +547,35 @@ impl TakesPackets for Multiplex {
         let state = self.pids.get(pid);
         // Most packets of a recording begin no payload unit and belong to no followed PID.
         if begins(packet) || is_followed(&state) {
-            self.read_on(pid, &state, packet, text);
+            self.read_ahead(pid, &state, packet, text);
         }
-        if number >= self.settle_at {
+        if number >= self.next_settle_packet {
             self.settle(number, text);
         }
     }
 
     /// Records that packets of any PID may be missing, since many bytes were skipped.
-    fn note_loss(&mut self)
-        ensures taken { keeps_requested self.old [] self.new }
+    fn record_loss(&mut self)
+        ensures taken { packet_keeps_requested self.old [] self.new }
     {
         for carrier in self.carriers.iter_mut() {
-            carrier.note_loss();
+            carrier.record_loss();
         }
     }
 }
 
 // Passes a PCR to a followed PID, if it is a PCR of the PID's programme.
-fn note_pcr_of(
+fn note_pcr_for_carrier(
     carrier: &mut Carrier,
     pids: &Pids,
     clock_pid: u16,
-    strange: Option<IrregularPcr>,
+    irregular_pcr: Option<IrregularPcr>,
     text: &mut Text,
 )
     ensures { carrier.new.pid ≡ carrier.old.pid }
 {
     if pids.get(carrier.pid()).clock_pid == clock_pid {
-        carrier.note_pcr(strange, pids, text);
+        carrier.note_pcr(irregular_pcr, pids, text);
     }
 }
 
@@ -599,8 +599,8 @@ fn has_data_identifier(payload: &[u8]) -> bool {
 
 // Returns whether a payload begins with a PES packet of Teletext: private_stream_1, whose first
 // data byte is a data_identifier of EBU data, 10 to 1F (EN 300 472).
-fn begins_teletext(payload: &[u8]) -> bool
-    ensures { result ≡ specs.begins_teletext payload.now }
+fn begins_with_teletext(payload: &[u8]) -> bool
+    ensures { result ≡ specs.begins_with_teletext payload.now }
 {
     if payload.len() < 10 || payload[0] != 0 || payload[1] != 0 || payload[2] != 1 {
         return false;

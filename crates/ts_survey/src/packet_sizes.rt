@@ -3,7 +3,7 @@
 use mpeg_ts::{PACKET, PacketSize, SYNC_BYTE};
 
 /// The number of transport packets in a row that determine the packet size.
-const IN_A_ROW: usize = 5;
+const REQUIRED_PACKETS_IN_STEP: usize = 5;
 
 // Returns whether a transport packet may begin at an offset, or the recording ended before that
 // offset.
@@ -16,9 +16,9 @@ fn may_be_packet_at(bytes: &[u8], place: usize, is_end: bool) -> bool {
 
 // Returns whether transport packets begin at an offset and at this distance after it, as many as
 // determine the packet size, or up to the end of the recording.
-fn is_at(bytes: &[u8], place: usize, distance: usize, is_end: bool) -> bool {
+fn has_packets_at_distance(bytes: &[u8], place: usize, distance: usize, is_end: bool) -> bool {
     let mut at = place;
-    for _ in 0..IN_A_ROW {
+    for _ in 0..REQUIRED_PACKETS_IN_STEP {
         if !may_be_packet_at(bytes, at, is_end) {
             return false;
         }
@@ -33,13 +33,13 @@ fn size_at(bytes: &[u8], place: usize, is_end: bool) -> Option<PacketSize> {
     if !may_be_packet_at(bytes, place, is_end) {
         return None;
     }
-    if is_at(bytes, place, PacketSize::Plain.bytes(), is_end) {
+    if has_packets_at_distance(bytes, place, PacketSize::Plain.bytes(), is_end) {
         return Some(PacketSize::Plain);
     }
-    if is_at(bytes, place, PacketSize::TimeStamped.bytes(), is_end) {
+    if has_packets_at_distance(bytes, place, PacketSize::TimeStamped.bytes(), is_end) {
         return Some(PacketSize::TimeStamped);
     }
-    if is_at(bytes, place, PacketSize::ErrorCorrected.bytes(), is_end) {
+    if has_packets_at_distance(bytes, place, PacketSize::ErrorCorrected.bytes(), is_end) {
         return Some(PacketSize::ErrorCorrected);
     }
     None

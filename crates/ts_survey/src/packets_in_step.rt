@@ -9,30 +9,31 @@ ghost use Rattle.std.specs.Prelude.{IfNone, IfSome, drop, false, replicate, take
 ghost use Rattle.mpeg_ts.specs.PacketSize.{bytes_of};
 ghost use Rattle.mpeg_ts.specs.PacketsInStep.{Skipped, begins_packet, bytes_needed, lead_size};
 ghost use Rattle.ttx_page.specs.Receiver.{RunsBy};
-ghost use Rattle.ts_survey.specs.Counted.{BeginsAt};
-ghost use Rattle.ts_survey.specs.Following.{any_pes_packet};
-ghost use Rattle.ts_survey.specs.InStep.{ItemsFound, TakesAll, counted_on, items_from, reported_of};
-ghost use Rattle.ts_survey.specs.ReadBuffer.{most_retained_bytes};
+ghost use Rattle.ts_survey.specs.Counted.{BeginsAfterSkipping};
+ghost use Rattle.ts_survey.specs.Following.{accepts_any_pes_packet};
+ghost use Rattle.ts_survey.specs.InStep.{ItemsFound, TakesAll, saturating_count, items_from};
+ghost use Rattle.ts_survey.specs.InStep.{reports_of_items};
+ghost use Rattle.ts_survey.specs.ReadBuffer.{max_retained_bytes};
 
 use crate::text::Text;
 use mpeg_ts::{PACKET, PacketSize, SYNC_BYTE};
 
 /// The number of packets that may be missing of any PID if this many packet sizes are skipped in a
 /// row.
-const LOSS: u64 = 15;
+const LOSS_SIZE_IN_PACKETS: u64 = 15;
 
 /// Processes the packets of a transport stream, one after another.
 pub trait TakesPackets {
     // How a call changes the receiver: its state before the call, the packet, or [] for missing
     // packets, and its state afterwards.
-    ghost is_taken: { Self → List ℕ → Self → Type 0 } = { any_pes_packet };
+    ghost is_taken: { Self → List ℕ → Self → Type 0 } = { accepts_any_pes_packet };
 
     /// Processes transport packet number `number`, and prints its lines.
     fn take(&mut self, number: u64, packet: &[u8; PACKET], text: &mut Text)
         ensures { is_taken self.old packet.now self.new };
 
     /// Records that packets of any PID may be missing, since many bytes were skipped.
-    fn note_loss(&mut self)
+    fn record_loss(&mut self)
         ensures { is_taken self.old [] self.new };
 }
 
@@ -81,7 +82,7 @@ impl PacketsInStep {
         ensures lead { result.lead ≡ lead_size (bytes_of size) }
         ensures in_step { result.in_step ≡ true }
         ensures counted { (result.number ≡ 0) × (result.skipped ≡ skipped) }
-        ensures begins { BeginsAt skipped result }
+        ensures begins { BeginsAfterSkipping skipped result }
     {
         PacketsInStep {
             size,
@@ -164,7 +165,7 @@ impl PacketsInStep {
         // Exactly the packets and gaps in the bytes are processed, in order, each once, and the
         // packets and skipped bytes are counted.
         ensures all { TakesAll M.is_taken self.old to.old bytes.now is_end result self.new to.new }
-        ensures kept { length bytes.now ≤ result + most_retained_bytes }
+        ensures kept { length bytes.now ≤ result + max_retained_bytes }
     {
         let at = self.find(bytes, is_end, to, text);
         self.lead = at.saturating_sub(bytes.len());
@@ -214,7 +215,7 @@ impl PacketsInStep {
     fn take_packet<M: TakesPackets>(&mut self, packet: &[u8; PACKET], to: &mut M, text: &mut Text)
         ensures same { self.new ≡ record self.old {
           in_step = true;
-          number = counted_on self.old.number 1;
+          number = saturating_count self.old.number 1;
           run = 0;
         } }
         ensures taken { M.is_taken to.old packet.now to.new }
@@ -237,14 +238,15 @@ impl PacketsInStep {
             ++ items_from (bytes_of self.old.size) false (drop result (bytes.now ++ more)) }
         ensures same { self.new ≡ record self.old {
           in_step = false;
-          run = counted_on self.old.run (result - place);
-          skipped = counted_on self.old.skipped (result - place);
+          run = saturating_count self.old.run (result - place);
+          skipped = saturating_count self.old.skipped (result - place);
         } }
         ensures reported { RunsBy M.is_taken to.old
-            (reported_of (bytes_of self.old.size) self.old.run (replicate (result - place) Skipped))
+            (reports_of_items (bytes_of self.old.size) self.old.run (replicate (result - place)
+            Skipped))
             to.new }
     {
-        let next = next_start(bytes, place + 1, self.distance());
+        let next = next_packet_start(bytes, place + 1, self.distance());
         let count = (next - place) as u64;
         self.note_skipped(count, to);
         self.run = self.run.saturating_add(count);
@@ -258,9 +260,10 @@ impl PacketsInStep {
     #[tactic(auto, using(crate::proofs::InStepLemmas::losses))]
     fn note_skipped<M: TakesPackets>(&self, count: u64, to: &mut M)
         ensures { RunsBy M.is_taken to.old
-            (reported_of (bytes_of self.now.size) self.now.run (replicate count Skipped)) to.new }
+            (reports_of_items (bytes_of self.now.size) self.now.run (replicate count Skipped))
+            to.new }
     {
-        let loss = LOSS * self.distance() as u64;
+        let loss = LOSS_SIZE_IN_PACKETS * self.distance() as u64;
         let run = self.run.saturating_add(count);
         if self.run >= loss {
             return;
@@ -268,13 +271,13 @@ impl PacketsInStep {
         if run < loss {
             return;
         }
-        to.note_loss();
+        to.record_loss();
     }
 }
 
 // Returns the first offset from `place` on at which a packet may begin out of step, as long as a
 // packet fits after it; `place` itself if no packet fits.
-fn next_start(bytes: &[u8], place: usize, distance: usize) -> usize
+fn next_packet_start(bytes: &[u8], place: usize, distance: usize) -> usize
     requires near { 188 ≤ distance }
     requires far { distance ≤ 204 }
     requires within { place ≤ length bytes.now }
@@ -289,7 +292,7 @@ fn next_start(bytes: &[u8], place: usize, distance: usize) -> usize
         return place;
     }
     for start in place..limit {
-        if may_begin(bytes, start, distance) {
+        if may_begin_packet(bytes, start, distance) {
             return start;
         }
     }
@@ -300,7 +303,7 @@ fn next_start(bytes: &[u8], place: usize, distance: usize) -> usize
 // byte at the distance after it, or if that byte has not arrived yet.
 #[inline(always)]
 #[tactic(auto, using(crate::proofs::InStepLemmas::starts))]
-fn may_begin(bytes: &[u8], place: usize, distance: usize) -> bool
+fn may_begin_packet(bytes: &[u8], place: usize, distance: usize) -> bool
     requires near { 188 ≤ distance }
     requires far { distance ≤ 204 }
     requires within { place + 188 ≤ length bytes.now }

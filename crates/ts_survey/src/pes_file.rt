@@ -4,8 +4,8 @@ ghost use Rattle.std.specs.Prelude.{length};
 ghost use Rattle.ttx_pes.specs.Reading as reading;
 ghost use Rattle.ts_survey.specs.FilePesPackets as pes_packets;
 ghost use Rattle.ts_survey.specs.FilePesPackets.{CountsPesPackets};
-ghost use Rattle.ts_survey.specs.InStep.{counted_on};
-ghost use Rattle.ts_survey.specs.ReadBuffer.{most_retained_bytes};
+ghost use Rattle.ts_survey.specs.InStep.{saturating_count};
+ghost use Rattle.ts_survey.specs.ReadBuffer.{max_retained_bytes};
 
 use crate::pes_lines::PesLines;
 use crate::text::Text;
@@ -38,12 +38,12 @@ fn has_other_start_code(bytes: &[u8]) -> bool
 
 // Returns the size in bytes of the complete PES packet at the front of the bytes, from its length
 // field.
-#[tactic(auto, unfolding(crate::specs::FilePesPackets::complete_size))]
-fn complete_size(bytes: &[u8]) -> Option<usize>
-    ensures value { result ≡ pes_packets.complete_size bytes.now }
+#[tactic(auto, unfolding(crate::specs::FilePesPackets::complete_packet_size))]
+fn complete_packet_size(bytes: &[u8]) -> Option<usize>
+    ensures value { result ≡ pes_packets.complete_packet_size bytes.now }
     ensures some { IfSome result (λ size. (6 ≤ size) × (size ≤ length bytes.now)) }
     ensures unfinished { IfNone result (pes_packets.has_other_start_code bytes.now ≡ false
-        → length bytes.now < most_retained_bytes) }
+        → length bytes.now < max_retained_bytes) }
 {
     if bytes.len() < 6 {
         return None;
@@ -71,7 +71,7 @@ impl PesFile {
     /// Processes the PES packets in the bytes, and returns how many bytes are no longer needed.
     pub fn take(&mut self, bytes: &[u8], is_end: bool, text: &mut Text) -> usize
         ensures within { result ≤ length bytes.now }
-        ensures kept { length bytes.now ≤ result + most_retained_bytes }
+        ensures kept { length bytes.now ≤ result + max_retained_bytes }
     {
         if self.is_damaged {
             return bytes.len();
@@ -97,7 +97,7 @@ impl PesFile {
     #[tactic(auto, using(crate::proofs::FilePesPacketsLemmas::counted_one_by_one))]
     fn take_complete<'a>(&mut self, bytes: &'a [u8], text: &mut Text) -> &'a [u8]
         ensures unfinished { pes_packets.has_other_start_code result.now ≡ false
-            → length result.now < most_retained_bytes }
+            → length result.now < max_retained_bytes }
         ensures within { length result.now ≤ length bytes.now }
         // The PES packets of the file are counted in order, each once.
         ensures taken { CountsPesPackets self.old.lines.count bytes.now result.now
@@ -105,7 +105,7 @@ impl PesFile {
     {
         let mut rest = bytes;
         for _ in 0..bytes.len() {
-            let Some(size) = complete_size(rest) else {
+            let Some(size) = complete_packet_size(rest) else {
                 break;
             };
             let (pes_packet, more) = rest.split_at(size);
@@ -117,7 +117,7 @@ impl PesFile {
 
     // Processes a PES packet, or a gap marker.
     fn take_pes_packet(&mut self, pes_packet: &[u8], text: &mut Text)
-        ensures { self.new.lines.count ≡ counted_on self.old.lines.count 1 }
+        ensures { self.new.lines.count ≡ saturating_count self.old.lines.count 1 }
     {
         if is_gap_marker(pes_packet) {
             self.lines.gap_marker(0, 0, text);

@@ -1,16 +1,16 @@
 //! The header of a PES packet up to its times, which may be spread over several transport packets
 //! (ISO/IEC 13818-1, PES_packet).
 
-use crate::adaptation::{decoding_time, pts_stated};
+use crate::adaptation::{decoding_time, pts_of_pes_packet};
 use arrayvec::ArrayVec;
 
 /// The number of bytes of a PES header up to the end of its DTS.
-const MOST: usize = 19;
+const CAPACITY: usize = 19;
 
 /// The header of the PES packet that began last in a PID.
 #[derive(Drop)]
 pub struct PesHeader {
-    bytes: ArrayVec<u8, MOST>,
+    bytes: ArrayVec<u8, CAPACITY>,
     // Whether more bytes of the header are needed.
     is_open: bool,
 }
@@ -63,7 +63,7 @@ impl PesHeader {
 
     /// Returns the PTS of the PES packet, if it has one.
     pub fn pts(&self) -> Option<u64> {
-        pts_stated(self.bytes.as_slice())
+        pts_of_pes_packet(self.bytes.as_slice())
     }
 
     /// Returns the DTS of the PES packet, or its PTS if it has no DTS.
@@ -81,8 +81,8 @@ impl PesHeader {
 }
 
 // Adds the first bytes of a payload, as many as fit.
-fn add_prefix(bytes: &mut ArrayVec<u8, MOST>, payload: &[u8]) {
-    let buffer = MOST - bytes.len();
+fn add_prefix(bytes: &mut ArrayVec<u8, CAPACITY>, payload: &[u8]) {
+    let buffer = CAPACITY - bytes.len();
     let (prefix, _) = payload.split_at(payload.len().min(buffer));
     let _ = bytes.try_extend_from_slice(prefix);
 }

@@ -1,12 +1,12 @@
 //! Prints the lines of the PES packets of a PID: runs of PES packets, gap markers, and the decoded
 //! page.
 ghost use Rattle.std.specs.Prelude.{◌≡◌, IfSome};
-ghost use Rattle.ts_survey.specs.InStep.{counted_on};
+ghost use Rattle.ts_survey.specs.InStep.{saturating_count};
 
-use crate::adaptation::pts_stated;
+use crate::adaptation::pts_of_pes_packet;
 use crate::heard::Heard;
 use crate::page::Following;
-use crate::text::{Text, forward};
+use crate::text::{Text, forward_distance};
 use std::alloc::Global;
 use sub_io::MemSource;
 use ttx_packet::PageId;
@@ -91,9 +91,9 @@ impl PesLines {
 
     /// Processes a PES packet of the PID.
     pub fn take(&mut self, pes: &[u8], text: &mut Text)
-        ensures { self.new.count ≡ counted_on self.old.count 1 }
+        ensures { self.new.count ≡ saturating_count self.old.count 1 }
     {
-        let pts = pts_stated(pes);
+        let pts = pts_of_pes_packet(pes);
         self.hear(pes, pts, text);
         let is_changed = self.reports_rows(pts);
         let has_strays = self.reports_strays(pts);
@@ -108,7 +108,7 @@ impl PesLines {
 
     // Returns whether rows that were received after the end of the page have to be printed.
     fn reports_strays(&self, pts: Option<u64>) -> bool {
-        pts.is_some() && self.page.notes().has_new_strays()
+        pts.is_some() && self.page.pid_events().has_new_strays()
     }
 
     // Passes a PES packet that has a PTS to the receiver of the page.
@@ -123,13 +123,13 @@ impl PesLines {
 
     // Adds a PES packet to the run, or prints the packet if rows are printed after it.
     fn put(&mut self, pts: Option<u64>, is_changed: bool, has_strays: bool, text: &mut Text)
-        ensures { self.new.count ≡ counted_on self.old.count 1 }
+        ensures { self.new.count ≡ saturating_count self.old.count 1 }
     {
         let number = self.count;
         self.count = self.count.saturating_add(1);
         let is_reported = is_changed || has_strays;
         if is_reported {
-            self.report_alone(number, pts, is_changed, has_strays, text);
+            self.report_on_own_line(number, pts, is_changed, has_strays, text);
         } else if !self.join(pts) {
             self.flush(text);
             self.begin(number, pts);
@@ -138,7 +138,7 @@ impl PesLines {
 
     // Prints the run, then a PES packet on its own line, then the decoded page and the rows that
     // were received after the end of the page.
-    fn report_alone(
+    fn report_on_own_line(
         &mut self,
         number: u64,
         pts: Option<u64>,
@@ -164,7 +164,7 @@ impl PesLines {
         if self.run.count == 0 || self.run.pts.is_none() || !self.run.heard.is_same(&self.heard) {
             return false;
         }
-        let step = forward(self.run.last, now);
+        let step = forward_distance(self.run.last, now);
         if self.run.count > 1 && step != self.run.step {
             return false;
         }
@@ -190,7 +190,7 @@ impl PesLines {
     pub fn flush(&mut self, text: &mut Text)
         ensures { self.new.count ≡ self.old.count }
     {
-        self.report_kept(text);
+        self.report_current_run(text);
         self.run.count = 0;
     }
 
@@ -239,7 +239,7 @@ impl PesLines {
 
     /// Prints a gap marker with the numbers of lost and of scrambled packets.
     pub fn gap_marker(&mut self, lost: u64, scrambled: u64, text: &mut Text)
-        ensures { self.new.count ≡ counted_on self.old.count 1 }
+        ensures { self.new.count ≡ saturating_count self.old.count 1 }
     {
         self.flush(text);
         report_gap(self.pid, self.count, lost, scrambled, text);
@@ -249,20 +249,20 @@ impl PesLines {
 
     /// Ends the PES packets: prints the run, if any, and the pages with subtitles.
     pub fn end(&self, text: &mut Text) {
-        self.report_kept(text);
-        self.page.notes().report_pages(self.pid, text);
+        self.report_current_run(text);
+        self.page.pid_events().report_pages(self.pid, text);
     }
 
     /// Ends the PES packets with a pending gap marker, which has the numbers of lost and of
     /// scrambled packets.
     pub fn end_at_gap_marker(&self, lost: u64, scrambled: u64, text: &mut Text) {
-        self.report_kept(text);
+        self.report_current_run(text);
         report_gap(self.pid, self.count, lost, scrambled, text);
-        self.page.notes().report_pages(self.pid, text);
+        self.page.pid_events().report_pages(self.pid, text);
     }
 
     // Prints the run of PES packets, if any.
-    fn report_kept(&self, text: &mut Text) {
+    fn report_current_run(&self, text: &mut Text) {
         if self.run.count == 0 {
             return;
         }

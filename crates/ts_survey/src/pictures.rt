@@ -1,33 +1,33 @@
 //! Reports the first group of pictures of a video PID, from one random access point to the next,
 //! and the decoding time of the last picture.
 
-use crate::adaptation::{begins_access, is_scrambled, payload_in};
-use crate::clock::SECOND;
-use crate::forms::{Form, FormReader};
+use crate::adaptation::{has_random_access_indicator, is_scrambled, payload_if_usable};
+use crate::clock::CLOCK_TICKS_PER_SECOND;
 use crate::lead::Picture;
 use crate::pes_header::PesHeader;
+use crate::picture_forms::{Form, FormReader};
 use crate::pid_state::PacketLink;
-use crate::text::{CLOCK, Text, forward};
-use mpeg_ts::{PACKET, announces_jump, begins, has_adaptation, has_payload, is_wrong};
+use crate::text::{CLOCK_PERIOD, Text, forward_distance};
+use mpeg_ts::{PACKET, announces_jump, begins, has_adaptation_field, has_payload, is_erroneous};
 
 /// How much of the first group of pictures has been received.
 #[derive(Clone, Copy, PartialEq, Eq)]
-enum Reach {
+enum GroupProgress {
     /// No random access point has been received.
     Before,
     /// The first random access point has been received, and the second has not.
     Within,
     /// The second random access point has been received, or ten seconds have passed.
-    Over,
+    Finished,
 }
 
 /// The pictures of a video PID.
 #[derive(Drop)]
 pub struct Pictures {
     pid: u16,
-    reach: Reach,
+    group_progress: GroupProgress,
     // Whether every packet of the PID is needed, not only packets in which a PES packet begins.
-    needs_each: bool,
+    needs_every_packet: bool,
     // The last packet that was processed, and whether a repeat of it was received.
     packet: [u8; PACKET],
     has_repeat: bool,
@@ -42,13 +42,13 @@ pub struct Pictures {
     // Whether the next payload continues the picture at the random access point, and how many bytes
     // of its PES header are still missing.
     is_first: bool,
-    header_left: usize,
-    passed: u64,
+    header_bytes_left: usize,
+    skipped_before: u64,
     lost: u64,
     scrambled: u64,
     // The PTS of the picture at the random access point, the least PTS of the group, and the reader
     // that determines the form of the group.
-    flagged: Option<u64>,
+    flagged_pts: Option<u64>,
     first: Option<u64>,
     reader: FormReader,
 }
@@ -58,8 +58,8 @@ impl Pictures {
     pub fn new(pid: u16) -> Pictures {
         Pictures {
             pid,
-            reach: Reach::Before,
-            needs_each: true,
+            group_progress: GroupProgress::Before,
+            needs_every_packet: true,
             packet: [0; PACKET],
             has_repeat: false,
             header: PesHeader::new(),
@@ -68,11 +68,11 @@ impl Pictures {
             count: 0,
             last: None,
             is_first: false,
-            header_left: 0,
-            passed: 0,
+            header_bytes_left: 0,
+            skipped_before: 0,
             lost: 0,
             scrambled: 0,
-            flagged: None,
+            flagged_pts: None,
             first: None,
             reader: FormReader::new(0),
         }
@@ -91,8 +91,8 @@ impl Pictures {
     /// Returns whether every packet of the PID is needed. After the first group of pictures, only
     /// the headers of PES packets are needed.
     #[inline(always)]
-    pub fn needs_each(&self) -> bool {
-        self.needs_each
+    pub fn needs_every_packet(&self) -> bool {
+        self.needs_every_packet
     }
 
     /// Processes a packet of the PID. `kind` is the stream_type of the PID in the PMT.
@@ -102,7 +102,7 @@ impl Pictures {
         }
         if has_payload(packet) {
             self.take_unless_repeat(packet, kind, link, text);
-        } else if begins_access(packet) {
+        } else if has_random_access_indicator(packet) {
             self.flags_next = true;
         }
     }
@@ -121,9 +121,9 @@ impl Pictures {
         }
         self.packet = *packet;
         self.has_repeat = false;
-        self.count_lost(packet, link);
+        self.count_lost_packets(packet, link);
         self.go_on(packet, kind, link, text);
-        self.needs_each = !is_over(self.reach) || self.header.is_open();
+        self.needs_every_packet = !is_finished(self.group_progress) || self.header.is_open();
     }
 
     // Returns whether a packet repeats the last packet.
@@ -137,15 +137,15 @@ impl Pictures {
         !self.has_repeat
             && (!announces_jump(packet) || announces_jump(&self.packet))
             && header == old_header
-            && after_adaptation(packet) == after_adaptation(&self.packet)
+            && bytes_after_adaptation(packet) == bytes_after_adaptation(&self.packet)
     }
 
     // Counts breaks of the counter and scrambled packets in the first group of pictures.
-    fn count_lost(&mut self, packet: &[u8; PACKET], link: PacketLink) {
-        match self.reach {
-            Reach::Within => {
-                self.lost = counted_if(is_after_loss(packet, link), self.lost);
-                self.scrambled = counted_if(is_scrambled(packet), self.scrambled);
+    fn count_lost_packets(&mut self, packet: &[u8; PACKET], link: PacketLink) {
+        match self.group_progress {
+            GroupProgress::Within => {
+                self.lost = increment_if(is_after_loss(packet, link), self.lost);
+                self.scrambled = increment_if(is_scrambled(packet), self.scrambled);
             }
             _ => {}
         }
@@ -154,12 +154,12 @@ impl Pictures {
     // Processes a packet that continues a picture or begins one.
     fn go_on(&mut self, packet: &[u8; PACKET], kind: u8, link: PacketLink, text: &mut Text) {
         if begins(packet) {
-            self.is_flagged = self.flags_next || begins_access(packet);
+            self.is_flagged = self.flags_next || has_random_access_indicator(packet);
             self.flags_next = false;
             self.is_first = false;
         }
-        if is_wrong(packet) {
-            self.process_unreadable(packet, kind, text);
+        if is_erroneous(packet) {
+            self.process_unreadable_packet(packet, kind, text);
         } else {
             self.read_header(packet, kind, link, text);
         }
@@ -167,9 +167,9 @@ impl Pictures {
 
     // Processes a payload that cannot be read. A scrambled payload in which a PES packet begins
     // counts as a picture without a PTS.
-    fn process_unreadable(&mut self, packet: &[u8; PACKET], kind: u8, text: &mut Text) {
+    fn process_unreadable_packet(&mut self, packet: &[u8; PACKET], kind: u8, text: &mut Text) {
         self.header.clear();
-        self.header_left = 0;
+        self.header_bytes_left = 0;
         if begins(packet) && is_scrambled(packet) {
             self.begin_picture(kind, text);
         }
@@ -177,16 +177,16 @@ impl Pictures {
 
     // Reads the header of a PES packet. A picture begins once the header is complete.
     fn read_header(&mut self, packet: &[u8; PACKET], kind: u8, link: PacketLink, text: &mut Text) {
-        let payload = payload_in(packet);
+        let payload = payload_if_usable(packet);
         let before = if begins(packet) { 0 } else { self.header.len() };
         if self.header.take(payload, begins(packet), follows(link)) {
             if !is_video(self.header.stream_id()) {
                 return;
             }
-            self.header_left = self.header.size().saturating_sub(before);
+            self.header_bytes_left = self.header.size().saturating_sub(before);
             self.begin_picture(kind, text);
         }
-        self.read_on(payload);
+        self.read_ahead(payload);
     }
 
     // Records that a picture begins.
@@ -199,32 +199,32 @@ impl Pictures {
                 number: self.count,
             });
         }
-        match self.reach {
-            Reach::Before => {
+        match self.group_progress {
+            GroupProgress::Before => {
                 if self.is_flagged {
                     self.begin(kind, text);
                 } else {
-                    self.passed = self.passed.saturating_add(1);
+                    self.skipped_before = self.skipped_before.saturating_add(1);
                 }
             }
-            Reach::Within => {
+            GroupProgress::Within => {
                 if self.is_flagged {
                     self.close(text);
                 } else {
                     self.show(text);
                 }
             }
-            Reach::Over => {}
+            GroupProgress::Finished => {}
         }
     }
 
     // Reads more bytes of the picture at the random access point, unless another picture has begun.
-    fn read_on(&mut self, payload: &[u8]) {
+    fn read_ahead(&mut self, payload: &[u8]) {
         if !self.is_first {
             return;
         }
-        let (header, picture) = payload.split_at(payload.len().min(self.header_left));
-        self.header_left -= header.len();
+        let (header, picture) = payload.split_at(payload.len().min(self.header_bytes_left));
+        self.header_bytes_left -= header.len();
         self.reader.read(picture);
     }
 
@@ -232,7 +232,7 @@ impl Pictures {
     fn begin(&mut self, kind: u8, text: &mut Text) {
         self.report_video(text);
         self.show(text);
-        self.flagged = self.header.pts();
+        self.flagged_pts = self.header.pts();
         self.reader = FormReader::new(kind);
         self.is_first = true;
     }
@@ -240,13 +240,13 @@ impl Pictures {
     fn report_video(&self, text: &mut Text) {
         text.put(b"video");
         text.number(self.pid as u64);
-        text.number(self.passed);
+        text.number(self.skipped_before);
         text.put(b"\n");
     }
 
     // Records a picture of the first group, and prints its line.
     fn show(&mut self, text: &mut Text) {
-        self.reach = Reach::Within;
+        self.group_progress = GroupProgress::Within;
         let pts = self.header.pts();
         self.report_picture(pts, text);
         if let Some(now) = pts {
@@ -263,16 +263,16 @@ impl Pictures {
 
     // Stores the least PTS, and ends the group ten seconds after it.
     fn move_to(&mut self, now: u64, text: &mut Text) {
-        let first = least_of(self.first, now);
+        let first = earlier_of(self.first, now);
         self.first = Some(first);
-        if forward(first, now) > 10 * SECOND {
+        if forward_distance(first, now) > 10 * CLOCK_TICKS_PER_SECOND {
             self.close(text);
         }
     }
 
     // Ends the first group of pictures.
     fn close(&mut self, text: &mut Text) {
-        self.reach = Reach::Over;
+        self.group_progress = GroupProgress::Finished;
         self.report_group(text);
         self.report_counts(text);
         text.put(b"\n");
@@ -290,7 +290,7 @@ impl Pictures {
     fn report_group(&self, text: &mut Text) {
         text.put(b"group");
         text.number(self.pid as u64);
-        text.time(self.flagged);
+        text.time(self.flagged_pts);
         text.time(self.first);
         text.put(form_word(self.reader.form()));
     }
@@ -298,10 +298,10 @@ impl Pictures {
     /// Ends the recording: prints the counts of the first group of pictures if the group has not
     /// ended.
     pub fn end(&self, text: &mut Text) {
-        match self.reach {
-            Reach::Over => {}
-            Reach::Before => self.report_end(b" 0\n", text),
-            Reach::Within => {
+        match self.group_progress {
+            GroupProgress::Finished => {}
+            GroupProgress::Before => self.report_end(b" 0\n", text),
+            GroupProgress::Within => {
                 self.report_group(text);
                 self.report_end(b" 1\n", text);
             }
@@ -310,14 +310,14 @@ impl Pictures {
 
     fn report_end(&self, begun: &[u8], text: &mut Text) {
         self.report_counts(text);
-        text.number(self.passed);
+        text.number(self.skipped_before);
         text.put(begun);
     }
 }
 
-fn is_over(reach: Reach) -> bool {
-    match reach {
-        Reach::Over => true,
+fn is_finished(group_progress: GroupProgress) -> bool {
+    match group_progress {
+        GroupProgress::Finished => true,
         _ => false,
     }
 }
@@ -348,8 +348,8 @@ fn is_video(stream_id: Option<u8>) -> bool {
 }
 
 // Returns the bytes of a packet after its adaptation field, scrambled or not.
-fn after_adaptation(packet: &[u8; PACKET]) -> &[u8] {
-    let place = if has_adaptation(packet) {
+fn bytes_after_adaptation(packet: &[u8; PACKET]) -> &[u8] {
+    let place = if has_adaptation_field(packet) {
         5 + packet[4] as usize
     } else {
         4
@@ -358,9 +358,9 @@ fn after_adaptation(packet: &[u8; PACKET]) -> &[u8] {
     following
 }
 
-// Returns the number plus one if `is_so` is set, and otherwise the number.
-fn counted_if(is_so: bool, number: u64) -> u64 {
-    if is_so {
+// Returns the number plus one if `condition` is set, and otherwise the number.
+fn increment_if(condition: bool, number: u64) -> u64 {
+    if condition {
         number.saturating_add(1)
     } else {
         number
@@ -369,10 +369,10 @@ fn counted_if(is_so: bool, number: u64) -> u64 {
 
 // Returns the earlier of the least PTS so far and a new PTS. A PTS is earlier than another if it
 // precedes the other by less than half the 33-bit range.
-fn least_of(first: Option<u64>, now: u64) -> u64 {
+fn earlier_of(first: Option<u64>, now: u64) -> u64 {
     match first {
         Some(first) => {
-            if forward(first, now) < CLOCK / 2 {
+            if forward_distance(first, now) < CLOCK_PERIOD / 2 {
                 first
             } else {
                 now

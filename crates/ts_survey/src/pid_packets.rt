@@ -1,11 +1,13 @@
 //! Reassembles the data in the packets of a PID, and passes it to a receiver.
 ghost use Rattle.std.specs.Prelude.{◌≡◌, List, ℕ, [], false, true};
-ghost use Rattle.mpeg_ts.specs.GoodPackets.{Loss, note_of};
-ghost use Rattle.mpeg_ts.specs.Joining.{after_note, delivered, has_ended, initial_joining};
+ghost use Rattle.mpeg_ts.specs.GoodPackets.{Loss, event_of_packet};
+ghost use Rattle.mpeg_ts.specs.Joining.{after_pid_event, without_pending, has_ended};
+ghost use Rattle.mpeg_ts.specs.Joining.{initial_joining};
 ghost use Rattle.mpeg_ts.specs.Joining.{link_after, repeats};
 ghost use Rattle.mpeg_ts.specs.Parts.{is_seam};
-ghost use Rattle.mpeg_ts.specs.TransportPacket.{has_payload, is_wrong};
-ghost use Rattle.ts_survey.specs.Following.{GivesNext, TakesBytes, any_pes_packet};
+ghost use Rattle.mpeg_ts.specs.TransportPacket.{has_payload, is_erroneous};
+ghost use Rattle.ts_survey.specs.Following.{PassesOnNextPart, ReceivesBytes};
+ghost use Rattle.ts_survey.specs.Following.{accepts_any_pes_packet};
 
 use crate::text::Text;
 use mpeg_ts::{Joining, Next, PACKET};
@@ -15,7 +17,7 @@ use mpeg_ts::{Joining, Next, PACKET};
 pub trait TakesPesPackets {
     // How a call changes the receiver: its state before the call, the bytes, and its state
     // afterwards.
-    ghost is_taken: { Self → List ℕ → Self → Type 0 } = { any_pes_packet };
+    ghost is_taken: { Self → List ℕ → Self → Type 0 } = { accepts_any_pes_packet };
 
     /// Processes a PES packet, a gap marker or other bytes, and prints its lines. `is_missing`: the
     /// gap marker replaces missing packets, and was not carried by the PID.
@@ -47,7 +49,7 @@ impl<T: TakesPesPackets> PidPackets<T> {
     /// Returns whether a packet repeats the last good packet.
     pub fn is_repeat(&self, packet: &[u8; PACKET]) -> bool
         requires payload { has_payload packet.now ≡ true }
-        requires valid { is_wrong packet.now ≡ false }
+        requires valid { is_erroneous packet.now ≡ false }
         ensures { result ≡ repeats self.now.joining packet.now }
     {
         self.joining.is_repeat(packet)
@@ -62,11 +64,11 @@ impl<T: TakesPesPackets> PidPackets<T> {
     }
 
     /// Records that packets of the PID may be missing, since many bytes were skipped.
-    pub fn note_loss(&mut self)
-        ensures joining { self.new.joining ≡ after_note self.old.joining Loss }
+    pub fn record_loss(&mut self)
+        ensures joining { self.new.joining ≡ after_pid_event self.old.joining Loss }
         ensures to { self.new.to ≡ self.old.to }
     {
-        self.joining.note_loss();
+        self.joining.record_loss();
     }
 
     /// Processes a packet of the PID. All data that the packet completes is passed on at once.
@@ -74,10 +76,10 @@ impl<T: TakesPesPackets> PidPackets<T> {
     pub fn take(&mut self, packet: &[u8; PACKET], text: &mut Text)
         ensures ended { has_ended self.old.joining.part ≡ true → self.new ≡ self.old }
         ensures joining { has_ended self.old.joining.part ≡ false → self.new.joining
-            ≡ delivered (after_note self.old.joining (note_of packet.now)) }
+            ≡ without_pending (after_pid_event self.old.joining (event_of_packet packet.now)) }
         ensures taken { has_ended self.old.joining.part ≡ false
-            → TakesBytes T.is_taken self.old.to
-            (after_note self.old.joining (note_of packet.now)).pending self.new.to }
+            → ReceivesBytes T.is_taken self.old.to
+            (after_pid_event self.old.joining (event_of_packet packet.now)).pending self.new.to }
     {
         if self.joining.has_ended() {
             return;
@@ -90,19 +92,19 @@ impl<T: TakesPesPackets> PidPackets<T> {
 // Passes all ready data on to the receiver.
 #[tactic(auto, using(crate::proofs::FollowingLemmas::fewer_ready))]
 fn give_ready<T: TakesPesPackets>(joining: &mut Joining, to: &mut T, text: &mut Text)
-    ensures joining { joining.new ≡ delivered joining.old }
-    ensures taken { TakesBytes T.is_taken to.old joining.old.pending to.new }
+    ensures joining { joining.new ≡ without_pending joining.old }
+    ensures taken { ReceivesBytes T.is_taken to.old joining.old.pending to.new }
 {
-    'pes_packets: while !joining.is_idle() {
+    'pes_packets: while !joining.has_nothing_pending() {
         give_next(joining, to, text);
     }
 }
 
 // Passes the next part of the ready data on to the receiver.
 fn give_next<T: TakesPesPackets>(joining: &mut Joining, to: &mut T, text: &mut Text)
-    ensures { GivesNext T.is_taken joining.old to.old joining.new to.new }
+    ensures { PassesOnNextPart T.is_taken joining.old to.old joining.new to.new }
 {
-    let next = joining.take_first();
+    let next = joining.take_next_and_discard_rest();
     to.take(joining.taken(next), is_gap(next), text);
 }
 

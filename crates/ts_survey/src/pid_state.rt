@@ -4,7 +4,7 @@ use mpeg_ts::{PACKET, announces_jump, counter_of, has_payload};
 use std::alloc::Global;
 
 /// The number of PIDs, which have 13 bits.
-pub const PIDS: usize = 8192;
+pub const PID_COUNT: usize = 8192;
 
 /// The PID of null packets.
 pub const NULL_PID: u16 = 0x1FFF;
@@ -14,7 +14,7 @@ pub const NO_INDEX: u8 = 0xFF;
 
 /// A flag in a stored counter: a later packet without a payload announced a jump of the counter
 /// (discontinuity_indicator).
-const JUMP: u8 = 0x80;
+const JUMP_FLAG: u8 = 0x80;
 
 /// How a packet follows the packet before it in its PID, by continuity_counter.
 #[derive(Clone, Copy, PartialEq, Eq)]
@@ -32,8 +32,8 @@ pub enum PacketLink {
 /// The state of a PID.
 #[derive(Clone, Copy)]
 pub struct PidState {
-    /// The counter of the last packet with a payload, possibly with `JUMP`, and the counter of the
-    /// packet before it.
+    /// The counter of the last packet with a payload, possibly with `JUMP_FLAG`, and the counter of
+    /// the packet before it.
     pub counter: u8,
     pub before: u8,
     /// The numbers of the first and the last packet with a payload; 0 if no packet had a payload.
@@ -62,13 +62,13 @@ pub struct Break {
 }
 
 /// The number of most recent breaks that are stored.
-const BREAKS: usize = 256;
+const MAX_STORED_BREAKS: usize = 256;
 
 /// The states of all PIDs, and the most recent breaks of their counters.
 #[derive(Drop)]
 pub struct Pids {
     states: Vec<PidState>,
-    breaks: [Break; BREAKS],
+    breaks: [Break; MAX_STORED_BREAKS],
     next: usize,
 }
 
@@ -90,7 +90,7 @@ fn unknown() -> PidState {
 }
 
 // Returns the states of `count` PIDs without any packets. Returns `None` if memory runs out.
-fn unknown_pids(alloc: Global, count: usize) -> Option<Vec<PidState>> {
+fn initial_pid_states(alloc: Global, count: usize) -> Option<Vec<PidState>> {
     let mut states = Vec::new(alloc);
     for _ in 0..count {
         match states.push(unknown()) {
@@ -101,13 +101,13 @@ fn unknown_pids(alloc: Global, count: usize) -> Option<Vec<PidState>> {
     Some(states)
 }
 
-fn no_breaks() -> [Break; BREAKS] {
+fn initial_breaks() -> [Break; MAX_STORED_BREAKS] {
     let none = Break {
         pid: NULL_PID,
         before: 0,
         at: 0,
     };
-    [none; BREAKS]
+    [none; MAX_STORED_BREAKS]
 }
 
 // Records packet number `number` with a payload. The state is changed in place, since the function
@@ -128,7 +128,7 @@ fn note_packet(state: &mut PidState, packet: &[u8; PACKET], number: u64) {
 #[inline(never)]
 fn note_jump(state: &mut PidState, packet: &[u8; PACKET]) {
     if packet[1] < 0x80 && announces_jump(packet) {
-        state.counter |= JUMP;
+        state.counter |= JUMP_FLAG;
     }
 }
 
@@ -151,7 +151,7 @@ pub fn counter_distance(last: u8, next: u8) -> u8 {
 fn is_break(before: &PidState, packet: &[u8; PACKET]) -> bool {
     counter_distance(before.counter, counter_of(packet)) > 1
         && before.last != 0
-        && before.counter < JUMP
+        && before.counter < JUMP_FLAG
         && !announces_jump(packet)
 }
 
@@ -161,7 +161,7 @@ pub fn link_of(state: &PidState, packet: &[u8; PACKET]) -> PacketLink {
     let distance = counter_distance(state.before, state.counter);
     if state.first == state.last {
         PacketLink::Next
-    } else if state.before >= JUMP {
+    } else if state.before >= JUMP_FLAG {
         PacketLink::Announced
     } else if distance == 0 {
         PacketLink::Same
@@ -177,10 +177,10 @@ pub fn link_of(state: &PidState, packet: &[u8; PACKET]) -> PacketLink {
 impl Pids {
     /// Creates the state in which all PIDs are unknown. Returns `None` if memory runs out.
     pub fn new(alloc: Global) -> Option<Pids> {
-        let states = unknown_pids(alloc, PIDS)?;
+        let states = initial_pid_states(alloc, PID_COUNT)?;
         Some(Pids {
             states,
-            breaks: no_breaks(),
+            breaks: initial_breaks(),
             next: 0,
         })
     }
@@ -241,18 +241,18 @@ impl Pids {
 
     // Stores a break, in place of the oldest stored break.
     fn add_break(&mut self, one: Break) {
-        let place = self.next % BREAKS;
+        let place = self.next % MAX_STORED_BREAKS;
         self.breaks[place] = one;
-        self.next = (place + 1) % BREAKS;
+        self.next = (place + 1) % MAX_STORED_BREAKS;
     }
 
     /// Returns whether the counters of other PIDs broke between two packet numbers: `broken`,
     /// `whole` or `unknown`.
-    pub fn reported_between(&self, pid: u16, first: u64, second: u64) -> &'static [u8] {
+    pub fn break_word_between(&self, pid: u16, first: u64, second: u64) -> &'static [u8] {
         if is_broken_between(&self.breaks, pid, first, second) {
             return b" broken";
         }
-        if others_span_packet(&self.states, pid as usize, first) {
+        if other_pids_span_packet(&self.states, pid as usize, first) {
             return b" whole";
         }
         b" unknown"
@@ -268,7 +268,7 @@ fn is_broken_between(breaks: &[Break], pid: u16, first: u64, second: u64) -> boo
 }
 
 // Returns whether another PID had packets both up to a packet number and after it.
-fn others_span_packet(states: &[PidState], pid: usize, first: u64) -> bool {
+fn other_pids_span_packet(states: &[PidState], pid: usize, first: u64) -> bool {
     if pid >= states.len() {
         return spans_packet(states, first);
     }

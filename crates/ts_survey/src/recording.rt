@@ -1,14 +1,15 @@
 //! Processes the bytes of a recording of any kind, and prints its lines.
 ghost use Rattle.std.specs.Prelude.{◌≡◌, ◌≤◌, ◌+◌, ◌++◌, IfSome, false, length, take, true};
 ghost use Rattle.mpeg_ts.specs.PacketSize.{bytes_of};
-ghost use Rattle.ts_survey.specs.Counted.{BeginsStream, StaysRead, TakesStarted};
-ghost use Rattle.ts_survey.specs.FirstLines.{FindsKind, begins_pes, head_size, head_texts};
-ghost use Rattle.ts_survey.specs.FirstLines.{is_pes, kind_texts, size_line, space_of};
+ghost use Rattle.ts_survey.specs.Counted.{IsAtStreamStart, ReadsNoMoreOfStream, TakesStartedStream};
+ghost use Rattle.ts_survey.specs.FirstLines.{FindsKind, begins_with_pes_packet, head_size};
+ghost use Rattle.ts_survey.specs.FirstLines.{head_texts};
+ghost use Rattle.ts_survey.specs.FirstLines.{is_pes, kind_texts, size_line, space_before_word};
 ghost use Rattle.ts_survey.specs.Lines.{AddsTexts};
-ghost use Rattle.ts_survey.specs.Listed.{GoesOn, IsAsRequested, ReportsEnd, over_line};
-ghost use Rattle.ts_survey.specs.Listed.{packets_in, skipped_of};
-ghost use Rattle.ts_survey.specs.ReadBuffer.{most_retained_bytes};
-ghost use Rattle.ts_survey.specs.Stream.{TakesOn, is_unknown};
+ghost use Rattle.ts_survey.specs.Listed.{KeepsKind, IsAsRequested, ReportsEnd, counts_line};
+ghost use Rattle.ts_survey.specs.Listed.{stream_packet_count, skipped_count_of_recording};
+ghost use Rattle.ts_survey.specs.ReadBuffer.{max_retained_bytes};
+ghost use Rattle.ts_survey.specs.Stream.{TakesPartOfStream, is_unknown};
 
 use crate::multiplex::Multiplex;
 use crate::packet_sizes::find_size;
@@ -21,11 +22,11 @@ use std::alloc::Global;
 /// The number of first bytes of a recording that are printed.
 const HEAD: usize = 11;
 
-/// The number of bytes that are examined together to detect the packet size. `MOST_INSPECTED`
+/// The number of bytes that are examined together to detect the packet size. `MAX_INSPECTED_BYTES`
 /// limits how many bytes are examined in all.
 const INSPECTED_PACKETS: usize = 65_536;
 
-const MOST_INSPECTED: u64 = 0x100_0000;
+const MAX_INSPECTED_BYTES: u64 = 0x100_0000;
 
 // The number of last bytes that are examined again, if no packet size was found in the bytes.
 // Packets may begin in these bytes.
@@ -91,11 +92,11 @@ impl Recording {
         ensures within { result ≤ length bytes.now }
         // Few bytes stay in the buffer, so it has room for more.
         ensures kept { self.new.out_of_memory ≡ false → length bytes.now ≤ result +
-            most_retained_bytes }
+            max_retained_bytes }
         ensures requested { self.new.requested ≡ self.old.requested }
         ensures as_requested { IsAsRequested self.old.requested self.old.kind
             → IsAsRequested self.new.requested self.new.kind }
-        ensures finds { is_unknown self.old.kind ≡ true
+        ensures kind_is_found { is_unknown self.old.kind ≡ true
             → FindsKind self.old bytes.now first.old first.new self.new }
         // Until the kind of the recording is known, no other lines are printed. At the end the kind
         // is known.
@@ -110,13 +111,13 @@ impl Recording {
             → head_size ≤ length bytes.now }
         ensures continues { is_unknown self.old.kind ≡ false → (first.new ≡ first.old)
             × (self.new.has_head ≡ self.old.has_head)
-            × GoesOn self.old.kind self.new.kind }
+            × KeepsKind self.old.kind self.new.kind }
         // All packets of a stream in the bytes are processed, in order, each once.
         ensures taken { is_unknown self.old.kind ≡ false
-            → TakesOn self.old.kind bytes.now is_end result self.new.kind }
+            → TakesPartOfStream self.old.kind bytes.now is_end result self.new.kind }
         ensures begun { is_unknown self.old.kind ≡ true
-            → TakesStarted self.old.skipped bytes.now is_end result self.new.kind }
-        ensures passed { is_unknown self.old.kind ≡ true → is_unknown self.new.kind ≡ true
+            → TakesStartedStream self.old.skipped bytes.now is_end result self.new.kind }
+        ensures skipped_before { is_unknown self.old.kind ≡ true → is_unknown self.new.kind ≡ true
             → self.new.skipped ≡ self.old.skipped + result }
     {
         if let Kind::Unknown = &self.kind {
@@ -132,11 +133,11 @@ impl Recording {
     fn find_kind(&mut self, bytes: &[u8], is_end: bool, first: &mut Text) -> usize
         ensures within { result ≤ length bytes.now }
         ensures kept { is_unknown self.new.kind ≡ true → self.new.out_of_memory ≡ false
-            → length bytes.now ≤ result + most_retained_bytes }
+            → length bytes.now ≤ result + max_retained_bytes }
         ensures same { self.new.requested ≡ self.old.requested }
         ensures as_requested { IsAsRequested self.old.requested self.old.kind
             → IsAsRequested self.new.requested self.new.kind }
-        ensures finds { is_unknown self.old.kind ≡ true
+        ensures kind_is_found { is_unknown self.old.kind ≡ true
             → FindsKind self.old bytes.now first.old first.new self.new }
         ensures known { is_end ≡ true → self.new.out_of_memory ≡ false
             → is_unknown self.new.kind ≡ false }
@@ -145,8 +146,8 @@ impl Recording {
         ensures enough { is_end ≡ false → self.old.has_head ≡ false → self.new.has_head ≡ true
             → head_size ≤ length bytes.now }
         ensures begins { is_unknown self.old.kind ≡ true
-            → BeginsStream self.old.skipped self.new.kind }
-        ensures passed { is_unknown self.old.kind ≡ true → is_unknown self.new.kind ≡ true
+            → IsAtStreamStart self.old.skipped self.new.kind }
+        ensures skipped_before { is_unknown self.old.kind ≡ true → is_unknown self.new.kind ≡ true
             → self.new.skipped ≡ self.old.skipped + result }
     {
         if !self.has_head {
@@ -167,11 +168,11 @@ impl Recording {
     #[tactic(auto, using(crate::proofs::ListedLemmas::what_goes_on))]
     fn flush_pending(&mut self, bytes: &[u8], is_end: bool, text: &mut Text) -> usize
         ensures within { result ≤ length bytes.now }
-        ensures kept { length bytes.now ≤ result + most_retained_bytes }
+        ensures kept { length bytes.now ≤ result + max_retained_bytes }
         // All packets of a stream in the bytes are processed, in order, each once; at the end no
         // packet is left.
-        ensures taken { TakesOn self.old.kind bytes.now is_end result self.new.kind }
-        ensures kind { GoesOn self.old.kind self.new.kind }
+        ensures taken { TakesPartOfStream self.old.kind bytes.now is_end result self.new.kind }
+        ensures kind { KeepsKind self.old.kind self.new.kind }
         ensures requested { self.new.requested ≡ self.old.requested }
         ensures same { (self.new.has_head ≡ self.old.has_head)
             × (self.new.out_of_memory ≡ self.old.out_of_memory) }
@@ -196,15 +197,15 @@ impl Recording {
             → AddsTexts first.old
             (head_texts (take head_size bytes.now) ++ kind_texts self.new.kind) first.new }
         ensures pes { is_unknown self.old.kind ≡ true → self.new.out_of_memory ≡ false
-            → is_pes self.new.kind ≡ begins_pes (take head_size bytes.now) }
-        ensures short { self.new.out_of_memory ≡ false → self.old.out_of_memory ≡ false }
+            → is_pes self.new.kind ≡ begins_with_pes_packet (take head_size bytes.now) }
+        ensures memory_state { self.new.out_of_memory ≡ false → self.old.out_of_memory ≡ false }
         ensures begins { is_unknown self.old.kind ≡ true
-            → BeginsStream self.old.skipped self.new.kind }
+            → IsAtStreamStart self.old.skipped self.new.kind }
         ensures skipped { self.new.skipped ≡ self.old.skipped }
     {
         self.has_head = true;
-        let head = head_in(bytes);
-        put_head(head, first);
+        let head = first_bytes_of(bytes);
+        put_head_line(head, first);
         if !is_pes_file(head) {
             return;
         }
@@ -219,23 +220,23 @@ impl Recording {
     fn inspect(&mut self, bytes: &[u8], is_end: bool, first: &mut Text) -> usize
         ensures within { result ≤ length bytes.now }
         ensures kept { is_unknown self.new.kind ≡ true → self.new.out_of_memory ≡ false
-            → length bytes.now ≤ result + most_retained_bytes }
+            → length bytes.now ≤ result + max_retained_bytes }
         ensures same { self.new.requested ≡ self.old.requested }
         ensures as_requested { IsAsRequested self.old.requested self.old.kind
             → IsAsRequested self.new.requested self.new.kind }
         ensures has_head { self.new.has_head ≡ self.old.has_head }
-        ensures short { self.new.out_of_memory ≡ false → self.old.out_of_memory ≡ false }
+        ensures memory_state { self.new.out_of_memory ≡ false → self.old.out_of_memory ≡ false }
         ensures reported { is_unknown self.old.kind ≡ true → self.new.out_of_memory ≡ false
             → AddsTexts first.old (kind_texts self.new.kind) first.new }
-        ensures not_pes { is_unknown self.old.kind ≡ true → is_pes self.new.kind ≡ false }
+        ensures kind_is_not_pes { is_unknown self.old.kind ≡ true → is_pes self.new.kind ≡ false }
         ensures begins { is_unknown self.old.kind ≡ true
-            → BeginsStream self.old.skipped self.new.kind }
-        ensures passed { is_unknown self.old.kind ≡ true → is_unknown self.new.kind ≡ true
+            → IsAtStreamStart self.old.skipped self.new.kind }
+        ensures skipped_before { is_unknown self.old.kind ≡ true → is_unknown self.new.kind ≡ true
             → self.new.skipped ≡ self.old.skipped + result }
         ensures known { is_end ≡ true → self.new.out_of_memory ≡ false
             → is_unknown self.new.kind ≡ false }
     {
-        if let Some(size) = size_in(self.requested.packet_size, bytes, is_end) {
+        if let Some(size) = packet_size_of_recording(self.requested.packet_size, bytes, is_end) {
             self.begin(size, first);
             return 0;
         }
@@ -244,8 +245,8 @@ impl Recording {
         } else {
             0
         };
-        let seen = self.skipped.saturating_add(bytes.len() as u64);
-        if is_end || seen > MOST_INSPECTED {
+        let inspected_bytes = self.skipped.saturating_add(bytes.len() as u64);
+        if is_end || inspected_bytes > MAX_INSPECTED_BYTES {
             first.put(b"nothing\n");
             self.kind = Kind::Nothing;
             return 0;
@@ -262,16 +263,16 @@ impl Recording {
             → IsAsRequested self.old.requested self.old.kind
             → IsAsRequested self.new.requested self.new.kind }
         ensures has_head { self.new.has_head ≡ self.old.has_head }
-        ensures short { self.new.out_of_memory ≡ false → self.old.out_of_memory ≡ false }
+        ensures memory_state { self.new.out_of_memory ≡ false → self.old.out_of_memory ≡ false }
         ensures reported { self.new.out_of_memory ≡ false
             → AddsTexts first.old (kind_texts self.new.kind) first.new }
-        ensures not_pes { is_unknown self.old.kind ≡ true → is_pes self.new.kind ≡ false }
+        ensures kind_is_not_pes { is_unknown self.old.kind ≡ true → is_pes self.new.kind ≡ false }
         ensures begins { is_unknown self.old.kind ≡ true
-            → BeginsStream self.old.skipped self.new.kind }
+            → IsAtStreamStart self.old.skipped self.new.kind }
         ensures skipped { self.new.skipped ≡ self.old.skipped }
     {
-        put_size(size, first);
-        let pid = number_of(self.requested.pid);
+        put_size_line(size, first);
+        let pid = pid_number(self.requested.pid);
         match Multiplex::new(self.alloc, self.requested.page, pid, first) {
             Some(multiplex) => {
                 let packets = PacketsInStep::new(size, self.skipped);
@@ -289,11 +290,11 @@ impl Recording {
         ensures requested { self.new.requested ≡ self.old.requested }
         ensures as_requested { is_end ≡ false → IsAsRequested self.old.requested self.old.kind
             → IsAsRequested self.new.requested self.new.kind }
-        ensures short { self.new.out_of_memory ≡ self.old.out_of_memory }
-        ensures kind { is_end ≡ false → GoesOn self.old.kind self.new.kind }
+        ensures memory_state { self.new.out_of_memory ≡ self.old.out_of_memory }
+        ensures kind { is_end ≡ false → KeepsKind self.old.kind self.new.kind }
         ensures head { is_end ≡ false → self.new.has_head ≡ self.old.has_head }
         ensures text { is_end ≡ false → is_unknown self.old.kind ≡ true → text.new ≡ text.old }
-        ensures reads { is_end ≡ false → StaysRead self.old.kind self.new.kind }
+        ensures reads { is_end ≡ false → ReadsNoMoreOfStream self.old.kind self.new.kind }
         ensures skipped { is_end ≡ false → self.new.skipped ≡ self.old.skipped }
     {
         if is_end {
@@ -306,12 +307,12 @@ impl Recording {
     // Prints all pending lines, since no more data is available for now.
     #[tactic(auto, using(crate::proofs::ListedLemmas::what_goes_on))]
     fn flush(&mut self, text: &mut Text)
-        ensures kind { GoesOn self.old.kind self.new.kind }
+        ensures kind { KeepsKind self.old.kind self.new.kind }
         ensures requested { self.new.requested ≡ self.old.requested }
-        ensures short { self.new.out_of_memory ≡ self.old.out_of_memory }
+        ensures memory_state { self.new.out_of_memory ≡ self.old.out_of_memory }
         ensures head { self.new.has_head ≡ self.old.has_head }
         ensures text { is_unknown self.old.kind ≡ true → text.new ≡ text.old }
-        ensures reads { StaysRead self.old.kind self.new.kind }
+        ensures reads { ReadsNoMoreOfStream self.old.kind self.new.kind }
         ensures skipped { self.new.skipped ≡ self.old.skipped }
     {
         match &mut self.kind {
@@ -325,19 +326,19 @@ impl Recording {
     fn end(&mut self, text: &mut Text)
         ensures reported { ReportsEnd self.old text.new }
         ensures requested { self.new.requested ≡ self.old.requested }
-        ensures short { self.new.out_of_memory ≡ self.old.out_of_memory }
+        ensures memory_state { self.new.out_of_memory ≡ self.old.out_of_memory }
     {
-        let (skipped, number) = self.report_last(text);
-        put_over(skipped, number, text);
+        let (skipped, number) = self.report_remaining_lines(text);
+        put_counts_line(skipped, number, text);
     }
 
     // Prints all remaining lines except the last. Returns the number of bytes that belong to no
     // packet, and the number of packets.
-    fn report_last(&mut self, text: &mut Text) -> (u64, u64)
-        ensures skipped { result.0 ≡ skipped_of self.old }
-        ensures packets { result.1 ≡ packets_in self.old.kind }
+    fn report_remaining_lines(&mut self, text: &mut Text) -> (u64, u64)
+        ensures skipped { result.0 ≡ skipped_count_of_recording self.old }
+        ensures packets { result.1 ≡ stream_packet_count self.old.kind }
         ensures requested { self.new.requested ≡ self.old.requested }
-        ensures short { self.new.out_of_memory ≡ self.old.out_of_memory }
+        ensures memory_state { self.new.out_of_memory ≡ self.old.out_of_memory }
     {
         match &mut self.kind {
             Kind::Pes(file) => {
@@ -354,7 +355,7 @@ impl Recording {
 }
 
 // Returns the first bytes of a recording, as many as are printed.
-fn head_in(bytes: &[u8]) -> &[u8]
+fn first_bytes_of(bytes: &[u8]) -> &[u8]
     ensures bytes { result.now ≡ take head_size bytes.now }
     ensures few { length result.now ≤ head_size }
 {
@@ -363,19 +364,19 @@ fn head_in(bytes: &[u8]) -> &[u8]
 }
 
 // Prints the first bytes of a recording.
-fn put_head(head: &[u8], text: &mut Text)
+fn put_head_line(head: &[u8], text: &mut Text)
     requires { length head.now ≤ head_size }
     ensures { AddsTexts text.old (head_texts head.now) text.new }
 {
     text.put(b"survey 1\nhead");
-    text.put(space_before(head));
+    text.put(space_unless_empty(head));
     text.hex(head);
     text.put(b"\n");
 }
 
 // Returns a space, unless the word after it is empty.
-fn space_before(word: &[u8]) -> &'static [u8]
-    ensures { result.now ≡ space_of word.now }
+fn space_unless_empty(word: &[u8]) -> &'static [u8]
+    ensures { result.now ≡ space_before_word word.now }
 {
     if word.is_empty() {
         return b"";
@@ -384,7 +385,7 @@ fn space_before(word: &[u8]) -> &'static [u8]
 }
 
 // Prints the packet size of a stream.
-fn put_size(size: PacketSize, text: &mut Text)
+fn put_size_line(size: PacketSize, text: &mut Text)
     ensures { AddsTexts text.old (size_line (bytes_of size)) text.new }
 {
     text.put(b"size");
@@ -393,8 +394,8 @@ fn put_size(size: PacketSize, text: &mut Text)
 }
 
 // Prints the line `over`: the number of bytes that belong to no packet, and the number of packets.
-fn put_over(skipped: u64, number: u64, text: &mut Text)
-    ensures { AddsTexts text.old (over_line skipped number) text.new }
+fn put_counts_line(skipped: u64, number: u64, text: &mut Text)
+    ensures { AddsTexts text.old (counts_line skipped number) text.new }
 {
     text.put(b"over");
     text.number(skipped);
@@ -403,7 +404,11 @@ fn put_over(skipped: u64, number: u64, text: &mut Text)
 }
 
 // Returns the packet size: the requested packet size, or else the detected packet size.
-fn size_in(requested: Option<PacketSize>, bytes: &[u8], is_end: bool) -> Option<PacketSize>
+fn packet_size_of_recording(
+    requested: Option<PacketSize>,
+    bytes: &[u8],
+    is_end: bool,
+) -> Option<PacketSize>
     ensures found { IfSome result (λ size. IfSome requested (λ other. size ≡ other)) }
 {
     match requested {
@@ -413,7 +418,7 @@ fn size_in(requested: Option<PacketSize>, bytes: &[u8], is_end: bool) -> Option<
 }
 
 // Returns the number of a PID; `None` if no PID is requested.
-fn number_of(pid: Option<Pid>) -> Option<u16>
+fn pid_number(pid: Option<Pid>) -> Option<u16>
     ensures { result ≡ pid }
 {
     match pid {
@@ -425,7 +430,7 @@ fn number_of(pid: Option<Pid>) -> Option<u16>
 // Returns whether a recording is a file of PES packets, from its first bytes. A time stamp before
 // the first transport packet may have the same bytes, but then the sync byte follows.
 fn is_pes_file(head: &[u8]) -> bool
-    ensures { result ≡ begins_pes head.now }
+    ensures { result ≡ begins_with_pes_packet head.now }
 {
     if head.len() < 4 || head[0] != 0 || head[1] != 0 || head[2] != 1 || head[3] != 0xBD {
         return false;

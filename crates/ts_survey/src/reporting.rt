@@ -1,9 +1,10 @@
 //! The function `survey`, which reads a recording once, and prints a line for each fact.
 ghost use Rattle.std.specs.Prelude.{◌≡◌, ◌++◌, IfErr, OnOk, false, length};
 ghost use Rattle.std.specs.Io.KnownBytes.{Appends, IsAtEnd};
-ghost use Rattle.sub_io.specs.Device.{CanFail, CountsIf, failed};
+ghost use Rattle.sub_io.specs.Device.{CanFail, CountsFailureIf, failed};
 ghost use Rattle.ts_survey.specs.Listed.{ReportsSurvey};
-ghost use Rattle.ts_survey.specs.Survey.{Grows, is_survey_read, is_survey_write};
+ghost use Rattle.ts_survey.specs.Survey.{AppendsSomeText, is_survey_read_failure};
+ghost use Rattle.ts_survey.specs.Survey.{is_survey_write_failure};
 
 use crate::buffer::ReadBuffer;
 use crate::recording::Recording;
@@ -42,13 +43,15 @@ pub fn survey<S: Source, K: Flush>(
 ) -> Result<(), SurveyFault>
     requires source { CanFail (S.failure_count source.old) }
     requires out { CanFail (K.failure_count out.old) }
-    ensures grows { Grows (K.contents out.old) (K.contents out.new) }
-    ensures source_count { CountsIf S.failure_count source.old (failed is_survey_read result)
+    ensures grows { AppendsSomeText (K.contents out.old) (K.contents out.new) }
+    ensures source_count { CountsFailureIf S.failure_count source.old (failed is_survey_read_failure
+        result)
         source.new }
-    ensures out_count { CountsIf K.failure_count out.old (failed is_survey_write result) out.new }
+    ensures out_count { CountsFailureIf K.failure_count out.old (failed is_survey_write_failure
+        result) out.new }
     // All output is flushed before the source may call its device, which may fail.
     ensures followed { K.buffered out.old ≡ 0
-        → failed is_survey_write result ≡ false
+        → failed is_survey_write_failure result ≡ false
         → K.buffered out.new ≡ 0 }
     // The recording is read to its end, and all of it is examined.
     ensures ended { OnOk result (IsAtEnd (S.remaining source.new)) }
@@ -90,16 +93,17 @@ fn flush_pending<K: Flush>(
     out: &mut K,
 ) -> Result<(), SurveyFault>
     requires { CanFail (K.failure_count out.old) }
-    ensures grows { Grows (K.contents out.old) (K.contents out.new) }
+    ensures grows { AppendsSomeText (K.contents out.old) (K.contents out.new) }
     ensures all { OnOk result (length text.new.bytes.items ≡ 0) }
     ensures first { OnOk result (length first.new.bytes.items ≡ 0) }
     ensures reported { OnOk result (Appends (K.contents out.old) (K.contents out.new)
         (first.old.bytes.items ++ text.old.bytes.items)) }
-    ensures holds { K.buffered out.old ≡ 0
-        → failed is_survey_write result ≡ false
+    ensures stays_flushed { K.buffered out.old ≡ 0
+        → failed is_survey_write_failure result ≡ false
         → K.buffered out.new ≡ 0 }
-    ensures own { IfErr result (λ fault. fault ≡ SurveyFault.Write) }
-    ensures count { CountsIf K.failure_count out.old (failed is_survey_write result) out.new }
+    ensures only_write_fails { IfErr result (λ fault. fault ≡ SurveyFault.Write) }
+    ensures count { CountsFailureIf K.failure_count out.old (failed is_survey_write_failure result)
+        out.new }
 {
     if first.is_empty() && text.is_empty() {
         return Ok(());
@@ -116,12 +120,13 @@ fn flush_pending<K: Flush>(
 #[tactic(auto, using(crate::proofs::ListedLemmas::all_reported))]
 fn put_lines<K: Flush>(text: &mut Text, out: &mut K) -> Result<(), SurveyFault>
     requires { CanFail (K.failure_count out.old) }
-    ensures grows { Grows (K.contents out.old) (K.contents out.new) }
+    ensures grows { AppendsSomeText (K.contents out.old) (K.contents out.new) }
     ensures all { OnOk result (length text.new.bytes.items ≡ 0) }
     ensures reported { OnOk result (Appends (K.contents out.old) (K.contents out.new)
         text.old.bytes.items) }
-    ensures own { IfErr result (λ fault. fault ≡ SurveyFault.Write) }
-    ensures count { CountsIf K.failure_count out.old (failed is_survey_write result) out.new }
+    ensures only_write_fails { IfErr result (λ fault. fault ≡ SurveyFault.Write) }
+    ensures count { CountsFailureIf K.failure_count out.old (failed is_survey_write_failure result)
+        out.new }
 {
     if put_all(out, text.as_slice()).is_err() {
         return Err(SurveyFault::Write);

@@ -1,26 +1,28 @@
 //! Sections of tables, and the contents of the sections of a PAT and of a PMT (ISO/IEC 13818-1,
 //! 2.4.4).
 ghost use Rattle.std.specs.Prelude.{◌≡◌, ◌≤◌, ◌<◌, ◌+◌, length, IfSome};
-ghost use Rattle.ts_survey.specs.Section.{crc_after, crc_of, crc_shifted, descriptor_at, length_at};
-ghost use Rattle.ts_survey.specs.Section.{name_of, number_at, page_at, pid_at, pmt_pid_at};
-ghost use Rattle.ts_survey.specs.Section.{is_current, is_of_teletext, programme_of, section_size};
+ghost use Rattle.ts_survey.specs.Section.{crc_after_byte, crc_of, crc_after_bit, descriptor_at};
+ghost use Rattle.ts_survey.specs.Section.{length_at};
+ghost use Rattle.ts_survey.specs.Section.{section_name_of, number_at, page_at, pid_at, pmt_pid_at};
+ghost use Rattle.ts_survey.specs.Section.{is_current, lists_teletext_pages, programme_of};
+ghost use Rattle.ts_survey.specs.Section.{section_size};
 ghost use Rattle.ts_survey.specs.Section.{stream_at};
 
 /// The number of bytes before the first entry of a PAT section, and before the descriptors of a PMT
 /// section.
-const PAT_HEAD: usize = 8;
+const PAT_HEADER_SIZE: usize = 8;
 
-const PMT_HEAD: usize = 12;
+const PMT_HEADER_SIZE: usize = 12;
 
 /// The number of bytes of a CRC_32.
-const CRC: usize = 4;
+const CRC_SIZE: usize = 4;
 
 /// Returns the size in bytes of the section at the front of the bytes, from its section_length, 3
 /// to 4098. Returns `None` if fewer than three bytes are available.
 pub fn section_size(bytes: &[u8]) -> Option<usize>
     ensures value { result ≡ section_size bytes.now }
     ensures range { IfSome result (λ size. (3 ≤ size) × (size ≤ 4098)) }
-    ensures there { IfSome result (λ _. 3 ≤ length bytes.now) }
+    ensures is_long_enough { IfSome result (λ _. 3 ≤ length bytes.now) }
 {
     if bytes.len() < 3 {
         return None;
@@ -60,22 +62,24 @@ pub fn crc_of(bytes: &[u8]) -> u32
 {
     bytes
         .iter()
-        .fold(0xFFFF_FFFF, |crc, byte| crc_after(crc, *byte))
+        .fold(0xFFFF_FFFF, |crc, byte| crc_after_byte(crc, *byte))
 }
 
 // Returns the CRC_32 after one more byte.
-#[tactic(auto, unfolding(crate::specs::Section::crc_after))]
-fn crc_after(crc: u32, byte: u8) -> u32
-    ensures { result ≡ crc_after crc byte }
+#[tactic(auto, unfolding(crate::specs::Section::crc_after_byte))]
+fn crc_after_byte(crc: u32, byte: u8) -> u32
+    ensures { result ≡ crc_after_byte crc byte }
 {
-    let half = crc_shifted(crc_shifted(crc_shifted(crc_shifted(crc ^ (byte as u32 * 0x100_0000)))));
-    crc_shifted(crc_shifted(crc_shifted(crc_shifted(half))))
+    let crc_after_four_bits = crc_after_bit(crc_after_bit(crc_after_bit(crc_after_bit(
+        crc ^ (byte as u32 * 0x100_0000),
+    ))));
+    crc_after_bit(crc_after_bit(crc_after_bit(crc_after_bit(crc_after_four_bits))))
 }
 
 // Returns the CRC_32 after one more bit.
-#[tactic(auto, unfolding(crate::specs::Section::crc_shifted))]
-fn crc_shifted(crc: u32) -> u32
-    ensures { result ≡ crc_shifted crc }
+#[tactic(auto, unfolding(crate::specs::Section::crc_after_bit))]
+fn crc_after_bit(crc: u32) -> u32
+    ensures { result ≡ crc_after_bit crc }
 {
     if crc >= 0x8000_0000 {
         (2 * (crc - 0x8000_0000)) ^ 0x04C1_1DB7
@@ -94,11 +98,11 @@ pub struct SectionName {
 }
 
 /// Returns the name of a section, or `None` if the section is too short to have a name and a CRC.
-pub fn name_of(section: &[u8]) -> Option<SectionName>
-    ensures value { result ≡ name_of section.now }
-    ensures there { IfSome result (λ _. 12 ≤ length section.now) }
+pub fn section_name_of(section: &[u8]) -> Option<SectionName>
+    ensures value { result ≡ section_name_of section.now }
+    ensures is_long_enough { IfSome result (λ _. 12 ≤ length section.now) }
 {
-    if section.len() < PAT_HEAD + CRC {
+    if section.len() < PAT_HEADER_SIZE + CRC_SIZE {
         return None;
     }
     Some(SectionName {
@@ -123,7 +127,7 @@ pub fn pmt_pid_at(section: &[u8], place: usize) -> Option<u16>
     ensures value { result ≡ pmt_pid_at section.now place }
     ensures range { IfSome result (λ pid. pid < 8192) }
 {
-    if section.len() < place + 4 + CRC {
+    if section.len() < place + 4 + CRC_SIZE {
         return None;
     }
     if number_at(section, place) == 0 {
@@ -133,7 +137,7 @@ pub fn pmt_pid_at(section: &[u8], place: usize) -> Option<u16>
 }
 
 /// The offset of the first entry of a PAT section.
-pub const FIRST_PMT: usize = PAT_HEAD;
+pub const FIRST_PMT: usize = PAT_HEADER_SIZE;
 
 /// The programme of a PMT section: program_number, PCR_PID, and the offset of its first stream.
 #[derive(Clone, Copy)]
@@ -148,13 +152,13 @@ pub fn programme_of(section: &[u8]) -> Option<Programme>
     ensures value { result ≡ programme_of section.now }
     ensures range { IfSome result (λ p. (p.clock_pid < 8192) × (p.first < 4200)) }
 {
-    if section.len() < PMT_HEAD + CRC {
+    if section.len() < PMT_HEADER_SIZE + CRC_SIZE {
         return None;
     }
     Some(Programme {
         number: number_at(section, 3),
         clock_pid: pid_at(section, 8),
-        first: PMT_HEAD + length_at(section, 10),
+        first: PMT_HEADER_SIZE + length_at(section, 10),
     })
 }
 
@@ -175,7 +179,7 @@ pub fn stream_at(section: &[u8], place: usize) -> Option<Stream>
     ensures range { IfSome result (λ s. (s.pid < 8192) × (s.first ≡ place + 5)
         × (s.first ≤ s.end) × (s.end < place + 5 + 4096)) }
 {
-    if section.len() < place + 5 + CRC {
+    if section.len() < place + 5 + CRC_SIZE {
         return None;
     }
     let first = place + 5;
@@ -218,7 +222,7 @@ pub fn descriptor_at(bytes: &[u8], place: usize, end: usize) -> Option<Descripto
 /// Returns whether a descriptor lists Teletext pages: VBI_teletext_descriptor, teletext_descriptor
 /// (ETSI EN 300 468).
 pub fn names_pages(descriptor: &Descriptor) -> bool
-    ensures { result ≡ is_of_teletext descriptor.now }
+    ensures { result ≡ lists_teletext_pages descriptor.now }
 {
     descriptor.tag == 0x46 || descriptor.tag == 0x56
 }

@@ -2,15 +2,15 @@
 ghost use Rattle.std.specs.Prelude.{◌≤◌, IfSome};
 ghost use Rattle.std.specs.Prelude.{length};
 
-use crate::section::{SectionName, crc_of, is_current, name_of, section_size};
+use crate::section::{SectionName, crc_of, is_current, section_name_of, section_size};
 use arrayvec::ArrayVec;
 use mpeg_ts::{PACKET, begins};
 use std::alloc::Global;
 
 /// The maximum number of PIDs with tables that are read, and of known sections.
-const MOST_PIDS: usize = 128;
+const MAX_TABLE_PIDS: usize = 128;
 
-const MOST_SECTIONS: usize = 1024;
+const MAX_KNOWN_SECTIONS: usize = 1024;
 
 /// The size in bytes of a buffer for the longest section and one more payload.
 pub const SECTION_CAPACITY: usize = 4288;
@@ -20,7 +20,7 @@ pub type Section = ArrayVec<u8, SECTION_CAPACITY>;
 
 /// The sections of a PID, as far as they have been received.
 #[derive(Drop)]
-struct Partial {
+struct PartialSections {
     is_open: bool,
     bytes: Section,
 }
@@ -35,11 +35,11 @@ struct KnownSection {
 /// The state of all tables of a recording.
 #[derive(Drop)]
 pub struct Tables {
-    partials: Vec<Partial>,
+    partial_sections: Vec<PartialSections>,
     known: Vec<KnownSection>,
 }
 
-impl Partial {
+impl PartialSections {
     // Begins a section, and drops the bytes received before.
     fn open(&mut self) {
         self.is_open = true;
@@ -49,15 +49,15 @@ impl Partial {
     // Appends bytes to those received before.
     fn add(&mut self, bytes: &[u8]) {
         if self.is_open {
-            add_to(&mut self.bytes, bytes);
+            append_to_section(&mut self.bytes, bytes);
         }
     }
 
     // Moves the next complete section into `buffer`, and returns whether one was complete.
     fn next(&mut self, buffer: &mut Section) -> bool {
-        match next_size(self.bytes.as_slice()) {
+        match next_section_size(self.bytes.as_slice()) {
             Some(size) => {
-                move_out(&mut self.bytes, size, buffer);
+                move_section_out(&mut self.bytes, size, buffer);
                 true
             }
             None => {
@@ -77,7 +77,7 @@ impl Partial {
 }
 
 // Appends bytes, if they fit.
-fn add_to(received: &mut Section, bytes: &[u8]) {
+fn append_to_section(received: &mut Section, bytes: &[u8]) {
     if bytes.len() > SECTION_CAPACITY - received.len() {
         return;
     }
@@ -90,7 +90,7 @@ fn has_stuffing(received: &[u8]) -> bool {
 }
 
 // Returns the size in bytes of the next section, if it is complete.
-fn next_size(received: &[u8]) -> Option<usize>
+fn next_section_size(received: &[u8]) -> Option<usize>
     ensures { IfSome result (λ size. size ≤ length received.now) }
 {
     if has_stuffing(received) {
@@ -104,7 +104,7 @@ fn next_size(received: &[u8]) -> Option<usize>
 }
 
 // Moves the first `size` bytes into `buffer`.
-fn move_out(received: &mut Section, size: usize, buffer: &mut Section)
+fn move_section_out(received: &mut Section, size: usize, buffer: &mut Section)
     requires { size ≤ length received.old.items }
 {
     let (section, _) = received.as_slice().split_at(size);
@@ -119,7 +119,7 @@ impl Tables {
     /// Creates the state before the first section.
     pub fn new(alloc: Global) -> Tables {
         Tables {
-            partials: Vec::new(alloc),
+            partial_sections: Vec::new(alloc),
             known: Vec::new(alloc),
         }
     }
@@ -127,15 +127,15 @@ impl Tables {
     /// Makes room for the sections of one more PID, and returns its index. Returns `None` if no
     /// room is left.
     pub fn add(&mut self) -> Option<u8> {
-        let place = self.partials.as_slice().len();
-        if place >= MOST_PIDS {
+        let place = self.partial_sections.as_slice().len();
+        if place >= MAX_TABLE_PIDS {
             return None;
         }
-        let partial = Partial {
+        let partial_section = PartialSections {
             is_open: false,
             bytes: ArrayVec::new(),
         };
-        match self.partials.push(partial) {
+        match self.partial_sections.push(partial_section) {
             Ok(()) => Some(place as u8),
             Err(_) => None,
         }
@@ -143,28 +143,28 @@ impl Tables {
 
     /// Appends bytes of a PID: to the bytes received before, or at the start of a section.
     pub fn take(&mut self, place: u8, bytes: &[u8], begins: bool) {
-        let Some(partial) = self.partials.get_mut(place as usize) else {
+        let Some(partial_section) = self.partial_sections.get_mut(place as usize) else {
             return;
         };
         if begins {
-            partial.open();
+            partial_section.open();
         }
-        partial.add(bytes);
+        partial_section.add(bytes);
     }
 
     /// Moves the next complete section of a PID into `buffer`, and returns whether one was
     /// complete.
     pub fn next(&mut self, place: u8, buffer: &mut Section) -> bool {
-        match self.partials.get_mut(place as usize) {
-            Some(partial) => partial.next(buffer),
+        match self.partial_sections.get_mut(place as usize) {
+            Some(partial_section) => partial_section.next(buffer),
             None => false,
         }
     }
 
     /// Returns whether a complete section is new and current (current_next_indicator), and stores
     /// it if so.
-    pub fn is_new(&mut self, section: &[u8]) -> bool {
-        let Some(name) = name_of(section) else {
+    pub fn is_new_section(&mut self, section: &[u8]) -> bool {
+        let Some(name) = section_name_of(section) else {
             return false;
         };
         let Some(crc) = section.last_chunk::<4>() else {
@@ -176,17 +176,17 @@ impl Tables {
         if !is_current(section) || crc_of(section) != 0 {
             return false;
         }
-        let is_there = is_named(self.known.as_slice(), name);
-        self.keep(name, *crc, is_there)
+        let was_known = has_section_named(self.known.as_slice(), name);
+        self.keep(name, *crc, was_known)
     }
 
     // Stores a section, in place of the section with its name; returns whether it was stored.
-    fn keep(&mut self, name: SectionName, crc: [u8; 4], is_there: bool) -> bool {
-        if is_there {
+    fn keep(&mut self, name: SectionName, crc: [u8; 4], was_known: bool) -> bool {
+        if was_known {
             self.replace(name, crc);
             return true;
         }
-        if self.known.len() >= MOST_SECTIONS {
+        if self.known.len() >= MAX_KNOWN_SECTIONS {
             return false;
         }
         self.known.push(KnownSection { name, crc }).is_ok()
@@ -213,7 +213,7 @@ fn is_same_name(one: SectionName, other: SectionName) -> bool {
 }
 
 // Returns whether a section with this name is known.
-fn is_named(known: &[KnownSection], name: SectionName) -> bool {
+fn has_section_named(known: &[KnownSection], name: SectionName) -> bool {
     known.iter().any(|one| is_same_name(one.name, name))
 }
 
@@ -226,7 +226,10 @@ fn is_known_section(known: &[KnownSection], name: SectionName, crc: &[u8; 4]) ->
 
 /// Splits a payload with sections by its pointer_field (ISO/IEC 13818-1). Returns the end of the
 /// sections that began in earlier payloads, and the sections that begin in this payload, if any.
-pub fn parts_of<'a>(packet: &[u8; PACKET], payload: &'a [u8]) -> (&'a [u8], Option<&'a [u8]>) {
+pub fn split_at_pointer_field<'a>(
+    packet: &[u8; PACKET],
+    payload: &'a [u8],
+) -> (&'a [u8], Option<&'a [u8]>) {
     if !begins(packet) || payload.is_empty() {
         return (payload, None);
     }

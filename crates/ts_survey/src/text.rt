@@ -1,13 +1,13 @@
 //! Lines of output in memory that are not written yet.
 ghost use Rattle.std.specs.Prelude.{◌≡◌, ◌≤◌, ◌<◌, ◌∷◌, decimal, false, length, true};
-ghost use Rattle.ts_survey.specs.Text.{Adds, hex_word};
+ghost use Rattle.ts_survey.specs.Text.{AddsBytes, hex_text};
 
 use arrayvec::ArrayVec;
 use std::alloc::Global;
 
 /// The number of ticks of the 33-bit clock of a PTS and of a PCR's base, which has 90,000 ticks per
 /// second (ISO/IEC 13818-1).
-pub const CLOCK: u64 = 1 << 33;
+pub const CLOCK_PERIOD: u64 = 1 << 33;
 
 // A space, a sign and a decimal number as characters.
 type Word = ArrayVec<u8, 32>;
@@ -63,7 +63,7 @@ impl Text {
 
     /// Adds bytes to the text.
     pub fn put(&mut self, bytes: &[u8])
-        ensures { Adds self.old bytes.now self.new }
+        ensures { AddsBytes self.old bytes.now self.new }
     {
         if self.is_lost {
             return;
@@ -76,32 +76,34 @@ impl Text {
 
     /// Adds a space and a number in decimal.
     pub fn number(&mut self, number: u64)
-        ensures { Adds self.old (0x20 ∷ decimal number) self.new }
+        ensures { AddsBytes self.old (0x20 ∷ decimal number) self.new }
     {
         self.signed_number(b' ', number);
     }
 
     /// Adds a sign and a number in decimal.
-    pub fn signed_number(&mut self, sign: u8, number: u64)
-        ensures { Adds self.old (sign ∷ decimal number) self.new }
+    pub fn signed_number(&mut self, separator: u8, number: u64)
+        ensures { AddsBytes self.old (separator ∷ decimal number) self.new }
     {
         let mut digits = itoa::Buffer::new();
         let mut word = Word::new();
-        let _ = word.try_extend_from_slice(&[sign]);
+        let _ = word.try_extend_from_slice(&[separator]);
         let _ = word.try_extend_from_slice(digits.format(number).as_bytes());
         self.put(word.as_slice());
     }
 
-    /// Adds a space and a difference in ticks. `forward` is the difference modulo 2^33; a value of
-    /// 2^32 or more is printed as a negative number.
-    pub fn ticks(&mut self, forward: u64) {
-        if forward < CLOCK / 2 || forward > CLOCK {
-            return self.number(forward);
+    /// Adds a space and a difference in ticks. `forward_distance` is the difference modulo 2^33; a
+    /// value of 2^32 or more is printed as a negative number.
+    pub fn ticks(&mut self, forward_distance: u64) {
+        if forward_distance < CLOCK_PERIOD / 2 || forward_distance > CLOCK_PERIOD {
+            return self.number(forward_distance);
         }
         let mut digits = itoa::Buffer::new();
         let mut word = Word::new();
         let _ = word.try_extend_from_slice(b" -");
-        let _ = word.try_extend_from_slice(digits.format(CLOCK - forward).as_bytes());
+        let _ = word.try_extend_from_slice(
+            digits.format(CLOCK_PERIOD - forward_distance).as_bytes(),
+        );
         self.put(word.as_slice());
     }
 
@@ -116,7 +118,7 @@ impl Text {
     /// Adds bytes as lower case hexadecimal digits.
     pub fn hex(&mut self, bytes: &[u8])
         requires { length bytes.now ≤ 40 }
-        ensures { Adds self.old (hex_word bytes.now) self.new }
+        ensures { AddsBytes self.old (hex_text bytes.now) self.new }
     {
         let mut buffer = [0; 80];
         let (digits, _) = buffer.split_at_mut(2 * bytes.len());
@@ -145,6 +147,6 @@ pub fn upper_digit(number: u8) -> u8
 }
 
 /// Returns how many ticks `second` is after `first`, forward around the clock.
-pub fn forward(first: u64, second: u64) -> u64 {
-    second.wrapping_sub(first) % CLOCK
+pub fn forward_distance(first: u64, second: u64) -> u64 {
+    second.wrapping_sub(first) % CLOCK_PERIOD
 }

@@ -2,21 +2,21 @@
 //! syntax).
 ghost use Rattle.std.specs.Prelude.{◌≡◌, ◌+◌, ◌≤◌, ◌<◌, length, slice_index, IfNone, IfSome, drop};
 ghost use Rattle.std.specs.Prelude.{take};
-ghost use Rattle.ts_survey.specs.Heard.{first_place, borrowed_packets, unit_packets};
+ghost use Rattle.ts_survey.specs.Heard.{first_unit_offset, borrowed_packets, unit_packets};
 
 /// The size in bytes of a data unit with a Teletext packet.
-const UNIT: usize = 46;
+const UNIT_SIZE: usize = 46;
 
 /// Returns the data units of a PES packet, which follow its header and data_identifier.
 pub fn units_of(pes: &[u8]) -> &[u8]
-    ensures { result.now ≡ drop (first_place pes.now) pes.now }
+    ensures { result.now ≡ drop (first_unit_offset pes.now) pes.now }
 {
-    following(pes, first_place(pes))
+    following(pes, first_unit_offset(pes))
 }
 
 // Returns the offset of the first data unit in a PES packet.
-fn first_place(pes: &[u8]) -> usize
-    ensures { result ≡ first_place pes.now }
+fn first_unit_offset(pes: &[u8]) -> usize
+    ensures { result ≡ first_unit_offset pes.now }
 {
     if pes.len() > 9 {
         10 + pes[8] as usize
@@ -50,10 +50,10 @@ pub fn unit_of(bytes: &[u8]) -> Option<DataUnit<'_>>
     ensures packet { IfSome result (λ u.
         borrowed_packets u.packet ≡ unit_packets (take 46 bytes.now)) }
 {
-    if bytes.len() < UNIT {
+    if bytes.len() < UNIT_SIZE {
         return None;
     }
-    let (unit, _) = bytes.split_at(UNIT);
+    let (unit, _) = bytes.split_at(UNIT_SIZE);
     Some(DataUnit {
         size: 2 + bytes[1] as usize,
         packet: packet_of(unit),

@@ -16,33 +16,34 @@ use lib.Count.{count_trailing_zeros}
 use lib.Seq.{take-add}
 use lib.Lanes.{chunk, mask_l}
 
-pub block_at : (n k : ℕ) (xs : List ℕ) (i : ℕ) → i < k
+pub chunk_at_index : (n k : ℕ) (xs : List ℕ) (i : ℕ) → i < k
     → get_or (first_chunks n k xs) i [] ≡ chunk (n * i) n xs
-block_at n zero xs i l = absurd (omega arith)
-block_at n (suc k) xs zero l = let e : 0 ≡ n * 0 = omega arith in ap (λ m. take n (drop m xs)) e
-block_at n (suc k) xs (suc i) l =
+chunk_at_index n zero xs i l = absurd (omega arith)
+chunk_at_index n (suc k) xs zero l = let e : 0 ≡ n * 0 = omega arith in ap (λ m. take n (drop m xs))
+    e
+chunk_at_index n (suc k) xs (suc i) l =
     let e : n + n * i ≡ n * suc i = omega arith in
-    block_at n k (drop n xs) i (omega arith)
+    chunk_at_index n k (drop n xs) i (omega arith)
     ∙ ap (take n) (drop-drop (n * i) n xs ∙ ap (λ m. drop m xs) e)
 
-pub block_of : (blocks : List (List ℕ)) (n : ℕ) (xs : List ℕ) (i : ℕ)
+pub block_is_chunk : (blocks : List (List ℕ)) (n : ℕ) (xs : List ℕ) (i : ℕ)
     → blocks ≡ first_chunks n (length xs / n) xs
     → i < length xs / n
     → get_or blocks i [] ≡ chunk (n * i) n xs
-block_of blocks n xs i e l = rw e (block_at n (length xs / n) xs i l)
+block_is_chunk blocks n xs i e l = rw e (chunk_at_index n (length xs / n) xs i l)
 
-pub last_block : (a n : ℕ) (xs ys : List ℕ)
+pub suffix_is_last_chunk : (a n : ℕ) (xs ys : List ℕ)
     → length xs ≡ a + n
     → ys ≡ drop a xs
     → ys ≡ chunk a n xs
-last_block a n xs ys size e = grind (arith, nat_tests, take_all, length-drop)
+suffix_is_last_chunk a n xs ys size e = grind (arith, nat_tests, take_all, length-drop)
 
-pub below_in_chunk : (b a n : ℕ) (xs : List ℕ)
+pub chunk_keeps_upper_bound : (b a n : ℕ) (xs : List ℕ)
     → a + n ≤ length xs
     → ((k : ℕ) → get_or xs k 0 < b)
     → (k : ℕ)
     → get_or (chunk a n xs) k 0 < b
-below_in_chunk b a n xs room below k =
+chunk_keeps_upper_bound b a n xs room below k =
     let here = below (a + k) in grind (arith, nat_tests, get_or-chunk, get_or_past, length-chunk)
 
 -- The list `out` has n elements, and its first `to` elements are the results of f for those of
@@ -51,7 +52,7 @@ pub record IsMappedPrefix (f : ℕ → ℕ) (xs : List ℕ) (n to : ℕ) (out : 
   pub size : length out ≡ n
   pub done : take to out ≡ map f (take to xs)
 
-pub block_more : (f : ℕ → ℕ) (xs out ys : List ℕ) (n a w k m : ℕ)
+pub mapping_block_extends_prefix : (f : ℕ → ℕ) (xs out ys : List ℕ) (n a w k m : ℕ)
     → m ≡ a + w
     → k ≡ w
     → length xs ≡ n
@@ -59,7 +60,7 @@ pub block_more : (f : ℕ → ℕ) (xs out ys : List ℕ) (n a w k m : ℕ)
     → ys ≡ map f (chunk a w xs)
     → IsMappedPrefix f xs n a out
     → IsMappedPrefix f xs n m (put_mid a k out ys)
-block_more f xs out ys n a w k m e width size room block to =
+mapping_block_extends_prefix f xs out ys n a w k m e width size room block to =
     let long : length ys ≡ w =
     ap length block ∙ length-map (chunk a w xs) f ∙ length-chunk a w xs (omega arith) in
     let middle : length (mid_of a k out) ≡ k = length-chunk a k out (omega (arith, to.size)) in
@@ -71,15 +72,15 @@ block_more f xs out ys n a w k m e width size room block to =
           ∙ ap (map f) (sym (take-add a w xs) ∙ ap (λ n. take n xs) (sym e));
     }
 
-pub mapped_completely : (f : ℕ → ℕ) (xs out : List ℕ) (n : ℕ)
+pub full_prefix_is_mapped : (f : ℕ → ℕ) (xs out : List ℕ) (n : ℕ)
     → length xs ≡ n
     → IsMappedPrefix f xs n n out
     → out ≡ map f xs
-mapped_completely f xs out n size to = grind (arith, nat_tests, take_all)
+full_prefix_is_mapped f xs out n size to = grind (arith, nat_tests, take_all)
 
 -- If the mask of a block is zero and no item before the block passes the test, no item up to the
 -- end of the block passes.
-pub none_so_far : {X : Type 0} (p : X → Bool) (xs : List X) (a m : ℕ) (d : X)
+pub zero_mask_extends_search : {X : Type 0} (p : X → Bool) (xs : List X) (a m : ℕ) (d : X)
     → a + 16 ≤ length xs
     → m ≡ mask_l (map p (chunk a 16 xs))
     → m ≡ 0
@@ -87,23 +88,23 @@ pub none_so_far : {X : Type 0} (p : X → Bool) (xs : List X) (a m : ℕ) (d : X
     → (k : ℕ)
     → k < a + 16
     → p (get_or xs k d) ≡ false
-none_so_far p xs a m d room e zeroes before k l =
+zero_mask_extends_search p xs a m d room e zeroes before k l =
     grind (arith, nat_tests, none_from_empty_mask p xs a 16 d room (sym e ∙ zeroes) k)
 
 -- The item at `place` is the first item of the list that passes the test.
-pub record IsFirst {X : Type 0} (p : X → Bool) (xs : List X) (place : ℕ) (d : X) : Type 0 where
+pub record IsFirstMatch {X : Type 0} (p : X → Bool) (xs : List X) (place : ℕ) (d : X) : Type 0 where
   pub passes : p (get_or xs place d) ≡ true
   pub before : (k : ℕ) → k < place → p (get_or xs k d) ≡ false
 
 -- If the mask of a block is not zero and no item before the block passes the test, its lowest set
 -- bit gives the first item that passes.
-pub first_so_far : {X : Type 0} (p : X → Bool) (xs : List X) (a m : ℕ) (d : X)
+pub nonzero_mask_gives_first : {X : Type 0} (p : X → Bool) (xs : List X) (a m : ℕ) (d : X)
     → a + 16 ≤ length xs
     → m ≡ mask_l (map p (chunk a 16 xs))
     → (m ≡ 0 → ⊥)
     → ((k : ℕ) → k < a → p (get_or xs k d) ≡ false)
-    → (count_trailing_zeros 64 m < 16) × IsFirst p xs (a + count_trailing_zeros 64 m) d
-first_so_far p xs a m d room e some before =
+    → (count_trailing_zeros 64 m < 16) × IsFirstMatch p xs (a + count_trailing_zeros 64 m) d
+nonzero_mask_gives_first p xs a m d room e some before =
     let block = chunk a 16 xs in
     let size : length (map p block) ≡ 16 = length-map block p ∙ length-chunk a 16 xs room in
     let mask = mask_l (map p block) in

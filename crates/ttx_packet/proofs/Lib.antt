@@ -2,8 +2,8 @@ pub mod OneBitLemmas
 pub mod Hamming84Lemmas
 pub mod ParityLemmas
 pub mod ControlLemmas
-pub mod NearPackets
-pub mod MadePackets
+pub mod NearPacketLemmas
+pub mod EncodedPacketLemmas
 pub mod BitOrderLemmas
 pub mod RowPacketLemmas
 pub mod BlockLemmas

@@ -8,48 +8,48 @@ use Rattle.std.proofs.lemmas.List.{get_or-map}
 use Rattle.std.proofs.lemmas.Bool.{agree_below_at, cases_eq, cases_lt}
 use Rattle.std.proofs.lemmas.Bool.Decides.{nat_tests}
 use Rattle.ttx_packet.specs.BitOrder.{mirror}
-use Rattle.ttx_packet.specs.Hamming84.{IsCodeWord, code_word, decoded}
+use Rattle.ttx_packet.specs.Hamming84.{IsCodeWord, code_word, decoded_nibble}
 use Rattle.ttx_packet.specs.PacketAddress.{HasExactAddress, address, decoded_at}
 use Rattle.ttx_packet.specs.PageHeader.{HasExactHeader, coded_header, coded_page}
 use Rattle.ttx_packet.specs.declared.header.Header.{Header}
 use Rattle.ttx_packet.specs.declared.sent_packet.TheConstants.{SENT_WORDS}
 use Rattle.ttx_packet.proofs.BitOrderLemmas.{mirror-mirror}
-use Rattle.ttx_packet.proofs.Hamming84Lemmas.{decoded-code_word}
+use Rattle.ttx_packet.proofs.Hamming84Lemmas.{decoded_nibble-code_word}
 
-pub entry_small : (b : ℕ) → b < 0x100 → get_or SENT_WORDS b 0 ≤ 256
-entry_small b l =
+pub sent_entry_is_bounded : (b : ℕ) → b < 0x100 → get_or SENT_WORDS b 0 ≤ 256
+sent_entry_is_bounded b l =
     let passes = agree_below_at (λ b. nat_le (get_or SENT_WORDS b 0) 256) (λ b. true) 0x100 b refl l
     in
     grind (arith, nat_tests)
 
 -- If the table entry of a byte is not 256, the byte with its bits reversed is the code word of the
 -- entry; checked for all 256 bytes.
-word_of_entry : (b : ℕ) → b < 0x100 → (get_or SENT_WORDS b 0 ≡ 256 → ⊥)
+sent_entry_gives_code_word : (b : ℕ) → b < 0x100 → (get_or SENT_WORDS b 0 ≡ 256 → ⊥)
     → (get_or SENT_WORDS b 0 < 16) × (mirror b ≡ code_word (get_or SENT_WORDS b 0))
 unfolding mirror
-word_of_entry b l some =
+sent_entry_gives_code_word b l some =
     let test : ℕ → Bool = λ b. nat_eq (get_or SENT_WORDS b 0) 256
     || (nat_lt (get_or SENT_WORDS b 0) 16 && nat_eq (mirror b) (code_word (get_or SENT_WORDS b 0)))
     in
     let passes = agree_below_at test (λ b. true) 0x100 b refl l in
     grind (arith, nat_tests)
 
-pub word_from_sent : (b : ℕ) → b < 0x100
+pub sent_code_word_decodes : (b : ℕ) → b < 0x100
     → (get_or SENT_WORDS b 0 ≡ 256 → ⊥)
     → (get_or SENT_WORDS b 0 < 16) × IsCodeWord (mirror b)
-    × (decoded (mirror b) ≡ Some (get_or SENT_WORDS b 0))
-word_from_sent b l some =
-    let word = word_of_entry b l some in (
+    × (decoded_nibble (mirror b) ≡ Some (get_or SENT_WORDS b 0))
+sent_code_word_decodes b l some =
+    let word = sent_entry_gives_code_word b l some in (
       word.0,
       (get_or SENT_WORDS b 0, word.0, word.1),
-      rw word.1 (decoded-code_word (get_or SENT_WORDS b 0) word.0),
+      rw word.1 (decoded_nibble-code_word (get_or SENT_WORDS b 0) word.0),
     )
 
 -- If the table entry of a byte is 256, the byte with its bits reversed is no code word.
-pub no_word_from_sent : (b : ℕ) → b < 0x100 → get_or SENT_WORDS b 0 ≡ 256
+pub missing_entry_no_code_word : (b : ℕ) → b < 0x100 → get_or SENT_WORDS b 0 ≡ 256
     → IsCodeWord (mirror b) → ⊥
 unfolding mirror
-no_word_from_sent b l none (n, small, is) =
+missing_entry_no_code_word b l none (n, small, is) =
     let entry =
     agree_below_at (λ n. nat_eq (get_or SENT_WORDS (mirror (code_word n)) 0) n) (λ n. true) 16 n
     refl small in
@@ -58,37 +58,37 @@ no_word_from_sent b l none (n, small, is) =
     omega (arith, none, number, small)
 
 module _ (packet bytes : List ℕ) (is : map mirror bytes ≡ packet) (long : length bytes ≡ 42) where
-  pub sent_at : (k : ℕ) → k < 42 → mirror (slice_index bytes k) ≡ slice_index packet k
-  sent_at k l = rw (← is, get_or-map mirror bytes k 0 0 (omega arith)) refl
+  pub sent_byte_is_mirrored : (k : ℕ) → k < 42 → mirror (slice_index bytes k) ≡ slice_index packet k
+  sent_byte_is_mirrored k l = rw (← is, get_or-map mirror bytes k 0 0 (omega arith)) refl
 
-  pub no_word_at : (k : ℕ) → k < 42 → (IsCodeWord (mirror (slice_index bytes k)) → ⊥)
+  pub byte_is_no_code_word : (k : ℕ) → k < 42 → (IsCodeWord (mirror (slice_index bytes k)) → ⊥)
       → IsCodeWord (slice_index packet k) → ⊥
-  no_word_at k l none word = none (rw (sent_at k l) word)
+  byte_is_no_code_word k l none word = none (rw (sent_byte_is_mirrored k l) word)
 
-  pub word_at : (k n : ℕ) → k < 42
+  pub byte_is_code_word : (k n : ℕ) → k < 42
       → (n < 16) × IsCodeWord (mirror (slice_index bytes k))
-      × (decoded (mirror (slice_index bytes k)) ≡ Some n)
+      × (decoded_nibble (mirror (slice_index bytes k)) ≡ Some n)
       → IsCodeWord (slice_index packet k) × (decoded_at packet k ≡ Some n)
-  word_at k n l word = rw (← sent_at k l) (word.1, word.2)
+  byte_is_code_word k n l word = rw (← sent_byte_is_mirrored k l) (word.1, word.2)
 
-pub has_exact_code_words : (packet : List ℕ) → IsCodeWord (slice_index packet 0)
+pub two_code_words_give_address : (packet : List ℕ) → IsCodeWord (slice_index packet 0)
     → IsCodeWord (slice_index packet 1) → HasExactAddress packet
-has_exact_code_words packet first second zero l = first
-has_exact_code_words packet first second (suc zero) l = second
-has_exact_code_words packet first second (suc (suc k)) l = absurd (omega arith)
+two_code_words_give_address packet first second zero l = first
+two_code_words_give_address packet first second (suc zero) l = second
+two_code_words_give_address packet first second (suc (suc k)) l = absurd (omega arith)
 
-pub coded_has_exact_code_words : (p : List ℕ) → IsCodeWord (slice_index p 2) → IsCodeWord
+pub eight_code_words_give_header : (p : List ℕ) → IsCodeWord (slice_index p 2) → IsCodeWord
     (slice_index p 3)
     → IsCodeWord (slice_index p 4) → IsCodeWord (slice_index p 5) → IsCodeWord (slice_index p 6)
     → IsCodeWord (slice_index p 7) → IsCodeWord (slice_index p 8) → IsCodeWord (slice_index p 9)
     → HasExactHeader p
-coded_has_exact_code_words p b2 b3 b4 b5 b6 b7 b8 b9 k low high =
+eight_code_words_give_header p b2 b3 b4 b5 b6 b7 b8 b9 k low high =
     elim (cases_lt k 6) [
       | inl l ↦ grind (arith, cases_eq k 2, cases_eq k 3, cases_eq k 4, cases_eq k 5)
       | inr l ↦ grind (arith, cases_eq k 6, cases_eq k 7, cases_eq k 8, cases_eq k 9)
     ]
 
-pub address_of : (p : List ℕ) (low high : ℕ)
+pub address_from_two_nibbles : (p : List ℕ) (low high : ℕ)
     → decoded_at p 0 ≡ Some low
     → decoded_at p 1 ≡ Some high
     → address p
@@ -97,9 +97,10 @@ pub address_of : (p : List ℕ) (low high : ℕ)
       packet_number = (low + 0x10 * high) / 8;
     })
 unfolding address
-address_of p low high first second = rw (first, second) refl
+address_from_two_nibbles p low high first second = rw (first, second) refl
 
-pub coded_header_of : (p : List ℕ) (units tens s1 s2_c4 s3 s4_c6 c7_c10 c11_c14 : ℕ) (h : Header)
+pub header_from_eight_nibbles : (p : List ℕ) (units tens s1 s2_c4 s3 s4_c6 c7_c10 c11_c14 : ℕ)
+    (h : Header)
     → decoded_at p 2 ≡ Some units → decoded_at p 3 ≡ Some tens → decoded_at p 4 ≡ Some s1
     → decoded_at p 5 ≡ Some s2_c4 → decoded_at p 6 ≡ Some s3 → decoded_at p 7 ≡ Some s4_c6
     → decoded_at p 8 ≡ Some c7_c10 → decoded_at p 9 ≡ Some c11_c14
@@ -108,13 +109,13 @@ pub coded_header_of : (p : List ℕ) (units tens s1 s2_c4 s3 s4_c6 c7_c10 c11_c1
     → h.control.0 ≡ s2_c4 / 8 + 2 * (s4_c6 / 4) + 8 * c7_c10 + 0x80 * c11_c14
     → coded_header p ≡ Some h
 unfolding coded_header
-coded_header_of p units tens s1 s2_c4 s3 s4_c6 c7_c10 c11_c14 h
+header_from_eight_nibbles p units tens s1 s2_c4 s3 s4_c6 c7_c10 c11_c14 h
     a b c d e f g i page subcode control =
     rw (a, b, c, d, e, f, g, i, ← page, ← subcode, ← control) refl
 
-pub coded_page_of : (p : List ℕ) (units tens : ℕ)
+pub page_from_two_nibbles : (p : List ℕ) (units tens : ℕ)
     → decoded_at p 2 ≡ Some units
     → decoded_at p 3 ≡ Some tens
     → coded_page p ≡ Some (units + 0x10 * tens)
 unfolding coded_page
-coded_page_of p units tens first second = rw (first, second) refl
+page_from_two_nibbles p units tens first second = rw (first, second) refl

@@ -28,5 +28,5 @@ Decodes b n = (n < 16) × IsNear (code_word n) b
 
 -- The number to which a byte decodes. `None` for the 112 bytes that differ in two bits from the
 -- nearest code words (EN 300 706, 8.2).
-unfoldable pub decoded : ℕ → Option ℕ
-decoded b = first_below 16 (λ n. is_near (code_word n) b)
+unfoldable pub decoded_nibble : ℕ → Option ℕ
+decoded_nibble b = first_below 16 (λ n. is_near (code_word n) b)

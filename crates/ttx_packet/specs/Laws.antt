@@ -4,8 +4,8 @@ use Rattle.std.specs.Prelude.{◌≡◌, ◌≢◌, ◌↔◌, ℕ, ◌<◌, ◌
 use Rattle.std.specs.Prelude.{IsFalse, slice_index}
 use Rattle.ttx_packet.specs.declared.header.Header.{Header}
 use Rattle.ttx_packet.specs.OneBit.{IsNear, AreNear}
-use Rattle.ttx_packet.specs.Hamming84.{Decodes, decoded}
-use Rattle.ttx_packet.specs.Parity.{is_odd, code_of}
+use Rattle.ttx_packet.specs.Hamming84.{Decodes, decoded_nibble}
+use Rattle.ttx_packet.specs.Parity.{is_odd, character_code}
 use Rattle.ttx_packet.specs.BitOrder.{mirror}
 use Rattle.ttx_packet.specs.PacketAddress.{address, HasExactAddress}
 use Rattle.ttx_packet.specs.PageHeader.{header, HasExactCodeWords, HasOddHeaderText, header_packet}
@@ -15,7 +15,7 @@ use Rattle.ttx_packet.specs.RowPacket.{text_byte, HasOddText, row_packet}
 -- A byte decodes to a number exactly if it differs in at most one bit from the code word of that
 -- number. So it decodes to at most one number.
 abbrev pub LawOfDecoding : Type 0
-LawOfDecoding = (b n : ℕ) → decoded b ≡ Some n ↔ Decodes b n
+LawOfDecoding = (b n : ℕ) → decoded_nibble b ≡ Some n ↔ Decodes b n
 
 -- One wrong bit in each byte does not change the decoded address of a packet whose address bytes
 -- were sent as code words. So a receiver never takes such a packet for a packet with another
@@ -52,7 +52,7 @@ LawOfMirror = (b : ℕ) → b < 0x100 → mirror (mirror b) ≡ b
 
 -- The packet encodes the page header h: its decoded header is h, its coded bytes are code words,
 -- and its text bytes have odd parity.
-pub record IsMadeHeader (magazine : ℕ) (h : Header) (packet : List ℕ) : Type 0 where
+pub record IsEncodedHeader (magazine : ℕ) (h : Header) (packet : List ℕ) : Type 0 where
   pub whole : length packet ≡ 42
   pub address : address packet ≡ Some (record { magazine = magazine; packet_number = 0 })
   pub header : header packet ≡ Some h
@@ -65,18 +65,18 @@ LawOfHeaderPacket =
     (magazine : ℕ) (h : Header)
     → magazine < 8
     → IsHeader h
-    → IsMadeHeader magazine h (header_packet magazine h)
+    → IsEncodedHeader magazine h (header_packet magazine h)
 
 -- The packet encodes a row with these codes: its address is that of the row, its text bytes carry
 -- the codes, and they have odd parity.
-pub record IsMadeRow (magazine row : ℕ) (codes packet : List ℕ) : Type 0 where
+pub record IsEncodedRow (magazine row : ℕ) (codes packet : List ℕ) : Type 0 where
   pub whole : length packet ≡ 42
   pub address : address packet ≡ Some (record { magazine = magazine; packet_number = row })
   pub header : header packet ≡ None
   pub exact : HasExactCodeWords packet
   pub text : (column : ℕ)
       → column < 40
-      → code_of (text_byte packet column) ≡ slice_index codes column
+      → character_code (text_byte packet column) ≡ slice_index codes column
   pub odd : HasOddText packet
 
 -- Decoding a created row packet returns the original row number and character codes.
@@ -88,4 +88,4 @@ LawOfRowPacket =
     → row < 32
     → length codes ≡ 40
     → All (λ code. code < 0x80) codes
-    → IsMadeRow magazine row codes (row_packet magazine row codes)
+    → IsEncodedRow magazine row codes (row_packet magazine row codes)

@@ -5,7 +5,7 @@
 --   byte 1   D1 to D4: the four higher bits of the packet number Y
 use Rattle.std.specs.Prelude.{◌≡◌, ℕ, ◌+◌, ◌*◌, ◌/◌, ◌%◌, ◌<◌, List, [], ◌∷◌, length}
 use Rattle.std.specs.Prelude.{Option, Some, slice_index, option_and_then}
-use Rattle.ttx_packet.specs.Hamming84.{IsCodeWord, code_word, decoded}
+use Rattle.ttx_packet.specs.Hamming84.{IsCodeWord, code_word, decoded_nibble}
 
 -- A Teletext packet has 42 bytes, without clock run-in and framing code (EN 300 706).
 pub record IsPacket (packet : List ℕ) : Type 0 where
@@ -20,7 +20,7 @@ o >>= f = option_and_then f o
 -- The number to which byte number `place` of a packet decodes, counted from 0. `None` if the byte
 -- cannot be decoded.
 abbrev pub decoded_at : List ℕ → ℕ → Option ℕ
-decoded_at packet place = decoded (slice_index packet place)
+decoded_at packet place = decoded_nibble (slice_index packet place)
 
 -- The address of a packet X/Y: the magazine X, 0 to 7 (0 means magazine 8), and the packet number
 -- Y, 0 to 31 (EN 300 706).

@@ -26,53 +26,53 @@ use Rattle.ttx_packet.specs.declared.header.Header.{Header}
 
 -- Whether a control bit of a page header is set. In the number, C4 has the value 1 and C14 the
 -- value 1024.
-abbrev pub is_set : Control → ℕ → Bool
-is_set control bit = bit_and control.0 bit == bit
+abbrev pub is_flag_set : Control → ℕ → Bool
+is_flag_set control bit = bit_and control.0 bit == bit
 
 -- Control bit C4, erase page: the page becomes blank before the packets after the header are
 -- stored.
 abbrev pub c4 : Header → Bool
-c4 h = is_set h.control 1
+c4 h = is_flag_set h.control 1
 
 -- Control bit C5, newsflash.
 abbrev pub c5 : Header → Bool
-c5 h = is_set h.control 2
+c5 h = is_flag_set h.control 2
 
 -- Control bit C6, subtitle.
 abbrev pub c6 : Header → Bool
-c6 h = is_set h.control 4
+c6 h = is_flag_set h.control 4
 
 -- Control bit C7, suppress header.
 abbrev pub c7 : Header → Bool
-c7 h = is_set h.control 8
+c7 h = is_flag_set h.control 8
 
 -- Control bit C8, update indicator.
 abbrev pub c8 : Header → Bool
-c8 h = is_set h.control 0x10
+c8 h = is_flag_set h.control 0x10
 
 -- Control bit C9, interrupted sequence.
 abbrev pub c9 : Header → Bool
-c9 h = is_set h.control 0x20
+c9 h = is_flag_set h.control 0x20
 
 -- Control bit C10, inhibit display.
 abbrev pub c10 : Header → Bool
-c10 h = is_set h.control 0x40
+c10 h = is_flag_set h.control 0x40
 
 -- Control bit C11, magazine serial: set in serial mode, clear in parallel mode.
 abbrev pub c11 : Header → Bool
-c11 h = is_set h.control 0x80
+c11 h = is_flag_set h.control 0x80
 
 -- Control bit C12, the first bit of the national option character sub-set.
 abbrev pub c12 : Header → Bool
-c12 h = is_set h.control 0x100
+c12 h = is_flag_set h.control 0x100
 
 -- Control bit C13, the second bit of the national option character sub-set.
 abbrev pub c13 : Header → Bool
-c13 h = is_set h.control 0x200
+c13 h = is_flag_set h.control 0x200
 
 -- Control bit C14, the third bit of the national option character sub-set.
 abbrev pub c14 : Header → Bool
-c14 h = is_set h.control 0x400
+c14 h = is_flag_set h.control 0x400
 
 -- The page number in bytes 2 and 3 of a page header, with the page tens in the upper four bits.
 -- `None` if one of the two bytes cannot be decoded. Ignores the packet address.
@@ -165,8 +165,8 @@ header_packet magazine h =
 
 -- The page header without the bits that a packet X/0 cannot carry: sub-code bits outside 3F7F, and
 -- all control bits except C4 to C14.
-abbrev pub placed : Header → Header
-placed h = record {
+abbrev pub encodable_header : Header → Header
+encodable_header h = record {
   page = h.page;
   subcode = h.subcode % 0x80 + 0x100 * (h.subcode / 0x100 % 0x40);
   control = record { 0 = h.control.0 % 0x800 };
@@ -177,5 +177,5 @@ placed h = record {
 pub record IsHeader (h : Header) : Type 0 where
   pub page : h.page < 0x100
   pub subcode : h.subcode < 0x4000
-  pub no_bit_8 : h.subcode / 0x80 % 2 ≡ 0
+  pub subcode_bit_8_is_zero : h.subcode / 0x80 % 2 ≡ 0
   pub control : h.control.0 < 0x800

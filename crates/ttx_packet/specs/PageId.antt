@@ -10,21 +10,21 @@ pub record PageIdValue : Type 0 where
   pub page : ℕ
 
 -- The byte is an ASCII character from `first` to `last`.
-abbrev pub is_from : ℕ → ℕ → ℕ → Bool
-is_from first last b = nat_le first b && nat_le b last
+abbrev pub is_in_range : ℕ → ℕ → ℕ → Bool
+is_in_range first last b = nat_le first b && nat_le b last
 
 -- The value of a hexadecimal digit in ASCII, upper or lower case. `None` for any other byte.
 abbrev pub hexadecimal_digit : ℕ → Option ℕ
 hexadecimal_digit b =
-    if is_from 0x30 0x39 b then Some (b - 0x30)
-    else (if is_from 0x61 0x66 b then Some (b - 0x57)
-    else (if is_from 0x41 0x46 b then Some (b - 0x37) else None))
+    if is_in_range 0x30 0x39 b then Some (b - 0x30)
+    else (if is_in_range 0x61 0x66 b then Some (b - 0x57)
+    else (if is_in_range 0x41 0x46 b then Some (b - 0x37) else None))
 
 -- The page with this magazine digit, 1 to 8 in ASCII, and this page number. `None` for any other
 -- digit, and for page number FF, which is not displayed.
 abbrev pub page_of_numbers : ℕ → ℕ → Option PageIdValue
 page_of_numbers digit page =
-    if is_from 0x31 0x38 digit && not (page == 0xFF)
+    if is_in_range 0x31 0x38 digit && not (page == 0xFF)
     then Some (record { magazine = (digit - 0x30) % 8; page = page })
     else None
 

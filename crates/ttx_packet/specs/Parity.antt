@@ -6,9 +6,9 @@ unfoldable pub is_odd : ℕ → Bool
 is_odd b = count_ones b % 2 == 1
 
 -- The character code of a text byte: its lower seven bits.
-abbrev pub code_of : ℕ → ℕ
-code_of b = b % 0x80
+abbrev pub character_code : ℕ → ℕ
+character_code b = b % 0x80
 
 -- The byte of odd parity with this 7-bit code.
-abbrev pub odd_byte : ℕ → ℕ
-odd_byte code = if is_odd code then code else code + 0x80
+abbrev pub odd_parity_byte : ℕ → ℕ
+odd_parity_byte code = if is_odd code then code else code + 0x80

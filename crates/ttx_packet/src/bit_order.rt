@@ -5,7 +5,7 @@ ghost use Rattle.ttx_packet.specs.BitOrder.{mirror};
 
 mod lanes;
 
-use self::lanes::mirrored_block;
+use self::lanes::mirror_block;
 
 /// Reverses the bits of a byte, as a DVB data unit carries each Teletext byte (EN 300 472, data
 /// field syntax).
@@ -25,9 +25,9 @@ pub fn mirrored(bytes: &[u8; 42]) -> [u8; 42]
     let mut other = [0; 42];
     let (blocks, _) = bytes.as_chunks::<16>();
     for (i, block) in blocks.iter().enumerate() {
-        other[16 * i..16 * i + 16].copy_from_slice(&mirrored_block(block));
+        other[16 * i..16 * i + 16].copy_from_slice(&mirror_block(block));
     }
-    let last = mirrored_block(bytes.last_chunk().unwrap());
+    let last = mirror_block(bytes.last_chunk().unwrap());
     other[32..42].copy_from_slice(&last[6..16]);
     other
 }

@@ -12,20 +12,20 @@ pub fn law_of_decoding()
 
 /// One wrong bit in each byte does not change the decoded address of a packet whose address bytes
 /// were sent as code words.
-#[tactic(auto, using(crate::proofs::NearPackets::near_laws))]
+#[tactic(auto, using(crate::proofs::NearPacketLemmas::near_laws))]
 pub fn law_of_address()
     ensures { LawOfAddress }
 {}
 
 /// One wrong bit in each byte does not change the decoded page header of a packet whose coded bytes
 /// were sent as code words.
-#[tactic(auto, using(crate::proofs::NearPackets::near_laws))]
+#[tactic(auto, using(crate::proofs::NearPacketLemmas::near_laws))]
 pub fn law_of_header()
     ensures { LawOfHeader }
 {}
 
 /// A byte of odd parity with one changed bit has even parity.
-#[tactic(auto, using(crate::proofs::ParityLemmas::even_from_changed))]
+#[tactic(auto, using(crate::proofs::ParityLemmas::single_error_breaks_parity))]
 pub fn law_of_parity()
     ensures { LawOfParity }
 {}

@@ -5,16 +5,17 @@ ghost use Rattle.std.specs.Prelude.{drop, map, option_map, slice_index};
 ghost use Rattle.ttx_packet.specs.BitOrder.{mirror};
 ghost use Rattle.ttx_packet.specs.PacketAddress.{HasExactAddress, IsPacket, address, address_pair};
 ghost use Rattle.ttx_packet.specs.Hamming84.{code_word};
-ghost use Rattle.ttx_packet.specs.Laws.{IsMadeHeader, IsMadeRow};
-ghost use Rattle.ttx_packet.specs.PageHeader.{bit, header_packet, is_set, nibble, placed};
-ghost use Rattle.ttx_packet.specs.RowPacket.{HasOddText, first_even_byte, row_packet};
+ghost use Rattle.ttx_packet.specs.Laws.{IsEncodedHeader, IsEncodedRow};
+ghost use Rattle.ttx_packet.specs.PageHeader.{bit, header_packet, is_flag_set, nibble};
+ghost use Rattle.ttx_packet.specs.PageHeader.{encodable_header};
+ghost use Rattle.ttx_packet.specs.RowPacket.{HasOddText, first_even_parity_byte, row_packet};
 
 use crate::bit_order::mirrored;
 use crate::control::Control;
 use crate::hamming::{ham, is_word, unham};
 use crate::header::Header;
-use crate::parity::lanes::evens;
-use crate::parity::{is_odd, odd_bytes};
+use crate::parity::lanes::find_even_parity_bytes;
+use crate::parity::{is_odd, odd_parity_bytes};
 use bitflags::Flags;
 use std::marker::Model;
 
@@ -40,7 +41,7 @@ impl Model for Packet {
 
 impl Packet {
     ghost use Rattle.ttx_packet.specs.PageHeader.{HasExactHeader, coded_header, header};
-    ghost use Rattle.ttx_packet.specs.PageHeader.{header_packet, placed};
+    ghost use Rattle.ttx_packet.specs.PageHeader.{header_packet, encodable_header};
 
     /// Creates a packet from its 42 bytes, which may have any value.
     pub fn new(bytes: [u8; 42]) -> Packet
@@ -120,7 +121,7 @@ impl Packet {
         let s4_c6 = unham(self.bytes[7])?;
         let c7_c10 = unham(self.bytes[8])?;
         let c11_c14 = unham(self.bytes[9])?;
-        Some(header_of(&[units, tens, s1, s2_c4, s3, s4_c6, c7_c10, c11_c14]))
+        Some(header_from_numbers(&[units, tens, s1, s2_c4, s3, s4_c6, c7_c10, c11_c14]))
     }
 
     /// Returns whether both address bytes are Hamming 8/4 code words, so without a wrong bit (EN
@@ -147,12 +148,12 @@ impl Packet {
     /// Returns the column, 0 to 39, of the first data byte with even parity, or `None` if all data
     /// bytes have odd parity.
     pub fn first_even(&self) -> Option<u8>
-        ensures value { result ≡ first_even_byte self.now }
+        ensures value { result ≡ first_even_parity_byte self.now }
         ensures odd { IsNone result ↔ HasOddText self.now }
     {
         let (blocks, rest) = self.data().as_chunks::<16>();
         for (i, block) in blocks.iter().enumerate() {
-            let mask = evens(block);
+            let mask = find_even_parity_bytes(block);
             if mask != 0 {
                 return Some((16 * i + mask.trailing_zeros() as usize) as u8);
             }
@@ -175,9 +176,9 @@ impl Packet {
         ensures value { result ≡ header_packet magazine header.now }
         // Decoding the packet returns the header without the dropped bits. The coded bytes are code
         // words, and the text bytes have odd parity.
-        ensures made { IsMadeHeader magazine (placed header.now) result }
+        ensures made { IsEncodedHeader magazine (encodable_header header.now) result }
     {
-        Packet::new(header_bytes(magazine, header))
+        Packet::new(encode_header(magazine, header))
     }
 
     /// Creates a row of a page as packet X/1 to X/24, with 40 bytes of odd parity (EN 300 706,
@@ -192,15 +193,15 @@ impl Packet {
         ensures value { result ≡ row_packet magazine row codes.now }
         // Decoding the packet returns the row number and the codes. The address bytes are code
         // words, and the text bytes have odd parity.
-        ensures made { IsMadeRow magazine row codes.now result }
+        ensures made { IsEncodedRow magazine row codes.now result }
     {
-        Packet::new(row_bytes(magazine, row, codes))
+        Packet::new(encode_row(magazine, row, codes))
     }
 }
 
 // Builds a page header from the decoded numbers of its eight coded bytes.
 #[inline(always)]
-pub(crate) fn header_of(numbers: &[u8; 8]) -> Header
+pub(crate) fn header_from_numbers(numbers: &[u8; 8]) -> Header
     requires { (k : ℕ) → slice_index numbers.now k < 16 }
     ensures page { result.page
         ≡ slice_index numbers.now 0 + 0x10 * slice_index numbers.now 1 }
@@ -233,38 +234,38 @@ pub(crate) fn header_of(numbers: &[u8; 8]) -> Header
 }
 
 // Returns a control bit as 0 or 1.
-fn bit_of(control: Control, flag: Control) -> u8
-    ensures value { result ≡ bit (is_set control flag.0) }
+fn flag_bit(control: Control, flag: Control) -> u8
+    ensures value { result ≡ bit (is_flag_set control flag.0) }
     ensures small { result < 2 }
 {
     if control.contains(flag) { 1 } else { 0 }
 }
 
 // Returns the Hamming 8/4 code word with four control bits as its data bits D1 to D4.
-fn nibble_word(control: Control, d1: Control, d2: Control, d3: Control, d4: Control) -> u8
-    ensures { result ≡ code_word (nibble (is_set control d1.0) (is_set control d2.0)
-        (is_set control d3.0) (is_set control d4.0)) }
+fn encode_flags(control: Control, d1: Control, d2: Control, d3: Control, d4: Control) -> u8
+    ensures { result ≡ code_word (nibble (is_flag_set control d1.0) (is_flag_set control d2.0)
+        (is_flag_set control d3.0) (is_flag_set control d4.0)) }
 {
     ham(
-        bit_of(control, d1)
-            + 2 * bit_of(control, d2)
-            + 4 * bit_of(control, d3)
-            + 8 * bit_of(control, d4),
+        flag_bit(control, d1)
+            + 2 * flag_bit(control, d2)
+            + 4 * flag_bit(control, d3)
+            + 8 * flag_bit(control, d4),
     )
 }
 
 // Returns the 42 bytes of a header packet.
 #[tactic(auto, unfolding(crate::specs::PageHeader::header_packet))]
-fn header_bytes(magazine: u8, header: &Header) -> [u8; 42]
+fn encode_header(magazine: u8, header: &Header) -> [u8; 42]
     requires { magazine < 8 }
     ensures value { result ≡ header_packet magazine header.now }
-    ensures made { IsMadeHeader magazine (placed header.now) result }
+    ensures made { IsEncodedHeader magazine (encodable_header header.now) result }
 {
     let control = header.control;
     let subcode = header.subcode;
-    let c4 = bit_of(control, Control::C4);
-    let c5 = bit_of(control, Control::C5);
-    let c6 = bit_of(control, Control::C6);
+    let c4 = flag_bit(control, Control::C4);
+    let c5 = flag_bit(control, Control::C5);
+    let c6 = flag_bit(control, Control::C6);
     let mut bytes = [0x20; 42];
     bytes[0] = ham(magazine);
     bytes[1] = ham(0);
@@ -274,8 +275,8 @@ fn header_bytes(magazine: u8, header: &Header) -> [u8; 42]
     bytes[5] = ham((subcode / 0x10 % 8) as u8 + 8 * c4);
     bytes[6] = ham((subcode / 0x100 % 0x10) as u8);
     bytes[7] = ham((subcode / 0x1000 % 4) as u8 + 4 * c5 + 8 * c6);
-    bytes[8] = nibble_word(control, Control::C7, Control::C8, Control::C9, Control::C10);
-    bytes[9] = nibble_word(
+    bytes[8] = encode_flags(control, Control::C7, Control::C8, Control::C9, Control::C10);
+    bytes[9] = encode_flags(
         control,
         Control::C11,
         Control::C12,
@@ -286,18 +287,18 @@ fn header_bytes(magazine: u8, header: &Header) -> [u8; 42]
 }
 
 // Returns the 42 bytes of a row packet.
-fn row_bytes(magazine: u8, row: u8, codes: &[u8; 40]) -> [u8; 42]
+fn encode_row(magazine: u8, row: u8, codes: &[u8; 40]) -> [u8; 42]
     requires magazine { magazine < 8 }
     requires first { 1 ≤ row }
     requires last { row ≤ 24 }
     requires codes { (k : ℕ) → slice_index codes.now k < 0x80 }
     ensures value { result ≡ row_packet magazine row codes.now }
-    ensures made { IsMadeRow magazine row codes.now result }
+    ensures made { IsEncodedRow magazine row codes.now result }
 {
     let number = magazine + 8 * row;
     let mut bytes = [0; 42];
     bytes[0] = ham(number % 16);
     bytes[1] = ham(number / 16);
-    bytes[2..].copy_from_slice(&odd_bytes(codes));
+    bytes[2..].copy_from_slice(&odd_parity_bytes(codes));
     bytes
 }

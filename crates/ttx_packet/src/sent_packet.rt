@@ -1,17 +1,17 @@
 //! Teletext packets in the bit order of DVB data units, decoded without reversing all their bits.
 ghost use Rattle.std.specs.Prelude.{◌≡◌, ◌≢◌, ◌<◌, ◌≤◌, MatchOption, Some, map};
 ghost use Rattle.ttx_packet.specs.BitOrder.{mirror};
-ghost use Rattle.ttx_packet.specs.Hamming84.{IsCodeWord, decoded};
+ghost use Rattle.ttx_packet.specs.Hamming84.{IsCodeWord, decoded_nibble};
 ghost use Rattle.ttx_packet.specs.PacketAddress.{HasExactAddress, address};
 
 use crate::bit_order::mirrored;
 use crate::header::Header;
-use crate::packet::{Packet, header_of};
+use crate::packet::{Packet, header_from_numbers};
 use std::marker::Model;
 
 /// The table entry of a byte that is no code word. 256 is greater than any number that two code
 /// words can form.
-const NOTHING: u32 = 256;
+const UNDECODABLE: u32 = 256;
 
 /// The number that each byte encodes as a Hamming 8/4 code word, if the bit that is sent first is
 /// the highest bit of the byte. The table was generated from the code words; the proof compares it
@@ -36,14 +36,14 @@ const SENT_WORDS: [u16; 256] = [
     256, 256, 256, 256,   7, 256, 256, 256, 256, 256, 256, 256, 256, 256, 256, 256,
 ];
 
-// Returns the number that a byte encodes, or `NOTHING` if it is no code word. The bit that is sent
-// first is the highest bit of the byte.
+// Returns the number that a byte encodes, or `UNDECODABLE` if it is no code word. The bit that is
+// sent first is the highest bit of the byte.
 #[inline(always)]
-fn sent_entry(byte: u8) -> u32
+fn look_up_sent_byte(byte: u8) -> u32
     ensures small { result ≤ 256 }
     ensures none { result ≡ 256 → IsCodeWord (mirror byte) → ⊥ }
     ensures word { result ≢ 256 → (result < 16) × IsCodeWord (mirror byte)
-        × (decoded (mirror byte) ≡ Some result) }
+        × (decoded_nibble (mirror byte) ≡ Some result) }
 {
     SENT_WORDS[byte as usize] as u32
 }
@@ -51,12 +51,12 @@ fn sent_entry(byte: u8) -> u32
 // Returns the number that a byte encodes, or `None` if it is no code word. The bit that is sent
 // first is the highest bit of the byte.
 #[inline(always)]
-fn sent_number(byte: u8) -> Option<u8>
+fn decode_sent_byte(byte: u8) -> Option<u8>
     ensures { MatchOption result (IsCodeWord (mirror byte) → ⊥)
-        (λ n. (n < 16) × IsCodeWord (mirror byte) × (decoded (mirror byte) ≡ Some n)) }
+        (λ n. (n < 16) × IsCodeWord (mirror byte) × (decoded_nibble (mirror byte) ≡ Some n)) }
 {
-    let number = sent_entry(byte);
-    if number == NOTHING {
+    let number = look_up_sent_byte(byte);
+    if number == UNDECODABLE {
         None
     } else {
         Some(number as u8)
@@ -119,10 +119,10 @@ impl<'a> SentPacket<'a> {
             ≡ Some (record { magazine = a.0; packet_number = a.1 }))) }
     {
         // For speed, one comparison tests both bytes: this code runs for every packet of a service.
-        let low = sent_entry(self.bytes[0]);
-        let high = sent_entry(self.bytes[1]);
+        let low = look_up_sent_byte(self.bytes[0]);
+        let high = look_up_sent_byte(self.bytes[1]);
         let number = low + 16 * high;
-        if number >= NOTHING {
+        if number >= UNDECODABLE {
             None
         } else {
             Some((number as u8 % 8, number as u8 / 8))
@@ -140,8 +140,8 @@ impl<'a> SentPacket<'a> {
         ensures { MatchOption result (HasExactPage self.now → ⊥)
             (λ page. HasExactPage self.now × (coded_page self.now ≡ Some page)) }
     {
-        let units = sent_number(self.bytes[2])?;
-        let tens = sent_number(self.bytes[3])?;
+        let units = decode_sent_byte(self.bytes[2])?;
+        let tens = decode_sent_byte(self.bytes[3])?;
         Some(units + 0x10 * tens)
     }
 
@@ -155,14 +155,14 @@ impl<'a> SentPacket<'a> {
         ensures { MatchOption result (HasExactHeader self.now → ⊥)
             (λ h. HasExactHeader self.now × (coded_header self.now ≡ Some h)) }
     {
-        let units = sent_number(self.bytes[2])?;
-        let tens = sent_number(self.bytes[3])?;
-        let s1 = sent_number(self.bytes[4])?;
-        let s2_c4 = sent_number(self.bytes[5])?;
-        let s3 = sent_number(self.bytes[6])?;
-        let s4_c6 = sent_number(self.bytes[7])?;
-        let c7_c10 = sent_number(self.bytes[8])?;
-        let c11_c14 = sent_number(self.bytes[9])?;
-        Some(header_of(&[units, tens, s1, s2_c4, s3, s4_c6, c7_c10, c11_c14]))
+        let units = decode_sent_byte(self.bytes[2])?;
+        let tens = decode_sent_byte(self.bytes[3])?;
+        let s1 = decode_sent_byte(self.bytes[4])?;
+        let s2_c4 = decode_sent_byte(self.bytes[5])?;
+        let s3 = decode_sent_byte(self.bytes[6])?;
+        let s4_c6 = decode_sent_byte(self.bytes[7])?;
+        let c7_c10 = decode_sent_byte(self.bytes[8])?;
+        let c11_c14 = decode_sent_byte(self.bytes[9])?;
+        Some(header_from_numbers(&[units, tens, s1, s2_c4, s3, s4_c6, c7_c10, c11_c14]))
     }
 }

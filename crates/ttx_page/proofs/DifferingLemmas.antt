@@ -3,46 +3,54 @@
 use Rattle.std.proofs.Common.{◌≡◌, ℕ, zero, suc, ◌+◌, ◌*◌, ◌<◌, ◌≤◌, cond, ◌==◌, List, [], length}
 use Rattle.std.proofs.Common.{get_or, set, refl, arith, get_or-set_same, get_or-set_other, add-one}
 use Rattle.std.proofs.lemmas.Bool.Decides.{nat_tests}
-use Rattle.ttx_page.specs.Differing.{columns_differing, row_differing, rows_differing, differing}
+use Rattle.ttx_page.specs.Differing.{differing_column_count, row_difference, rows_difference}
+use Rattle.ttx_page.specs.Differing.{differing}
 use Rattle.std.proofs.lemmas.List.{get_or-replicate}
 use Rattle.ttx_page.specs.Page.{blank, blank_row, cell, IsCell}
 
-pub columns_le : (n : ℕ) (xs ys : List ℕ) → columns_differing n xs ys ≤ n
-unfolding columns_differing
-columns_le zero xs ys = omega arith
-columns_le (suc n) xs ys = let before = columns_le n xs ys in grind (arith, nat_tests)
+pub differing_columns_are_bounded : (n : ℕ) (xs ys : List ℕ) → differing_column_count n xs ys ≤ n
+unfolding differing_column_count
+differing_columns_are_bounded zero xs ys = omega arith
+differing_columns_are_bounded (suc n) xs ys = let before = differing_columns_are_bounded n xs ys
+    in grind (arith, nat_tests)
 
-pub columns_none : (xs ys : List ℕ) → columns_differing 0 xs ys ≡ 0
-unfolding columns_differing
-columns_none xs ys = refl
+pub no_columns_no_difference : (xs ys : List ℕ) → differing_column_count 0 xs ys ≡ 0
+unfolding differing_column_count
+no_columns_no_difference xs ys = refl
 
-pub columns_more : (n : ℕ) (xs ys : List ℕ)
-    → columns_differing (n + 1) xs ys
-    ≡ columns_differing n xs ys + cond (get_or xs n 0 == get_or ys n 0) 0 1
-unfolding columns_differing
-columns_more n xs ys = rw add-one refl
+pub next_column_adds_difference : (n : ℕ) (xs ys : List ℕ)
+    → differing_column_count (n + 1) xs ys
+    ≡ differing_column_count n xs ys + cond (get_or xs n 0 == get_or ys n 0) 0 1
+unfolding differing_column_count
+next_column_adds_difference n xs ys = rw add-one refl
 
-pub columns_same : (n : ℕ) (xs ys : List ℕ) → xs ≡ ys → columns_differing n xs ys ≡ 0
-unfolding columns_differing
-columns_same zero xs ys e = refl
-columns_same (suc n) xs ys e =
-    let before = columns_same n xs ys e in grind (arith, nat_tests)
+pub equal_columns_do_not_differ : (n : ℕ) (xs ys : List ℕ) → xs ≡ ys → differing_column_count n xs
+    ys ≡ 0
+unfolding differing_column_count
+equal_columns_do_not_differ zero xs ys e = refl
+equal_columns_do_not_differ (suc n) xs ys e =
+    let before = equal_columns_do_not_differ n xs ys e in grind (arith, nat_tests)
 
 pub blank-more : (n : ℕ) (ys : List (List ℕ)) → n < 24
-    → rows_differing (n + 1) blank ys
-    ≡ rows_differing n blank ys + row_differing blank_row (get_or ys n [])
-unfolding rows_differing blank
+    → rows_difference (n + 1) blank ys
+    ≡ rows_difference n blank ys + row_difference blank_row (get_or ys n [])
+unfolding rows_difference blank
 blank-more n ys l = rw (add-one, get_or-replicate 24 n blank_row [] l) refl
 
-pub rows_le : (n : ℕ) (xs ys : List (List ℕ)) → rows_differing n xs ys ≤ 40 * n
-unfolding rows_differing
-rows_le zero xs ys = omega arith
-rows_le (suc n) xs ys = grind (arith, nat_tests, columns_le, rows_le n xs ys)
+pub differing_cells_are_bounded : (n : ℕ) (xs ys : List (List ℕ)) → rows_difference n xs ys ≤ 40 * n
+unfolding rows_difference
+differing_cells_are_bounded zero xs ys = omega arith
+differing_cells_are_bounded (suc n) xs ys = grind (
+  arith,
+  nat_tests,
+  differing_columns_are_bounded,
+  differing_cells_are_bounded n xs ys,
+)
 
 rows-set_above : (n : ℕ) (xs ys : List (List ℕ)) (i : ℕ) (row : List ℕ)
     → n ≤ i
-    → rows_differing n (set xs i row) ys ≡ rows_differing n xs ys
-unfolding rows_differing
+    → rows_difference n (set xs i row) ys ≡ rows_difference n xs ys
+unfolding rows_difference
 rows-set_above zero xs ys i row h = refl
 rows-set_above (suc n) xs ys i row h =
     grind (arith, nat_tests, get_or-set_other, rows-set_above n xs ys i row)
@@ -51,9 +59,9 @@ rows-set_above (suc n) xs ys i row h =
 pub rows-set : (n : ℕ) (xs ys : List (List ℕ)) (i : ℕ) (row : List ℕ)
     → i < n
     → i < length xs
-    → rows_differing n (set xs i row) ys + row_differing (get_or xs i []) (get_or ys i [])
-    ≡ rows_differing n xs ys + row_differing row (get_or ys i [])
-unfolding rows_differing
+    → rows_difference n (set xs i row) ys + row_difference (get_or xs i []) (get_or ys i [])
+    ≡ rows_difference n xs ys + row_difference row (get_or ys i [])
+unfolding rows_difference
 rows-set zero xs ys i row h l = absurd (omega arith)
 rows-set (suc n) xs ys i row h l =
     let above = rows-set_above n xs ys i row in
@@ -62,25 +70,28 @@ rows-set (suc n) xs ys i row h l =
     let other = get_or-set_other xs i n row [] in
     grind arith
 
-pub row_le : (n : ℕ) (xs ys : List (List ℕ)) (i : ℕ)
+pub page_difference_bounds_row : (n : ℕ) (xs ys : List (List ℕ)) (i : ℕ)
     → i < n
-    → row_differing (get_or xs i []) (get_or ys i []) ≤ rows_differing n xs ys
-unfolding rows_differing
-row_le zero xs ys i h = absurd (omega arith)
-row_le (suc n) xs ys i h = let before = row_le n xs ys i in grind arith
+    → row_difference (get_or xs i []) (get_or ys i []) ≤ rows_difference n xs ys
+unfolding rows_difference
+page_difference_bounds_row zero xs ys i h = absurd (omega arith)
+page_difference_bounds_row (suc n) xs ys i h = let before = page_difference_bounds_row n xs ys i
+    in grind arith
 
-pub columns_zero : (n : ℕ) (xs ys : List ℕ)
-    → columns_differing n xs ys ≡ 0
+pub zero_difference_equal_columns : (n : ℕ) (xs ys : List ℕ)
+    → differing_column_count n xs ys ≡ 0
     → (k : ℕ)
     → k < n
     → get_or xs k 0 ≡ get_or ys k 0
-unfolding columns_differing
-columns_zero zero xs ys e k l = absurd (omega arith)
-columns_zero (suc n) xs ys e k l = grind (arith, nat_tests, columns_zero n xs ys)
+unfolding differing_column_count
+zero_difference_equal_columns zero xs ys e k l = absurd (omega arith)
+zero_difference_equal_columns (suc n) xs ys e k l = grind
+    (arith, nat_tests, zero_difference_equal_columns n xs ys)
 
-pub cells_same : (xs ys : List (List ℕ))
+pub zero_difference_equal_cells : (xs ys : List (List ℕ))
     → differing xs ys ≡ 0
     → (row column : ℕ)
     → IsCell row column
     → cell xs row column ≡ cell ys row column
-cells_same xs ys e row column is = grind (arith, nat_tests, columns_zero, row_le)
+zero_difference_equal_cells xs ys e row column is = grind
+    (arith, nat_tests, zero_difference_equal_columns, page_difference_bounds_row)

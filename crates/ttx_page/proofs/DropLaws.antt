@@ -20,37 +20,46 @@ module _
     → dropped packet ≡ false
     → PassesBy old packet new ↔ StepsBy old packet new)
   where
-    runs_without : (packets : List (List ℕ)) (old new : S)
+    dropping_filters_packets : (packets : List (List ℕ)) (old new : S)
         → RunsBy PassesBy old packets new
         ↔ RunsBy StepsBy old (filter (λ packet. not (dropped packet)) packets) new
-    runs_without [] old new = (λ run. run, λ run. run)
-    runs_without (p ∷ ps) old new = elim (cases_Bool (dropped p)) [
+    dropping_filters_packets [] old new = (λ run. run, λ run. run)
+    dropping_filters_packets (p ∷ ps) old new = elim (cases_Bool (dropped p)) [
       | inl drop ↦
           rw drop (
             λ run.
                 let same : run.0 ≡ old = (over old p run.0 drop).0 run.1 in
-                (runs_without ps old new).0 (rw same at run.2),
-            λ run. (old, (over old p old drop).1 refl, (runs_without ps old new).1 run),
+                (dropping_filters_packets ps old new).0 (rw same at run.2),
+            λ run. (old, (over old p old drop).1 refl, (dropping_filters_packets ps old new).1 run),
           )
       | inr hear ↦
           rw hear (
-            λ run.
-                (run.0, (other old p run.0 hear).0 run.1, (runs_without ps run.0 new).0 run.2),
-            λ run.
-                (run.0, (other old p run.0 hear).1 run.1, (runs_without ps run.0 new).1 run.2),
+            λ run. (
+              run.0,
+              (other old p run.0 hear).0 run.1,
+              (dropping_filters_packets ps run.0 new).0
+                  run.2,
+            ),
+            λ run. (
+              run.0,
+              (other old p run.0 hear).1 run.1,
+              (dropping_filters_packets ps run.0 new).1
+                  run.2,
+            ),
           )
     ]
 
-shows_over : (w : PageIdValue) (old : Display) (packet : List ℕ) (new : Display)
+dropped_packet_changes_nothing : (w : PageIdValue) (old : Display) (packet : List ℕ) (new : Display)
     → is_dropped w packet ≡ true
-    → StepBy Dropping w old.held packet new.held × ShowsAt w old packet new ↔ (new ≡ old)
-shows_over w old packet new drop = grind (arith, nat_tests, cases_Bool)
+    → StepBy Dropping w old.receiver_state packet new.receiver_state × ShowsAt w old packet new ↔
+    (new ≡ old)
+dropped_packet_changes_nothing w old packet new drop = grind (arith, nat_tests, cases_Bool)
 
 pub law_of_dropping : LawOfDropping
 law_of_dropping w packets = (
-  runs_without (Step w) (StepBy Dropping w) (is_dropped w)
+  dropping_filters_packets (Step w) (StepBy Dropping w) (is_dropped w)
       (λ old packet new drop. rw drop (λ same. same, λ same. same))
       (λ old packet new hear. rw hear (λ step. step, λ step. step)) packets,
-  runs_without _ _ (is_dropped w) (shows_over w)
+  dropping_filters_packets _ _ (is_dropped w) (dropped_packet_changes_nothing w)
       (λ old packet new hear. rw hear (λ step. step, λ step. step)) packets,
 )

@@ -10,46 +10,49 @@ use Rattle.std.proofs.lemmas.List.Elements.{All-contains, Contains-append_left, 
 use Rattle.std.proofs.lemmas.List.Elements.{recursion_from_All}
 use Rattle.std.proofs.lemmas.List.Folds.{list_any-append}
 use Rattle.ttx_packet.specs.PageId.{PageIdValue}
-use Rattle.ttx_packet.specs.Parity.{code_of}
+use Rattle.ttx_packet.specs.Parity.{character_code}
 use Rattle.ttx_packet.specs.RowPacket.{HasOddText, text_byte}
 use Rattle.ttx_page.specs.Noise.{ErasesPage, IsOddRow, LawOfFaultFree}
 use Rattle.ttx_page.specs.Page.{IsCell, cell, space}
 use Rattle.ttx_page.specs.PacketKind.{begins_text, ends_page, is_row, is_this_page, kind}
 use Rattle.ttx_page.specs.Receiver.{Hears, State, Step}
-use Rattle.ttx_page.specs.Repeats.{HasCodes, LawOfKept}
+use Rattle.ttx_page.specs.Repeats.{HasCodes, LawOfKeptText}
 use Rattle.ttx_page.specs.Shown.{kept}
-use Rattle.ttx_page.specs.Span.{holds_beginning, holds_header, is_open_after, text_span}
+use Rattle.ttx_page.specs.Span.{has_text_beginning, has_page_header, is_open_after, text_span}
 use Rattle.ttx_page.specs.declared.packet_kind.PacketKind.TheVariants.{Row}
 use Rattle.ttx_page.proofs.NoiseLaws.{AreNear-themselves, law_of_noise}
-use Rattle.ttx_page.proofs.NoiseSteps.{both_left, both_right, cell-blank, row_from_test}
-use Rattle.ttx_page.proofs.RepeatLaws.{shown_without_repeats}
-use Rattle.ttx_page.proofs.SpanLists.{find_none}
-use Rattle.ttx_page.proofs.SpanPush.{holds-push, open-other, open-this}
+use Rattle.ttx_page.proofs.NoiseStepLemmas.{conjunction_left, conjunction_right, cell-blank}
+use Rattle.ttx_page.proofs.NoiseStepLemmas.{is_row_implies_row}
+use Rattle.ttx_page.proofs.RepeatLaws.{kept_text_is_shown_text}
+use Rattle.ttx_page.proofs.SpanListLemmas.{find_none}
+use Rattle.ttx_page.proofs.SpanPushLemmas.{holds-push, open-other, open-this}
 use Rattle.ttx_page.proofs.TextSpan.{beginning-none_keeps, beginning-push, beginning_is_header}
-use Rattle.ttx_page.proofs.TextSpan.{begins_is_header, text_span-push}
-use Rattle.ttx_page.proofs.TextStart.{sends_of_sound}
+use Rattle.ttx_page.proofs.TextSpan.{text_begins_at_header, text_span-push}
+use Rattle.ttx_page.proofs.TextStart.{sound_packets_send_text}
 
 -- How a packet changes a cell of a receiver that keeps its page at a repeat.
-record AtPacket
+record CellAfterPacket
     (keeps : Bool) (w : PageIdValue) (row column : ℕ) (packet : List ℕ) (old new : State)
     : Type 0 where
   is_open : new.is_open
       ≡ (is_this_page (kind w packet) || (old.is_open && not (ends_page (kind w packet))))
-  erased : begins_text keeps (kind w packet) ≡ true → cell new.page row column ≡ space
+  text_start_erases_cell : begins_text keeps (kind w packet) ≡ true → cell new.page row column ≡
+      space
   stays : begins_text keeps (kind w packet) ≡ false
       → (old.is_open && is_row row (kind w packet)) ≡ false
       → cell new.page row column ≡ cell old.page row column
-  stores : kind w packet ≡ Row row
+  row_stores_code : kind w packet ≡ Row row
       → old.is_open ≡ true
       → HasOddText packet
-      → cell new.page row column ≡ code_of (text_byte packet column)
+      → cell new.page row column ≡ character_code (text_byte packet column)
 
-at_packet : (keeps : Bool) (w : PageIdValue) (row column : ℕ) (packet : List ℕ) (old new : State)
+packet_updates_cell : (keeps : Bool) (w : PageIdValue) (row column : ℕ) (packet : List ℕ)
+    (old new : State)
     → IsCell row column
     → (IsFalse keeps → ErasesPage w packet)
     → Step w old packet new
-    → AtPacket keeps w row column packet old new
-at_packet keeps w row column packet old new named erases step =
+    → CellAfterPacket keeps w row column packet old new
+packet_updates_cell keeps w row column packet old new named erases step =
     let blanks = cell-blank row column named in grind (arith, nat_tests)
 
 module _ (keeps : Bool) (w : PageIdValue) (row column code : ℕ) where
@@ -58,18 +61,18 @@ module _ (keeps : Bool) (w : PageIdValue) (row column code : ℕ) where
       (packet : List ℕ)
       → Contains (text_span keeps (kind w) packets) packet
       → kind w packet ≡ Row row
-      → HasOddText packet × (code_of (text_byte packet column) ≡ code)
+      → HasOddText packet × (character_code (text_byte packet column) ≡ code)
 
   abbrev IsFreshCell : State → List (List ℕ) → Type 0
   IsFreshCell start packets =
-      (holds_beginning keeps (kind w) packets ≡ true)
+      (has_text_beginning keeps (kind w) packets ≡ true)
       ⊎ ((start.is_open ≡ false) × (cell start.page row column ≡ space))
 
   abbrev test : List ℕ → Bool
   test p = is_row row (kind w p)
 
-  record Holds (start : State) (packets : List (List ℕ)) (now : State) : Type 0 where
-    is_open : (holds_header (kind w) packets || not start.is_open) ≡ true
+  record HasCellState (start : State) (packets : List (List ℕ)) (now : State) : Type 0 where
+    is_open : (has_page_header (kind w) packets || not start.is_open) ≡ true
         → now.is_open ≡ is_open_after (kind w) packets
     cell_eq : IsFreshCell start packets
         → AreTargets packets
@@ -78,16 +81,17 @@ module _ (keeps : Bool) (w : PageIdValue) (row column code : ℕ) where
         × (list_any test (text_span keeps (kind w) packets) ≡ false))
 
   module _ (start : State) (packets : List (List ℕ)) (packet : List ℕ) (old new : State)
-      (at : AtPacket keeps w row column packet old new) (was : Holds start packets old) where
-    abbrev spanned : List (List ℕ)
-    spanned = text_span keeps (kind w) packets
+      (at : CellAfterPacket keeps w row column packet old new) (was : HasCellState start packets
+      old) where
+    abbrev text_packets : List (List ℕ)
+    text_packets = text_span keeps (kind w) packets
 
-    pushed : (P : List (List ℕ) → Type 0)
+    text_span_after_packet : (P : List (List ℕ) → Type 0)
         → begins_text keeps (kind w packet) ≡ false
-        → (is_open_after (kind w) packets ≡ true → P (spanned ++ packet ∷ []))
-        → P spanned
+        → (is_open_after (kind w) packets ≡ true → P (text_packets ++ packet ∷ []))
+        → P text_packets
         → P (text_span keeps (kind w) (packets ++ packet ∷ []))
-    pushed P no_begin more same =
+    text_span_after_packet P no_begin more same =
         subst P (sym (text_span-push (kind w) keeps packets packet))
         (go (begins_text keeps (kind w packet)) (is_open_after (kind w) packets)
         (is_this_page (kind w packet)) (ends_page (kind w packet)) no_begin refl)
@@ -95,25 +99,25 @@ module _ (keeps : Bool) (w : PageIdValue) (row column code : ℕ) where
         go : (b o t e : Bool)
             → b ≡ false
             → is_open_after (kind w) packets ≡ o
-            → P (cond b [] (cond (o && not t && not e) (spanned ++ packet ∷ []) spanned))
+            → P (cond b [] (cond (o && not t && not e) (text_packets ++ packet ∷ []) text_packets))
         go true o t e p q = grind arith
         go false true false false p q = more q
         go false true false true p q = same
         go false true true e p q = same
         go false false t e p q = same
 
-    targets_before : begins_text keeps (kind w packet) ≡ false
+    earlier_packets_are_targets : begins_text keeps (kind w packet) ≡ false
         → AreTargets (packets ++ packet ∷ [])
         → AreTargets packets
-    targets_before no_begin targets x within =
+    earlier_packets_are_targets no_begin targets x within =
         targets x
-        (pushed (λ (ps : List (List ℕ)). Contains ps x) no_begin
-        (λ up. Contains-append_left spanned (packet ∷ []) x within) within)
+        (text_span_after_packet (λ (ps : List (List ℕ)). Contains ps x) no_begin
+        (λ up. Contains-append_left text_packets (packet ∷ []) x within) within)
 
-    fresh_before : begins_text keeps (kind w packet) ≡ false
+    cell_was_fresh_before : begins_text keeps (kind w packet) ≡ false
         → IsFreshCell start (packets ++ packet ∷ [])
         → IsFreshCell start packets
-    fresh_before no_begin fresh =
+    cell_was_fresh_before no_begin fresh =
         let more = beginning-push (kind w) keeps packets packet in grind (arith, nat_tests)
 
     opened : IsFreshCell start packets → old.is_open ≡ is_open_after (kind w) packets
@@ -122,51 +126,56 @@ module _ (keeps : Bool) (w : PageIdValue) (row column code : ℕ) where
         let header = beginning_is_header (kind w) keeps packets in
         grind (arith, nat_tests)
 
-    rows_stay : begins_text keeps (kind w packet) ≡ false
+    row_search_stays_empty : begins_text keeps (kind w packet) ≡ false
         → (is_open_after (kind w) packets && is_row row (kind w packet)) ≡ false
-        → list_any test spanned ≡ false
+        → list_any test text_packets ≡ false
         → list_any test (text_span keeps (kind w) (packets ++ packet ∷ [])) ≡ false
-    rows_stay no_begin skipped none =
-        pushed (λ (ps : List (List ℕ)). list_any test ps ≡ false) no_begin
+    row_search_stays_empty no_begin skipped none =
+        text_span_after_packet (λ (ps : List (List ℕ)). list_any test ps ≡ false) no_begin
         (λ up.
         let other : test packet ≡ false = rw up at skipped in
-        list_any-append test spanned (packet ∷ []) ∙ rw (none, other) refl)
+        list_any-append test text_packets (packet ∷ []) ∙ rw (none, other) refl)
         none
 
-    among : kind w packet ≡ Row row
+    row_is_in_text_span : kind w packet ≡ Row row
         → is_open_after (kind w) packets ≡ true
         → Contains (text_span keeps (kind w) (packets ++ packet ∷ [])) packet
-    among is up =
+    row_is_in_text_span is up =
         let in_text = text_span-push (kind w) keeps packets packet in
-        let last = Contains-push spanned packet in
+        let last = Contains-push text_packets packet in
         rw (in_text, is, up) last
 
-    cell_continues : begins_text keeps (kind w packet) ≡ false
+    cell_follows_packet : begins_text keeps (kind w packet) ≡ false
         → IsFreshCell start (packets ++ packet ∷ [])
         → AreTargets (packets ++ packet ∷ [])
         → (cell new.page row column ≡ code)
         ⊎ ((cell new.page row column ≡ space)
         × (list_any test (text_span keeps (kind w) (packets ++ packet ∷ [])) ≡ false))
-    cell_continues no_begin fresh targets =
-        let before = fresh_before no_begin fresh in
+    cell_follows_packet no_begin fresh targets =
+        let before = cell_was_fresh_before no_begin fresh in
         let up = opened before in
         elim (cases_Bool (is_open_after (kind w) packets && is_row row (kind w packet))) [
           | inl stored ↦
-              let open_eq : is_open_after (kind w) packets ≡ true = both_left _ _ stored in
-              let is : kind w packet ≡ Row row = row_from_test row _ (both_right _ _ stored) in
-              let target = targets packet (among is open_eq) is in
-              inl (at.stores is (up ∙ open_eq) target.0 ∙ target.1)
+              let open_eq : is_open_after (kind w) packets ≡ true = conjunction_left _ _ stored in
+              let is : kind w packet ≡ Row row = is_row_implies_row row
+              _ (conjunction_right _ _ stored) in
+              let target = targets packet (row_is_in_text_span is open_eq) is in
+              inl (at.row_stores_code is (up ∙ open_eq) target.0 ∙ target.1)
           | inr skipped ↦
               let same =
               at.stays no_begin (ap (λ b. b && is_row row (kind w packet)) up ∙ skipped) in
-              elim (was.cell_eq before (targets_before no_begin targets)) [
+              elim (was.cell_eq before (earlier_packets_are_targets no_begin targets)) [
                 | inl coded ↦ inl (same ∙ coded)
-                | inr (spaced, none) ↦ inr (same ∙ spaced, rows_stay no_begin skipped none)
+                | inr (spaced, none) ↦ inr (
+                  same ∙ spaced,
+                  row_search_stays_empty no_begin skipped
+                      none,
+                )
               ]
         ]
 
-    Holds-push : Holds start (packets ++ packet ∷ []) new
-    Holds-push =
+    HasCellState-push : HasCellState start (packets ++ packet ∷ []) new
+    HasCellState-push =
         let held_header = holds-push (kind w) packets packet in
         let this = open-this (kind w) packets packet in
         let other = open-other (kind w) packets packet in
@@ -174,10 +183,10 @@ module _ (keeps : Bool) (w : PageIdValue) (row column code : ℕ) where
           is_open = let o = at.is_open in let before = was.is_open in grind (arith, nat_tests);
           cell_eq = λ fresh targets. elim (cases_Bool (begins_text keeps (kind w packet))) [
             | inl begun ↦
-                let header = begins_is_header keeps (kind w packet) begun in
+                let header = text_begins_at_header keeps (kind w packet) begun in
                 let none = text_span-push (kind w) keeps packets packet in
-                inr (at.erased begun, rw (none, begun) refl)
-            | inr no_begin ↦ cell_continues no_begin fresh targets
+                inr (at.text_start_erases_cell begun, rw (none, begun) refl)
+            | inr no_begin ↦ cell_follows_packet no_begin fresh targets
           ];
         }
 
@@ -185,36 +194,36 @@ module _ (keeps : Bool) (w : PageIdValue) (row column code : ℕ) where
       → IsCell row column
       → AllByRecursion (λ packet. IsFalse keeps → ErasesPage w packet) sent
       → Hears w old sent new
-      → Holds start packets old
-      → Holds start (packets ++ sent) new
+      → HasCellState start packets old
+      → HasCellState start (packets ++ sent) new
   run start packets [] old new named erases hears was = rw (append-nil, hears) was
   run start packets (p ∷ ps) old new named erases hears was =
-      subst (λ (qs : List (List ℕ)). Holds start qs new) (append_assoc packets (p ∷ []) ps)
+      subst (λ (qs : List (List ℕ)). HasCellState start qs new) (append_assoc packets (p ∷ []) ps)
       (run start (packets ++ p ∷ []) ps hears.0 new named erases.1 hears.2
-      (Holds-push start packets p old hears.0
-      (at_packet keeps w row column p old hears.0 named erases.0 hears.1) was))
+      (HasCellState-push start packets p old hears.0
+      (packet_updates_cell keeps w row column p old hears.0 named erases.0 hears.1) was))
 
-  starts : (start : State) → Holds start [] start
+  starts : (start : State) → HasCellState start [] start
   starts start = record {
     is_open = grind (arith, nat_tests);
     cell_eq = λ fresh targets. grind (arith, nat_tests);
   }
 
-pub law_of_kept : LawOfKept
-law_of_kept keeps w sent old new sends hears fresh row column named =
+pub law_of_kept_text : LawOfKeptText
+law_of_kept_text keeps w sent old new sends hears fresh row column named =
     elim (end.cell_eq fresh_cell targets) [
       | inl coded ↦ coded
       | inr (spaced, none) ↦
           spaced
           ∙ sym (ap (λ (o : Option (List ℕ)).
-          unwrap_or (option_map (λ p. code_of (text_byte p column)) o) space)
+          unwrap_or (option_map (λ p. character_code (text_byte p column)) o) space)
           (find_none (λ p. is_row row (kind w p)) (text_span keeps (kind w) sent) none))
     ]
   where
     code : ℕ
     code = kept keeps w sent row column
 
-    end : Holds keeps w row column code old sent new
+    end : HasCellState keeps w row column code old sent new
     end =
         run keeps w row column code old [] sent old new named
         (recursion_from_All _ sent (λ k d l none. sends.erases none k d l)) hears
@@ -239,7 +248,7 @@ pub law_of_fault_free : LawOfFaultFree
 law_of_fault_free w sent old new sound unheard shut hears heard row column named =
     let ends =
     law_of_noise w sent sent old new sound (AreNear-themselves sent) unheard shut hears in
-    let holds : holds_header (kind w) sent ≡ true = sym ends.heard ∙ heard in
-    law_of_kept false w sent old new (sends_of_sound w [] sent sound) hears
+    let holds : has_page_header (kind w) sent ≡ true = sym ends.heard ∙ heard in
+    law_of_kept_text false w sent old new (sound_packets_send_text w [] sent sound) hears
     (inr (inl (beginning-none_keeps (kind w) sent ∙ holds))) row column named
-    ∙ shown_without_repeats w sent row column
+    ∙ kept_text_is_shown_text w sent row column

@@ -9,8 +9,8 @@ use Rattle.ttx_page.specs.Noise.{ErasesPage, HasSameCodes, IsOddRow, IsSameRow}
 use Rattle.ttx_page.specs.PacketKind.{kind}
 use Rattle.ttx_page.specs.Shown.{shown}
 use Rattle.ttx_page.specs.Repeats.{HasCodes, SendsText}
-use Rattle.ttx_page.specs.Span.{holds_header, is_open_after, is_unended, span, text_span}
-use Rattle.ttx_page.proofs.SpanLists.{after-append, holds-append_right}
+use Rattle.ttx_page.specs.Span.{has_page_header, is_open_after, has_no_page_end, span, text_span}
+use Rattle.ttx_page.proofs.SpanListLemmas.{after-append, holds-append_right}
 use Rattle.ttx_page.proofs.TextSpan.{text_span-later}
 
 All-later : {A : Type 0} (P : A → Type 0) (xs ys : List A)
@@ -19,10 +19,11 @@ All-later : {A : Type 0} (P : A → Type 0) (xs ys : List A)
 All-later P [] ys all = all
 All-later P (x ∷ xs) ys all = All-later P xs ys (All-tail P x (xs ++ ys) all)
 
-pub codes_of_same : (w : PageIdValue) (packets : List (List ℕ))
+pub same_rows_have_same_codes : (w : PageIdValue) (packets : List (List ℕ))
     → All (λ first. All (IsSameRow w first) packets) packets
     → All (λ first. All (HasSameCodes w first) packets) packets
-codes_of_same w packets same i d l j e m row column one two below = grind (arith, nat_tests)
+same_rows_have_same_codes w packets same i d l j e m row column one two below = grind
+    (arith, nat_tests)
 
 module _ (w : PageIdValue) (before heard : List (List ℕ)) where
   pub sends-later : (keeps : Bool) (text : ℕ → ℕ → ℕ)
@@ -41,19 +42,19 @@ module _ (w : PageIdValue) (before heard : List (List ℕ)) where
         codes = of_text (HasCodes w text) sends.codes;
       }
 
-  pub span-later : holds_header (kind w) heard ≡ true
+  pub span-later : has_page_header (kind w) heard ≡ true
       → span (kind w) (before ++ heard) ≡ span (kind w) heard
   span-later holds = grind (arith, nat_tests, after-append)
 
   -- If a receiver starts late and then receives a header of the page, the received packets show the
   -- same codes as all sent packets.
-  pub shown-later : holds_header (kind w) heard ≡ true
+  pub shown-later : has_page_header (kind w) heard ≡ true
       → (row column : ℕ)
       → shown w (before ++ heard) row column ≡ shown w heard row column
   shown-later holds row column = grind (arith, nat_tests, unwrap_or, after-append)
 
-  pub unended-later : holds_header (kind w) heard ≡ true
-      → is_unended (kind w) (before ++ heard) ≡ is_unended (kind w) heard
+  pub unended-later : has_page_header (kind w) heard ≡ true
+      → has_no_page_end (kind w) (before ++ heard) ≡ has_no_page_end (kind w) heard
   unended-later holds = grind (arith, nat_tests, after-append)
 
   -- If a receiver starts late and its page is open, the page is also open after all sent packets,

@@ -13,4 +13,4 @@ pub record IsStoredTo (even : EvenByte) (packet was : List ℕ) (column : ℕ) (
       → k < column
       → slice_index codes k ≡ code_after even (slice_index packet (k + 2)) (slice_index was k)
   pub left : (k : ℕ) → column ≤ k → slice_index codes k ≡ slice_index was k
-  pub codes_are : AreCodes codes
+  pub codes_are_valid : AreCodes codes

@@ -8,24 +8,37 @@ use Rattle.std.specs.List.{list_all}
 use Rattle.std.proofs.lemmas.List.Sums.{AllPass-from_list_all}
 use Rattle.ttx_page.specs.Page.{Rows, blank, blank_row, AreCodes, IsPage, space}
 
-codes_of_rows : (n m r c : ℕ) → get_or (get_or (replicate n (replicate m space)) r []) c 0 < 128
-codes_of_rows n m r c = grind (arith, nat_tests, get_or-replicate, get_or_past, length-replicate)
+space_rows_have_codes : (n m r c : ℕ) → get_or (get_or (replicate n (replicate m space)) r []) c 0 <
+    128
+space_rows_have_codes n m r c = grind (
+  arith,
+  nat_tests,
+  get_or-replicate,
+  get_or_past,
+  length-replicate,
+)
 
-pub is_page_blank : IsPage blank
+pub blank_is_page : IsPage blank
 unfolding blank blank_row
-is_page_blank = search (rules, length-replicate, get_or-replicate, codes_of_rows)
+blank_is_page = search (rules, length-replicate, get_or-replicate, space_rows_have_codes)
 
-pub same_pages : (a b x y : Rows)
+pub equal_rows_give_equal_pages : (a b x y : Rows)
     → x ≡ a
     → y ≡ b
     → IsPage x
     → IsPage y
     → ((i : ℕ) → i < 24 → get_or x i [] ≡ get_or y i [])
     → a ≡ b
-same_pages a b x y e f p q h =
+equal_rows_give_equal_pages a b x y e f p q h =
     sym e ∙ ext_get_or [] x y (p.rows ∙ sym q.rows) (λ k below. h k (omega (arith, p.rows))) ∙ f
 
-pub codes_from_test : (codes : List ℕ)
+pub code_test_is_correct : (codes : List ℕ)
     → list_all (λ c. nat_lt c 128) codes ≡ true
     → AreCodes codes
-codes_from_test codes e k = search (rules, cases_lt, ltb-true, AllPass-from_list_all, get_or_past)
+code_test_is_correct codes e k = search (
+  rules,
+  cases_lt,
+  ltb-true,
+  AllPass-from_list_all,
+  get_or_past,
+)

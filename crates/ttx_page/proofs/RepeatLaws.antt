@@ -9,7 +9,7 @@ use Rattle.std.proofs.lemmas.List.Elements.{recursion_from_All, All-contains}
 use Rattle.std.proofs.lemmas.Slice.Zip.{firsts-zip, AllZip-long}
 use Rattle.ttx_packet.specs.OneBit.{AreNear}
 use Rattle.ttx_packet.specs.PageId.{PageIdValue}
-use Rattle.ttx_packet.specs.Parity.{code_of}
+use Rattle.ttx_packet.specs.Parity.{character_code}
 use Rattle.ttx_packet.specs.RowPacket.{text_byte}
 use Rattle.ttx_page.specs.Shown.{kept, shown}
 use Rattle.ttx_page.specs.Page.{space, cell, IsCell}
@@ -17,48 +17,52 @@ use Rattle.ttx_page.specs.PacketKind.{kind, is_row}
 use Rattle.ttx_page.specs.DroppedRows.{ExcusedBy}
 use Rattle.ttx_page.specs.Receiver.{ReceiverClass, State, StepBy}
 use Rattle.ttx_page.specs.Receiver.ReceiverClass.{Dropping, Storing}
-use Rattle.ttx_page.specs.Repeats.{EndsForgetting, HasCodes, HasNoRow, HearsForgetting, IsFresh}
-use Rattle.ttx_page.specs.Repeats.{LawOfForgetting, LawOfRepeats, SendsText, StepForgetting}
-use Rattle.ttx_page.specs.Span.{holds_beginning, holds_header, is_unended, span}
+use Rattle.ttx_page.specs.Repeats.{EndsAfterRepeats, HasCodes, HasNoRow, HearsRepeats, IsFresh}
+use Rattle.ttx_page.specs.Repeats.{LawOfKeepingReceivers, LawOfRepeats, SendsText, StepWithRepeats}
+use Rattle.ttx_page.specs.Span.{has_text_beginning, has_page_header, has_no_page_end, span}
 use Rattle.ttx_page.specs.Span.{text_span}
 use Rattle.ttx_page.specs.Noise.{IsOddRow}
-use Rattle.ttx_page.specs.LostRows.{IsHitOrLost, LosesNoHeader, arrivals_of}
+use Rattle.ttx_page.specs.LostRows.{IsHitOrLost, LosesNoHeader, arrivals_from_flags}
 use Rattle.ttx_page.proofs.RunLemmas.{RunsBy-as}
-use Rattle.ttx_page.proofs.SpanLists.{list_any-map, after-map, span-map}
+use Rattle.ttx_page.proofs.SpanListLemmas.{list_any-map, after-map, span-map}
 use Rattle.ttx_page.proofs.TextSpan.{text_span-map, text_span-none_keeps}
-use Rattle.ttx_page.proofs.NoiseSteps.{AreTargets, StateAfterItems, IsFreshCell, Item, excused_as}
-use Rattle.ttx_page.proofs.NoiseSteps.{kind_of_item, over, starts}
+use Rattle.ttx_page.proofs.NoiseStepLemmas.{AreTargets, StateAfterItems, IsFreshCell, Item}
+use Rattle.ttx_page.proofs.NoiseStepLemmas.{excuse_is_monotone}
+use Rattle.ttx_page.proofs.NoiseStepLemmas.{kind_of_item, over, starts}
 
-length-arrivals_of :
-    (arrived : List Bool) (got : List (List ℕ)) → length (arrivals_of arrived got) ≡ length arrived
-length-arrivals_of [] got = refl
-length-arrivals_of (false ∷ ms) got = ap suc (length-arrivals_of ms got)
-length-arrivals_of (true ∷ ms) [] = ap suc (length-arrivals_of ms [])
-length-arrivals_of (true ∷ ms) (g ∷ gs) = ap suc (length-arrivals_of ms gs)
+length-arrivals_from_flags :
+    (arrived : List Bool) (got : List (List ℕ)) → length (arrivals_from_flags arrived got) ≡ length
+    arrived
+length-arrivals_from_flags [] got = refl
+length-arrivals_from_flags (false ∷ ms) got = ap suc (length-arrivals_from_flags ms got)
+length-arrivals_from_flags (true ∷ ms) [] = ap suc (length-arrivals_from_flags ms [])
+length-arrivals_from_flags (true ∷ ms) (g ∷ gs) = ap suc (length-arrivals_from_flags ms gs)
 
 -- Pairs each sent packet with its received bytes, or with `None` if it was lost.
 module _ (class : ReceiverClass) (w : PageIdValue) (sent : List (List ℕ)) (arrived : List Bool)
     (got : List (List ℕ)) (may : AllZip LosesNoHeader sent arrived)
     (near : AllZip AreNear (items_where_true arrived sent) got) where
   abbrev arrivals : List (Option (List ℕ))
-  arrivals = arrivals_of arrived got
+  arrivals = arrivals_from_flags arrived got
 
   abbrev items : List Item
   items = zip sent arrivals
 
-  abbrev sent_of : Item → List ℕ
-  sent_of item = item.0
+  abbrev sent_packet_of_item : Item → List ℕ
+  sent_packet_of_item item = item.0
 
-  sent-items : sent ≡ map sent_of items
-  sent-items = grind (arith, nat_tests, firsts-zip, length-arrivals_of, AllZip-long)
+  sent-items : sent ≡ map sent_packet_of_item items
+  sent-items = grind (arith, nat_tests, firsts-zip, length-arrivals_from_flags, AllZip-long)
 
-  span-items : span (kind w) sent ≡ map sent_of (span (kind_of_item w) items)
-  span-items = ap (span (kind w)) sent-items ∙ span-map (kind w) sent_of items
+  span-items : span (kind w) sent ≡ map sent_packet_of_item (span (kind_of_item w) items)
+  span-items = ap (span (kind w)) sent-items ∙ span-map (kind w) sent_packet_of_item items
 
   text-items : (keeps : Bool)
-      → text_span keeps (kind w) sent ≡ map sent_of (text_span keeps (kind_of_item w) items)
+      → text_span keeps (kind w) sent ≡ map sent_packet_of_item (text_span keeps (kind_of_item w)
+      items)
   text-items keeps =
-      ap (text_span keeps (kind w)) sent-items ∙ text_span-map (kind w) sent_of keeps items
+      ap (text_span keeps (kind w)) sent-items ∙ text_span-map (kind w) sent_packet_of_item keeps
+      items
 
   sent-in_text : (keeps : Bool) (item : Item)
       → Contains (text_span keeps (kind_of_item w) items) item
@@ -66,14 +70,21 @@ module _ (class : ReceiverClass) (w : PageIdValue) (sent : List (List ℕ)) (arr
   sent-in_text keeps item within = grind (arith, nat_tests, text-items, length-map, get_or-map)
 
   beginning-items : (keeps : Bool)
-      → holds_beginning keeps (kind w) sent ≡ holds_beginning keeps (kind_of_item w) items
+      → has_text_beginning keeps (kind w) sent ≡ has_text_beginning keeps (kind_of_item w) items
   beginning-items keeps = grind (arith, nat_tests, sent-items, list_any-map)
 
-  holds-items : holds_header (kind w) sent ≡ holds_header (kind_of_item w) items
+  holds-items : has_page_header (kind w) sent ≡ has_page_header (kind_of_item w) items
   holds-items = grind (arith, nat_tests, sent-items, list_any-map)
 
-  is_unended-items : is_unended (kind w) sent ≡ is_unended (kind_of_item w) items
-  is_unended-items = grind (arith, nat_tests, sent-items, after-map, list_any-map, kind_of_item)
+  has_no_page_end-items : has_no_page_end (kind w) sent ≡ has_no_page_end (kind_of_item w) items
+  has_no_page_end-items = grind (
+    arith,
+    nat_tests,
+    sent-items,
+    after-map,
+    list_any-map,
+    kind_of_item,
+  )
 
   row-items : (row : ℕ)
       → list_any (λ p. is_row row (kind w p)) (span (kind w) sent)
@@ -81,43 +92,46 @@ module _ (class : ReceiverClass) (w : PageIdValue) (sent : List (List ℕ)) (arr
   row-items row = grind (arith, nat_tests, span-items, list_any-map, kind_of_item)
 
   module _ (keeps anew : Bool) (text : ℕ → ℕ → ℕ) (old new : State)
-      (sends : SendsText keeps w sent text) (hears : HearsForgetting class anew w old got new) where
-    abbrev Excused : ℕ → ℕ → Type 0
-    Excused = ExcusedBy class (IsHitOrLost w sent arrivals)
+      (sends : SendsText keeps w sent text) (hears : HearsRepeats class anew w old got new) where
+    abbrev IsSpaceAllowed : ℕ → ℕ → Type 0
+    IsSpaceAllowed = ExcusedBy class (IsHitOrLost w sent arrivals)
 
-    becomes : (row column : ℕ)
+    cell_becomes_text : (row column : ℕ)
         → IsCell row column
-        → StateAfterItems keeps anew class w row column (text row column) (Excused row column) old
+        → StateAfterItems keeps anew class w row column (text row column)
+        (IsSpaceAllowed row column) old
         items new
-    becomes row column named =
+    cell_becomes_text row column named =
         over keeps anew class w row column _ _ old [] sent arrived got old new named
         (recursion_from_All _ sent sends.exact)
         (recursion_from_All _ sent (λ k d l none. sends.erases none k d l)) may near hears
-        (starts keeps anew class w row column (text row column) (Excused row column) old)
+        (starts keeps anew class w row column (text row column) (IsSpaceAllowed row column) old)
 
     -- After a header of the page, each cell has the code of the text, or is a space because of
     -- noise or loss, if the page does not depend on its earlier contents.
     cell_kept :
-        holds_header (kind w) sent ≡ true
+        has_page_header (kind w) sent ≡ true
         → IsFresh keeps anew w sent old
         → (row column : ℕ)
         → IsCell row column
         → (cell new.page row column ≡ text row column)
         ⊎ ((cell new.page row column ≡ space)
-        × (Excused row column ⊎ HasNoRow w sent row))
+        × (IsSpaceAllowed row column ⊎ HasNoRow w sent row))
     cell_kept holds fresh row column named =
-        let end = becomes row column named in
-        let some : holds_header (kind_of_item w) items ≡ true = rw (← holds-items) holds in
+        let end = cell_becomes_text row column named in
+        let some : has_page_header (kind_of_item w) items ≡ true = rw (← holds-items) holds in
         let beginning = beginning-items keeps in
         let fresh_cell :
-        IsFreshCell keeps anew class w row column (text row column) (Excused row column) old items =
+        IsFreshCell keeps anew class w row column (text row column) (IsSpaceAllowed row column) old
+        items =
         elim fresh [
           | inl anew_is ↦ inl anew_is
           | inr (inl begun) ↦ inr (inl (rw (← beginning) begun))
           | inr (inr blank_was) ↦ inr (inr (blank_was.0, blank_was.1 row column named))
         ] in
         let targets :
-        AreTargets keeps anew class w row column (text row column) (Excused row column) items =
+        AreTargets keeps anew class w row column (text row column) (IsSpaceAllowed row column)
+        items =
         λ item within is.
         let sent_within = sent-in_text keeps item within in (
           All-contains (IsOddRow w) _ item.0 sends.odd sent_within row is,
@@ -126,18 +140,18 @@ module _ (class : ReceiverClass) (w : PageIdValue) (sent : List (List ℕ)) (arr
         let coarse = end.code_or_space some fresh_cell targets in
         let fine = end.cell_eq some fresh_cell targets
         (λ item within is.
-        excused_as class _ _ row column
+        excuse_is_monotone class _ _ row column
         (λ other lost_byte. (within.0, item, within.1, within.2, (is, lost_byte)))) in
         let rows = row-items row in
         grind (arith, nat_tests)
 
-    pub ends : EndsForgetting keeps anew w sent text Excused old new
+    pub ends : EndsAfterRepeats keeps anew w sent text IsSpaceAllowed old new
     ends =
-        let end = becomes 1 0 (omega arith, omega arith, omega arith) in
+        let end = cell_becomes_text 1 0 (omega arith, omega arith, omega arith) in
         let heard_eq = end.heard in
         let open_eq = end.is_open in
         let holds_is = holds-items in
-        let unended_is = is_unended-items in
+        let unended_is = has_no_page_end-items in
         record {
           heard = grind (arith, nat_tests);
           is_open = grind (arith, nat_tests);
@@ -148,22 +162,23 @@ pub law_of_repeats : LawOfRepeats
 law_of_repeats keeps anew class w sent arrived got text old new sends may near hears =
     ends class w sent arrived got may near keeps anew text old new sends hears
 
-pub shown_without_repeats : (w : PageIdValue) (packets : List (List ℕ)) (row column : ℕ)
+pub kept_text_is_shown_text : (w : PageIdValue) (packets : List (List ℕ)) (row column : ℕ)
     → kept false w packets row column ≡ shown w packets row column
-shown_without_repeats w packets row column =
+kept_text_is_shown_text w packets row column =
     ap (λ (ps : List (List ℕ)).
     unwrap_or
-    (option_map (λ p. code_of (text_byte p column)) (find (λ p. is_row row (kind w p)) ps)) space)
+    (option_map (λ p. character_code (text_byte p column)) (find (λ p. is_row row (kind w p)) ps))
+    space)
     (text_span-none_keeps (kind w) packets)
 
-pub forgets : (class : ReceiverClass) (w : PageIdValue) (old : State) (packet : List ℕ)
+pub step_is_repeat_step : (class : ReceiverClass) (w : PageIdValue) (old : State) (packet : List ℕ)
     (new : State)
     → StepBy class w old packet new
-    → StepForgetting class false w old packet new
-forgets Storing w old packet new step = grind (arith, nat_tests)
-forgets Dropping w old packet new step = grind (arith, nat_tests)
+    → StepWithRepeats class false w old packet new
+step_is_repeat_step Storing w old packet new step = grind (arith, nat_tests)
+step_is_repeat_step Dropping w old packet new step = grind (arith, nat_tests)
 
-pub law_of_forgetting : LawOfForgetting
-law_of_forgetting class w packets old new hears =
-    RunsBy-as (StepBy class w) (StepForgetting class false w) (λ s. s) packets old new
-    (forgets class w) hears
+pub law_of_keeping_receivers : LawOfKeepingReceivers
+law_of_keeping_receivers class w packets old new hears =
+    RunsBy-as (StepBy class w) (StepWithRepeats class false w) (λ s. s) packets old new
+    (step_is_repeat_step class w) hears

@@ -13,14 +13,15 @@ RunsBy-append StepsBy [] more old mid new run next = rw run at next
 RunsBy-append StepsBy (p ∷ ps) more old mid new run next =
     (run.0, run.1, RunsBy-append StepsBy ps more run.0 mid new run.2 next)
 
-pub run_more : {S : Type 0} (StepsBy : S → List ℕ → S → Type 0) (packets : List (List ℕ)) (i : ℕ)
+pub run_extends_by_packet : {S : Type 0} (StepsBy : S → List ℕ → S → Type 0)
+    (packets : List (List ℕ)) (i : ℕ)
     (packet : List ℕ) (old mid new : S)
     → i < length packets
     → packet ≡ get_or packets i packet
     → RunsBy StepsBy old (take i packets) mid
     → StepsBy mid packet new
     → RunsBy StepsBy old (take (i + 1) packets) new
-run_more StepsBy packets i packet old mid new below is run step =
+run_extends_by_packet StepsBy packets i packet old mid new below is run step =
     rw (take_more packets i packet below, ← is)
     (RunsBy-append StepsBy (take i packets) (packet ∷ []) old mid new run (new, step, refl))
 

@@ -4,42 +4,43 @@ use Rattle.std.proofs.Common.{refl, sym, ap, ◌∙◌, map, arith, append_assoc
 use Rattle.std.specs.List.{AllByRecursion, list_any}
 use Rattle.std.proofs.lemmas.Bool.Decides.{nat_tests}
 use Rattle.std.proofs.lemmas.List.Folds.{list_any-append}
-use Rattle.ttx_page.proofs.SpanLists.{after-none, list_any-map, map-cond}
-use Rattle.ttx_page.proofs.SpanPush.{list_any-push}
+use Rattle.ttx_page.proofs.SpanListLemmas.{after-none, list_any-map, map-cond}
+use Rattle.ttx_page.proofs.SpanPushLemmas.{list_any-push}
 use Rattle.ttx_page.specs.declared.packet_kind.PacketKind.{PacketKind}
 use Rattle.ttx_page.specs.PacketKind.{begins_text, is_this_page, ends_page}
-use Rattle.ttx_page.specs.Span.{holds_header, before_end, is_open_after, span}
-use Rattle.ttx_page.specs.Span.{from_beginning, holds_beginning, is_unended, text_span, while_open}
+use Rattle.ttx_page.specs.Span.{has_page_header, before_page_end, is_open_after, span}
+use Rattle.ttx_page.specs.Span.{from_text_beginning, has_text_beginning, has_no_page_end, text_span}
+use Rattle.ttx_page.specs.Span.{while_open}
 
-pub begins_is_header : (keeps : Bool) (k : PacketKind)
+pub text_begins_at_header : (keeps : Bool) (k : PacketKind)
     → begins_text keeps k ≡ true
     → is_this_page k ≡ true
-begins_is_header keeps k e = grind (arith, nat_tests)
+text_begins_at_header keeps k e = grind (arith, nat_tests)
 
-pub begins_at_each_header : (k : PacketKind) → begins_text false k ≡ is_this_page k
-begins_at_each_header k = grind (arith, nat_tests)
+pub header_alone_begins_text : (k : PacketKind) → begins_text false k ≡ is_this_page k
+header_alone_begins_text k = grind (arith, nat_tests)
 
 module _ {A : Type 0} (kind_of : A → PacketKind) where
   -- The page is open after the items. `is_open` is true if it is open before them.
-  abbrev open_from : Bool → List A → Bool
-  open_from is_open [] = is_open
-  open_from is_open (x ∷ xs) =
-      open_from (is_this_page (kind_of x) || (is_open && not (ends_page (kind_of x)))) xs
+  abbrev is_open_from : Bool → List A → Bool
+  is_open_from is_open [] = is_open
+  is_open_from is_open (x ∷ xs) =
+      is_open_from (is_this_page (kind_of x) || (is_open && not (ends_page (kind_of x)))) xs
 
-  open_from-is : (is_open : Bool) (xs : List A)
-      → open_from is_open xs
-      ≡ cond (holds_header kind_of xs) (is_unended kind_of xs)
+  is_open_from-is : (is_open : Bool) (xs : List A)
+      → is_open_from is_open xs
+      ≡ cond (has_page_header kind_of xs) (has_no_page_end kind_of xs)
       (is_open && not (list_any (λ x. ends_page (kind_of x)) xs))
-  open_from-is is_open [] = grind (arith, nat_tests)
-  open_from-is is_open (x ∷ xs) =
+  is_open_from-is is_open [] = grind (arith, nat_tests)
+  is_open_from-is is_open (x ∷ xs) =
       let rest =
-      open_from-is (is_this_page (kind_of x) || (is_open && not (ends_page (kind_of x)))) xs in
+      is_open_from-is (is_this_page (kind_of x) || (is_open && not (ends_page (kind_of x)))) xs in
       grind (arith, nat_tests)
 
   while_open-push : (is_open : Bool) (xs : List A) (x : A)
       → while_open kind_of is_open (xs ++ x ∷ [])
       ≡ cond
-      (open_from is_open xs && not (is_this_page (kind_of x)) && not (ends_page (kind_of x)))
+      (is_open_from is_open xs && not (is_this_page (kind_of x)) && not (ends_page (kind_of x)))
       (while_open kind_of is_open xs ++ x ∷ []) (while_open kind_of is_open xs)
   while_open-push is_open [] x = grind (arith, nat_tests)
   while_open-push is_open (y ∷ ys) x =
@@ -49,37 +50,38 @@ module _ {A : Type 0} (kind_of : A → PacketKind) where
 
   module _ (keeps : Bool) where
     pub beginning-push : (xs : List A) (x : A)
-        → holds_beginning keeps kind_of (xs ++ x ∷ [])
-        ≡ (begins_text keeps (kind_of x) || holds_beginning keeps kind_of xs)
+        → has_text_beginning keeps kind_of (xs ++ x ∷ [])
+        ≡ (begins_text keeps (kind_of x) || has_text_beginning keeps kind_of xs)
     beginning-push xs x = grind (arith, nat_tests, list_any-push)
 
     pub beginning_is_header : (xs : List A)
-        → holds_beginning keeps kind_of xs ≡ true
-        → holds_header kind_of xs ≡ true
+        → has_text_beginning keeps kind_of xs ≡ true
+        → has_page_header kind_of xs ≡ true
     beginning_is_header [] e = grind arith
     beginning_is_header (x ∷ xs) e =
         let rest = beginning_is_header xs in
-        let here = begins_is_header keeps (kind_of x) in
+        let here = text_begins_at_header keeps (kind_of x) in
         grind (arith, nat_tests)
 
     from-push : (xs : List A) (x : A)
-        → from_beginning keeps kind_of (xs ++ x ∷ [])
-        ≡ cond (begins_text keeps (kind_of x)) (x ∷ []) (from_beginning keeps kind_of xs ++ x ∷ [])
+        → from_text_beginning keeps kind_of (xs ++ x ∷ [])
+        ≡ cond (begins_text keeps (kind_of x)) (x ∷ []) (from_text_beginning keeps kind_of xs ++ x ∷
+        [])
     from-push [] x = grind (arith, nat_tests)
     from-push (y ∷ ys) x = grind (arith, nat_tests, beginning-push, from-push ys x)
 
     from-open : (xs : List A)
-        → is_open_after kind_of (from_beginning keeps kind_of xs) ≡ is_open_after kind_of xs
+        → is_open_after kind_of (from_text_beginning keeps kind_of xs) ≡ is_open_after kind_of xs
     from-open [] = refl
     from-open (x ∷ xs) =
         let rest = from-open xs in
         let header = beginning_is_header xs in
         grind (arith, nat_tests)
 
-    from-open_from : (xs : List A)
-        → open_from false (from_beginning keeps kind_of xs) ≡ is_open_after kind_of xs
-    from-open_from xs =
-        let is = open_from-is false (from_beginning keeps kind_of xs) in
+    from-is_open_from : (xs : List A)
+        → is_open_from false (from_text_beginning keeps kind_of xs) ≡ is_open_after kind_of xs
+    from-is_open_from xs =
+        let is = is_open_from-is false (from_text_beginning keeps kind_of xs) in
         let opened = from-open xs in
         grind (arith, nat_tests)
 
@@ -93,31 +95,31 @@ module _ {A : Type 0} (kind_of : A → PacketKind) where
         (is_open_after kind_of xs && not (is_this_page (kind_of x)) && not (ends_page (kind_of x)))
         (text_span keeps kind_of xs ++ x ∷ []) (text_span keeps kind_of xs))
     text_span-push xs x =
-        let pushed = from-push xs x in
-        let more = while_open-push false (from_beginning keeps kind_of xs) x in
+        let text_span_after_packet = from-push xs x in
+        let more = while_open-push false (from_text_beginning keeps kind_of xs) x in
         let one = while_open-push false [] x in
-        let opened = from-open_from xs in
-        let header = begins_is_header keeps (kind_of x) in
+        let opened = from-is_open_from xs in
+        let header = text_begins_at_header keeps (kind_of x) in
         grind (arith, nat_tests)
 
-    abbrev pub EachBegins : List A → Type 0
-    EachBegins xs =
+    abbrev pub EachHeaderBegins : List A → Type 0
+    EachHeaderBegins xs =
         AllByRecursion
         (λ x. is_this_page (kind_of x) ≡ true → begins_text keeps (kind_of x) ≡ true) xs
 
     pub beginning-same : (xs : List A)
-        → EachBegins xs
-        → holds_beginning keeps kind_of xs ≡ holds_header kind_of xs
+        → EachHeaderBegins xs
+        → has_text_beginning keeps kind_of xs ≡ has_page_header kind_of xs
     beginning-same [] each = refl
     beginning-same (x ∷ xs) each =
         let rest = beginning-same xs each.1 in
         let first = each.0 in
-        let header = begins_is_header keeps (kind_of x) in
+        let header = text_begins_at_header keeps (kind_of x) in
         grind (arith, nat_tests)
 
     while_open-before : (is_open : Bool) (xs : List A)
-        → holds_header kind_of xs ≡ false
-        → while_open kind_of is_open xs ≡ cond is_open (before_end kind_of xs) []
+        → has_page_header kind_of xs ≡ false
+        → while_open kind_of is_open xs ≡ cond is_open (before_page_end kind_of xs) []
     while_open-before is_open [] e = grind (arith, nat_tests)
     while_open-before is_open (x ∷ xs) e =
         let on = while_open-before true xs in
@@ -125,7 +127,7 @@ module _ {A : Type 0} (kind_of : A → PacketKind) where
         grind (arith, nat_tests)
 
     pub text_span-same : (xs : List A)
-        → EachBegins xs
+        → EachHeaderBegins xs
         → text_span keeps kind_of xs ≡ span kind_of xs
     text_span-same [] each = refl
     text_span-same (x ∷ xs) each =
@@ -136,22 +138,22 @@ module _ {A : Type 0} (kind_of : A → PacketKind) where
         let none = after-none kind_of xs in
         grind (arith, nat_tests)
 
-  each_begins : (xs : List A) → EachBegins false xs
-  each_begins [] = tt
-  each_begins (x ∷ xs) =
-      (λ this. begins_at_each_header (kind_of x) ∙ this, each_begins xs)
+  each_header_begins_text : (xs : List A) → EachHeaderBegins false xs
+  each_header_begins_text [] = tt
+  each_header_begins_text (x ∷ xs) =
+      (λ this. header_alone_begins_text (kind_of x) ∙ this, each_header_begins_text xs)
 
   pub text_span-none_keeps : (xs : List A) → text_span false kind_of xs ≡ span kind_of xs
-  text_span-none_keeps xs = text_span-same false xs (each_begins xs)
+  text_span-none_keeps xs = text_span-same false xs (each_header_begins_text xs)
 
   pub beginning-none_keeps : (xs : List A)
-      → holds_beginning false kind_of xs ≡ holds_header kind_of xs
-  beginning-none_keeps xs = beginning-same false xs (each_begins xs)
+      → has_text_beginning false kind_of xs ≡ has_page_header kind_of xs
+  beginning-none_keeps xs = beginning-same false xs (each_header_begins_text xs)
 
 module _ {A : Type 0} (kind_of : A → PacketKind) where
   while_open-append : (is_open : Bool) (xs ys : List A)
       → while_open kind_of is_open (xs ++ ys)
-      ≡ while_open kind_of is_open xs ++ while_open kind_of (open_from kind_of is_open xs) ys
+      ≡ while_open kind_of is_open xs ++ while_open kind_of (is_open_from kind_of is_open xs) ys
   while_open-append is_open [] ys = refl
   while_open-append is_open (x ∷ xs) ys =
       let on = while_open-append true xs ys in
@@ -183,15 +185,15 @@ module _ {A : Type 0} (kind_of : A → PacketKind) where
 
   module _ (keeps : Bool) where
     from-none : (xs : List A)
-        → holds_beginning keeps kind_of xs ≡ false
-        → from_beginning keeps kind_of xs ≡ xs
+        → has_text_beginning keeps kind_of xs ≡ false
+        → from_text_beginning keeps kind_of xs ≡ xs
     from-none [] e = refl
     from-none (x ∷ xs) e = grind (arith, nat_tests)
 
     from-append : (xs ys : List A)
-        → from_beginning keeps kind_of (xs ++ ys)
-        ≡ cond (holds_beginning keeps kind_of ys) (from_beginning keeps kind_of ys)
-        (from_beginning keeps kind_of xs ++ ys)
+        → from_text_beginning keeps kind_of (xs ++ ys)
+        ≡ cond (has_text_beginning keeps kind_of ys) (from_text_beginning keeps kind_of ys)
+        (from_text_beginning keeps kind_of xs ++ ys)
     from-append [] ys =
         let none = from-none ys in grind (arith, nat_tests)
     from-append (x ∷ xs) ys =
@@ -204,20 +206,20 @@ module _ {A : Type 0} (kind_of : A → PacketKind) where
         → (more : List A)
         × (text_span keeps kind_of (xs ++ ys) ≡ more ++ text_span keeps kind_of ys)
     text_span-later xs ys =
-        go (holds_beginning keeps kind_of ys) refl
+        go (has_text_beginning keeps kind_of ys) refl
       where
         first : List A
-        first = from_beginning keeps kind_of xs
+        first = from_text_beginning keeps kind_of xs
 
         go :
             (b : Bool)
-            → holds_beginning keeps kind_of ys ≡ b
+            → has_text_beginning keeps kind_of ys ≡ b
             → (more : List A)
             × (text_span keeps kind_of (xs ++ ys) ≡ more ++ text_span keeps kind_of ys)
         go true e =
             ([], ap (while_open kind_of false) (from-append xs ys ∙ rw e refl))
         go false e =
-            let rest = while_open-more (open_from kind_of false first) ys in
+            let rest = while_open-more (is_open_from kind_of false first) ys in
             let none = from-none ys e in (
               while_open kind_of false first ++ rest.0,
               ap (while_open kind_of false) (from-append xs ys ∙ rw e refl)
@@ -239,13 +241,18 @@ module _ {A B : Type 0} (kind_of : B → PacketKind) (f : A → B) where
       let off = while_open-map false xs in
       grind (arith, nat_tests, map-cond)
 
-  from_beginning-map : (keeps : Bool) (xs : List A)
-      → from_beginning keeps kind_of (map f xs)
-      ≡ map f (from_beginning keeps (λ x. kind_of (f x)) xs)
-  from_beginning-map keeps [] = refl
-  from_beginning-map keeps (x ∷ xs) =
-      let rest = from_beginning-map keeps xs in grind (arith, nat_tests, list_any-map, map-cond)
+  from_text_beginning-map : (keeps : Bool) (xs : List A)
+      → from_text_beginning keeps kind_of (map f xs)
+      ≡ map f (from_text_beginning keeps (λ x. kind_of (f x)) xs)
+  from_text_beginning-map keeps [] = refl
+  from_text_beginning-map keeps (x ∷ xs) =
+      let rest = from_text_beginning-map keeps xs in grind (
+        arith,
+        nat_tests,
+        list_any-map,
+        map-cond,
+      )
 
   pub text_span-map : (keeps : Bool) (xs : List A)
       → text_span keeps kind_of (map f xs) ≡ map f (text_span keeps (λ x. kind_of (f x)) xs)
-  text_span-map keeps xs = grind (arith, nat_tests, while_open-map, from_beginning-map)
+  text_span-map keeps xs = grind (arith, nat_tests, while_open-map, from_text_beginning-map)

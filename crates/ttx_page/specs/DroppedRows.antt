@@ -9,8 +9,8 @@ use Rattle.ttx_page.specs.Screen.{Display, Shows, ShowsBy}
 
 -- The packets of a list, without the rows that a receiver of page w drops because of a byte of even
 -- parity.
-abbrev pub without_dropped : PageIdValue → List (List ℕ) → List (List ℕ)
-without_dropped w packets = filter (λ packet. not (is_dropped w packet)) packets
+abbrev pub without_dropped_packets : PageIdValue → List (List ℕ) → List (List ℕ)
+without_dropped_packets w packets = filter (λ packet. not (is_dropped w packet)) packets
 
 -- A receiver that drops rows has the same page and screen as a receiver that stores rows and does
 -- not receive the dropped rows.
@@ -19,10 +19,10 @@ LawOfDropping =
     (w : PageIdValue) (packets : List (List ℕ))
     → ((old new : State)
     → HearsBy Dropping w old packets new
-    ↔ Hears w old (without_dropped w packets) new)
+    ↔ Hears w old (without_dropped_packets w packets) new)
     × ((old new : Display)
     → ShowsBy Dropping w old packets new
-    ↔ Shows w old (without_dropped w packets) new)
+    ↔ Shows w old (without_dropped_packets w packets) new)
 
 -- The cells in which a receiver of this class may have a space instead of the sent code.
 -- `IsExcused` is true for these cells in receivers that store rows. In receivers that drop rows,

@@ -9,7 +9,7 @@ use Rattle.ttx_packet.specs.PageId.{PageIdValue}
 use Rattle.ttx_packet.specs.RowPacket.{text_byte}
 use Rattle.ttx_page.specs.declared.packet_kind.PacketKind.TheVariants.{Row}
 use Rattle.ttx_page.specs.DroppedRows.{ExcusedBy}
-use Rattle.ttx_page.specs.Noise.{IsSound, EndsAs}
+use Rattle.ttx_page.specs.Noise.{IsSound, EndsWithShownText}
 use Rattle.ttx_page.specs.PacketKind.{kind}
 use Rattle.ttx_page.specs.Receiver.{HearsBy, ReceiverClass, State}
 use Rattle.ttx_page.specs.Shown.{IsHit}
@@ -25,11 +25,11 @@ LosesNoHeader sent arrives = IsFalse arrives → MayBeLost sent
 
 -- The received bytes of each sent packet, or `None` if the packet was lost. `got` has the bytes of
 -- the packets that arrived.
-abbrev pub arrivals_of : List Bool → List (List ℕ) → List (Option (List ℕ))
-arrivals_of [] got = []
-arrivals_of (false ∷ arrived) got = None ∷ arrivals_of arrived got
-arrivals_of (true ∷ arrived) [] = None ∷ arrivals_of arrived []
-arrivals_of (true ∷ arrived) (first ∷ got) = Some first ∷ arrivals_of arrived got
+abbrev pub arrivals_from_flags : List Bool → List (List ℕ) → List (Option (List ℕ))
+arrivals_from_flags [] got = []
+arrivals_from_flags (false ∷ arrived) got = None ∷ arrivals_from_flags arrived got
+arrivals_from_flags (true ∷ arrived) [] = None ∷ arrivals_from_flags arrived []
+arrivals_from_flags (true ∷ arrived) (first ∷ got) = Some first ∷ arrivals_from_flags arrived got
 
 -- The packet was lost, or its byte for the column was received with a wrong value.
 abbrev pub LosesByte : List ℕ → Option (List ℕ) → ℕ → Type 0
@@ -58,7 +58,8 @@ LawOfLostRows =
     → IsFalse old.heard
     → IsFalse old.is_open
     → HearsBy class w old got new
-    → EndsAs w sent (ExcusedBy class (IsHitOrLost w sent (arrivals_of arrived got))) new
+    → EndsWithShownText w sent
+    (ExcusedBy class (IsHitOrLost w sent (arrivals_from_flags arrived got))) new
 
 -- ---- the law of noise as a special case
 
@@ -71,7 +72,7 @@ pub record LosesNothing (w : PageIdValue) (sent : List (List ℕ)) (arrived : Li
       (got : List (List ℕ))
       → AllZip AreNear sent got
       → (row column : ℕ)
-      → IsHitOrLost w sent (arrivals_of arrived got) row column
+      → IsHitOrLost w sent (arrivals_from_flags arrived got) row column
       ↔ IsHit w sent got row column
 
 -- The law of noise is the special case of the law of lost rows in which every packet arrives.

@@ -1,7 +1,7 @@
--- The state of the receivers of this crate, and what they store for a byte of even parity (own).
--- Only private contracts use these definitions.
+-- The state of the receivers of this crate, and what they store for a byte of even parity (not
+-- defined by a standard). Only private contracts use these definitions.
 use Rattle.std.specs.Prelude.{ℕ, if◌then◌else◌}
-use Rattle.ttx_packet.specs.Parity.{code_of, is_odd}
+use Rattle.ttx_packet.specs.Parity.{character_code, is_odd}
 use Rattle.ttx_page.specs.declared.memory.EvenByte.{EvenByte}
 use Rattle.ttx_page.specs.declared.memory.EvenByte.TheVariants.{KeepsCell, BlanksCell}
 use Rattle.ttx_page.specs.declared.memory.Memory.{Memory}
@@ -13,10 +13,10 @@ abbrev pub state_of : Memory → State
 state_of m = record { heard = m.heard; is_open = m.is_open; page = m.page }
 
 -- The code of a cell after a byte of even parity was received for it: the old code or a space.
-abbrev pub chosen : EvenByte → ℕ → ℕ
-chosen KeepsCell was = was
-chosen BlanksCell was = space
+abbrev pub code_for_even_byte : EvenByte → ℕ → ℕ
+code_for_even_byte KeepsCell was = was
+code_for_even_byte BlanksCell was = space
 
 -- The code of a cell after a byte was received for it.
 abbrev pub code_after : EvenByte → ℕ → ℕ → ℕ
-code_after even byte was = if is_odd byte then code_of byte else chosen even was
+code_after even byte was = if is_odd byte then character_code byte else code_for_even_byte even was

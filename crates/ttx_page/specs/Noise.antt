@@ -6,14 +6,14 @@ use Rattle.ttx_packet.specs.declared.header.Header.{Header}
 use Rattle.ttx_packet.specs.OneBit.{AreNear}
 use Rattle.ttx_packet.specs.PageHeader.{c4, HasExactCodeWords}
 use Rattle.ttx_packet.specs.PageId.{PageIdValue}
-use Rattle.ttx_packet.specs.Parity.{code_of}
+use Rattle.ttx_packet.specs.Parity.{character_code}
 use Rattle.ttx_packet.specs.RowPacket.{HasOddText, text_byte}
 use Rattle.ttx_page.specs.declared.packet_kind.PacketKind.TheVariants.{ThisPage, Row}
 use Rattle.ttx_page.specs.Page.{space, cell, IsCell}
 use Rattle.ttx_page.specs.PacketKind.{kind}
 use Rattle.ttx_page.specs.Receiver.{State, Hears}
 use Rattle.ttx_page.specs.Shown.{shown, IsHit}
-use Rattle.ttx_page.specs.Span.{holds_header, is_open_after, span}
+use Rattle.ttx_page.specs.Span.{has_page_header, is_open_after, span}
 
 -- If the packet is a header of page w, its control bit C4, erase page, is set.
 abbrev pub ErasesPage : PageIdValue → List ℕ → Type 0
@@ -35,7 +35,7 @@ HasSameCodes w first second =
     → kind w first ≡ Row row
     → kind w second ≡ Row row
     → column < 40
-    → code_of (text_byte first column) ≡ code_of (text_byte second column)
+    → character_code (text_byte first column) ≡ character_code (text_byte second column)
 
 -- The sent packets are well-formed, as the law of noise requires.
 pub record IsSound (w : PageIdValue) (sent : List (List ℕ)) : Type 0 where
@@ -50,11 +50,11 @@ pub record IsSound (w : PageIdValue) (sent : List (List ℕ)) : Type 0 where
 
 -- The final state of a receiver that had received no header of the page before, and whose page was
 -- not open.
-pub record EndsAs
+pub record EndsWithShownText
     (w : PageIdValue) (sent : List (List ℕ)) (IsExcused : ℕ → ℕ → Type 0) (new : State)
     : Type 0 where
   -- The receiver has received a header of the page exactly if the packets contain one.
-  pub heard : new.heard ≡ holds_header (kind w) sent
+  pub heard : new.heard ≡ has_page_header (kind w) sent
   -- The page is open exactly if the packets contain a header of the page and no later header ends
   -- it.
   pub is_open : new.is_open ≡ is_open_after (kind w) sent
@@ -78,7 +78,7 @@ LawOfNoise =
     → IsFalse old.heard
     → IsFalse old.is_open
     → Hears w old got new
-    → EndsAs w sent (IsHit w sent got) new
+    → EndsWithShownText w sent (IsHit w sent got) new
 
 -- Without wrong bits, each cell of a receiver has the code that the packets show, whatever the page
 -- contained before and whatever the receiver does at bytes of even parity.

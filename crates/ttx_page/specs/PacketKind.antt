@@ -24,9 +24,9 @@ kind_of_header w magazine (Some h) =
 
 -- The kind of a packet with this address and header. Packets X/1 to X/24 in the page's magazine are
 -- rows of the page.
-abbrev pub kind_at : PageIdValue → Option PacketAddress → Option Header → PacketKind
-kind_at w None h = Other
-kind_at w (Some a) h =
+abbrev pub packet_kind_at : PageIdValue → Option PacketAddress → Option Header → PacketKind
+packet_kind_at w None h = Other
+packet_kind_at w (Some a) h =
     if a.packet_number == 0
     then kind_of_header w a.magazine h
     else (if (a.magazine == w.magazine) && nat_le a.packet_number 24
@@ -35,7 +35,7 @@ kind_at w (Some a) h =
 
 -- The kind of a packet for a receiver of page w.
 unfoldable pub kind : PageIdValue → List ℕ → PacketKind
-kind w packet = kind_at w (address packet) (header packet)
+kind w packet = packet_kind_at w (address packet) (header packet)
 
 -- The packet is a header of the page.
 abbrev pub is_this_page : PacketKind → Bool
@@ -60,6 +60,6 @@ is_row row (Row y) = y == row
 is_row row _ = false
 
 -- The packet is a packet of a row of the page, 1 to 24.
-abbrev pub is_some_row : PacketKind → Bool
-is_some_row (Row y) = true
-is_some_row _ = false
+abbrev pub is_page_row : PacketKind → Bool
+is_page_row (Row y) = true
+is_page_row _ = false

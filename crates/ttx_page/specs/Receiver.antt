@@ -1,17 +1,17 @@
 -- The model of a receiver of one page: how a packet may change its state. The model follows level 1
--- of EN 300 706; what a receiver stores for a byte of even parity is defined here (own), as are
--- receivers that drop rows.
+-- of EN 300 706; what a receiver stores for a byte of even parity is defined here (not defined by a
+-- standard), as are receivers that drop rows.
 use Rattle.std.specs.Prelude.{◌≡◌, ◌≢◌, ℕ, ◌⊎◌, Bool, true, false, List, [], ◌∷◌, MatchBool}
 use Rattle.std.specs.Prelude.{if◌then◌else◌, ◌&&◌, is_some, IsTrue, IsFalse}
-use Rattle.ttx_packet.specs.Parity.{code_of, is_odd}
+use Rattle.ttx_packet.specs.Parity.{character_code, is_odd}
 use Rattle.ttx_packet.specs.PageHeader.{c4}
 use Rattle.ttx_packet.specs.PageId.{PageIdValue}
-use Rattle.ttx_packet.specs.RowPacket.{text_byte, first_even_byte}
+use Rattle.ttx_packet.specs.RowPacket.{text_byte, first_even_parity_byte}
 use Rattle.ttx_page.specs.declared.packet_kind.PacketKind.{PacketKind}
 use Rattle.ttx_page.specs.declared.packet_kind.PacketKind.TheVariants.{ThisPage, EndsPage, Row}
 use Rattle.ttx_page.specs.declared.packet_kind.PacketKind.TheVariants.{Other}
 use Rattle.ttx_page.specs.Page.{Rows, space, blank, cell, IsCell}
-use Rattle.ttx_page.specs.PacketKind.{kind, is_some_row}
+use Rattle.ttx_page.specs.PacketKind.{kind, is_page_row}
 
 -- The state of a receiver: whether it has received a header of its page, whether the page is open,
 -- so that rows are stored, and the contents of the page.
@@ -29,7 +29,7 @@ pub record TunedReceiver : Type 0 where
 -- its code or becomes a space, as the receiver chooses for each cell.
 abbrev pub StoresByte : ℕ → ℕ → ℕ → Type 0
 StoresByte byte old new =
-    (IsTrue (is_odd byte) → new ≡ code_of byte)
+    (IsTrue (is_odd byte) → new ≡ character_code byte)
     × (IsFalse (is_odd byte) → (new ≡ old) ⊎ (new ≡ space))
 
 -- The text of the packet is stored in row y of the page; the other rows do not change.
@@ -109,7 +109,7 @@ pub data ReceiverClass : Type 0 where
 -- The packet is a row packet, X/1 to X/24, of the page's magazine, and one of its 40 data bytes has
 -- even parity.
 abbrev pub is_dropped : PageIdValue → List ℕ → Bool
-is_dropped w packet = is_some_row (kind w packet) && is_some (first_even_byte packet)
+is_dropped w packet = is_page_row (kind w packet) && is_some (first_even_parity_byte packet)
 
 -- A receiver of this class, tuned to page w, drops the packet.
 abbrev pub drops : ReceiverClass → PageIdValue → List ℕ → Bool

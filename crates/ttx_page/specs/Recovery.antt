@@ -6,22 +6,22 @@ use Rattle.std.specs.List.{AllZip, items_where_true}
 use Rattle.ttx_packet.specs.OneBit.{AreNear}
 use Rattle.ttx_packet.specs.PageId.{PageIdValue}
 use Rattle.ttx_page.specs.DroppedRows.{ExcusedBy}
-use Rattle.ttx_page.specs.LostRows.{IsHitOrLost, LosesNoHeader, arrivals_of}
+use Rattle.ttx_page.specs.LostRows.{IsHitOrLost, LosesNoHeader, arrivals_from_flags}
 use Rattle.ttx_page.specs.Noise.{IsSound}
 use Rattle.ttx_page.specs.Page.{space, cell, IsCell}
 use Rattle.ttx_page.specs.PacketKind.{kind}
 use Rattle.ttx_page.specs.Receiver.{HearsBy, ReceiverClass, State}
 use Rattle.ttx_page.specs.Shown.{shown}
-use Rattle.ttx_page.specs.Span.{holds_header, is_unended}
+use Rattle.ttx_page.specs.Span.{has_page_header, has_no_page_end}
 
 -- The final state of a receiver that started in any state and has received a header of its page.
-pub record EndsAfresh
+pub record EndsRecovered
     (w : PageIdValue) (sent : List (List ℕ)) (IsExcused : ℕ → ℕ → Type 0) (new : State)
     : Type 0 where
   -- The receiver has received a header of the page.
   pub heard : IsTrue new.heard
   -- The page is open exactly if no header after the last header of the page ends it.
-  pub is_open : new.is_open ≡ is_unended (kind w) sent
+  pub is_open : new.is_open ≡ has_no_page_end (kind w) sent
   -- Each cell of the page has the code that the packets show, or is a space if `IsExcused` is true
   -- for it.
   pub cells :
@@ -39,6 +39,7 @@ LawOfRecovery =
     → IsSound w sent
     → AllZip LosesNoHeader sent arrived
     → AllZip AreNear (items_where_true arrived sent) got
-    → IsTrue (holds_header (kind w) sent)
+    → IsTrue (has_page_header (kind w) sent)
     → HearsBy class w old got new
-    → EndsAfresh w sent (ExcusedBy class (IsHitOrLost w sent (arrivals_of arrived got))) new
+    → EndsRecovered w sent (ExcusedBy class (IsHitOrLost w sent (arrivals_from_flags arrived got)))
+    new

@@ -6,37 +6,37 @@ use Rattle.std.specs.List.{AllZip, items_where_true, list_any}
 use Rattle.ttx_packet.specs.OneBit.{AreNear}
 use Rattle.ttx_packet.specs.PageHeader.{c4, HasExactCodeWords}
 use Rattle.ttx_packet.specs.PageId.{PageIdValue}
-use Rattle.ttx_packet.specs.Parity.{code_of}
+use Rattle.ttx_packet.specs.Parity.{character_code}
 use Rattle.ttx_packet.specs.RowPacket.{text_byte}
 use Rattle.ttx_page.specs.declared.packet_kind.PacketKind.{PacketKind}
 use Rattle.ttx_page.specs.declared.packet_kind.PacketKind.TheVariants.{Row, ThisPage}
 use Rattle.ttx_page.specs.DroppedRows.{ExcusedBy}
-use Rattle.ttx_page.specs.LostRows.{IsHitOrLost, LosesNoHeader, arrivals_of}
+use Rattle.ttx_page.specs.LostRows.{IsHitOrLost, LosesNoHeader, arrivals_from_flags}
 use Rattle.ttx_page.specs.Noise.{ErasesPage, IsOddRow}
 use Rattle.ttx_page.specs.Page.{IsCell, Rows, blank, cell, space}
 use Rattle.ttx_page.specs.PacketKind.{is_row, is_this_page, kind}
 use Rattle.ttx_page.specs.Receiver.{Hears, HearsBy, ReceiverClass, RunsBy, State, StepAt, drops}
 use Rattle.ttx_page.specs.Shown.{kept}
 use Rattle.ttx_page.specs.Screen.{Display, ShowsAt}
-use Rattle.ttx_page.specs.Span.{holds_beginning, holds_header, is_open_after, span, text_span}
+use Rattle.ttx_page.specs.Span.{has_text_beginning, has_page_header, is_open_after, span, text_span}
 
 -- ---- receivers that may blank cells at a repeat
 
 -- Each cell of a page keeps its code or becomes a space, as the receiver chooses for each cell.
-abbrev pub KeepsOrBlanks : Rows → Rows → Type 0
-KeepsOrBlanks old new =
+abbrev pub KeepsOrBlanksCells : Rows → Rows → Type 0
+KeepsOrBlanksCells old new =
     (row column : ℕ)
     → IsCell row column
     → (cell new row column ≡ cell old row column) ⊎ (cell new row column ≡ space)
 
 -- How a packet may change a receiver that may blank cells at a repeat: as in `StepAt`, but at a
 -- header of its page with C4 clear, each cell keeps its code or becomes a space.
-abbrev pub ForgetsAt : PacketKind → List ℕ → State → State → Type 0
-ForgetsAt (ThisPage h) packet old new =
+abbrev pub StepAtRepeat : PacketKind → List ℕ → State → State → Type 0
+StepAtRepeat (ThisPage h) packet old new =
     (new.heard ≡ true)
     × (new.is_open ≡ true)
-    × MatchBool (c4 h) (new.page ≡ blank) (KeepsOrBlanks old.page new.page)
-ForgetsAt k packet old new = StepAt k packet old new
+    × MatchBool (c4 h) (new.page ≡ blank) (KeepsOrBlanksCells old.page new.page)
+StepAtRepeat k packet old new = StepAt k packet old new
 
 -- Each cell of the page is a space.
 abbrev pub IsBlank : Rows → Type 0
@@ -49,43 +49,44 @@ RestartsAtHeader anew w packet new =
 
 -- How a packet may change a receiver of this class that may blank cells at a repeat. If `anew` is
 -- true, each header of its page blanks the page.
-abbrev pub StepForgetting :
+abbrev pub StepWithRepeats :
     ReceiverClass → Bool → PageIdValue → State → List ℕ → State → Type 0
-StepForgetting class anew w old packet new =
+StepWithRepeats class anew w old packet new =
     MatchBool (drops class w packet) (new ≡ old)
-    (ForgetsAt (kind w packet) packet old new × RestartsAtHeader anew w packet new)
+    (StepAtRepeat (kind w packet) packet old new × RestartsAtHeader anew w packet new)
 
 -- How a list of packets may change a receiver that may blank cells at a repeat.
-abbrev pub HearsForgetting :
+abbrev pub HearsRepeats :
     ReceiverClass → Bool → PageIdValue → State → List (List ℕ) → State → Type 0
-HearsForgetting class anew w old packets new = RunsBy (StepForgetting class anew w) old packets new
+HearsRepeats class anew w old packets new = RunsBy (StepWithRepeats class anew w) old packets new
 
 -- How a list of packets may change a receiver that may blank cells at a repeat, and its screen.
-abbrev pub ShowsForgetting :
+abbrev pub ShowsRepeats :
     ReceiverClass → Bool → PageIdValue → Display → List (List ℕ) → Display → Type 0
-ShowsForgetting class anew w old packets new =
+ShowsRepeats class anew w old packets new =
     RunsBy
-    (λ before packet after. StepForgetting class anew w before.held packet after.held
+    (λ before packet after. StepWithRepeats class anew w before.receiver_state packet
+    after.receiver_state
     × ShowsAt w before packet after)
     old packets new
 
 -- A receiver that keeps its page at a repeat is a receiver that may blank cells at a repeat.
-abbrev pub LawOfForgetting : Type 0
-LawOfForgetting =
+abbrev pub LawOfKeepingReceivers : Type 0
+LawOfKeepingReceivers =
     (class : ReceiverClass) (w : PageIdValue) (packets : List (List ℕ)) (old new : State)
     → HearsBy class w old packets new
-    → HearsForgetting class false w old packets new
+    → HearsRepeats class false w old packets new
 
 -- If a receiver to which the law of repeats applies has received a header of its page, and the page
 -- is not open, the decoded page is on its screen. The receiver may start in any state.
-abbrev pub LawOfForgettingScreen : Type 0
-LawOfForgettingScreen =
+abbrev pub LawOfRepeatScreen : Type 0
+LawOfRepeatScreen =
     (class : ReceiverClass) (anew : Bool) (w : PageIdValue) (packets : List (List ℕ))
     → (old new : Display)
-    → ShowsForgetting class anew w old packets new
-    → IsTrue (holds_header (kind w) packets)
-    → IsFalse new.held.is_open
-    → new.screen ≡ Some new.held.page
+    → ShowsRepeats class anew w old packets new
+    → IsTrue (has_page_header (kind w) packets)
+    → IsFalse new.receiver_state.is_open
+    → new.screen ≡ Some new.receiver_state.page
 
 -- ---- the law of repeats
 
@@ -95,7 +96,7 @@ HasCodes w text packet =
     (row column : ℕ)
     → kind w packet ≡ Row row
     → column < 40
-    → code_of (text_byte packet column) ≡ text row column
+    → character_code (text_byte packet column) ≡ text row column
 
 -- The packets send this text, in the form that the law of repeats requires.
 pub record SendsText
@@ -110,10 +111,10 @@ pub record SendsText
   pub odd : All (IsOddRow w) (text_span keeps (kind w) sent)
   pub codes : All (HasCodes w text) (text_span keeps (kind w) sent)
 
--- The packet may follow the earlier packets `before` (own). Its address and page header are code
--- words. If repeats must not keep earlier text, a header of the page has C4 set. A row sent while
--- the page is open has bytes of odd parity, and the codes with which the current text first sent
--- this row.
+-- The packet may follow the earlier packets `before` (not defined by a standard). Its address and
+-- page header are code words. If repeats must not keep earlier text, a header of the page has C4
+-- set. A row sent while the page is open has bytes of odd parity, and the codes with which the
+-- current text first sent this row.
 pub record MayFollow
     (keeps : Bool) (w : PageIdValue) (before : List (List ℕ)) (packet : List ℕ)
     : Type 0 where
@@ -125,14 +126,14 @@ pub record MayFollow
       → kind w packet ≡ Row row
       → find (λ p. is_row row (kind w p)) (text_span keeps (kind w) before) ≡ Some first
       → column < 40
-      → code_of (text_byte first column) ≡ code_of (text_byte packet column)
+      → character_code (text_byte first column) ≡ character_code (text_byte packet column)
 
 -- The page does not depend on its contents before these packets: the receiver blanks it at each
 -- header, or the packets contain a header that starts a new text, or it was blank and not open.
 abbrev pub IsFresh : Bool → Bool → PageIdValue → List (List ℕ) → State → Type 0
 IsFresh keeps anew w sent old =
     IsTrue anew
-    ⊎ (IsTrue (holds_beginning keeps (kind w) sent)
+    ⊎ (IsTrue (has_text_beginning keeps (kind w) sent)
     ⊎ (IsFalse old.is_open × IsBlank old.page))
 
 -- The last transmission of the page has no packet of this row.
@@ -141,23 +142,23 @@ HasNoRow w sent row =
     IsFalse (list_any (λ packet. is_row row (kind w packet)) (span (kind w) sent))
 
 -- The final state of a receiver that may blank cells at a repeat.
-pub record EndsForgetting
+pub record EndsAfterRepeats
     (keeps anew : Bool) (w : PageIdValue) (sent : List (List ℕ)) (text : ℕ → ℕ → ℕ)
     (IsExcused : ℕ → ℕ → Type 0) (old new : State)
     : Type 0 where
   -- The receiver has received a header of the page exactly if it had received one before, or a
   -- header of the page was sent.
-  pub heard : new.heard ≡ (old.heard || holds_header (kind w) sent)
+  pub heard : new.heard ≡ (old.heard || has_page_header (kind w) sent)
   -- If a header of the page was sent, or the page was not open, the page is open exactly if a
   -- header of the page was sent and no later header ended it.
   pub is_open :
-      IsTrue (holds_header (kind w) sent || not old.is_open)
+      IsTrue (has_page_header (kind w) sent || not old.is_open)
       → new.is_open ≡ is_open_after (kind w) sent
   -- If the page does not depend on its earlier contents, each cell has the code of the text, or is
   -- a space if `IsExcused` is true for it or the last transmission of the page has no packet of its
   -- row.
   pub cells :
-      IsTrue (holds_header (kind w) sent)
+      IsTrue (has_page_header (kind w) sent)
       → IsFresh keeps anew w sent old
       → (row column : ℕ)
       → IsCell row column
@@ -175,14 +176,14 @@ LawOfRepeats =
     → SendsText keeps w sent text
     → AllZip LosesNoHeader sent arrived
     → AllZip AreNear (items_where_true arrived sent) got
-    → HearsForgetting class anew w old got new
-    → EndsForgetting keeps anew w sent text
-    (ExcusedBy class (IsHitOrLost w sent (arrivals_of arrived got))) old new
+    → HearsRepeats class anew w old got new
+    → EndsAfterRepeats keeps anew w sent text
+    (ExcusedBy class (IsHitOrLost w sent (arrivals_from_flags arrived got))) old new
 
 -- Without wrong bits, a receiver that keeps its page at repeats has the codes of `kept`, if the
 -- page does not depend on its earlier contents.
-abbrev pub LawOfKept : Type 0
-LawOfKept =
+abbrev pub LawOfKeptText : Type 0
+LawOfKeptText =
     (keeps : Bool) (w : PageIdValue) (sent : List (List ℕ)) (old new : State)
     → SendsText keeps w sent (kept keeps w sent)
     → Hears w old sent new

@@ -1,6 +1,6 @@
 -- The character codes that a list of packets shows on a page, and the cells hit by noise.
 use Rattle.std.specs.Prelude.{◌≡◌, ◌≢◌, ℕ, Bool, List, Any, find, zip, option_map, unwrap_or}
-use Rattle.ttx_packet.specs.Parity.{code_of}
+use Rattle.ttx_packet.specs.Parity.{character_code}
 use Rattle.ttx_packet.specs.PageId.{PageIdValue}
 use Rattle.ttx_packet.specs.RowPacket.{text_byte}
 use Rattle.ttx_page.specs.declared.packet_kind.PacketKind.TheVariants.{Row}
@@ -13,7 +13,7 @@ use Rattle.ttx_page.specs.Span.{span, text_span}
 abbrev pub shown : PageIdValue → List (List ℕ) → ℕ → ℕ → ℕ
 shown w packets row column =
     unwrap_or
-    (option_map (λ p. code_of (text_byte p column))
+    (option_map (λ p. character_code (text_byte p column))
     (find (λ p. is_row row (kind w p)) (span (kind w) packets)))
     space
 
@@ -23,7 +23,7 @@ shown w packets row column =
 abbrev pub kept : Bool → PageIdValue → List (List ℕ) → ℕ → ℕ → ℕ
 kept keeps w packets row column =
     unwrap_or
-    (option_map (λ p. code_of (text_byte p column))
+    (option_map (λ p. character_code (text_byte p column))
     (find (λ p. is_row row (kind w p)) (text_span keeps (kind w) packets)))
     space
 

@@ -11,48 +11,49 @@ use Rattle.ttx_page.specs.declared.packet_kind.PacketKind.{PacketKind}
 use Rattle.ttx_page.specs.PacketKind.{begins_text, is_this_page, ends_page}
 
 -- The list contains a header of the page.
-abbrev pub holds_header : {A : Type 0} → (A → PacketKind) → List A → Bool
-holds_header kind_of items = list_any (λ x. is_this_page (kind_of x)) items
+abbrev pub has_page_header : {A : Type 0} → (A → PacketKind) → List A → Bool
+has_page_header kind_of items = list_any (λ x. is_this_page (kind_of x)) items
 
 -- The items after the last header of the page, or none if the list has no header of the page.
 abbrev pub after_last_header : {A : Type 0} → (A → PacketKind) → List A → List A
 after_last_header kind_of [] = []
 after_last_header kind_of (x ∷ xs) =
-    if holds_header kind_of xs
+    if has_page_header kind_of xs
     then after_last_header kind_of xs
     else (if is_this_page (kind_of x) then xs else [])
 
 -- The items before the first header that ends the page, or all items if no header ends the page.
-abbrev pub before_end : {A : Type 0} → (A → PacketKind) → List A → List A
-before_end kind_of [] = []
-before_end kind_of (x ∷ xs) = if ends_page (kind_of x) then [] else x ∷ before_end kind_of xs
+abbrev pub before_page_end : {A : Type 0} → (A → PacketKind) → List A → List A
+before_page_end kind_of [] = []
+before_page_end kind_of (x ∷ xs) = if ends_page (kind_of x) then [] else x ∷ before_page_end kind_of
+    xs
 
 -- The span, the last transmission of the page: the items after the last header of the page, up to
 -- the first later header that ends the page.
 abbrev pub span : {A : Type 0} → (A → PacketKind) → List A → List A
-span kind_of items = before_end kind_of (after_last_header kind_of items)
+span kind_of items = before_page_end kind_of (after_last_header kind_of items)
 
 -- No header after the last header of the page ends the page.
-abbrev pub is_unended : {A : Type 0} → (A → PacketKind) → List A → Bool
-is_unended kind_of items =
+abbrev pub has_no_page_end : {A : Type 0} → (A → PacketKind) → List A → Bool
+has_no_page_end kind_of items =
     not (list_any (λ x. ends_page (kind_of x)) (after_last_header kind_of items))
 
 -- The page is open after these items: they contain a header of the page, and no later header ends
 -- the page.
 abbrev pub is_open_after : {A : Type 0} → (A → PacketKind) → List A → Bool
-is_open_after kind_of items = holds_header kind_of items && is_unended kind_of items
+is_open_after kind_of items = has_page_header kind_of items && has_no_page_end kind_of items
 
 -- ---- the transmissions of the current text (long span)
 
 -- The list contains a header that starts a new text.
-abbrev pub holds_beginning : {A : Type 0} → Bool → (A → PacketKind) → List A → Bool
-holds_beginning keeps kind_of items = list_any (λ x. begins_text keeps (kind_of x)) items
+abbrev pub has_text_beginning : {A : Type 0} → Bool → (A → PacketKind) → List A → Bool
+has_text_beginning keeps kind_of items = list_any (λ x. begins_text keeps (kind_of x)) items
 
 -- The items from the last header that starts a new text on, or all items if no header starts one.
-abbrev pub from_beginning : {A : Type 0} → Bool → (A → PacketKind) → List A → List A
-from_beginning keeps kind_of [] = []
-from_beginning keeps kind_of (x ∷ xs) =
-    if holds_beginning keeps kind_of xs then from_beginning keeps kind_of xs else x ∷ xs
+abbrev pub from_text_beginning : {A : Type 0} → Bool → (A → PacketKind) → List A → List A
+from_text_beginning keeps kind_of [] = []
+from_text_beginning keeps kind_of (x ∷ xs) =
+    if has_text_beginning keeps kind_of xs then from_text_beginning keeps kind_of xs else x ∷ xs
 
 -- The items received while the page is open, without headers of the page. `is_open` is true if the
 -- page is open before the list. These items are the spans of all headers of the page.
@@ -69,7 +70,7 @@ while_open kind_of is_open (x ∷ xs) =
 -- the last header that starts a new text on. If repeats must not keep earlier text (`keeps` is
 -- false), it equals the span.
 abbrev pub text_span : {A : Type 0} → Bool → (A → PacketKind) → List A → List A
-text_span keeps kind_of items = while_open kind_of false (from_beginning keeps kind_of items)
+text_span keeps kind_of items = while_open kind_of false (from_text_beginning keeps kind_of items)
 
 -- ---- the bounds of the last page transmission (span)
 

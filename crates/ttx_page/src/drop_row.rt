@@ -82,7 +82,7 @@ impl DropRow {
     }
 
     /// Receives all packets of the list, in order.
-    #[tactic(auto, using(crate::proofs::RunLemmas::run_more))]
+    #[tactic(auto, using(crate::proofs::RunLemmas::run_extends_by_packet))]
     pub fn hear_all(&mut self, packets: &[Packet])
         ensures run { HearsBy Dropping self.old.watched self.old.state packets.now self.new.state }
         ensures tuned { self.new.watched ≡ self.old.watched }

@@ -6,7 +6,7 @@ ghost use Rattle.ttx_page.specs.DroppedRows.{LawOfDropping};
 ghost use Rattle.ttx_page.specs.LostRows.{LawOfLostRows, LawOfNothingLost};
 ghost use Rattle.ttx_page.specs.Noise.{LawOfNoise, LawOfFaultFree};
 ghost use Rattle.ttx_page.specs.Recovery.{LawOfRecovery};
-ghost use Rattle.ttx_page.specs.Repeats.{LawOfForgetting, LawOfForgettingScreen, LawOfKept};
+ghost use Rattle.ttx_page.specs.Repeats.{LawOfKeepingReceivers, LawOfRepeatScreen, LawOfKeptText};
 ghost use Rattle.ttx_page.specs.Repeats.{LawOfRepeats};
 ghost use Rattle.ttx_page.specs.Screen.{LawOfScreen};
 ghost use Rattle.ttx_page.specs.Span.{LawOfSpan};
@@ -15,7 +15,7 @@ ghost use Rattle.ttx_page.specs.Span.{LawOfSpan};
 /// page, in order, up to the first later header that ends the page, or to the end of the list.
 ///
 /// The items `T` are packets, or packets with additional data.
-#[tactic(auto, using(crate::proofs::SpanPlaces::law_of_span))]
+#[tactic(auto, using(crate::proofs::SpanPlaceLemmas::law_of_span))]
 pub fn law_of_span<T>()
     ensures { LawOfSpan T }
 {}
@@ -77,21 +77,21 @@ pub fn law_of_repeats()
 
 /// A receiver that keeps its page at a header without C4 is a receiver to which the law of repeats
 /// applies.
-#[tactic(auto, using(crate::proofs::RepeatLaws::law_of_forgetting))]
-pub fn law_of_forgetting()
-    ensures { LawOfForgetting }
+#[tactic(auto, using(crate::proofs::RepeatLaws::law_of_keeping_receivers))]
+pub fn law_of_keeping_receivers()
+    ensures { LawOfKeepingReceivers }
 {}
 
 /// Without wrong bits, a receiver that keeps its page at headers without C4 has all sent codes, as
 /// soon as no cell depends on the earlier contents of the page.
-#[tactic(auto, using(crate::proofs::FaultFreeLaws::law_of_kept))]
-pub fn law_of_kept()
-    ensures { LawOfKept }
+#[tactic(auto, using(crate::proofs::FaultFreeLaws::law_of_kept_text))]
+pub fn law_of_kept_text()
+    ensures { LawOfKeptText }
 {}
 
 /// If a receiver to which the law of repeats applies has received a header of its page, and the
 /// page is not open, the decoded page is on its screen. The receiver may start in any state.
-#[tactic(auto, using(crate::proofs::ScreenLaws::law_of_forgetting_screen))]
-pub fn law_of_forgetting_screen()
-    ensures { LawOfForgettingScreen }
+#[tactic(auto, using(crate::proofs::ScreenLaws::law_of_repeat_screen))]
+pub fn law_of_repeat_screen()
+    ensures { LawOfRepeatScreen }
 {}

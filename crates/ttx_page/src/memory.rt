@@ -2,7 +2,7 @@
 //! receiver does at a byte of even parity.
 ghost use Rattle.std.specs.Prelude.{◌≡◌, ◌+◌, ◌<◌, ℕ, false, slice_index};
 ghost use Rattle.ttx_packet.specs.PageHeader.{c4};
-ghost use Rattle.ttx_page.specs.Memory.{chosen, code_after, state_of};
+ghost use Rattle.ttx_page.specs.Memory.{code_for_even_byte, code_after, state_of};
 ghost use Rattle.ttx_page.specs.Page.{AreCodes};
 ghost use Rattle.ttx_page.specs.Receiver.{AtEvenBytes, Step};
 
@@ -46,7 +46,8 @@ impl Memory {
     /// Receives a packet. `even` chooses what is stored for each byte of even parity.
     pub fn hear(&mut self, packet: &Packet, even: EvenByte)
         ensures step { Step self.old.watched (state_of self.old) packet.now (state_of self.new) }
-        ensures chosen { AtEvenBytes (λ was is. is ≡ chosen even was) self.old.watched
+        ensures code_for_even_byte { AtEvenBytes (λ was is. is ≡ code_for_even_byte even was)
+            self.old.watched
             (state_of self.old) packet.now (state_of self.new) }
         ensures tuned { self.new.watched ≡ self.old.watched }
     {

@@ -34,7 +34,7 @@ impl PacketKind {
         ensures value { result ≡ kind watched packet.now }
         ensures row { (row : ℕ) → result ≡ PacketKind.Row row → (1 ≤ row) × (row ≤ 24) }
     {
-        PacketKind::with_header(watched, packet).0
+        PacketKind::classify_with_header(watched, packet).0
     }
 
     /// Returns the meaning of a packet for a receiver of the page `watched`, and the packet's page
@@ -42,7 +42,7 @@ impl PacketKind {
     ///
     /// Decodes the address only once, and the coded bytes only in a packet X/0.
     #[inline(always)]
-    pub fn with_header(watched: PageId, packet: &Packet) -> (PacketKind, Option<Header>)
+    pub fn classify_with_header(watched: PageId, packet: &Packet) -> (PacketKind, Option<Header>)
         ensures kind { result.0 ≡ kind watched packet.now }
         ensures header { result.1 ≡ header packet.now }
         ensures row { (row : ℕ) → result.0 ≡ PacketKind.Row row → (1 ≤ row) × (row ≤ 24) }
@@ -50,12 +50,12 @@ impl PacketKind {
         let Some((magazine, packet_number)) = packet.address() else {
             return (PacketKind::Other, None);
         };
-        let is_magazine = magazine == watched.magazine();
+        let is_same_magazine = magazine == watched.magazine();
         if packet_number == 0 {
             let Some(header) = packet.coded_header() else {
                 return (PacketKind::Other, None);
             };
-            if is_magazine {
+            if is_same_magazine {
                 if header.page == watched.page() {
                     (PacketKind::ThisPage(header), Some(header))
                 } else {
@@ -66,7 +66,7 @@ impl PacketKind {
             } else {
                 (PacketKind::Other, Some(header))
             }
-        } else if is_magazine && packet_number <= 24 {
+        } else if is_same_magazine && packet_number <= 24 {
             (PacketKind::Row(packet_number), None)
         } else {
             (PacketKind::Other, None)

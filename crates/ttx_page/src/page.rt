@@ -9,7 +9,7 @@ ghost use Rattle.ttx_page.specs.Page.{IsPage, IsRow};
 mod lanes;
 
 use self::lanes::differing;
-use crate::differing::differing_columns;
+use crate::differing::count_differing_columns;
 use std::marker::Model;
 
 /// Rows 1 to 24 of a page (EN 300 706, packets X/1 to X/24), columns 0 to 39.
@@ -93,16 +93,16 @@ impl Page {
     }
 
     /// Returns the number of cells, of 960, that are not spaces.
-    #[tactic(auto, unfolding(crate::specs::Differing::rows_differing))]
-    pub fn cells_not_blank(&self) -> u16
+    #[tactic(auto, unfolding(crate::specs::Differing::rows_difference))]
+    pub fn count_nonblank_cells(&self) -> u16
         ensures value { result ≡ differing blank self.now }
         ensures range { result ≤ 960 }
     {
         let mut count = 0;
         for row in 0..24 {
             // For speed: most rows are blank, and a comparison is faster than counting.
-            if !are_equal(&spaces(), &self.rows[row]) {
-                count += differing_columns(&spaces(), &self.rows[row]);
+            if !are_rows_equal(&spaces(), &self.rows[row]) {
+                count += count_differing_columns(&spaces(), &self.rows[row]);
             }
         }
         count
@@ -121,7 +121,7 @@ fn spaces() -> [u8; 40]
 // Returns whether two rows are equal. Combines the masks of three blocks, so that one branch
 // suffices.
 #[inline(always)]
-fn are_equal(a: &[u8; 40], b: &[u8; 40]) -> bool
+fn are_rows_equal(a: &[u8; 40], b: &[u8; 40]) -> bool
     ensures { IsTrue result → a.now ≡ b.now }
 {
     let (a_blocks, _) = a.as_chunks::<16>();

@@ -56,11 +56,12 @@ pub trait Receiver: Sized {
 
 /// Receives all packets of a list, in order. The receiver chooses what to store for each byte of
 /// even parity.
-#[tactic(auto, using(crate::proofs::RunLemmas::run_more))]
+#[tactic(auto, using(crate::proofs::RunLemmas::run_extends_by_packet))]
 pub fn hear_all<R: Receiver>(receiver: &mut R, packets: &[Packet])
     ensures run { Hears (R.tuned_to receiver.old) (R.state receiver.old) packets.now
         (R.state receiver.new) }
-    ensures chosen { HearsLeaving R.leaves (R.tuned_to receiver.old) (R.state receiver.old)
+    ensures code_for_even_byte { HearsLeaving R.leaves (R.tuned_to receiver.old)
+        (R.state receiver.old)
         packets.now (R.state receiver.new) }
     ensures tuned { R.tuned_to receiver.new ≡ R.tuned_to receiver.old }
 {

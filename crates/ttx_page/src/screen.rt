@@ -26,12 +26,12 @@ pub fn show<R: Receiver>(receiver: &mut R, screen: &mut Option<Page>, packet: &P
     let was_open = receiver.open();
     receiver.hear(packet);
     if was_open && !receiver.open() {
-        put_on(screen, receiver.page());
+        copy_to_screen(screen, receiver.page());
     }
 }
 
 // Replaces the page on the screen.
-fn put_on(screen: &mut Option<Page>, page: &Page)
+fn copy_to_screen(screen: &mut Option<Page>, page: &Page)
     ensures { screen.new ≡ Some page.now }
 {
     match screen {
@@ -41,7 +41,7 @@ fn put_on(screen: &mut Option<Page>, page: &Page)
 }
 
 /// Receives all packets of a list, in order, and updates the screen as `show` does.
-#[tactic(auto, using(crate::proofs::RunLemmas::run_more))]
+#[tactic(auto, using(crate::proofs::RunLemmas::run_extends_by_packet))]
 pub fn show_all<R: Receiver>(receiver: &mut R, screen: &mut Option<Page>, packets: &[Packet])
     ensures run { Shows (R.tuned_to receiver.old)
         (display (R.state receiver.old) screen.old) packets.now

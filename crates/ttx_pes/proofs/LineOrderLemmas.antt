@@ -34,22 +34,27 @@ units-push (t ∷ us) u h w = (h.0, units-push us u h.1 w)
 
 pub ruleset order = (last_place-push, AreInLineOrder-push, units-push)
 
-place_rises : (i : ℕ) → numbered_place i < numbered_place (i + 1)
-place_rises i = grind (arith, nat_tests)
+numbered_place_increases : (i : ℕ) → numbered_place i < numbered_place (i + 1)
+numbered_place_increases i = grind (arith, nat_tests)
 
-pub numbered_more : (i : ℕ) (ps : List (List ℕ)) (p : List ℕ) (us all : List UnitValue)
+pub numbered_units_unfold : (i : ℕ) (ps : List (List ℕ)) (p : List ℕ) (us all : List UnitValue)
     → i < length ps
     → p ≡ get_or ps i p
     → us ++ numbered_units i (drop i ps) ≡ all
     → (us ++ numbered_unit i p ∷ []) ++ numbered_units (i + 1) (drop (i + 1) ps) ≡ all
-numbered_more i ps p us all lt is e = grind (arith, nat_tests, append_assoc, drop_more)
+numbered_units_unfold i ps p us all lt is e = grind (arith, nat_tests, append_assoc, drop_more)
 
 -- After the unit with number i of a frame, the unit with number i + 1 may follow in line order.
-pub last_numbered : (i : ℕ) (u : UnitValue) (us : List UnitValue)
+pub numbered_unit_precedes_next_place : (i : ℕ) (u : UnitValue) (us : List UnitValue)
     → eqb u.line 0 ≡ false
     → line_order_place u ≡ numbered_place i
     → last_place 0 (us ++ u ∷ []) < numbered_place (i + 1)
-last_numbered i u us line at = grind (arith, nat_tests, last_place-push, place_rises)
+numbered_unit_precedes_next_place i u us line at = grind (
+  arith,
+  nat_tests,
+  last_place-push,
+  numbered_place_increases,
+)
 
 packets-numbered_units : (i : ℕ) (ps : List (List ℕ))
     → map (λ (u : UnitValue). u.packet) (numbered_units i ps) ≡ ps
@@ -65,31 +70,46 @@ record IsNumbered (i : ℕ) (p : List ℕ) : Type 0 where
   pub line : eqb (numbered_unit i p).line 0 ≡ false
   pub place : line_order_place (numbered_unit i p) ≡ numbered_place i
 
-numbered_packet : (i : ℕ) (p : List ℕ) → i < 32 → IsPacket p → IsNumbered i p
-numbered_packet i p lt h = grind (arith, nat_tests)
+packet_gives_numbered_unit : (i : ℕ) (p : List ℕ) → i < 32 → IsPacket p → IsNumbered i p
+packet_gives_numbered_unit i p lt h = grind (arith, nat_tests)
 
-numbered_each : (i : ℕ) (ps : List (List ℕ)) → i + length ps ≤ 32 → AllByRecursion IsPacket ps
+numbered_units_are_valid : (i : ℕ) (ps : List (List ℕ)) → i + length ps ≤ 32 → AllByRecursion
+    IsPacket ps
     → AllByRecursion IsUnit (numbered_units i ps)
-numbered_each i [] lt h = tt
-numbered_each i (p ∷ ps) lt h =
-    let few : i + 1 + length ps ≤ 32 = omega arith in
-    ((numbered_packet i p (omega arith) h.0).unit, numbered_each (i + 1) ps few h.1)
+numbered_units_are_valid i [] lt h = tt
+numbered_units_are_valid i (p ∷ ps) lt h =
+    let few : i + 1 + length ps ≤ 32 = omega arith in (
+      (packet_gives_numbered_unit i p (omega arith) h.0).unit,
+      numbered_units_are_valid (i + 1) ps
+          few h.1,
+    )
 
-numbered_order : (i last : ℕ) (ps : List (List ℕ)) → i + length ps ≤ 32 → AllByRecursion IsPacket ps
+numbered_units_are_in_order : (i last : ℕ) (ps : List (List ℕ)) → i + length ps ≤ 32 →
+    AllByRecursion IsPacket ps
     → last < numbered_place i
     → AreInLineOrder last (numbered_units i ps)
-numbered_order i last [] few h lt = tt
-numbered_order i last (p ∷ ps) few h lt =
-    let one = numbered_packet i p (omega arith) h.0 in
-    let stands : ltb last (line_order_place (numbered_unit i p)) ≡ true = search (rules, lt-ltb) in
+numbered_units_are_in_order i last [] few h lt = tt
+numbered_units_are_in_order i last (p ∷ ps) few h lt =
+    let one = packet_gives_numbered_unit i p (omega arith) h.0 in
+    let unit_is_in_order : ltb last (line_order_place (numbered_unit i p)) ≡ true = search
+    (rules, lt-ltb) in
     let next : i + 1 + length ps ≤ 32 = omega arith in
     let rises : line_order_place (numbered_unit i p) < numbered_place (i + 1) =
-    rw one.place (place_rises i) in
-    rw (one.line, stands)
-    (refl, numbered_order (i + 1) (line_order_place (numbered_unit i p)) ps next h.1 rises)
+    rw one.place (numbered_place_increases i) in
+    rw (one.line, unit_is_in_order) (
+      refl,
+      numbered_units_are_in_order (i + 1) (line_order_place (numbered_unit i p)) ps next h.1
+          rises,
+    )
 
 -- The law of numbered frames: the Teletext packets of one frame form a value that fits in a PES
 -- packet.
-pub numbered_is_value : LawOfNumberedFrame
-numbered_is_value pts ps lt few h =
-    search (rules, length-numbered_units, numbered_each, numbered_order, packets-numbered_units)
+pub numbered_frame_is_valid : LawOfNumberedFrame
+numbered_frame_is_valid pts ps lt few h =
+    search (
+      rules,
+      length-numbered_units,
+      numbered_units_are_valid,
+      numbered_units_are_in_order,
+      packets-numbered_units,
+    )

@@ -6,19 +6,20 @@ use Rattle.sub_io.specs.Reading.{AreBytes}
 use Rattle.ttx_pes.specs.declared.fault.PesFault.{PesFault}
 use Rattle.ttx_pes.specs.PesPackets.{IsPesPacket, TakesPesPacket}
 use Rattle.ttx_pes.specs.Reading.{size_at, value_at, packet_at}
-use Rattle.ttx_pes.specs.Taking.{Settles}
+use Rattle.ttx_pes.specs.Accepting.{SettlesPacket}
 use Rattle.ttx_pes.proofs.DataUnitLemmas.{AreBytes-take}
-use Rattle.ttx_pes.proofs.PesHeaderLemmas.{head_sound}
-use Rattle.ttx_pes.proofs.TakingLemmas.{settles_as}
+use Rattle.ttx_pes.proofs.PesHeaderLemmas.{decoded_header_has_size}
+use Rattle.ttx_pes.proofs.AcceptingLemmas.{settled_result_is_value}
 
 -- Bytes that are as many as their length field states are a PES packet.
-pub sized_pes_packet : (b : List ℕ)
+pub stated_size_gives_pes_packet : (b : List ℕ)
     → AreBytes b
     → 6 ≤ length b
     → size_at (take 6 b) ≡ Ok (length b)
     → IsPesPacket b
-sized_pes_packet b fit long e =
-    let h = head_sound (take 6 b) (length b) (length-take 6 b ∙ omega arith) (AreBytes-take 6 b fit)
+stated_size_gives_pes_packet b fit long e =
+    let h = decoded_header_has_size (take 6 b) (length b) (length-take 6 b ∙ omega arith)
+    (AreBytes-take 6 b fit)
     e in
     record {
       n = h.0;
@@ -29,19 +30,19 @@ sized_pes_packet b fit long e =
     }
 
 -- If the fault of a complete PES packet is returned, that packet was consumed.
-pub taken_pes_packet : (old new : Option (List ℕ)) (taken body : List ℕ) (f : PesFault)
-    → Settles old new taken (value_at (drop 6 taken))
+pub refused_packet_is_consumed : (old new : Option (List ℕ)) (taken body : List ℕ) (f : PesFault)
+    → SettlesPacket old new taken (value_at (drop 6 taken))
     → body ≡ drop 6 taken
     → value_at body ≡ Err f
     → AreBytes taken
     → 6 ≤ length taken
     → size_at (take 6 taken) ≡ Ok (length taken)
     → TakesPesPacket old new f
-taken_pes_packet old new taken body f h same e fit long sized =
-    let s = settles_as old new taken body (Err f) h same e in
+refused_packet_is_consumed old new taken body f h same e fit long header_states_size =
+    let s = settled_result_is_value old new taken body (Err f) h same e in
     record {
       bytes = taken;
-      is_pes_packet = sized_pes_packet taken fit long sized;
+      is_pes_packet = stated_size_gives_pes_packet taken fit long header_states_size;
       consumed = h.consumed;
       refused = ap packet_at (sym (append-nil taken)) ∙ s.answer [] (λ _. refl);
     }

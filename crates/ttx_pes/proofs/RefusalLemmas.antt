@@ -17,49 +17,59 @@ use Rattle.ttx_pes.specs.Laws.{LawOfRefusal}
 use Rattle.ttx_pes.specs.PesGrammar.{IsValidPesPacket, PesValue, packet_length, packet_start}
 use Rattle.ttx_pes.specs.PesGrammar.{pts_bytes}
 use Rattle.ttx_pes.specs.Reading.{packet_at, stated_size}
-use Rattle.ttx_pes.specs.Refusal.{AgreeBefore, FailFirst, check_of_byte, header_byte_checks}
+use Rattle.ttx_pes.specs.Refusal.{AgreeBeforeCheck, FailsFirstAtCheck, check_of_byte}
+use Rattle.ttx_pes.specs.Refusal.{header_byte_checks}
 use Rattle.ttx_pes.specs.Refusal.{reported_fault}
 use Rattle.ttx_pes.specs.Refusal.{unit_byte_checks}
-use Rattle.ttx_pes.proofs.QuestionLemmas.{HoldBelow, first_wrong, packet_requested, refusal}
-use Rattle.ttx_pes.proofs.QuestionLemmas.{size_is_right, stated_units, tests, tests_cases}
-use Rattle.ttx_pes.proofs.QuestionLemmas.{unit_byte, unit_place, units_tests}
-use Rattle.ttx_pes.proofs.ReadingLemmas.{answer_cases, packet_is_read, read_is_packet}
+use Rattle.ttx_pes.proofs.CheckOrderLemmas.{PassBelow, first_failed_test, packet_tests_find_fault}
+use Rattle.ttx_pes.proofs.CheckOrderLemmas.{refusal}
+use Rattle.ttx_pes.proofs.CheckOrderLemmas.{size_is_right, stated_units, tests}
+use Rattle.ttx_pes.proofs.CheckOrderLemmas.{all_pass_or_first_fails}
+use Rattle.ttx_pes.proofs.CheckOrderLemmas.{unit_byte, unit_place, units_tests}
+use Rattle.ttx_pes.proofs.ReadingLemmas.{result_is_ok_or_error, valid_packet_is_read}
+use Rattle.ttx_pes.proofs.ReadingLemmas.{read_bytes_are_valid_packet}
 
-not_below : (m n : ℕ) → not (ltb m n) ≡ true → n ≤ m
-not_below m n h = grind (arith, nat_tests)
+failed_less_means_at_most : (m n : ℕ) → not (ltb m n) ≡ true → n ≤ m
+failed_less_means_at_most m n h = grind (arith, nat_tests)
 
-stated_count : (b : List ℕ)
+stated_size_gives_payload_count : (b : List ℕ)
     → size_is_right b ≡ true
     → (n : ℕ) × (1 ≤ n) × (n ≤ 9) × (stated_size b ≡ 184 * n)
-stated_count b h =
+stated_size_gives_payload_count b h =
     let parts : (stated_size b % 184 ≡ 0) × (stated_size b ≤ 1656) = grind (arith, nat_tests) in
     (stated_size b / 184, omega arith, omega arith, omega arith)
 
 -- If a PES packet can be read from the bytes, they pass all tests.
-held_if_read : (b : List ℕ) (r : PesValue × List ℕ)
+read_packet_passes_tests : (b : List ℕ) (r : PesValue × List ℕ)
     → packet_at b ≡ Ok r
     → (j : ℕ) → get_or (tests b (stated_units b)) j true ≡ true
-held_if_read b r read =
-    let requested : first_wrong b 0 (tests b (stated_units b)) ≡ None =
-    sym (packet_requested b) ∙ ap refusal read in
-    elim (tests_cases b 0 (tests b (stated_units b))) [
+read_packet_passes_tests b r read =
+    let requested : first_failed_test b 0 (tests b (stated_units b)) ≡ None =
+    sym (packet_tests_find_fault b) ∙ ap refusal read in
+    elim (all_pass_or_first_fails b 0 (tests b (stated_units b))) [
       | inl all ↦ all.0
       | inr found ↦ let reported = found.reported in absurd cc
     ]
 
-read_if_held : (b : List ℕ)
+packet_passing_tests_is_read : (b : List ℕ)
     → ((j : ℕ) → get_or (tests b (stated_units b)) j true ≡ true)
     → (r : PesValue × List ℕ) × (packet_at b ≡ Ok r)
-read_if_held b all =
-    let requested = packet_requested b in
-    elim (tests_cases b 0 (tests b (stated_units b))) [
+packet_passing_tests_is_read b all =
+    let requested = packet_tests_find_fault b in
+    elim (all_pass_or_first_fails b 0 (tests b (stated_units b))) [
       | inr found ↦ let buffered = all found.at in let wrong = found.wrong in absurd cc
-      | inl none ↦ let nothing = none.1 in grind (arith, nat_tests, answer_cases (packet_at b))
+      | inl none ↦ let nothing = none.1 in grind (
+        arith,
+        nat_tests,
+        result_is_ok_or_error
+            (packet_at b),
+      )
     ]
 
-check_of_unit_byte : (k i : ℕ) → i < 4 → check_of_byte (unit_place k i) ≡ get_or unit_byte_checks i
+unit_byte_has_its_check : (k i : ℕ) → i < 4 → check_of_byte (unit_place k i) ≡ get_or
+    unit_byte_checks i
     114 + 3 * k
-check_of_unit_byte k i lt =
+unit_byte_has_its_check k i lt =
     let place = unit_place k i in
     let rest : (place - 46) % 46 ≡ i = omega arith in
     let unit : (place - 46) / 46 ≡ k = omega arith in
@@ -67,47 +77,67 @@ check_of_unit_byte k i lt =
 
 -- If bytes agree with a packet in all checks before number i, they do so in all checks before a
 -- smaller number j.
-agree_below : (i j : ℕ) (b c : List ℕ) → j ≤ i → AgreeBefore i b c → AgreeBefore j b c
+agree_below : (i j : ℕ) (b c : List ℕ) → j ≤ i → AgreeBeforeCheck i b c → AgreeBeforeCheck j b c
 agree_below i j b c le h = grind (arith, nat_tests)
 
-same_byte : (i k j : ℕ) (b c : List ℕ)
-    → AgreeBefore i b c
+agreeing_packets_share_byte : (i k j : ℕ) (b c : List ℕ)
+    → AgreeBeforeCheck i b c
     → j < 4
     → get_or unit_byte_checks j 114 + 3 * k < i
     → unit_place k j < length c
     → unit_byte b k j ≡ unit_byte c k j
-same_byte i k j b c h four lt = grind (arith, nat_tests, check_of_unit_byte, unit_place)
+agreeing_packets_share_byte i k j b c h four lt = grind (
+  arith,
+  nat_tests,
+  unit_byte_has_its_check,
+  unit_place,
+)
 
-same_units : (n k before j : ℕ) (b c : List ℕ)
-    → AgreeBefore (10 + 3 * k + j) b c
+agreeing_packets_share_unit_tests : (n k before j : ℕ) (b c : List ℕ)
+    → AgreeBeforeCheck (10 + 3 * k + j) b c
     → 46 + 46 * (k + n) ≤ length c
     → get_or (units_tests b n k before) j true ≡ get_or (units_tests c n k before) j true
-same_units zero k before j b c h long = refl
-same_units (suc n) k before zero b c h long = grind (arith, nat_tests, same_byte)
-same_units (suc n) k before (suc zero) b c h long = grind (arith, nat_tests, same_byte)
-same_units (suc n) k before j b c h long =
-    grind (arith, nat_tests, same_byte, agree_below, same_units n (suc k))
+agreeing_packets_share_unit_tests zero k before j b c h long = refl
+agreeing_packets_share_unit_tests (suc n) k before zero b c h long = grind
+    (arith, nat_tests, agreeing_packets_share_byte)
+agreeing_packets_share_unit_tests (suc n) k before (suc zero) b c h long = grind
+    (arith, nat_tests, agreeing_packets_share_byte)
+agreeing_packets_share_unit_tests (suc n) k before j b c h long =
+    grind (
+      arith,
+      nat_tests,
+      agreeing_packets_share_byte,
+      agree_below,
+      agreeing_packets_share_unit_tests n (suc k),
+    )
 
 -- If bytes agree with a packet of n data units in all checks up to number j, test j has the same
 -- result for both.
-same_test : (j m n : ℕ) (b c : List ℕ)
-    → AgreeBefore (suc j) b c
+agreeing_packets_share_test : (j m n : ℕ) (b c : List ℕ)
+    → AgreeBeforeCheck (suc j) b c
     → (2 < j → m ≡ n)
     → 46 + 46 * n ≤ length c
     → stated_size c ≤ length c
     → get_or (tests b m) j true ≡ get_or (tests c n) j true
-same_test zero m n b c h count long all = grind (arith, nat_tests, le-ltb)
-same_test (suc zero) m n b c h count long all = grind (arith, nat_tests)
-same_test (suc (suc zero)) m n b c h count long all = grind (arith, nat_tests)
-same_test (suc (suc (suc zero))) m n b c h count long all = grind (arith, nat_tests, le-ltb)
-same_test (suc (suc (suc (suc zero)))) m n b c h count long all = grind (arith, nat_tests)
-same_test (suc (suc (suc (suc (suc zero))))) m n b c h count long all = grind (arith, nat_tests)
-same_test (suc (suc (suc (suc (suc (suc zero)))))) m n b c h count long all = search rules
-same_test (suc (suc (suc (suc (suc (suc (suc zero))))))) m n b c h count long all = search rules
-same_test (suc (suc (suc (suc (suc (suc (suc (suc zero)))))))) m n b c h count long all =
+agreeing_packets_share_test zero m n b c h count long all = grind (arith, nat_tests, le-ltb)
+agreeing_packets_share_test (suc zero) m n b c h count long all = grind (arith, nat_tests)
+agreeing_packets_share_test (suc (suc zero)) m n b c h count long all = grind (arith, nat_tests)
+agreeing_packets_share_test (suc (suc (suc zero))) m n b c h count long all = grind
+    (arith, nat_tests, le-ltb)
+agreeing_packets_share_test (suc (suc (suc (suc zero)))) m n b c h count long all = grind
+    (arith, nat_tests)
+agreeing_packets_share_test (suc (suc (suc (suc (suc zero))))) m n b c h count long all = grind
+    (arith, nat_tests)
+agreeing_packets_share_test (suc (suc (suc (suc (suc (suc zero)))))) m n b c h count long
+    all = search rules
+agreeing_packets_share_test (suc (suc (suc (suc (suc (suc (suc zero))))))) m n b c h count long
+    all = search rules
+agreeing_packets_share_test (suc (suc (suc (suc (suc (suc (suc (suc zero)))))))) m n b c h count
+    long all =
     rw (h.same 45 (omega arith) (omega arith)) refl
-same_test (suc (suc (suc (suc (suc (suc (suc (suc (suc j))))))))) m n b c h count long all =
-    grind (arith, nat_tests, same_units, agree_below)
+agreeing_packets_share_test (suc (suc (suc (suc (suc (suc (suc (suc (suc j))))))))) m n b c h count
+    long all =
+    grind (arith, nat_tests, agreeing_packets_share_unit_tests, agree_below)
 
 -- A blank PES packet of n payloads, without Teletext packets. It completes bytes that pass the
 -- first checks to a packet of the grammar.
@@ -118,147 +148,180 @@ blank_header n =
 abbrev blank : ℕ → ℕ → ℕ
 blank n i = get_or (blank_header n) i (get_or (0x10 ∷ 0x2C ∷ []) ((i - 46) % 46) 0)
 
-blank_unit : (n k i : ℕ) → i < 4 → blank n (unit_place k i) ≡ get_or (0x10 ∷ 0x2C ∷ []) i 0
-blank_unit n k i lt = grind (arith, nat_tests, unit_place, get_or_past)
+blank_unit_is_stuffing : (n k i : ℕ) → i < 4 → blank n (unit_place k i) ≡ get_or (0x10 ∷ 0x2C ∷ [])
+    i 0
+blank_unit_is_stuffing n k i lt = grind (arith, nat_tests, unit_place, get_or_past)
 
 -- The bytes of b for all checks before number q, and the bytes of a blank packet for the other
 -- checks.
-abbrev mixed : ℕ → ℕ → List ℕ → ℕ → ℕ
-mixed n q b i = cond (ltb (check_of_byte i) q) (get_or b i 0) (blank n i) % 256
+abbrev mixed_byte : ℕ → ℕ → List ℕ → ℕ → ℕ
+mixed_byte n q b i = cond (ltb (check_of_byte i) q) (get_or b i 0) (blank n i) % 256
 
 -- This module constructs a packet of the grammar that agrees with the bytes b in all checks before
 -- number q. It assumes that all tests before q pass, and that n is the number of payloads if the
 -- length field was checked.
 module _ (b : List ℕ) (fit : AreBytes b) (q n : ℕ) (lo : 1 ≤ n) (hi : n ≤ 9)
     (reported : 2 < q → stated_size b ≡ 184 * n)
-    (buffered : HoldBelow (tests b (stated_units b)) q) where
+    (buffered : PassBelow (tests b (stated_units b)) q) where
   abbrev made : List ℕ
-  made = map (mixed n q b) (range_with_len 0 (184 * n))
+  made = map (mixed_byte n q b) (range_with_len 0 (184 * n))
 
   length-made : length made ≡ 184 * n
-  length-made = length-map-range_with_len (mixed n q b) 0 (184 * n)
+  length-made = length-map-range_with_len (mixed_byte n q b) 0 (184 * n)
 
-  made_byte : (i : ℕ) → i < 184 * n → get_or made i 0 ≡ mixed n q b i
-  made_byte i lt = get_or-map-range_with_len (mixed n q b) 0 (184 * n) i i 0 lt (omega arith)
+  mixed_packet_byte : (i : ℕ) → i < 184 * n → get_or made i 0 ≡ mixed_byte n q b i
+  mixed_packet_byte i lt = get_or-map-range_with_len (mixed_byte n q b) 0 (184 * n) i i 0 lt
+      (omega arith)
 
-  made_fits : AreBytes made
-  made_fits i = grind (arith, nat_tests, cases_lt, made_byte, get_or_past, length-made)
+  mixed_packet_has_bytes : AreBytes made
+  mixed_packet_has_bytes i = grind (
+    arith,
+    nat_tests,
+    cases_lt,
+    mixed_packet_byte,
+    get_or_past,
+    length-made,
+  )
 
-  kept_byte : (i : ℕ) → check_of_byte i < q → i < 184 * n → get_or made i 0 ≡ get_or b i 0
-  kept_byte i less lt = grind (arith, nat_tests, made_byte, lt-ltb)
+  earlier_bytes_are_kept : (i : ℕ) → check_of_byte i < q → i < 184 * n → get_or made i 0 ≡ get_or b
+      i 0
+  earlier_bytes_are_kept i less lt = grind (arith, nat_tests, mixed_packet_byte, lt-ltb)
 
-  blank_byte : (i : ℕ) → q ≤ check_of_byte i → i < 184 * n → get_or made i 0 ≡ blank n i % 256
-  blank_byte i le lt = made_byte i lt ∙ rw (le-ltb (check_of_byte i) q le) refl
+  later_bytes_are_blank : (i : ℕ) → q ≤ check_of_byte i → i < 184 * n → get_or made i 0 ≡ blank n i
+      % 256
+  later_bytes_are_blank i le lt = mixed_packet_byte i lt ∙ rw (le-ltb (check_of_byte i) q le) refl
 
-  made_agrees : (c rest : List ℕ) → made ≡ c ++ rest → AgreeBefore q b c
-  made_agrees c rest parts =
+  mixed_packet_agrees : (c rest : List ℕ) → made ≡ c ++ rest → AgreeBeforeCheck q b c
+  mixed_packet_agrees c rest parts =
       let len : 184 * n ≡ length c + length rest = search (rules, length-made, length-append) in
       record {
-        six = λ lt. not_below (length b) 6 (buffered 0 lt);
+        has_six_bytes = λ lt. failed_less_means_at_most (length b) 6 (buffered 0 lt);
         all =
-            λ lt. let all = not_below (length b) (stated_size b) (buffered 3 lt) in
+            λ lt. let all = failed_less_means_at_most (length b) (stated_size b) (buffered 3 lt) in
             let size = reported (omega arith) in
             omega arith;
-        same = grind (arith, nat_tests, kept_byte, get_or_append_left);
+        same = grind (arith, nat_tests, earlier_bytes_are_kept, get_or_append_left);
       }
 
   reported-made : stated_size made ≡ 184 * n
-  reported-made = grind (arith, nat_tests, cases_lt, kept_byte, blank_byte)
+  reported-made = grind (arith, nat_tests, cases_lt, earlier_bytes_are_kept, later_bytes_are_blank)
 
-  blank_units : (m k before j : ℕ)
+  blank_units_pass_tests : (m k before j : ℕ)
       → q ≤ 9 + 3 * k + j
       → k + m ≤ 4 * n - 1
       → get_or (units_tests made m k before) j true ≡ true
-  blank_units zero k before j le few = refl
-  blank_units (suc m) k before zero le few =
-      grind (arith, nat_tests, check_of_unit_byte, blank_byte, unit_place, blank_unit)
-  blank_units (suc m) k before (suc zero) le few =
-      search (rules, check_of_unit_byte, blank_byte, unit_place, blank_unit)
-  blank_units (suc m) k before (suc (suc zero)) le few =
-      let requested = check_of_unit_byte k 2 (omega arith) in
-      rw (blank_byte (unit_place k 2) (omega arith) (omega arith))
-      (rw (blank_unit n k 2 (omega arith), or-true) refl)
-  blank_units (suc m) k before (suc (suc (suc j))) le few =
-      blank_units m (suc k) _ j (omega arith) (omega arith)
+  blank_units_pass_tests zero k before j le few = refl
+  blank_units_pass_tests (suc m) k before zero le few =
+      grind (
+        arith,
+        nat_tests,
+        unit_byte_has_its_check,
+        later_bytes_are_blank,
+        unit_place,
+        blank_unit_is_stuffing,
+      )
+  blank_units_pass_tests (suc m) k before (suc zero) le few =
+      search (
+        rules,
+        unit_byte_has_its_check,
+        later_bytes_are_blank,
+        unit_place,
+        blank_unit_is_stuffing,
+      )
+  blank_units_pass_tests (suc m) k before (suc (suc zero)) le few =
+      let requested = unit_byte_has_its_check k 2 (omega arith) in
+      rw (later_bytes_are_blank (unit_place k 2) (omega arith) (omega arith))
+      (rw (blank_unit_is_stuffing n k 2 (omega arith), or-true) refl)
+  blank_units_pass_tests (suc m) k before (suc (suc (suc j))) le few =
+      blank_units_pass_tests m (suc k) _ j (omega arith) (omega arith)
 
-  blank_tests : (j : ℕ) → q ≤ j → get_or (tests made (4 * n - 1)) j true ≡ true
-  blank_tests zero le = rw (le-ltb (length made) 6 (omega (arith, length-made))) refl
-  blank_tests (suc zero) le = grind (arith, nat_tests, blank_byte)
-  blank_tests (suc (suc zero)) le = grind (arith, nat_tests, reported-made, eq-eqb, le-leb)
-  blank_tests (suc (suc (suc zero))) le = grind (
+  later_tests_pass : (j : ℕ) → q ≤ j → get_or (tests made (4 * n - 1)) j true ≡ true
+  later_tests_pass zero le = rw (le-ltb (length made) 6 (omega (arith, length-made))) refl
+  later_tests_pass (suc zero) le = grind (arith, nat_tests, later_bytes_are_blank)
+  later_tests_pass (suc (suc zero)) le = grind (arith, nat_tests, reported-made, eq-eqb, le-leb)
+  later_tests_pass (suc (suc (suc zero))) le = grind (
     arith,
     nat_tests,
     reported-made,
     length-made,
     le-ltb,
   )
-  blank_tests (suc (suc (suc (suc zero)))) le = rw (blank_byte 6 le (omega arith)) refl
-  blank_tests (suc (suc (suc (suc (suc zero))))) le = rw (blank_byte 7 le (omega arith)) refl
-  blank_tests (suc (suc (suc (suc (suc (suc zero)))))) le = rw (blank_byte 8 le (omega arith)) refl
-  blank_tests (suc (suc (suc (suc (suc (suc (suc zero))))))) le = search (rules, blank_byte)
-  blank_tests (suc (suc (suc (suc (suc (suc (suc (suc zero)))))))) le = search (rules, blank_byte)
-  blank_tests (suc (suc (suc (suc (suc (suc (suc (suc (suc j))))))))) le =
-      blank_units (4 * n - 1) 0 0 j (omega arith) (omega arith)
+  later_tests_pass (suc (suc (suc (suc zero)))) le = rw (later_bytes_are_blank 6 le (omega arith))
+      refl
+  later_tests_pass (suc (suc (suc (suc (suc zero))))) le = rw (later_bytes_are_blank 7 le
+      (omega arith)) refl
+  later_tests_pass (suc (suc (suc (suc (suc (suc zero)))))) le = rw (later_bytes_are_blank 8 le
+      (omega arith)) refl
+  later_tests_pass (suc (suc (suc (suc (suc (suc (suc zero))))))) le = search
+      (rules, later_bytes_are_blank)
+  later_tests_pass (suc (suc (suc (suc (suc (suc (suc (suc zero)))))))) le = search
+      (rules, later_bytes_are_blank)
+  later_tests_pass (suc (suc (suc (suc (suc (suc (suc (suc (suc j))))))))) le =
+      blank_units_pass_tests (4 * n - 1) 0 0 j (omega arith) (omega arith)
 
-  made_buffered : (j : ℕ) → get_or (tests made (stated_units made)) j true ≡ true
-  made_buffered j =
+  mixed_packet_passes_tests : (j : ℕ) → get_or (tests made (stated_units made)) j true ≡ true
+  mixed_packet_passes_tests j =
       let size = reported-made in
       let count : stated_units made ≡ 4 * n - 1 = omega arith in
       subst (λ (m : ℕ). get_or (tests made m) j true ≡ true) (sym count) (elim (cases_lt j q) [
-        | inr le ↦ blank_tests j le
+        | inr le ↦ later_tests_pass j le
         | inl less ↦
-            let agree = made_agrees made [] (sym (append-nil made)) in
+            let agree = mixed_packet_agrees made [] (sym (append-nil made)) in
             let len = length-made in
-            sym (same_test j (stated_units b) (4 * n - 1) b made
+            sym (agreeing_packets_share_test j (stated_units b) (4 * n - 1) b made
             (agree_below _ _ b made (omega arith) agree)
             (λ more. let same = reported (omega arith) in omega arith) (omega arith) (omega arith))
             ∙ buffered j less
       ])
 
-  agreeing : (v : PesValue) × (p : List ℕ) × IsValidPesPacket v p × AgreeBefore q b p
-  agreeing =
-      let read = read_if_held made made_buffered in
-      let found = read_is_packet read.0.0 made read.0.1 made_fits read.1 in
-      (read.0.0, found.0, found.1, made_agrees found.0 read.0.1 found.2)
+  agreeing_packet_exists : (v : PesValue) × (p : List ℕ) × IsValidPesPacket v p × AgreeBeforeCheck q
+      b p
+  agreeing_packet_exists =
+      let read = packet_passing_tests_is_read made mixed_packet_passes_tests in
+      let found = read_bytes_are_valid_packet read.0.0 made read.0.1 mixed_packet_has_bytes read.1
+      in
+      (read.0.0, found.0, found.1, mixed_packet_agrees found.0 read.0.1 found.2)
 
 payloads : (b : List ℕ) (q : ℕ)
-    → HoldBelow (tests b (stated_units b)) q
+    → PassBelow (tests b (stated_units b)) q
     → (n : ℕ) × (1 ≤ n) × (n ≤ 9) × (2 < q → stated_size b ≡ 184 * n)
 payloads b q buffered = elim (cases_lt 2 q) [
   | inr le ↦ (1, omega arith, omega arith, λ more. absurd (omega arith))
-  | inl more ↦ let t = stated_count b (buffered 2 more) in (t.0, t.1, t.2, λ _. t.3)
+  | inl more ↦ let t = stated_size_gives_payload_count b (buffered 2 more)
+      in (t.0, t.1, t.2, λ _. t.3)
 ]
 
 -- If test q fails, no packet of the grammar agrees with the bytes in check q too.
-none_agrees : (b : List ℕ) (q : ℕ) (v : PesValue) (p : List ℕ)
+no_packet_agrees_further : (b : List ℕ) (q : ℕ) (v : PesValue) (p : List ℕ)
     → get_or (tests b (stated_units b)) q true ≡ false
     → IsValidPesPacket v p
-    → AgreeBefore (suc q) b p
+    → AgreeBeforeCheck (suc q) b p
     → ⊥
-none_agrees b q v p wrong h agree =
+no_packet_agrees_further b q v p wrong h agree =
     let read : packet_at p ≡ Ok (v, []) =
-    ap packet_at (sym (append-nil p)) ∙ packet_is_read v p [] h in
-    let all = held_if_read p (v, []) read in
-    let t = stated_count p (all 2) in
-    let full = not_below (length p) (stated_size p) (all 3) in
+    ap packet_at (sym (append-nil p)) ∙ valid_packet_is_read v p [] h in
+    let all = read_packet_passes_tests p (v, []) read in
+    let t = stated_size_gives_payload_count p (all 2) in
+    let full = failed_less_means_at_most (length p) (stated_size p) (all 3) in
     let count : 2 < q → stated_units b ≡ stated_units p = grind (arith, nat_tests) in
-    let alike = same_test q (stated_units b) (stated_units p) b p agree count (omega arith) full in
+    let alike = agreeing_packets_share_test q (stated_units b) (stated_units p) b p agree count
+    (omega arith) full in
     let yes = all q in
     absurd cc
 
-refused_first : (b : List ℕ) (f : PesFault)
+refusal_names_first_failure : (b : List ℕ) (f : PesFault)
     → AreBytes b
     → packet_at b ≡ Err f
-    → (q : ℕ) × (reported_fault b q ≡ f) × FailFirst q b
-refused_first b f fit e =
-    let requested : first_wrong b 0 (tests b (stated_units b)) ≡ Some f =
-    sym (packet_requested b) ∙ ap refusal e in
-    elim (tests_cases b 0 (tests b (stated_units b))) [
+    → (q : ℕ) × (reported_fault b q ≡ f) × FailsFirstAtCheck q b
+refusal_names_first_failure b f fit e =
+    let requested : first_failed_test b 0 (tests b (stated_units b)) ≡ Some f =
+    sym (packet_tests_find_fault b) ∙ ap refusal e in
+    elim (all_pass_or_first_fails b 0 (tests b (stated_units b))) [
       | inl all ↦ let none = all.1 in absurd cc
       | inr found ↦
           let n = payloads b found.at found.buffered in
           let number : found.at ≡ 0 + found.at = omega arith in
-          let a = agreeing b fit found.at n.0 n.1 n.2 n.3 found.buffered in (
+          let a = agreeing_packet_exists b fit found.at n.0 n.1 n.2 n.3 found.buffered in (
             found.at,
             ap (reported_fault b) number ∙ same_Some _ _ (sym found.reported ∙ requested),
             record {
@@ -267,7 +330,7 @@ refused_first b f fit e =
               is_packet = a.2;
               before = a.3;
               none =
-                  λ v p h agree. none_agrees b found.at v p found.wrong h
+                  λ v p h agree. no_packet_agrees_further b found.at v p found.wrong h
                   (agree_below _ _ b p (omega arith) agree);
             },
           )
@@ -277,20 +340,24 @@ refused_first b f fit e =
 -- all checks.
 failed_check_refuses : (b : List ℕ) (q : ℕ)
     → AreBytes b
-    → FailFirst q b
+    → FailsFirstAtCheck q b
     → (f : PesFault) × (packet_at b ≡ Err f)
-failed_check_refuses b q fit h = elim (answer_cases (packet_at b)) [
+failed_check_refuses b q fit h = elim (result_is_ok_or_error (packet_at b)) [
   | inr refused ↦ refused
   | inl ((v, rest), read) ↦
-      let (c, packet, parts) = read_is_packet v b rest fit read in
+      let (c, packet, parts) = read_bytes_are_valid_packet v b rest fit read in
       let len = ap length parts ∙ length-append c rest in
       let long : 6 ≤ length c = rw packet.bytes (omega arith) in
       absurd (h.none v c packet (record {
-        six = λ _. omega arith;
+        has_six_bytes = λ _. omega arith;
         all = λ _. omega arith;
         same = grind (arith, nat_tests, get_or_append_left);
       }))
 ]
 
-pub refusal_by_questions : LawOfRefusal
-refusal_by_questions b fit = (λ f e. refused_first b f fit e, λ q h. failed_check_refuses b q fit h)
+pub refusal_is_first_failed_check : LawOfRefusal
+refusal_is_first_failed_check b fit = (
+  λ f e. refusal_names_first_failure b f fit e,
+  λ q h.
+      failed_check_refuses b q fit h,
+)

@@ -10,8 +10,8 @@ use Rattle.sub_io.specs.Reading.{◌>>=◌}
 use Rattle.ttx_pes.specs.DataUnit.{IsUnit, UnitValue}
 use Rattle.ttx_pes.specs.Reading.{teletext_at, unit_at, unit_of, units_at, with_unit}
 use Rattle.ttx_pes.specs.SentUnits.{sent_units}
-use Rattle.ttx_pes.proofs.DataUnitLemmas.{units_next, units_none}
-use Rattle.ttx_pes.proofs.HeadLemmas.{placed_next, placed_none}
+use Rattle.ttx_pes.proofs.DataUnitLemmas.{decode_units_unfolds, no_units_left_to_decode}
+use Rattle.ttx_pes.proofs.DataUnitHeaderLemmas.{places_extend_by_unit, no_places_left}
 use Rattle.ttx_pes.proofs.LineOrderLemmas.{last_place-push}
 
 pub sent_units-push : (field places : List ℕ) (at : ℕ)
@@ -26,25 +26,30 @@ unit_at-unit units b = refl
 
 pub ruleset one_more = (unit_at-unit, sent_units-push, last_place-push, All-push)
 
-pub places_next : (count k : ℕ) (units : List UnitValue) (field : List ℕ)
+pub place_search_unfolds : (count k : ℕ) (units : List UnitValue) (field : List ℕ)
     → k < count
     → units_at (count - k) units (drop (1 + 46 * k) field)
     ≡ (unit_at units (take 46 (drop (1 + 46 * k) field)) >>= λ more.
     units_at (count - (k + 1)) more (drop (1 + 46 * (k + 1)) field))
-places_next count k units field l =
+place_search_unfolds count k units field l =
     let following : drop 46 (drop (1 + 46 * k) field) ≡ drop (1 + 46 * (k + 1)) field =
     drop-drop 46 (1 + 46 * k) field ∙ ap (λ n. drop n field) (omega arith) in
-    units_next count k units (drop (1 + 46 * k) field) l
+    decode_units_unfolds count k units (drop (1 + 46 * k) field) l
     ∙ ap (λ rest. unit_at units (take 46 (drop (1 + 46 * k) field)) >>= λ more.
     units_at (count - (k + 1)) more rest) following
 
-pub ruleset places_left = (places_next, units_none, placed_next, placed_none)
+pub ruleset places_left = (
+  place_search_unfolds,
+  no_units_left_to_decode,
+  places_extend_by_unit,
+  no_places_left,
+)
 
-pub has_place : (field places : List ℕ) (units : List UnitValue) (k : ℕ)
+pub each_unit_has_place : (field places : List ℕ) (units : List UnitValue) (k : ℕ)
     → sent_units field places ≡ units
     → k < length units
     → k < length places
-has_place field places units k h1 h2 = grind (arith, nat_tests, length-map)
+each_unit_has_place field places units k h1 h2 = grind (arith, nat_tests, length-map)
 
 module _ (field places : List ℕ) (k : ℕ) (l : k < length places) where
   pub unit_at_place : (other : UnitValue)

@@ -8,10 +8,10 @@ use Rattle.std.specs.Io.KnownBytes.{Consumes, IsAtEnd, Keeps, prepend_known}
 use Rattle.sub_io.specs.Reading.{AreBytes, IfKnown}
 use Rattle.ttx_pes.specs.declared.fault.PesFault.{PesFault}
 use Rattle.ttx_pes.specs.declared.fault.PesFault.TheVariants.{Truncated}
-use Rattle.ttx_pes.specs.PesPacketRange.{rest_after_pes_packets, count_pes_packets, limited}
+use Rattle.ttx_pes.specs.PesPacketRange.{rest_after_pes_packets, count_pes_packets, limited_bytes}
 use Rattle.ttx_pes.specs.PesPackets.{IsPesPacket}
-use Rattle.ttx_pes.specs.BorrowedPacket.{holds_packet}
-use Rattle.ttx_pes.specs.Reader.{FailsWithin, IsIncompletePesPacket}
+use Rattle.ttx_pes.specs.BorrowedPacket.{has_enough_for_packet}
+use Rattle.ttx_pes.specs.Reader.{FailsWithinPacket, IsIncompletePesPacket}
 use Rattle.ttx_pes.specs.Reading.{size_at}
 use Rattle.ttx_pes.specs.declared.pes_packets.Received.{Received}
 use Rattle.ttx_pes.specs.declared.pes_packets.Received.TheVariants.{End, PesPacket, Rest}
@@ -31,20 +31,21 @@ rest_fault b =
 
 -- The bytes read so far do not begin with a PES packet, because of this fault, whatever bytes
 -- follow.
-pub record ShowRest (following : Option (List ℕ)) (bytes : List ℕ) (f : PesFault) : Type 0 where
-  pub some : 0 < length bytes
-  pub all :
-      (more : List ℕ) → (IsAtEnd following → more ≡ []) → rest_fault (bytes ++ more) ≡ Some f
+pub record IsRestWithFault (following : Option (List ℕ)) (bytes : List ℕ) (f : PesFault) : Type 0
+  where
+    pub some : 0 < length bytes
+    pub all :
+        (more : List ℕ) → (IsAtEnd following → more ≡ []) → rest_fault (bytes ++ more) ≡ Some f
 
 -- The remaining bytes do not begin with a PES packet, because of this fault, as the bytes read so
 -- far show.
-pub record IsRest (old following : Option (List ℕ)) (f : PesFault) : Type 0 where
+pub record IsReportedRest (old following : Option (List ℕ)) (f : PesFault) : Type 0 where
   pub bytes : List ℕ
   pub consumed : Consumes old following bytes
-  pub shows : ShowRest following bytes f
+  pub shows : IsRestWithFault following bytes f
 
 -- Exactly one PES packet was consumed, and the taker processed it.
-pub record TakesPesPacketBy
+pub record TakesPesPacketWith
     {T A : Type 0} (is_take : T → List ℕ → A → T → Type 0) (old new : Option (List ℕ))
     (before : T) (answer : A) (after : T)
     : Type 0 where
@@ -63,20 +64,20 @@ abbrev pub Advances : {T A E : Type 0}
 Advances old new following is_take before after (Ok End) =
     Keeps old new × (following ≡ new) × IsAtEnd new × (after ≡ before)
 Advances old new following is_take before after (Ok (PesPacket answer)) =
-    TakesPesPacketBy is_take old new before answer after × (following ≡ new)
+    TakesPesPacketWith is_take old new before answer after × (following ≡ new)
 Advances old new following is_take before after (Ok (Rest f)) =
-    Keeps old new × IsRest old following f × (after ≡ before)
+    Keeps old new × IsReportedRest old following f × (after ≡ before)
 Advances old new following is_take before after (Err e) =
-    Keeps old new × FailsWithin old following × (after ≡ before)
+    Keeps old new × FailsWithinPacket old following × (after ≡ before)
 
 -- The result is `Rest`: the remaining bytes do not begin with a PES packet.
-abbrev pub reports_rest : {A E : Type 0} → Result (Received A) E → Bool
-reports_rest (Ok (Rest f)) = true
-reports_rest _ = false
+abbrev pub faulty_rest_is_answer : {A E : Type 0} → Result (Received A) E → Bool
+faulty_rest_is_answer (Ok (Rest f)) = true
+faulty_rest_is_answer _ = false
 
 -- The default of `ready`: the next call may use the device.
-abbrev pub never_ready : {P : Type 0} → P → Bool
-never_ready pes_packets = false
+abbrev pub is_never_ready : {P : Type 0} → P → Bool
+is_never_ready pes_packets = false
 
 -- The default of `device`: the reader borrows no device.
 abbrev pub no_borrowed_devices : {P : Type 0} → P → List GName
@@ -85,34 +86,35 @@ no_borrowed_devices pes_packets = []
 -- ---- reading PES packets from a source
 
 -- The buffered bytes, followed by the bytes of the source; `None` if these are unknown.
-abbrev pub buffered_then : List ℕ → Option (List ℕ) → Option (List ℕ)
-buffered_then [] known_bytes = known_bytes
-buffered_then (x ∷ buffered) known_bytes = prepend_known (x ∷ buffered) known_bytes
+abbrev pub buffered_before_known : List ℕ → Option (List ℕ) → Option (List ℕ)
+buffered_before_known [] known_bytes = known_bytes
+buffered_before_known (x ∷ buffered) known_bytes = prepend_known (x ∷ buffered) known_bytes
 
 -- The next PES packet can be read without a call of the source's device: the reader's buffer is
 -- empty, and the source has buffered the complete packet, or bytes with a wrong start code or
 -- length.
 abbrev pub has_borrowed_pes_packet : List ℕ → List ℕ → Bool
-has_borrowed_pes_packet [] borrowed = holds_packet borrowed
+has_borrowed_pes_packet [] borrowed = has_enough_for_packet borrowed
 has_borrowed_pes_packet (x ∷ buffered) borrowed = false
 
 -- The bytes read for one PES packet agree with the result: they are a complete packet, or have a
 -- fault, or the read failed.
-abbrev pub AreRead : {E : Type 0} → Option (List ℕ) → List ℕ → Result (Received (Unit {0})) E → Type
+abbrev pub AreReadForPacket : {E : Type 0} → Option (List ℕ) → List ℕ → Result (Received (Unit {0}))
+    E → Type
     0
-AreRead new bytes (Ok End) = (bytes ≡ []) × IsAtEnd new
-AreRead new bytes (Ok (PesPacket answer)) =
+AreReadForPacket new bytes (Ok End) = (bytes ≡ []) × IsAtEnd new
+AreReadForPacket new bytes (Ok (PesPacket answer)) =
     (6 ≤ length bytes) × (size_at (take 6 bytes) ≡ Ok (length bytes))
-AreRead new bytes (Ok (Rest f)) = ShowRest new bytes f
-AreRead new bytes (Err e) = IsIncompletePesPacket bytes
+AreReadForPacket new bytes (Ok (Rest f)) = IsRestWithFault new bytes f
+AreReadForPacket new bytes (Err e) = IsIncompletePesPacket bytes
 
 -- The bytes read from the source for one PES packet agree with the result.
-pub record ReadsForPesPacket
+pub record ReadsTowardPesPacket
     {E : Type 0} (old new : Option (List ℕ)) (bytes : List ℕ) (result : Result (Received (Unit {0}))
     E)
     : Type 0 where
   pub consumed : Consumes old new bytes
-  pub are_read : AreRead new bytes result
+  pub are_read : AreReadForPacket new bytes result
 
 -- ---- skipping PES packets
 
@@ -126,18 +128,18 @@ HasSkipped n k old new =
     × (count_pes_packets n bytes ≡ k + count_pes_packets (n - k) rest))
 
 -- The first n PES packets were skipped, or all if the file has fewer; `skipped` is their number.
-abbrev pub Passes : ℕ → Option (List ℕ) → Option (List ℕ) → ℕ → Type 0
-Passes n old new skipped =
+abbrev pub SkipsPesPackets : ℕ → Option (List ℕ) → Option (List ℕ) → ℕ → Type 0
+SkipsPesPackets n old new skipped =
     IfKnown old (λ bytes. (new ≡ Some (rest_after_pes_packets n bytes)) ×
     (skipped ≡ count_pes_packets n bytes))
 
 -- ---- a limited number of PES packets
 
 -- The limit is 0: no more PES packets may be read.
-abbrev pub is_over : Option ℕ → Bool
-is_over None = false
-is_over (Some zero) = true
-is_over (Some (suc n)) = false
+abbrev pub is_finished : Option ℕ → Bool
+is_finished None = false
+is_finished (Some zero) = true
+is_finished (Some (suc n)) = false
 
 -- The limit after one PES packet was read.
 abbrev pub decremented_limit : Option ℕ → Option ℕ
@@ -152,17 +154,17 @@ limit_after left (PesPacket answer) = decremented_limit left
 limit_after left (Rest f) = None
 
 -- The bytes of the next PES packets up to the limit, or all bytes if fewer packets remain.
-abbrev pub limited_known : Option ℕ → Option (List ℕ) → Option (List ℕ)
-limited_known None known_bytes = known_bytes
-limited_known (Some n) known_bytes = option_map (limited (Some n)) known_bytes
+abbrev pub limited_known_bytes : Option ℕ → Option (List ℕ) → Option (List ℕ)
+limited_known_bytes None known_bytes = known_bytes
+limited_known_bytes (Some n) known_bytes = option_map (limited_bytes (Some n)) known_bytes
 
 -- The remaining bytes do not begin with a PES packet. Then there is no limit, since the limit does
 -- not apply to bytes after the last packet.
-abbrev pub limited_rest : Option ℕ → Bool → Bool
-limited_rest None rest = rest
-limited_rest (Some n) rest = false
+abbrev pub is_limited_rest : Option ℕ → Bool → Bool
+is_limited_rest None rest = rest
+is_limited_rest (Some n) rest = false
 
 -- The remaining bytes of the device, as far as the limit allows reading them.
 abbrev pub limited_remaining : Option ℕ → Option (List ℕ) → Option (List ℕ) → Option (List ℕ)
 limited_remaining None known following = following
-limited_remaining (Some n) known following = option_map (limited (Some n)) known
+limited_remaining (Some n) known following = option_map (limited_bytes (Some n)) known

@@ -6,14 +6,15 @@ use Rattle.ttx_pes.specs.Reading.{size_at}
 use Rattle.ttx_pes.specs.declared.fault.PesFault.{PesFault}
 
 -- `count` bytes suffice to read a PES packet of this size, or the size is invalid.
-abbrev pub are_all_of : ℕ → Result ℕ PesFault → Bool
-are_all_of count (Ok size) = nat_le size count
-are_all_of count (Err f) = true
+abbrev pub is_enough_for_size : ℕ → Result ℕ PesFault → Bool
+is_enough_for_size count (Ok size) = nat_le size count
+is_enough_for_size count (Err f) = true
 
 -- The bytes suffice to read the PES packet at their front: they contain as many bytes as its length
 -- field states, or six bytes with a wrong start code or length.
-unfoldable pub holds_packet : List ℕ → Bool
-holds_packet bytes = nat_le 6 (length bytes) && are_all_of (length bytes) (size_at (take 6 bytes))
+unfoldable pub has_enough_for_packet : List ℕ → Bool
+has_enough_for_packet bytes = nat_le 6 (length bytes) && is_enough_for_size (length bytes)
+    (size_at (take 6 bytes))
 
 -- No report is pending while the next PES packet is read, unless reading it uses no device.
 abbrev pub NothingIsPending : Bool → Bool → Type 0

@@ -6,7 +6,7 @@ use Rattle.ttx_pes.specs.declared.comparing_reader.Compared.TheVariants.{End, Sa
 use Rattle.ttx_pes.specs.declared.fault.PesFault.{PesFault}
 use Rattle.ttx_pes.specs.declared.progress.Progress.{Progress}
 use Rattle.ttx_pes.specs.declared.progress.Progress.TheVariants.{Reading}
-use Rattle.ttx_pes.specs.Fault.{is_of_pes_packet}
+use Rattle.ttx_pes.specs.Fault.{is_packet_content_fault}
 use Rattle.ttx_pes.specs.PesGrammar.{PesValue}
 use Rattle.ttx_pes.specs.Reader.{TakesValidPesPacket}
 
@@ -22,9 +22,10 @@ pub record ComparingValue : Type 0 where
 
 -- The number of PES packets consumed, if the result is the fault of a complete packet; otherwise
 -- `None`.
-abbrev pub taken_count_after : Progress → Result Compared PesFault → Option ℕ
-taken_count_after (Reading given) (Err f) = if is_of_pes_packet f then Some (given + 1) else None
-taken_count_after _ _ = None
+abbrev pub returned_count_after : Progress → Result Compared PesFault → Option ℕ
+returned_count_after (Reading given) (Err f) = if is_packet_content_fault f then Some (given + 1)
+    else None
+returned_count_after _ _ = None
 
 -- The state of a comparing reader that continues after this number of PES packets. `None` leaves it
 -- unchanged.
@@ -34,19 +35,19 @@ after_skipped_fault c (Some given) = record c { progress = Reading given; follow
 
 -- The state of a comparing reader after `skip_packet`: it continues if its last result was the
 -- fault of a complete packet; otherwise its state does not change.
-abbrev pub skipped_over : ComparingValue → ComparingValue
-skipped_over c = after_skipped_fault c c.following
+abbrev pub with_packet_skipped : ComparingValue → ComparingValue
+with_packet_skipped c = after_skipped_fault c c.following
 
 -- The result of a comparing reader as a result of `next_into`: `true` for `Same` and `Other`,
 -- `false` for `End`.
-abbrev pub next_into_result : Result Compared PesFault → Result Bool PesFault
-next_into_result (Ok End) = Ok false
-next_into_result (Ok Same) = Ok true
-next_into_result (Ok Other) = Ok true
-next_into_result (Err f) = Err f
+abbrev pub comparison_as_flag : Result Compared PesFault → Result Bool PesFault
+comparison_as_flag (Ok End) = Ok false
+comparison_as_flag (Ok Same) = Ok true
+comparison_as_flag (Ok Other) = Ok true
+comparison_as_flag (Err f) = Err f
 
 -- Exactly one valid PES packet with this value and this data field was consumed.
 pub record TakesDataField
     (old new : Option (List ℕ)) (v : PesValue) (field : List ℕ) : Type 0 where
   pub packet : TakesValidPesPacket old new v
-  pub field_eq : field ≡ drop 45 packet.bytes
+  pub field_is_after_header : field ≡ drop 45 packet.bytes

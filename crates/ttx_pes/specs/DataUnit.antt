@@ -27,8 +27,8 @@ abbrev pub subtitle_id : ℕ
 subtitle_id = 0x03
 
 -- FF: the data_unit_id of a stuffing unit, and the value of its data bytes in written PES packets.
-abbrev pub stuffing : ℕ
-stuffing = 0xFF
+abbrev pub stuffing_byte : ℕ
+stuffing_byte = 0xFF
 
 -- The value of data_unit_length: the number of bytes of a data unit after this field.
 abbrev pub data_unit_length : ℕ
@@ -66,7 +66,7 @@ field_and_line reserved u = 64 * reserved + 32 * (2 - u.field) + u.line
 -- The reserved bits may have any value, since a reader ignores them.
 pub record IsTeletextUnit (u : UnitValue) (b : List ℕ) : Type 0 where
   pub reserved : ℕ
-  pub two_bits : reserved < 4
+  pub reserved_fits_two_bits : reserved < 4
   pub bytes :
       b ≡ u.id ∷ data_unit_length ∷ field_and_line reserved u ∷ framing_code ∷ map mirror u.packet
   pub is_unit : IsUnit u
@@ -100,4 +100,4 @@ teletext_unit u = u.id ∷ data_unit_length ∷ field_and_line 3 u ∷ framing_c
 
 -- The stuffing unit that a writer creates.
 abbrev pub stuffing_unit : List ℕ
-stuffing_unit = stuffing ∷ data_unit_length ∷ replicate data_unit_length stuffing
+stuffing_unit = stuffing_byte ∷ data_unit_length ∷ replicate data_unit_length stuffing_byte

@@ -1,11 +1,11 @@
--- Faults of PES packets: their codes in reports (own), device failures, and faults after which
--- reading can continue.
+-- Faults of PES packets: their codes in reports (not defined by a standard), device failures, and
+-- faults after which reading can continue.
 use Rattle.std.specs.Prelude.{Bool, true, false, codes}
 use Rattle.sub_io.specs.FaultCode.{FaultCodeValue, fault_code}
 use Rattle.ttx_pes.specs.declared.fault.PesFault.{PesFault}
 use Rattle.ttx_pes.specs.declared.fault.PesFault.TheVariants as fault
 
--- The number and the name of a PES packet fault in reports (own).
+-- The number and the name of a PES packet fault in reports (not defined by a standard).
 abbrev pub pes_code : PesFault → FaultCodeValue
 pes_code fault.Truncated = fault_code 30 (codes "Truncated")
 pes_code fault.Start = fault_code 31 (codes "Start")
@@ -25,24 +25,24 @@ pes_code fault.TooMany = fault_code 44 (codes "TooMany")
 pes_code fault.Lost = fault_code 45 (codes "Lost")
 
 -- The fault is in the contents of a complete PES packet, so another packet may follow.
-abbrev pub is_of_pes_packet : PesFault → Bool
-is_of_pes_packet fault.Flags = true
-is_of_pes_packet fault.NoTime = true
-is_of_pes_packet fault.HeaderLength = true
-is_of_pes_packet fault.Time = true
-is_of_pes_packet fault.DataId = true
-is_of_pes_packet fault.UnitLength = true
-is_of_pes_packet fault.Framing = true
-is_of_pes_packet fault.LineOrder = true
-is_of_pes_packet fault.Lost = true
-is_of_pes_packet _ = false
+abbrev pub is_packet_content_fault : PesFault → Bool
+is_packet_content_fault fault.Flags = true
+is_packet_content_fault fault.NoTime = true
+is_packet_content_fault fault.HeaderLength = true
+is_packet_content_fault fault.Time = true
+is_packet_content_fault fault.DataId = true
+is_packet_content_fault fault.UnitLength = true
+is_packet_content_fault fault.Framing = true
+is_packet_content_fault fault.LineOrder = true
+is_packet_content_fault fault.Lost = true
+is_packet_content_fault _ = false
 
 -- The fault is a failed read of the source.
-abbrev pub is_read : PesFault → Bool
-is_read fault.Read = true
-is_read _ = false
+abbrev pub is_read_fault : PesFault → Bool
+is_read_fault fault.Read = true
+is_read_fault _ = false
 
 -- The fault is a failed write to the sink.
-abbrev pub is_write : PesFault → Bool
-is_write fault.Write = true
-is_write _ = false
+abbrev pub is_write_fault : PesFault → Bool
+is_write_fault fault.Write = true
+is_write_fault _ = false

@@ -6,14 +6,16 @@ use Rattle.std.specs.List.{AllByRecursion, AllPairs, concat}
 use Rattle.sub_io.specs.Reading.{AreBytes}
 use Rattle.ttx_packet.specs.PacketAddress.{IsPacket}
 use Rattle.ttx_pes.specs.DataUnit.{UnitValue}
-use Rattle.ttx_pes.specs.LineOrder.{numbered_units, AreInLineOrder, RisesTo}
+use Rattle.ttx_pes.specs.LineOrder.{numbered_units, AreInLineOrder, PrecedesInLineOrder}
 use Rattle.ttx_pes.specs.PesGrammar.{PesValue, IsValidPesPacket, IsPesValue, canonical_packet}
 use Rattle.ttx_pes.specs.PesGrammar.{numbered_frame}
-use Rattle.ttx_pes.specs.PesPacketRange.{BeginsNoPesPacket, packets_in_range, first_index, in_range}
+use Rattle.ttx_pes.specs.PesPacketRange.{StartsWithoutPesPacket, packets_in_range, first_index}
+use Rattle.ttx_pes.specs.PesPacketRange.{in_range}
 use Rattle.ttx_pes.specs.PesPackets.{SplitInto, IsPesPacket, pes_packets_after}
-use Rattle.ttx_pes.specs.Reader.{BeginNoPesPacket}
-use Rattle.ttx_pes.specs.Reading.{packet_at, answer_at, rest_after, is_format_fault, most_packets}
-use Rattle.ttx_pes.specs.Refusal.{reported_fault, FailFirst}
+use Rattle.ttx_pes.specs.Reader.{StartWithoutPesPacket}
+use Rattle.ttx_pes.specs.Reading.{packet_at, answer_at, rest_after, is_format_fault}
+use Rattle.ttx_pes.specs.Reading.{max_pes_packets}
+use Rattle.ttx_pes.specs.Refusal.{reported_fault, FailsFirstAtCheck}
 use Rattle.ttx_pes.specs.declared.fault.PesFault.{PesFault}
 use Rattle.ttx_pes.specs.declared.fault.PesFault.TheVariants.{TooMany}
 
@@ -61,20 +63,21 @@ LawOfRefusal =
     → AreBytes bytes
     → ((f : PesFault)
     → packet_at bytes ≡ Err f
-    → (question : ℕ) × (reported_fault bytes question ≡ f) × FailFirst question bytes)
-    × ((question : ℕ) → FailFirst question bytes → (f : PesFault) × (packet_at bytes ≡ Err f))
+    → (question : ℕ) × (reported_fault bytes question ≡ f) × FailsFirstAtCheck question bytes)
+    × ((question : ℕ) → FailsFirstAtCheck question bytes → (f : PesFault) ×
+    (packet_at bytes ≡ Err f))
 
 -- The meaning of a reader's result for the remaining bytes. At the end, no bytes remain. After a
 -- format fault, the remaining bytes do not begin with a valid PES packet. After `TooMany`, more
 -- bytes remain.
-abbrev pub LawOfAnswers : Type 0
-LawOfAnswers =
+abbrev pub LawOfReaderAnswers : Type 0
+LawOfReaderAnswers =
     (given : ℕ) (bytes : List ℕ)
     → (answer_at given bytes ≡ Ok None → bytes ≡ [])
     × ((f : PesFault)
     → is_format_fault f ≡ true
     → answer_at given bytes ≡ Err f
-    → BeginNoPesPacket bytes)
+    → StartWithoutPesPacket bytes)
     × (answer_at given bytes ≡ Err TooMany → 0 < length bytes)
 
 -- Reading the bytes written for a frame returns that frame, and leaves the bytes that follow. So a
@@ -82,7 +85,7 @@ LawOfAnswers =
 abbrev pub LawOfReadingBack : Type 0
 LawOfReadingBack =
     (given : ℕ) (v : PesValue) (rest : List ℕ)
-    → given ≢ most_packets
+    → given ≢ max_pes_packets
     → IsPesValue v
     → (answer_at given (canonical_packet v ++ rest) ≡ Ok (Some v))
     × (rest_after (canonical_packet v ++ rest) ≡ rest)
@@ -90,7 +93,8 @@ LawOfReadingBack =
 -- Units are in line order exactly if, for any two units with a defined line, the later unit has the
 -- later line.
 abbrev pub LawOfLineOrder : Type 0
-LawOfLineOrder = (units : List UnitValue) → AreInLineOrder 0 units ↔ AllPairs RisesTo units
+LawOfLineOrder = (units : List UnitValue) → AreInLineOrder 0 units ↔ AllPairs PrecedesInLineOrder
+    units
 
 -- The Teletext packets of one video frame form a value that fits in a `PesFrame`, and the units of
 -- that value carry these packets.
@@ -118,7 +122,7 @@ LawOfRanges =
     → IfSome last (λ l. first ≤ l)
     → AllByRecursion IsPesPacket pes_packets
     → AreBytes rest
-    → BeginsNoPesPacket rest
+    → StartsWithoutPesPacket rest
     → (in_range (record { first = first; last = last }) (concat pes_packets ++ rest)
     ≡ packets_in_range first last pes_packets rest)
     × (first_index (record { first = first; last = last }) (concat pes_packets ++ rest)

@@ -7,7 +7,7 @@ pub mod Reader
 pub mod Outcome
 pub mod Laws
 pub mod Fault
-pub mod Taking
+pub mod Accepting
 pub mod Comparing
 pub mod BorrowedPacket
 pub mod PesPackets

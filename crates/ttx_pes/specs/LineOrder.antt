@@ -1,5 +1,5 @@
--- The line order of the Teletext units in a PES packet (own), and the lines of the Teletext packets
--- of a frame.
+-- The line order of the Teletext units in a PES packet (not defined by a standard), and the lines
+-- of the Teletext packets of a frame.
 --
 -- Units with a defined line are in strictly increasing order: first field before second, then by
 -- line_offset. In EN 300 472, line_offset 0 means that the line is not defined, so such a unit may
@@ -34,8 +34,8 @@ AreInLineOrder before (u ∷ units) =
     × AreInLineOrder (if u.line == 0 then before else line_order_place u) units
 
 -- If both units have a defined line, the second unit has the greater line order position.
-abbrev pub RisesTo : UnitValue → UnitValue → Type 0
-RisesTo u v = u.line ≢ 0 → v.line ≢ 0 → line_order_place u < line_order_place v
+abbrev pub PrecedesInLineOrder : UnitValue → UnitValue → Type 0
+PrecedesInLineOrder u v = u.line ≢ 0 → v.line ≢ 0 → line_order_place u < line_order_place v
 
 -- The unit that carries Teletext packet number i of a frame, counted from 0: lines 7 to 22 of the
 -- first field, then 7 to 22 of the second, as in EN 300 472; data_unit_id 03.

@@ -3,11 +3,11 @@
 use Rattle.std.specs.Prelude.{◌≡◌, ℕ, Bool, true, false, List, [], ◌∷◌, Option, Some, None, Result}
 use Rattle.std.specs.Prelude.{Ok, Err}
 use Rattle.ttx_pes.specs.declared.fault.PesFault.{PesFault}
-use Rattle.ttx_pes.specs.Fault.{is_read}
+use Rattle.ttx_pes.specs.Fault.{is_read_fault}
 use Rattle.ttx_pes.specs.PesGrammar.{PesValue}
 use Rattle.ttx_pes.specs.PesPackets.{pes_packets_after}
 use Rattle.ttx_pes.specs.Reading.{is_format_fault}
-use Rattle.ttx_pes.specs.Reader.{FailsWithin, TakesValidPesPacket, TakesRefused}
+use Rattle.ttx_pes.specs.Reader.{FailsWithinPacket, TakesValidPesPacket, ConsumesRefusedPacket}
 
 -- The values of the PES packets of a file, then the end of the file or a fault.
 pub data PesOutcome : Type 0 where
@@ -17,25 +17,25 @@ pub data PesOutcome : Type 0 where
 
 -- The result of reading up to the first rejected PES packet. If no packet is rejected, `left` is
 -- the fault of the bytes after the last packet, or `None`.
-abbrev pub until_refused : List (Result PesValue PesFault) → Option PesFault → PesOutcome
-until_refused [] None = ends
-until_refused [] (Some f) = fails f
-until_refused (Ok v ∷ pes_packets) left = gives v (until_refused pes_packets left)
-until_refused (Err f ∷ pes_packets) left = fails f
+abbrev pub outcome_until_refusal : List (Result PesValue PesFault) → Option PesFault → PesOutcome
+outcome_until_refusal [] None = ends
+outcome_until_refusal [] (Some f) = fails f
+outcome_until_refusal (Ok v ∷ pes_packets) left = gives v (outcome_until_refusal pes_packets left)
+outcome_until_refusal (Err f ∷ pes_packets) left = fails f
 
 -- The result of reading the bytes after `given` PES packets. A reader that stops at the first fault
 -- has the same result, up to that fault, as a reader that continues.
 unfoldable pub outcome_after : ℕ → List ℕ → PesOutcome
 outcome_after given bytes =
-    let value = pes_packets_after given bytes in until_refused value.pes_packets value.left
+    let value = pes_packets_after given bytes in outcome_until_refusal value.pes_packets value.left
 
 -- The PES packets of the result were consumed from a source. If the source failed, it failed within
 -- the next packet. If the next packet has a format fault, the consumed bytes have that fault.
 abbrev pub ReadsPackets : Bool → Option (List ℕ) → PesOutcome → Option (List ℕ) → Type 0
 ReadsPackets failed known ends left = failed ≡ false
 ReadsPackets failed known (fails f) left =
-    (is_read f ≡ failed) × (failed ≡ true → FailsWithin known left)
-    × (is_format_fault f ≡ true → TakesRefused known left f)
+    (is_read_fault f ≡ failed) × (failed ≡ true → FailsWithinPacket known left)
+    × (is_format_fault f ≡ true → ConsumesRefusedPacket known left f)
 ReadsPackets failed known (gives v more) left =
     (following : Option (List ℕ)) × TakesValidPesPacket known following v
     × ReadsPackets failed following more left

@@ -4,7 +4,7 @@ use Rattle.std.specs.Prelude.{◌≡◌, ℕ, zero, suc, ◌+◌, ◌-◌, ◌*�
 use Rattle.std.specs.Prelude.{◌∷◌, ◌++◌, length, replicate}
 use Rattle.std.specs.List.{flat_map, AllByRecursion}
 use Rattle.std.specs.Int.{bytes_high_first}
-use Rattle.ttx_pes.specs.DataUnit.{UnitValue, IsUnit, AreDataUnits, teletext_unit, stuffing}
+use Rattle.ttx_pes.specs.DataUnit.{UnitValue, IsUnit, AreDataUnits, teletext_unit, stuffing_byte}
 use Rattle.ttx_pes.specs.DataUnit.{stuffing_unit}
 use Rattle.ttx_pes.specs.LineOrder.{AreInLineOrder, numbered_units}
 
@@ -26,16 +26,16 @@ abbrev pub payload_size : ℕ
 payload_size = 184
 
 -- The size of the longest PES packet in bytes, nine payloads.
-abbrev pub longest_packet : ℕ
-longest_packet = 1656
+abbrev pub max_pes_packet_size : ℕ
+max_pes_packet_size = 1656
 
 -- The number of bytes before the data units of a PES packet.
 abbrev pub header_size : ℕ
 header_size = 46
 
 -- The maximum number of Teletext units of a PES packet: nine payloads have 9 * 4 - 1 data units.
-abbrev pub most_units : ℕ
-most_units = 35
+abbrev pub max_units : ℕ
+max_units = 35
 
 -- The field PES_packet_length of a PES packet of n payloads. It does not count the first 6 bytes.
 abbrev pub packet_length : ℕ → ℕ
@@ -90,20 +90,20 @@ pub record IsValidPesPacket (v : PesValue) (b : List ℕ) : Type 0 where
       ++ ((flags ∷ pts_dts_flags ∷ header_data_length ∷ [])
       ++ (pts_bytes v.pts ++ (header_stuffing ++ (data_identifier ∷ data_units)))))
   pub size : (1 ≤ n) × (n ≤ 9)
-  pub not_scrambled : flags / 0x10 ≡ 8
-  pub pts_alone : pts_dts_flags / 0x40 ≡ 2
+  pub scrambling_is_off : flags / 0x10 ≡ 8
+  pub only_pts_is_present : pts_dts_flags / 0x40 ≡ 2
   pub pts_fits : v.pts < 2 ^ 33
-  pub header_filled : length header_stuffing ≡ 31
-  pub ebu_data : data_identifier / 0x10 ≡ 1
-  pub are_units : AreDataUnits (4 * n - 1) v.units data_units
+  pub header_length_is_31 : length header_stuffing ≡ 31
+  pub is_ebu_data : data_identifier / 0x10 ≡ 1
+  pub are_valid_units : AreDataUnits (4 * n - 1) v.units data_units
   pub in_order : AreInLineOrder 0 v.units
 
 -- ---- the canonical packet
 
 -- The smallest number of payloads in which this number of Teletext units fits: 3 units in the first
 -- payload, and 4 in each further payload.
-unfoldable pub payloads_for : ℕ → ℕ
-payloads_for units = units / 4 + 1
+unfoldable pub payload_count_for : ℕ → ℕ
+payload_count_for units = units / 4 + 1
 
 -- n copies of the bytes b.
 abbrev pub repeated : ℕ → List ℕ → List ℕ
@@ -117,13 +117,13 @@ pes_packet_header n pts =
     packet_start
     ++ (bytes_high_first 2 (packet_length n)
     ++ ((0x84 ∷ 0x80 ∷ header_data_length ∷ [])
-    ++ (pts_bytes pts ++ (replicate 31 stuffing ++ (0x10 ∷ [])))))
+    ++ (pts_bytes pts ++ (replicate 31 stuffing_byte ++ (0x10 ∷ [])))))
 
 -- The canonical packet of a value: its Teletext units in order, then stuffing units, in the
--- smallest number of payloads (own).
+-- smallest number of payloads (not defined by a standard).
 unfoldable pub canonical_packet : PesValue → List ℕ
 canonical_packet v =
-    let n = payloads_for (length v.units) in
+    let n = payload_count_for (length v.units) in
     pes_packet_header n v.pts
     ++ (flat_map teletext_unit v.units
     ++ repeated (4 * n - 1 - length v.units) stuffing_unit)
@@ -132,7 +132,7 @@ canonical_packet v =
 -- order.
 pub record IsPesValue (v : PesValue) : Type 0 where
   pub pts : v.pts < 2 ^ 33
-  pub few : length v.units ≤ most_units
+  pub few : length v.units ≤ max_units
   pub each : AllByRecursion IsUnit v.units
   pub in_order : AreInLineOrder 0 v.units
 

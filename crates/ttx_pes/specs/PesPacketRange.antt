@@ -11,8 +11,8 @@ use Rattle.ttx_pes.specs.Reading.{size_at}
 
 -- The size of the PES packet at the front of the bytes, from its first six bytes. `None` if their
 -- start code or length is wrong.
-unfoldable pub stated_pes_packet : List ℕ → Option ℕ
-stated_pes_packet b = if nat_lt (length b) 6 then None else result_ok (size_at (take 6 b))
+unfoldable pub stated_packet_size : List ℕ → Option ℕ
+stated_packet_size b = if nat_lt (length b) 6 then None else result_ok (size_at (take 6 b))
 
 -- The size, if at least that many bytes are available; otherwise `None`.
 abbrev pub size_if_complete : ℕ → Option ℕ → Option ℕ
@@ -22,35 +22,37 @@ size_if_complete count (Some size) = if nat_le size count then Some size else No
 -- The size in bytes of the complete PES packet at the front of b. `None` if b does not begin with a
 -- complete PES packet.
 unfoldable pub pes_packet_size : List ℕ → Option ℕ
-pes_packet_size b = size_if_complete (length b) (stated_pes_packet b)
+pes_packet_size b = size_if_complete (length b) (stated_packet_size b)
 
 -- Applies `more` to the size of the PES packet at the front. Returns `none` if there is no packet.
-abbrev pub by_pes_packet : {A : Type 0} → Option ℕ → (ℕ → A) → A → A
-by_pes_packet None more none = none
-by_pes_packet (Some size) more none = more size
+abbrev pub with_packet_size_or : {A : Type 0} → Option ℕ → (ℕ → A) → A → A
+with_packet_size_or None more none = none
+with_packet_size_or (Some size) more none = more size
 
 -- The bytes after the first n PES packets, or after all packets if b has fewer.
 unfoldable pub rest_after_pes_packets : ℕ → List ℕ → List ℕ
 rest_after_pes_packets zero b = b
-rest_after_pes_packets (suc n) b = by_pes_packet (pes_packet_size b) (λ size. rest_after_pes_packets
+rest_after_pes_packets (suc n) b = with_packet_size_or (pes_packet_size b)
+    (λ size. rest_after_pes_packets
     n (drop size b)) b
 
 -- The bytes of the first n PES packets, or all bytes if b has fewer packets.
 unfoldable pub first_pes_packets : ℕ → List ℕ → List ℕ
 first_pes_packets zero b = []
 first_pes_packets (suc n) b =
-    by_pes_packet (pes_packet_size b) (λ size. take size b ++ first_pes_packets n (drop size b)) b
+    with_packet_size_or (pes_packet_size b) (λ size. take size b ++ first_pes_packets n
+    (drop size b)) b
 
 -- The number of PES packets at the front of b, at most n.
 unfoldable pub count_pes_packets : ℕ → List ℕ → ℕ
 count_pes_packets zero b = 0
 count_pes_packets (suc n) b =
-    by_pes_packet (pes_packet_size b) (λ size. suc (count_pes_packets n (drop size b))) 0
+    with_packet_size_or (pes_packet_size b) (λ size. suc (count_pes_packets n (drop size b))) 0
 
 -- The bytes of the first n PES packets, or all bytes if there is no limit.
-abbrev pub limited : Option ℕ → List ℕ → List ℕ
-limited None b = b
-limited (Some n) b = first_pes_packets n b
+abbrev pub limited_bytes : Option ℕ → List ℕ → List ℕ
+limited_bytes None b = b
+limited_bytes (Some n) b = first_pes_packets n b
 
 -- A range of PES packets: the indices of its first and last packet. Without `last`, it extends to
 -- the end of the file.
@@ -73,7 +75,7 @@ range_length r = option_map (λ last. last + 1 - r.first) r.last
 -- The bytes of a range: its PES packets and, if the file ends before the range, the bytes after the
 -- last packet of the file.
 unfoldable pub in_range : PesPacketRangeValue → List ℕ → List ℕ
-in_range r b = limited (range_length r) (rest_after_pes_packets r.first b)
+in_range r b = limited_bytes (range_length r) (rest_after_pes_packets r.first b)
 
 -- The index in the file of the first PES packet of a range, or the number of packets in the file if
 -- it has fewer.
@@ -91,8 +93,8 @@ pub record AheadValue : Type 0 where
 -- ---- ranges by lists of PES packets
 
 -- The bytes do not begin with a PES packet.
-abbrev pub BeginsNoPesPacket : List ℕ → Type 0
-BeginsNoPesPacket bytes = (p more : List ℕ) → IsPesPacket p → bytes ≡ p ++ more → ⊥
+abbrev pub StartsWithoutPesPacket : List ℕ → Type 0
+StartsWithoutPesPacket bytes = (p more : List ℕ) → IsPesPacket p → bytes ≡ p ++ more → ⊥
 
 -- The part of a file from PES packet `first` to packet `last`. The file consists of PES packets and
 -- a rest without packets. The rest belongs to the part if the file ends before packet `last`.

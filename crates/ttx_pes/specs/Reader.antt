@@ -10,9 +10,10 @@ use Rattle.ttx_pes.specs.declared.fault.PesFault.{PesFault}
 use Rattle.ttx_pes.specs.declared.fault.PesFault.TheVariants.{Ended, TooMany, Write}
 use Rattle.ttx_pes.specs.declared.progress.Progress.{Progress}
 use Rattle.ttx_pes.specs.declared.progress.Progress.TheVariants.{Reading, AtEnd, Broken}
-use Rattle.ttx_pes.specs.Fault.{is_read}
+use Rattle.ttx_pes.specs.Fault.{is_read_fault}
 use Rattle.ttx_pes.specs.PesGrammar.{PesValue, IsValidPesPacket}
-use Rattle.ttx_pes.specs.Reading.{answer_at, is_format_fault, most_packets, packet_at, rest_after}
+use Rattle.ttx_pes.specs.Reading.{answer_at, is_format_fault, max_pes_packets, packet_at}
+use Rattle.ttx_pes.specs.Reading.{rest_after}
 use Rattle.ttx_pes.specs.Reading.{size_at}
 
 -- The progress of a reader after a result: a packet is counted, and the end of the file or a fault
@@ -23,16 +24,16 @@ progress_after (Reading given) (Ok (Some _)) = Reading (given + 1)
 progress_after p (Ok _) = AtEnd
 
 -- The reader has read at most `most` PES packets, or has reached the end or reported a fault.
-abbrev pub GivesAtMost : ℕ → Progress → Type 0
-GivesAtMost most (Reading given) = given ≤ most
-GivesAtMost most AtEnd = Unit {0}
-GivesAtMost most Broken = Unit {0}
+abbrev pub ReturnsAtMost : ℕ → Progress → Type 0
+ReturnsAtMost most (Reading given) = given ≤ most
+ReturnsAtMost most AtEnd = Unit {0}
+ReturnsAtMost most Broken = Unit {0}
 
 -- The result of `next_into`, with its frame, as a result of `next`.
-abbrev pub yielded_frame : Result Bool PesFault → PesValue → Result (Option PesValue) PesFault
-yielded_frame (Ok true) v = Ok (Some v)
-yielded_frame (Ok false) v = Ok None
-yielded_frame (Err f) v = Err f
+abbrev pub frame_answer : Result Bool PesFault → PesValue → Result (Option PesValue) PesFault
+frame_answer (Ok true) v = Ok (Some v)
+frame_answer (Ok false) v = Ok None
+frame_answer (Err f) v = Err f
 
 -- Exactly one valid PES packet with the value v was consumed.
 pub record TakesValidPesPacket (old new : Option (List ℕ)) (v : PesValue) : Type 0 where
@@ -49,13 +50,13 @@ IsIncompletePesPacket bytes =
 
 -- The source failed within a PES packet: the consumed bytes are an incomplete packet without a
 -- fault.
-pub record FailsWithin (old new : Option (List ℕ)) : Type 0 where
+pub record FailsWithinPacket (old new : Option (List ℕ)) : Type 0 where
   pub bytes : List ℕ
   pub consumed : Consumes old new bytes
   pub begun : IsIncompletePesPacket bytes
 
 -- The consumed bytes of a PES packet are rejected for the format fault f, whatever bytes follow.
-pub record TakesRefused (old new : Option (List ℕ)) (f : PesFault) : Type 0 where
+pub record ConsumesRefusedPacket (old new : Option (List ℕ)) (f : PesFault) : Type 0 where
   pub bytes : List ℕ
   pub consumed : Consumes old new bytes
   pub refused : packet_at bytes ≡ Err f
@@ -74,21 +75,23 @@ pub record ReportsPacket
   pub exact :
       (given : ℕ)
       → before ≡ Reading given
-      → IfKnown old (λ bytes. failed is_read answer ≡ false → answer_at given bytes ≡ answer)
+      → IfKnown old (λ bytes. failed is_read_fault answer ≡ false → answer_at given bytes ≡ answer)
   pub left :
       (given : ℕ)
       → before ≡ Reading given
       → IfKnown old (λ bytes. OnOk answer (new ≡ Some (rest_after bytes)))
   -- After a format fault, the consumed bytes have that fault, even if the bytes of the source are
   -- unknown.
-  pub refused : IfErr answer (λ fault. is_format_fault fault ≡ true → TakesRefused old new fault)
-  pub too_many : IfErr answer (λ fault. fault ≡ TooMany → before ≡ Reading most_packets)
+  pub refused : IfErr answer (λ fault. is_format_fault fault ≡ true → ConsumesRefusedPacket old new
+      fault)
+  pub packet_limit_refuses_packet : IfErr answer (λ fault. fault ≡ TooMany → before ≡ Reading
+      max_pes_packets)
   -- If the source fails, it fails within the PES packet, whose bytes so far have no fault.
-  pub within : failed is_read answer ≡ true → FailsWithin old new
-  pub at_end : before ≡ AtEnd → answer ≡ Ok None
+  pub within : failed is_read_fault answer ≡ true → FailsWithinPacket old new
+  pub no_bytes_remain_at_end : before ≡ AtEnd → answer ≡ Ok None
   pub ended : (before ≡ Broken) ↔ (answer ≡ Err Ended)
   -- A reader writes nothing, so no sink can fail.
-  pub no_write : IfErr answer (λ fault. fault ≢ Write)
+  pub is_no_write_fault : IfErr answer (λ fault. fault ≢ Write)
 
 -- Exactly n valid PES packets were consumed.
 pub record TakesPackets (n : ℕ) (old new : Option (List ℕ)) : Type 0 where
@@ -101,9 +104,10 @@ pub record TakesPackets (n : ℕ) (old new : Option (List ℕ)) : Type 0 where
 pub record FailsAtPacket (n : ℕ) (old new : Option (List ℕ)) : Type 0 where
   pub following : Option (List ℕ)
   pub before : TakesPackets n old following
-  pub within : FailsWithin following new
+  pub within : FailsWithinPacket following new
 
 -- The bytes do not begin with a valid PES packet.
-abbrev pub BeginNoPesPacket : List ℕ → Type 0
-BeginNoPesPacket bytes = (v : PesValue) (b rest : List ℕ) → IsValidPesPacket v b → bytes ≡ b ++ rest
+abbrev pub StartWithoutPesPacket : List ℕ → Type 0
+StartWithoutPesPacket bytes = (v : PesValue) (b rest : List ℕ) → IsValidPesPacket v b → bytes ≡ b ++
+    rest
     → ⊥

@@ -10,9 +10,10 @@ use Rattle.ttx_packet.specs.BitOrder.{mirror}
 use Rattle.ttx_pes.specs.declared.fault.PesFault.{PesFault}
 use Rattle.ttx_pes.specs.declared.fault.PesFault.TheVariants as fault
 use Rattle.ttx_pes.specs.DataUnit.{UnitValue, is_teletext, data_unit_length, data_unit_size}
-use Rattle.ttx_pes.specs.DataUnit.{framing_code, stuffing}
+use Rattle.ttx_pes.specs.DataUnit.{framing_code, stuffing_byte}
 use Rattle.ttx_pes.specs.LineOrder.{last_place, may_follow}
-use Rattle.ttx_pes.specs.PesGrammar.{PesValue, header_data_length, longest_packet, payload_size}
+use Rattle.ttx_pes.specs.PesGrammar.{PesValue, header_data_length, max_pes_packet_size}
+use Rattle.ttx_pes.specs.PesGrammar.{payload_size}
 
 -- The Teletext unit decoded from the 46 bytes of a data unit.
 abbrev pub unit_of : List ℕ → UnitValue
@@ -65,27 +66,28 @@ pts_bits b =
     + byte_at b 13 / 2
 
 -- Bytes 9 to 13 of the PES packet begin with 0010, and the three marker bits of the PTS are set.
-abbrev pub has_markers : List ℕ → Bool
-has_markers b =
+abbrev pub has_pts_markers : List ℕ → Bool
+has_pts_markers b =
     (byte_at b 9 / 0x10 == 2)
     && (byte_at b 9 % 2 == 1)
     && (byte_at b 11 % 2 == 1)
     && (byte_at b 13 % 2 == 1)
 
--- All bytes are FF, as in a gap marker from byte 6 on (own). A scrambled packet, or one with wrong
--- flags, is very unlikely to consist of FF only.
-abbrev pub is_filled : List ℕ → Bool
-is_filled b = list_all (λ byte. byte == stuffing) b
+-- All bytes are FF, as in a gap marker from byte 6 on (not defined by a standard). A scrambled
+-- packet, or one with wrong flags, is very unlikely to consist of FF only.
+abbrev pub is_all_stuffing : List ℕ → Bool
+is_all_stuffing b = list_all (λ byte. byte == stuffing_byte) b
 
 -- The PES packet is a gap marker, which stands for lost PES packets: 184 bytes, all FF from byte 6
--- on (own).
+-- on (not defined by a standard).
 abbrev pub is_gap_marker : List ℕ → Bool
-is_gap_marker pes_packet = (length pes_packet == payload_size) && is_filled (drop 6 pes_packet)
+is_gap_marker pes_packet = (length pes_packet == payload_size) && is_all_stuffing
+    (drop 6 pes_packet)
 
 -- The fault of a PES packet whose byte 6 does not begin with 1000: `Lost` for a gap marker,
 -- otherwise `Flags`.
 abbrev pub flags_fault : List ℕ → PesFault
-flags_fault b = if is_filled b then fault.Lost else fault.Flags
+flags_fault b = if is_all_stuffing b then fault.Lost else fault.Flags
 
 -- The PTS of a PES packet, parsed from its bytes 6 to 45, or their first fault.
 unfoldable pub pts_at : List ℕ → Result ℕ PesFault
@@ -93,7 +95,7 @@ pts_at b =
     if not (byte_at b 6 / 0x10 == 8) then Err (flags_fault b)
     else if not (byte_at b 7 / 0x40 == 2) then Err fault.NoTime
     else if not (byte_at b 8 == header_data_length) then Err fault.HeaderLength
-    else if not (has_markers b) then Err fault.Time
+    else if not (has_pts_markers b) then Err fault.Time
     else if not (byte_at b 45 / 0x10 == 1) then Err fault.DataId
     else Ok (pts_bits b)
 
@@ -120,7 +122,8 @@ stated_size b = 0x100 * slice_index b 4 + slice_index b 5 + 6
 unfoldable pub size_at : List ℕ → Result ℕ PesFault
 size_at b =
     if not (is_start b) then Err fault.Start
-    else if not ((stated_size b % payload_size == 0) && nat_le (stated_size b) longest_packet) then
+    else if not ((stated_size b % payload_size == 0) && nat_le (stated_size b) max_pes_packet_size)
+    then
     Err fault.Length
     else Ok (stated_size b)
 
@@ -134,15 +137,15 @@ packet_at b = do
   Ok (v, drop size b)
 
 -- The maximum number of PES packets in a file: one for each frame of a day at 25 frames per second.
-abbrev pub most_packets : ℕ
-most_packets = 2160000
+abbrev pub max_pes_packets : ℕ
+max_pes_packets = 2160000
 
 -- The result of a reader that has read `given` PES packets, for these remaining bytes, if its
 -- source does not fail.
 unfoldable pub answer_at : ℕ → List ℕ → Result (Option PesValue) PesFault
 answer_at given [] = Ok None
 answer_at given (x ∷ b) =
-    if given == most_packets then Err fault.TooMany
+    if given == max_pes_packets then Err fault.TooMany
     else (packet_at (x ∷ b) >>= λ p. Ok (Some p.0))
 
 -- The remaining bytes after a PES packet was read, or all bytes if none was read.

@@ -1,6 +1,6 @@
 -- The fault of the bytes of a PES packet, defined by the grammar alone: the first check, in a fixed
 -- order, in which no packet of the grammar agrees with the bytes (EN 300 472; the order of the
--- checks is (own)).
+-- checks is not defined by a standard).
 --
 -- Each check has a number. It concerns bytes of the packet or of data unit k, or the number of
 -- bytes, and has a fault:
@@ -24,7 +24,7 @@ use Rattle.std.specs.Prelude.{drop, length, replicate, slice_index, slice_index_
 use Rattle.ttx_pes.specs.declared.fault.PesFault.{PesFault}
 use Rattle.ttx_pes.specs.declared.fault.PesFault.TheVariants as fault
 use Rattle.ttx_pes.specs.DataUnit.{data_unit_size}
-use Rattle.ttx_pes.specs.PesGrammar.{PesValue, IsValidPesPacket, header_size, most_units}
+use Rattle.ttx_pes.specs.PesGrammar.{PesValue, IsValidPesPacket, header_size, max_units}
 use Rattle.ttx_pes.specs.Reading.{flags_fault}
 
 -- The bytes of a PES packet from byte 6 on, as many as PES_packet_length states.
@@ -47,14 +47,14 @@ reported_fault b i =
     slice_index_or (packet_faults b) i (slice_index_or unit_faults (i % 3) fault.Truncated)
 
 -- The check number of bytes that may have any value: greater than the number of any check.
-abbrev pub no_question : ℕ
-no_question = 9 + 3 * most_units
+abbrev pub unchecked_byte : ℕ
+unchecked_byte = 9 + 3 * max_units
 
 -- The check numbers of the 46 bytes before the data units.
 abbrev pub header_byte_checks : List ℕ
 header_byte_checks =
     (1 ∷ 1 ∷ 1 ∷ 1 ∷ 2 ∷ 2 ∷ 4 ∷ 5 ∷ 6 ∷ 7 ∷ 7 ∷ 7 ∷ 7 ∷ 7 ∷ [])
-    ++ (replicate 31 no_question ++ (8 ∷ []))
+    ++ (replicate 31 unchecked_byte ++ (8 ∷ []))
 
 -- The check numbers of the first four bytes of data unit 0.
 abbrev pub unit_byte_checks : List ℕ
@@ -65,13 +65,13 @@ abbrev pub check_of_byte : ℕ → ℕ
 check_of_byte place =
     let within = place - header_size in
     slice_index_or header_byte_checks place
-    (slice_index_or unit_byte_checks (within % data_unit_size) no_question
+    (slice_index_or unit_byte_checks (within % data_unit_size) unchecked_byte
     + 3 * (within / data_unit_size))
 
 -- The bytes agree with a valid packet in all checks before check number `question`: enough bytes
 -- are available, and each checked byte equals that of the packet.
-pub record AgreeBefore (question : ℕ) (bytes packet : List ℕ) : Type 0 where
-  pub six : 0 < question → 6 ≤ length bytes
+pub record AgreeBeforeCheck (question : ℕ) (bytes packet : List ℕ) : Type 0 where
+  pub has_six_bytes : 0 < question → 6 ≤ length bytes
   pub all : 3 < question → length packet ≤ length bytes
   pub same :
       (place : ℕ)
@@ -81,13 +81,13 @@ pub record AgreeBefore (question : ℕ) (bytes packet : List ℕ) : Type 0 where
 
 -- Check number `question` is the first check that the bytes fail: a packet of the grammar agrees
 -- with them in all earlier checks, but none agrees in this check too.
-pub record FailFirst (question : ℕ) (bytes : List ℕ) : Type 0 where
+pub record FailsFirstAtCheck (question : ℕ) (bytes : List ℕ) : Type 0 where
   pub value : PesValue
   pub packet : List ℕ
   pub is_packet : IsValidPesPacket value packet
-  pub before : AgreeBefore question bytes packet
+  pub before : AgreeBeforeCheck question bytes packet
   pub none :
       (v : PesValue) (p : List ℕ)
       → IsValidPesPacket v p
-      → AgreeBefore (question + 1) bytes p
+      → AgreeBeforeCheck (question + 1) bytes p
       → ⊥

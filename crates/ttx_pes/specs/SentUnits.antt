@@ -15,11 +15,11 @@ abbrev pub packets_of_units : List UnitValue → List (List ℕ)
 packets_of_units units = map (λ (u : UnitValue). u.packet) units
 
 -- The data units at these offsets end within `size` bytes.
-abbrev pub AreWithin : ℕ → List ℕ → Type 0
-AreWithin size places = All (λ at. at + data_unit_size ≤ size) places
+abbrev pub EndWithinField : ℕ → List ℕ → Type 0
+EndWithinField size places = All (λ at. at + data_unit_size ≤ size) places
 
 -- The Teletext unit of a data unit if it carries one (`Ok true`), or its fault.
-abbrev pub unit_where : List ℕ → Result Bool PesFault → Result (Option UnitValue) PesFault
-unit_where b (Ok true) = Ok (Some (unit_of b))
-unit_where b (Ok false) = Ok None
-unit_where b (Err f) = Err f
+abbrev pub unit_if_teletext : List ℕ → Result Bool PesFault → Result (Option UnitValue) PesFault
+unit_if_teletext b (Ok true) = Ok (Some (unit_of b))
+unit_if_teletext b (Ok false) = Ok None
+unit_if_teletext b (Err f) = Err f

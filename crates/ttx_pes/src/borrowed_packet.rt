@@ -2,22 +2,22 @@
 //! completely buffered in the source.
 ghost use Rattle.std.specs.Prelude.{◌≡◌, OnOk, is_ok};
 ghost use Rattle.sub_io.specs.Flushing.{FlushesIfPending, BuffersOnlyWhilePending};
-ghost use Rattle.ttx_pes.specs.BorrowedPacket.{NothingIsPending, holds_packet};
+ghost use Rattle.ttx_pes.specs.BorrowedPacket.{NothingIsPending, has_enough_for_packet};
 
-use crate::pes_header::size_of;
+use crate::pes_header::decode_packet_size;
 use crate::pes_packets::PesPackets;
 use sub_io::{Live, Stopped};
 
 /// Returns whether the bytes suffice to read the next PES packet: they contain the complete packet
 /// (EN 300 472, PES_packet_length), or six bytes that show a wrong start code or length.
-#[tactic(auto, using(crate::proofs::BorrowedPacketLemmas::holds_packet_short))]
-pub fn holds_packet(borrowed: &[u8]) -> bool
-    ensures { result ≡ holds_packet borrowed.now }
+#[tactic(auto, using(crate::proofs::BorrowedPacketLemmas::short_bytes_are_not_enough))]
+pub fn has_enough_for_packet(borrowed: &[u8]) -> bool
+    ensures { result ≡ has_enough_for_packet borrowed.now }
 {
     let Some(head) = borrowed.first_chunk() else {
         return false;
     };
-    match size_of(head) {
+    match decode_packet_size(head) {
         Ok(size) => size <= borrowed.len(),
         Err(_) => true,
     }

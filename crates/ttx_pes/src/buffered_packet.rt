@@ -2,24 +2,25 @@
 ghost use Rattle.std.specs.Prelude.{◌≡◌, ◌+◌, ◌/◌, ◌%◌, ◌≤◌, ◌↔◌, true, Ok, Err, OnOk, IfOk, IfErr};
 ghost use Rattle.std.specs.Prelude.{IfSome, length, drop, take, []};
 ghost use Rattle.ttx_pes.specs.DataUnit.{data_unit_size};
-ghost use Rattle.ttx_pes.specs.PesGrammar.{longest_packet, payload_size};
+ghost use Rattle.ttx_pes.specs.PesGrammar.{max_pes_packet_size, payload_size};
 ghost use Rattle.ttx_pes.specs.Reading.{units_at, value_at, is_format_fault};
-ghost use Rattle.ttx_pes.specs.SentUnits.{AreWithin, sent_units};
-ghost use Rattle.ttx_pes.specs.Taking.{AreAllPlaces, HasUnits, IsFieldSize, IsInBuffer};
-ghost use Rattle.ttx_pes.specs.Taking.{IsSentAgain};
-ghost use Rattle.ttx_pes.specs.Taking.{field_in, buffered_frame, no_packet};
+ghost use Rattle.ttx_pes.specs.SentUnits.{EndWithinField, sent_units};
+ghost use Rattle.ttx_pes.specs.Accepting.{AreAllUnitPlaces, DecodesToUnits, IsDataFieldSize};
+ghost use Rattle.ttx_pes.specs.Accepting.{IsInBuffer};
+ghost use Rattle.ttx_pes.specs.Accepting.{IsRepeatedPacket};
+ghost use Rattle.ttx_pes.specs.Accepting.{data_field_in_buffer, buffered_frame, no_buffered_packet};
 
+use crate::equal_unit_headers::are_unit_headers_equal;
 use crate::fault::PesFault;
 use crate::pes_header::pts_of;
 use crate::pes_packet_buffer::PacketBuffer;
-use crate::same_bytes::{begin_equally, is_same};
-use crate::same_heads::are_same_heads;
+use crate::same_bytes::{have_equal_starts, is_same};
 use crate::sent_units::SentUnits;
-use crate::unit_places::{UnitPlaces, take_places};
+use crate::unit_places::{UnitPlaces, append_unit_places};
 use std::marker::Model;
 
 // The offset of the data field in a PES packet.
-const FIELD: usize = 45;
+const DATA_FIELD_OFFSET: usize = 45;
 
 /// Parsed fields of the PES packet in a buffer: its PTS, the size of its data field (bytes 45 to
 /// the end), and the offsets of its Teletext units.
@@ -35,54 +36,54 @@ pub(crate) struct BufferedPacket {
 
 impl Model for BufferedPacket {
     ghost use Rattle.std.specs.Prelude.{◌≡◌, true};
-    ghost use Rattle.ttx_pes.specs.Taking.{BufferedPacketValue, IsFieldSize};
+    ghost use Rattle.ttx_pes.specs.Accepting.{BufferedPacketValue, IsDataFieldSize};
 
     ghost Value = { BufferedPacketValue };
 
     ghost view = { λ h. record { pts = h.pts; count = h.count; places = h.places } };
 
-    ghost invariant = { λ h. h.repeats ≡ true → IsFieldSize h.count };
+    ghost invariant = { λ h. h.repeats ≡ true → IsDataFieldSize h.count };
 }
 
 // Changes `places` from the offsets of the Teletext units in the data field `kept` to those in
 // `field`. Usually the data units of both are on the same lines, so the offsets do not change.
 #[inline(always)]
 fn find_places(places: &mut UnitPlaces, kept: &[u8], field: &[u8]) -> Result<(), PesFault>
-    requires within { AreWithin (length kept.now) places.old }
-    requires units { HasUnits kept.now (sent_units kept.now places.old) }
-    requires all { AreAllPlaces kept.now places.old }
+    requires within { EndWithinField (length kept.now) places.old }
+    requires units { DecodesToUnits kept.now (sent_units kept.now places.old) }
+    requires all { AreAllUnitPlaces kept.now places.old }
     requires long { 139 ≤ length field.now }
-    requires short { length field.now + 45 ≤ longest_packet }
+    requires short { length field.now + 45 ≤ max_pes_packet_size }
     requires whole { (length field.now + 45) % payload_size ≡ 0 }
-    ensures within { OnOk result (AreWithin (length field.now) places.new) }
-    ensures all { OnOk result (AreAllPlaces field.now places.new) }
+    ensures within { OnOk result (EndWithinField (length field.now) places.new) }
+    ensures all { OnOk result (AreAllUnitPlaces field.now places.new) }
     ensures ok { OnOk result (units_at (length (drop 1 field.now) / data_unit_size) []
         (drop 1 field.now) ≡ Ok (sent_units field.now places.new)) }
     ensures err { IfErr result (λ fault. units_at (length (drop 1 field.now) / data_unit_size) []
         (drop 1 field.now) ≡ Err fault) }
     ensures kind { IfErr result (λ fault. is_format_fault fault ≡ true) }
 {
-    if kept.len() == field.len() && are_same_heads(kept, field) {
+    if kept.len() == field.len() && are_unit_headers_equal(kept, field) {
         return Ok(());
     }
     places.clear();
-    take_places(places, field)
+    append_unit_places(places, field)
 }
 
 // Returns whether a data field equals the stored one. For speed, compares first the bytes in which
 // different data fields usually differ.
 #[inline(always)]
 fn is_kept(kept: &[u8], field: &[u8]) -> bool
-    requires { IsFieldSize (length field.now) }
+    requires { IsDataFieldSize (length field.now) }
     ensures { (result ≡ true) ↔ (field.now ≡ kept.now) }
 {
-    kept.len() == field.len() && begin_equally(field, kept) && is_same(field, kept)
+    kept.len() == field.len() && have_equal_starts(field, kept) && is_same(field, kept)
 }
 
 impl BufferedPacket {
     // Creates the parsed fields for an empty buffer.
     pub(crate) fn new() -> Self
-        ensures { result ≡ no_packet }
+        ensures { result ≡ no_buffered_packet }
     {
         BufferedPacket {
             pts: 0,
@@ -94,7 +95,7 @@ impl BufferedPacket {
 
     // Resets the parsed fields to those of an empty buffer.
     pub(crate) fn clear(&mut self)
-        ensures { self.new ≡ no_packet }
+        ensures { self.new ≡ no_buffered_packet }
     {
         self.pts = 0;
         self.count = 0;
@@ -111,10 +112,10 @@ impl BufferedPacket {
 
     // Returns the size of the packet in bytes, or 45, an impossible size, if there is no packet.
     pub(crate) fn size(&self) -> usize
-        requires { self.now.count + 45 ≤ longest_packet }
+        requires { self.now.count + 45 ≤ max_pes_packet_size }
         ensures { result ≡ self.now.count + 45 }
     {
-        FIELD + self.count
+        DATA_FIELD_OFFSET + self.count
     }
 
     // Sets the PTS of the packet.
@@ -128,7 +129,7 @@ impl BufferedPacket {
     // on this, not the result.
     #[inline(always)]
     pub(crate) fn repeats(&self) -> bool
-        ensures { result ≡ true → IsFieldSize self.now.count }
+        ensures { result ≡ true → IsDataFieldSize self.now.count }
     {
         self.repeats
     }
@@ -136,11 +137,12 @@ impl BufferedPacket {
     // Returns the PTS of a packet that repeats the packet in the buffer: it is valid and has the
     // same data field. Returns `None` for any other packet.
     #[inline(always)]
-    pub(crate) fn pts_again(&self, before: &PacketBuffer, pes_packet: &[u8]) -> Option<u64>
-        requires known { IsInBuffer (field_in self.now.count before.now) self.now }
-        requires size { IsFieldSize self.now.count }
+    pub(crate) fn read_repeated_pts(&self, before: &PacketBuffer, pes_packet: &[u8]) -> Option<u64>
+        requires known { IsInBuffer (data_field_in_buffer self.now.count before.now) self.now }
+        requires size { IsDataFieldSize self.now.count }
         ensures again { IfSome result (λ pts.
-            IsSentAgain (field_in self.now.count before.now) self.now pes_packet.now pts) }
+            IsRepeatedPacket (data_field_in_buffer self.now.count before.now) self.now
+            pes_packet.now pts) }
     {
         if pes_packet.len() != self.size() {
             return None;
@@ -158,19 +160,19 @@ impl BufferedPacket {
 
     // Returns the data field of the packet in the buffer.
     fn field<'a>(&self, room: &'a PacketBuffer) -> &'a [u8]
-        requires { self.now.count + 45 ≤ longest_packet }
-        ensures { result.now ≡ field_in self.now.count room.now }
+        requires { self.now.count + 45 ≤ max_pes_packet_size }
+        ensures { result.now ≡ data_field_in_buffer self.now.count room.now }
     {
-        let (_, following) = room.split_at(FIELD);
+        let (_, following) = room.split_at(DATA_FIELD_OFFSET);
         let (field, _) = following.split_at(self.count);
         field
     }
 
     // Returns the Teletext units of the packet in the buffer.
     pub(crate) fn units<'a>(&'a self, room: &'a PacketBuffer) -> SentUnits<'a>
-        requires { IsInBuffer (field_in self.now.count room.now) self.now }
+        requires { IsInBuffer (data_field_in_buffer self.now.count room.now) self.now }
         ensures value { result
-            ≡ (buffered_frame (field_in self.now.count room.now) self.now).units }
+            ≡ (buffered_frame (data_field_in_buffer self.now.count room.now) self.now).units }
     {
         SentUnits::new(self.field(room), self.places.as_slice())
     }
@@ -180,19 +182,19 @@ impl BufferedPacket {
     #[inline(always)]
     #[tactic(auto, unfolding(crate::specs::Reading::value_at))]
     pub(crate) fn take(&mut self, before: &PacketBuffer, body: &[u8]) -> Result<bool, PesFault>
-        requires known { IsInBuffer (field_in self.old.count before.now) self.old }
+        requires known { IsInBuffer (data_field_in_buffer self.old.count before.now) self.old }
         requires long { payload_size ≤ length body.now + 6 }
-        requires short { length body.now + 6 ≤ longest_packet }
+        requires short { length body.now + 6 ≤ max_pes_packet_size }
         requires whole { (length body.now + 6) % payload_size ≡ 0 }
         ensures value { OnOk result
             (value_at body.now ≡ Ok (buffered_frame (drop 39 body.now) self.new)) }
         ensures known { OnOk result (IsInBuffer (drop 39 body.now) self.new) }
         ensures count { OnOk result (self.new.count + 39 ≡ length body.now) }
         ensures same { IfOk result (λ same.
-            (same ≡ true) ↔ (drop 39 body.now ≡ field_in self.old.count before.now)) }
+            (same ≡ true) ↔ (drop 39 body.now ≡ data_field_in_buffer self.old.count before.now)) }
         ensures kept { result ≡ Ok true → self.new.count ≡ self.old.count }
         ensures units { result ≡ Ok true → sent_units (drop 39 body.now) self.new.places
-            ≡ sent_units (field_in self.old.count before.now) self.old.places }
+            ≡ sent_units (data_field_in_buffer self.old.count before.now) self.old.places }
         ensures err { IfErr result (λ fault. value_at body.now ≡ Err fault) }
         ensures kind { IfErr result (λ fault. is_format_fault fault ≡ true) }
     {

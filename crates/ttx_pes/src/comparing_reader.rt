@@ -3,20 +3,21 @@
 //! `check`, `listen` and `packets` each have their own loop over this reader. A common loop would
 //! need more lemmas than it saves.
 ghost use Rattle.std.specs.Prelude.{◌≡◌, ℕ, ◌+◌, ◌≤◌, ◌≢◌, true, false, [], None, Ok, IfErr};
-ghost use Rattle.sub_io.specs.Device.{CanFail, CountsIf, failed};
-ghost use Rattle.ttx_pes.specs.Comparing.{next_into_result, taken_count_after, skipped_over};
+ghost use Rattle.sub_io.specs.Device.{CanFail, CountsFailureIf, failed};
+ghost use Rattle.ttx_pes.specs.Comparing.{comparison_as_flag, returned_count_after};
+ghost use Rattle.ttx_pes.specs.Comparing.{with_packet_skipped};
 ghost use Rattle.ttx_pes.specs.Comparing.{TakesDataField};
-ghost use Rattle.ttx_pes.specs.Fault.{is_of_pes_packet, is_read};
+ghost use Rattle.ttx_pes.specs.Fault.{is_packet_content_fault, is_read_fault};
 ghost use Rattle.ttx_pes.specs.PesPackets.{TakesPesPacket};
 ghost use Rattle.ttx_pes.specs.declared.comparing_reader.Compared.TheVariants.{Same, Other};
 ghost use Rattle.ttx_pes.specs.declared.progress.Progress.TheVariants.{Reading, AtEnd, Broken};
 ghost use Rattle.ttx_pes.specs.PesGrammar.{IsPesValue, empty_value};
-ghost use Rattle.ttx_pes.specs.Reading.{most_packets};
-ghost use Rattle.ttx_pes.specs.Reader.{ReportsPacket, yielded_frame, progress_after};
+ghost use Rattle.ttx_pes.specs.Reading.{max_pes_packets};
+ghost use Rattle.ttx_pes.specs.Reader.{ReportsPacket, frame_answer, progress_after};
 
 use crate::fault::PesFault;
-use crate::kept_frame::KeptFrame;
-use crate::passing::{MOST_PACKETS, read_end};
+use crate::frame_buffer::FrameBuffer;
+use crate::passing::{MAX_PES_PACKETS, read_end};
 use crate::pes_packets::{PesPackets, Received};
 use crate::progress::Progress;
 use crate::sent_units::SentUnits;
@@ -47,14 +48,14 @@ pub struct ComparingReader {
     // The number of packets consumed, including the last one, if the last result was the fault of a
     // complete packet; after such a fault `skip_packet` allows reading to continue.
     following: Option<u32>,
-    kept: KeptFrame,
+    kept: FrameBuffer,
 }
 
 impl Model for ComparingReader {
     ghost use Rattle.std.specs.Prelude.{◌≤◌, IfSome};
     ghost use Rattle.ttx_pes.specs.Comparing.{ComparingValue};
-    ghost use Rattle.ttx_pes.specs.Reader.{GivesAtMost};
-    ghost use Rattle.ttx_pes.specs.Reading.{most_packets};
+    ghost use Rattle.ttx_pes.specs.Reader.{ReturnsAtMost};
+    ghost use Rattle.ttx_pes.specs.Reading.{max_pes_packets};
 
     ghost Value = { ComparingValue };
 
@@ -65,8 +66,8 @@ impl Model for ComparingReader {
       following = r.following;
     } };
 
-    ghost invariant = { λ r. GivesAtMost most_packets r.progress
-        × IfSome r.following (λ given. given ≤ most_packets) };
+    ghost invariant = { λ r. ReturnsAtMost max_pes_packets r.progress
+        × IfSome r.following (λ given. given ≤ max_pes_packets) };
 }
 
 // Reads the next PES packet, and compares it with the stored packet.
@@ -74,32 +75,33 @@ impl Model for ComparingReader {
 fn read_compared<P: PesPackets>(
     given: u32,
     pes_packets: &mut P,
-    kept: &mut KeptFrame,
+    kept: &mut FrameBuffer,
 ) -> Result<Compared, PesFault>
     requires count { CanFail (P.failure_count pes_packets.old) }
     ensures reports { ReportsPacket (Reading given) (P.remaining pes_packets.old)
         (P.left pes_packets.new)
-        (yielded_frame (next_into_result result) kept.new.frame) }
-    ensures taken { next_into_result result ≡ Ok true → TakesDataField (P.remaining pes_packets.old)
+        (frame_answer (comparison_as_flag result) kept.new.frame) }
+    ensures taken { comparison_as_flag result ≡ Ok true → TakesDataField
+        (P.remaining pes_packets.old)
         (P.left pes_packets.new) kept.new.frame kept.new.data_field }
     ensures same { result ≡ Ok Same → kept.new.data_field ≡ kept.old.data_field }
     ensures units { result ≡ Ok Same → kept.new.frame.units ≡ kept.old.frame.units }
     ensures other { result ≡ Ok Other → kept.new.data_field ≢ kept.old.data_field }
-    ensures below { next_into_result result ≡ Ok true → given ≢ most_packets }
-    ensures pes_packet { IfErr result (λ fault. is_of_pes_packet fault ≡ true
+    ensures below { comparison_as_flag result ≡ Ok true → given ≢ max_pes_packets }
+    ensures pes_packet { IfErr result (λ fault. is_packet_content_fault fault ≡ true
         → TakesPesPacket (P.remaining pes_packets.old) (P.left pes_packets.new) fault) }
-    ensures before_pes_packet { IfErr result (λ fault. is_of_pes_packet fault ≡ true
-        → given ≢ most_packets) }
-    ensures settled { next_into_result result ≡ Ok true → P.left pes_packets.new ≡ P.remaining
+    ensures limit_is_not_reached { IfErr result (λ fault. is_packet_content_fault fault ≡ true
+        → given ≢ max_pes_packets) }
+    ensures settled { comparison_as_flag result ≡ Ok true → P.left pes_packets.new ≡ P.remaining
         pes_packets.new }
-    ensures pes_packet_settled { IfErr result (λ fault. is_of_pes_packet fault ≡ true
+    ensures pes_packet_settled { IfErr result (λ fault. is_packet_content_fault fault ≡ true
         → P.left pes_packets.new ≡ P.remaining pes_packets.new) }
-    ensures ready { P.ready pes_packets.old ≡ true → failed is_read result ≡ false }
+    ensures ready { P.ready pes_packets.old ≡ true → failed is_read_fault result ≡ false }
     ensures device { P.device pes_packets.new ≡ P.device pes_packets.old }
-    ensures count { CountsIf P.failure_count pes_packets.old (failed is_read result)
+    ensures count { CountsFailureIf P.failure_count pes_packets.old (failed is_read_fault result)
         pes_packets.new }
 {
-    if given == MOST_PACKETS {
+    if given == MAX_PES_PACKETS {
         read_end(given, pes_packets)?;
         return Ok(Compared::End);
     }
@@ -126,7 +128,7 @@ impl ComparingReader {
         ComparingReader {
             progress: Progress::Reading(0),
             following: None,
-            kept: KeptFrame::new(),
+            kept: FrameBuffer::new(),
         }
     }
 
@@ -163,11 +165,11 @@ impl ComparingReader {
     pub fn next<P: PesPackets>(&mut self, pes_packets: &mut P) -> Result<Compared, PesFault>
         requires { CanFail (P.failure_count pes_packets.old) }
         ensures reports { ReportsPacket self.old.progress (P.remaining pes_packets.old)
-            (P.left pes_packets.new) (yielded_frame (next_into_result result) self.new.frame) }
-        ensures taken { next_into_result result ≡ Ok true → TakesDataField
+            (P.left pes_packets.new) (frame_answer (comparison_as_flag result) self.new.frame) }
+        ensures taken { comparison_as_flag result ≡ Ok true → TakesDataField
             (P.remaining pes_packets.old)
             (P.left pes_packets.new) self.new.frame self.new.data_field }
-        ensures empty { next_into_result result ≢ Ok true → self.new.frame ≡ empty_value }
+        ensures empty { comparison_as_flag result ≢ Ok true → self.new.frame ≡ empty_value }
         // `Same` means that the data field is unchanged, and `Other` that it has changed.
         ensures same { result ≡ Ok Same → self.new.data_field ≡ self.old.data_field }
         ensures units { result ≡ Ok Same → self.new.frame.units ≡ self.old.frame.units }
@@ -175,38 +177,40 @@ impl ComparingReader {
 
         // If the fault is in the contents of a complete packet, the bytes of that packet were
         // consumed.
-        ensures pes_packet { IfErr result (λ fault. is_of_pes_packet fault ≡ true
+        ensures pes_packet { IfErr result (λ fault. is_packet_content_fault fault ≡ true
             → TakesPesPacket (P.remaining pes_packets.old) (P.left pes_packets.new) fault) }
-        ensures following { self.new.following ≡ taken_count_after self.old.progress result }
+        ensures following { self.new.following ≡ returned_count_after self.old.progress result }
         ensures progress { self.new.progress
-            ≡ progress_after self.old.progress (yielded_frame (next_into_result result)
+            ≡ progress_after self.old.progress (frame_answer (comparison_as_flag result)
             self.new.frame) }
-        ensures few { (given : ℕ) → self.new.progress ≡ Reading given → given ≤ most_packets }
+        ensures few { (given : ℕ) → self.new.progress ≡ Reading given → given ≤ max_pes_packets }
         // After the end of the source or a fault, the reader consumes no bytes.
-        ensures at_end { self.old.progress ≡ AtEnd → pes_packets.new ≡ pes_packets.old }
+        ensures no_bytes_remain_at_end { self.old.progress ≡ AtEnd → pes_packets.new ≡
+            pes_packets.old }
         ensures broken { self.old.progress ≡ Broken → pes_packets.new ≡ pes_packets.old }
         // After a valid packet, or the fault of a complete packet, no byte after that packet has
         // been read.
-        ensures settled { next_into_result result ≡ Ok true → P.left pes_packets.new ≡ P.remaining
+        ensures settled { comparison_as_flag result ≡ Ok true → P.left pes_packets.new ≡ P.remaining
             pes_packets.new }
-        ensures pes_packet_settled { IfErr result (λ fault. is_of_pes_packet fault ≡ true
+        ensures pes_packet_settled { IfErr result (λ fault. is_packet_content_fault fault ≡ true
             → P.left pes_packets.new ≡ P.remaining pes_packets.new) }
         // Reading cannot fail if the next call uses no device.
-        ensures ready { P.ready pes_packets.old ≡ true → failed is_read result ≡ false }
+        ensures ready { P.ready pes_packets.old ≡ true → failed is_read_fault result ≡ false }
         ensures device { P.device pes_packets.new ≡ P.device pes_packets.old }
-        ensures count { CountsIf P.failure_count pes_packets.old (failed is_read result)
+        ensures count { CountsFailureIf P.failure_count pes_packets.old
+            (failed is_read_fault result)
             pes_packets.new }
     {
         self.following = None;
         let given = match self.progress {
             Progress::Reading(given) => given,
-            Progress::AtEnd => return self.give_none(Ok(Compared::End)),
-            Progress::Broken => return self.give_none(Err(PesFault::Ended)),
+            Progress::AtEnd => return self.return_without_frame(Ok(Compared::End)),
+            Progress::Broken => return self.return_without_frame(Err(PesFault::Ended)),
         };
         match read_compared(given, pes_packets, &mut self.kept) {
             Ok(Compared::End) => {
                 self.progress = Progress::AtEnd;
-                self.give_none(Ok(Compared::End))
+                self.return_without_frame(Ok(Compared::End))
             }
             Ok(Compared::Same) => {
                 self.progress = Progress::Reading(given + 1);
@@ -218,17 +222,20 @@ impl ComparingReader {
             }
             Err(fault) => {
                 self.progress = Progress::Broken;
-                if fault.is_of_pes_packet() {
+                if fault.is_packet_content_fault() {
                     self.following = Some(given + 1);
                 }
-                self.give_none(Err(fault))
+                self.return_without_frame(Err(fault))
             }
         }
     }
 
     // Removes the stored PES packet, and returns `answer`.
     #[inline(always)]
-    fn give_none(&mut self, answer: Result<Compared, PesFault>) -> Result<Compared, PesFault>
+    fn return_without_frame(
+        &mut self,
+        answer: Result<Compared, PesFault>,
+    ) -> Result<Compared, PesFault>
         ensures answer { result ≡ answer }
         ensures none { self.new ≡ record self.old { frame = empty_value; data_field = [] } }
     {
@@ -239,8 +246,8 @@ impl ComparingReader {
     /// Allows reading to continue after the fault of a complete packet, whose length field shows
     /// where it ends. Does nothing after any other result.
     pub fn skip_packet(&mut self)
-        ensures over { self.new ≡ skipped_over self.old }
-        ensures few { (given : ℕ) → self.new.progress ≡ Reading given → given ≤ most_packets }
+        ensures over { self.new ≡ with_packet_skipped self.old }
+        ensures few { (given : ℕ) → self.new.progress ≡ Reading given → given ≤ max_pes_packets }
     {
         if let Some(given) = self.following {
             self.progress = Progress::Reading(given);

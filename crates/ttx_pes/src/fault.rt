@@ -30,7 +30,7 @@ pub enum PesFault {
     /// The framing code of a Teletext unit is not E4 (hexadecimal).
     Framing,
     /// The line of a Teletext unit does not come after the lines of the earlier units in the packet
-    /// (own).
+    /// (not defined by a standard).
     LineOrder,
     /// The source failed during reading.
     Read,
@@ -38,15 +38,16 @@ pub enum PesFault {
     Write,
     /// The reader or writer has already reported a fault.
     Ended,
-    /// The file has more than 2,160,000 packets, one for each frame of a day (own).
+    /// The file has more than 2,160,000 packets, one for each frame of a day (not defined by a
+    /// standard).
     TooMany,
     /// The packet is a gap marker, which stands for lost PES packets: all bytes from byte 6 on are
-    /// FF (own).
+    /// FF (not defined by a standard).
     Lost,
 }
 
 impl PesFault {
-    ghost use Rattle.ttx_pes.specs.Fault.{is_of_pes_packet, pes_code};
+    ghost use Rattle.ttx_pes.specs.Fault.{is_packet_content_fault, pes_code};
 
     /// Returns the number and the name of the fault in reports.
     pub fn code(self) -> FaultCode
@@ -74,8 +75,8 @@ impl PesFault {
 
     /// Returns whether the fault is in the contents of a complete packet, whose length field shows
     /// where the next packet begins (EN 300 472, PES_packet_length).
-    pub fn is_of_pes_packet(self) -> bool
-        ensures { result ≡ is_of_pes_packet self }
+    pub fn is_packet_content_fault(self) -> bool
+        ensures { result ≡ is_packet_content_fault self }
     {
         match self {
             PesFault::Flags

@@ -2,14 +2,15 @@
 ghost use Rattle.std.specs.Prelude.{◌≡◌, ◌≤◌, [], ◌∷◌, IfNone, IfSome, Ok, Some, length, take};
 ghost use Rattle.std.specs.Prelude.{true};
 ghost use Rattle.sub_io.specs.Device.{CanFail};
-ghost use Rattle.ttx_pes.specs.Advancing.{TakesPesPacketBy, buffered_then, has_borrowed_pes_packet};
+ghost use Rattle.ttx_pes.specs.Advancing.{TakesPesPacketWith, buffered_before_known};
+ghost use Rattle.ttx_pes.specs.Advancing.{has_borrowed_pes_packet};
 ghost use Rattle.ttx_pes.specs.PesGrammar.{payload_size};
 ghost use Rattle.ttx_pes.specs.Reading.{size_at};
 
-use crate::borrowed_packet::holds_packet;
+use crate::borrowed_packet::has_enough_for_packet;
 use crate::numbered_pes_packets::{FailedAt, NumberedPesPackets};
-use crate::pes_header::size_of;
-use crate::pes_packet_buffer::{PesPacketBuffer, prefix_of};
+use crate::pes_header::decode_packet_size;
+use crate::pes_packet_buffer::{PesPacketBuffer, consumed_bytes_are_prefix};
 use crate::pes_packets::{PesPackets, REST_BUFFER_SIZE, Received, TakePesPacket};
 use sub_io::{Failed, Source};
 
@@ -46,7 +47,7 @@ fn complete_size(bytes: &[u8]) -> Option<usize>
     let Some(head) = bytes.first_chunk() else {
         return None;
     };
-    match size_of(head) {
+    match decode_packet_size(head) {
         Ok(size) => {
             if size <= bytes.len() {
                 Some(size)
@@ -63,7 +64,7 @@ fn complete_size(bytes: &[u8]) -> Option<usize>
 #[inline(always)]
 fn take_borrowed<S: Source, T: TakePesPacket>(source: &mut S, taker: &mut T) -> Option<T::Answer>
     requires count { CanFail (S.failure_count source.old) }
-    ensures some { IfSome result (λ answer. TakesPesPacketBy T.is_take
+    ensures some { IfSome result (λ answer. TakesPesPacketWith T.is_take
         (S.remaining source.old) (S.remaining source.new) taker.old answer taker.new) }
     ensures none { IfNone result ((source.new ≡ source.old) × (taker.new ≡ taker.old)) }
     ensures count { S.failure_count source.new ≡ S.failure_count source.old }
@@ -72,14 +73,14 @@ fn take_borrowed<S: Source, T: TakePesPacket>(source: &mut S, taker: &mut T) -> 
     let Some(size) = complete_size(buffered) else {
         return None;
     };
-    let pes_packet = prefix_of(buffered, size);
+    let pes_packet = consumed_bytes_are_prefix(buffered, size);
     let answer = taker.take(pes_packet);
     let _is_skipped = source.skip_bytes(size);
     Some(answer)
 }
 
 impl<S: Source> PesPackets for FilePesPackets<'_, S> {
-    ghost remaining = { λ f. buffered_then f.begun (S.remaining f.source.now) };
+    ghost remaining = { λ f. buffered_before_known f.begun (S.remaining f.source.now) };
 
     ghost left = { λ f. S.remaining f.source.now };
 
@@ -110,7 +111,7 @@ impl<S: Source> PesPackets for FilePesPackets<'_, S> {
     }
 
     fn is_ready(&self) -> bool {
-        self.begun.is_empty() && holds_packet(self.source.buffered())
+        self.begun.is_empty() && has_enough_for_packet(self.source.buffered())
     }
 }
 

@@ -1,5 +1,5 @@
 //! Laws about the format of PES packets. Each contract states a law.
-ghost use Rattle.ttx_pes.specs.Laws.{LawOfAnswers, LawOfCanonicalPacket, LawOfGrammar};
+ghost use Rattle.ttx_pes.specs.Laws.{LawOfReaderAnswers, LawOfCanonicalPacket, LawOfGrammar};
 ghost use Rattle.ttx_pes.specs.Laws.{LawOfNumberedFrame, LawOfPesPackets};
 ghost use Rattle.ttx_pes.specs.Laws.{LawOfLineOrder, LawOfOneValue, LawOfPacketValue, LawOfReading};
 ghost use Rattle.ttx_pes.specs.Laws.{LawOfRanges, LawOfReadingBack, LawOfRefusal};
@@ -17,7 +17,7 @@ pub fn law_of_packet_value()
 
 /// The canonical packet of each value that fits in a `PesFrame` is a valid PES packet with that
 /// value.
-#[tactic(auto, using(crate::proofs::PesGrammarLemmas::canonical_is_packet))]
+#[tactic(auto, using(crate::proofs::PesGrammarLemmas::canonical_packet_is_valid))]
 pub fn law_of_canonical_packet()
     ensures { LawOfCanonicalPacket }
 {}
@@ -30,7 +30,7 @@ pub fn law_of_reading()
 
 /// If reading returns a value, the bytes begin with a valid PES packet of that value. So a reader
 /// accepts nothing that does not match the grammar.
-#[tactic(auto, using(crate::proofs::ReadingLemmas::read_is_packet))]
+#[tactic(auto, using(crate::proofs::ReadingLemmas::read_bytes_are_valid_packet))]
 pub fn law_of_grammar()
     ensures { LawOfGrammar }
 {}
@@ -45,8 +45,8 @@ pub fn law_of_refusal()
 /// The meaning of a reader's result for the remaining bytes. At the end, no bytes remain. After a
 /// format fault, the remaining bytes do not begin with a valid PES packet. After `TooMany`, more
 /// bytes remain.
-pub fn law_of_answers()
-    ensures { LawOfAnswers }
+pub fn law_of_reader_answers()
+    ensures { LawOfReaderAnswers }
 {}
 
 /// Reading the bytes written for a frame returns that frame, and leaves the bytes that follow.

@@ -20,12 +20,13 @@ mod borrowed_packet;
 mod buffered_packet;
 mod comparing_reader;
 mod data_unit;
+mod equal_unit_headers;
 mod fault;
 mod file_pes_packets;
-mod kept_frame;
+mod frame_buffer;
 mod laws;
 mod limited_pes_packets;
-mod line_numbers;
+mod numbered_frames;
 mod numbered_pes_packets;
 mod part_of_pes_packets;
 mod passing;
@@ -39,28 +40,27 @@ mod progress;
 mod reader;
 mod repeated_packet;
 mod same_bytes;
-mod same_heads;
 mod sent_units;
 mod unit;
 mod unit_places;
 mod writer;
 
-pub use borrowed_packet::{flush_first, holds_packet};
+pub use borrowed_packet::{flush_first, has_enough_for_packet};
 pub use comparing_reader::{Compared, ComparingReader};
 pub use fault::PesFault;
 pub use file_pes_packets::FilePesPackets;
 pub use laws::{
-    law_of_answers, law_of_canonical_packet, law_of_grammar, law_of_line_order,
-    law_of_numbered_frame, law_of_one_value, law_of_packet_value, law_of_pes_packets,
-    law_of_ranges, law_of_reading, law_of_reading_back, law_of_refusal,
+    law_of_canonical_packet, law_of_grammar, law_of_line_order, law_of_numbered_frame,
+    law_of_one_value, law_of_packet_value, law_of_pes_packets, law_of_ranges,
+    law_of_reader_answers, law_of_reading, law_of_reading_back, law_of_refusal,
 };
 pub use limited_pes_packets::LimitedPesPackets;
-pub use line_numbers::put_frame;
+pub use numbered_frames::put_frame;
 pub use numbered_pes_packets::{FailedAt, NumberedPesPackets};
 pub use part_of_pes_packets::PartOfPesPackets;
-pub use passing::{MOST_PACKETS, skip_pes_packets};
-pub use pes_frame::{MOST_UNITS, PesFrame};
-pub use pes_header::{is_gap_marker, size_of};
+pub use passing::{MAX_PES_PACKETS, skip_pes_packets};
+pub use pes_frame::{MAX_UNITS, PesFrame};
+pub use pes_header::{decode_packet_size, is_gap_marker};
 pub use pes_packet_range::PesPacketRange;
 pub use pes_packets::{PesPackets, REST_BUFFER_SIZE, Received, TakePesPacket};
 pub use pes_packets_ahead::PesPacketsAhead;

@@ -1,8 +1,10 @@
 //! Reads a limited number of PES packets.
 ghost use Rattle.std.specs.Prelude.{◌≡◌, ◌∷◌, ◌<◌, ◌≤◌, OnErr, OnOk, false, is_ok, true};
 ghost use Rattle.sub_io.specs.Device.{CanFail, CountsFailure};
-ghost use Rattle.ttx_pes.specs.Advancing.{Advances, HasSkipped, Passes, is_over, limited_remaining};
-ghost use Rattle.ttx_pes.specs.Advancing.{limited_known, limited_rest, reports_rest};
+ghost use Rattle.ttx_pes.specs.Advancing.{Advances, HasSkipped, SkipsPesPackets, is_finished};
+ghost use Rattle.ttx_pes.specs.Advancing.{limited_remaining};
+ghost use Rattle.ttx_pes.specs.Advancing.{limited_known_bytes, is_limited_rest};
+ghost use Rattle.ttx_pes.specs.Advancing.{faulty_rest_is_answer};
 ghost use Rattle.ttx_pes.specs.Advancing as specs;
 
 use crate::passing::skip_pes_packets;
@@ -35,7 +37,8 @@ impl<'a, P: PesPackets> LimitedPesPackets<'a, P> {
         ensures most { result.0 ≤ n }
         ensures fewer { OnErr result.1 (result.0 < n) }
         ensures skipped { OnOk result.1
-            (Passes n (P.remaining self.old.inner.now) (P.remaining self.new.inner.now) result.0) }
+            (SkipsPesPackets n (P.remaining self.old.inner.now) (P.remaining self.new.inner.now)
+            result.0) }
         ensures so_far { HasSkipped n result.0
             (P.remaining self.old.inner.now) (P.remaining self.new.inner.now) }
         ensures limit { self.new.left ≡ self.old.left }
@@ -49,13 +52,13 @@ impl<'a, P: PesPackets> LimitedPesPackets<'a, P> {
 }
 
 impl<P: PesPackets> PesPackets for LimitedPesPackets<'_, P> {
-    ghost remaining = { λ l. limited_known l.left (P.remaining l.inner.now) };
+    ghost remaining = { λ l. limited_known_bytes l.left (P.remaining l.inner.now) };
 
     ghost left = { λ l. limited_remaining l.left (P.remaining l.inner.now) (P.left l.inner.now) };
 
     ghost failure_count = { λ l. P.failure_count l.inner.now };
 
-    ghost is_rest = { λ l. limited_rest l.left (P.is_rest l.inner.now) };
+    ghost is_rest = { λ l. is_limited_rest l.left (P.is_rest l.inner.now) };
 
     ghost ready = { λ l. P.ready l.inner.now };
 
@@ -65,21 +68,22 @@ impl<P: PesPackets> PesPackets for LimitedPesPackets<'_, P> {
     fn next<T: TakePesPacket>(&mut self, taker: &mut T) -> Result<Received<T::Answer>, Failed>
         requires failures { CanFail (P.failure_count self.old.inner.now) }
         // Once the limit is reached, no bytes are read.
-        ensures over { is_over self.old.left ≡ true → self.new ≡ self.old }
-        ensures received { Advances (limited_known self.old.left (P.remaining self.old.inner.now))
-            (limited_known self.new.left (P.remaining self.new.inner.now))
+        ensures over { is_finished self.old.left ≡ true → self.new ≡ self.old }
+        ensures received { Advances
+            (limited_known_bytes self.old.left (P.remaining self.old.inner.now))
+            (limited_known_bytes self.new.left (P.remaining self.new.inner.now))
             (limited_remaining self.new.left (P.remaining self.new.inner.now)
             (P.left self.new.inner.now))
             T.is_take taker.old taker.new result }
-        ensures rest { reports_rest result ≡ true
-            → limited_rest self.new.left (P.is_rest self.new.inner.now) ≡ true }
+        ensures rest { faulty_rest_is_answer result ≡ true
+            → is_limited_rest self.new.left (P.is_rest self.new.inner.now) ≡ true }
         ensures ready { P.ready self.old.inner.now ≡ true → is_ok result ≡ true }
         ensures same { self.new.inner.ghost_name ∷ P.device self.new.inner.now
             ≡ self.old.inner.ghost_name ∷ P.device self.old.inner.now }
         ensures count { CountsFailure (P.failure_count self.old.inner.now) result
             (P.failure_count self.new.inner.now) }
     {
-        if is_over(self.left) {
+        if is_finished(self.left) {
             return Ok(Received::End);
         }
         let received = self.inner.next(taker)?;
@@ -98,8 +102,8 @@ impl<P: PesPackets> PesPackets for LimitedPesPackets<'_, P> {
 
 // Returns whether the limit is reached, so that no more PES packets may be read.
 #[inline(always)]
-fn is_over(left: Option<u64>) -> bool
-    ensures { result ≡ is_over left }
+fn is_finished(left: Option<u64>) -> bool
+    ensures { result ≡ is_finished left }
 {
     match left {
         Some(left) => left == 0,
@@ -111,7 +115,7 @@ fn is_over(left: Option<u64>) -> bool
 // with a packet remove the limit, since all of them belong to the range.
 #[inline(always)]
 fn limit_after<A>(left: Option<u64>, received: &Received<A>) -> Option<u64>
-    requires { is_over left ≡ false }
+    requires { is_finished left ≡ false }
     ensures { result ≡ specs.limit_after left received.now }
 {
     match received {

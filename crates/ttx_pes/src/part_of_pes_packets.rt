@@ -2,8 +2,9 @@
 ghost use Rattle.std.specs.Prelude.{◌≡◌, ◌∷◌, ◌≤◌, ℕ, IfErr, IfOk, OnErr, OnOk, Ok, Some};
 ghost use Rattle.std.specs.Io.KnownBytes.{Keeps};
 ghost use Rattle.sub_io.specs.Device.{CanFail, CountsFailure};
-ghost use Rattle.ttx_pes.specs.PartOfPesPackets.{part_known, part_left, part_number, part_ready};
-ghost use Rattle.ttx_pes.specs.PartOfPesPackets.{part_rest};
+ghost use Rattle.ttx_pes.specs.PartOfPesPackets.{known_part, left_after_part, part_first_index};
+ghost use Rattle.ttx_pes.specs.PartOfPesPackets.{is_part_ready};
+ghost use Rattle.ttx_pes.specs.PartOfPesPackets.{is_part_rest};
 
 use crate::limited_pes_packets::LimitedPesPackets;
 use crate::numbered_pes_packets::{FailedAt, NumberedPesPackets};
@@ -29,26 +30,26 @@ impl<P: PesPackets> PartOfPesPackets<'_, P> {
     fn skip_before_range(&mut self) -> Result<u64, FailedAt>
         requires failures { CanFail (P.failure_count self.old.inner.inner.now) }
         ensures kept { Keeps
-            (part_known self.old.ahead.to_skip self.old.inner.left
+            (known_part self.old.ahead.to_skip self.old.inner.left
             (P.remaining self.old.inner.inner.now))
-            (part_known self.new.ahead.to_skip self.new.inner.left
+            (known_part self.new.ahead.to_skip self.new.inner.left
             (P.remaining self.new.inner.inner.now)) }
         ensures first { (n : ℕ)
-            → part_number self.old.ahead (P.remaining self.old.inner.inner.now) ≡ Some n
+            → part_first_index self.old.ahead (P.remaining self.old.inner.inner.now) ≡ Some n
             → IfOk result (λ found. found ≡ n) }
         ensures before { (n : ℕ)
-            → part_number self.old.ahead (P.remaining self.old.inner.inner.now) ≡ Some n
+            → part_first_index self.old.ahead (P.remaining self.old.inner.inner.now) ≡ Some n
             → IfErr result (λ at. at.pes ≤ n) }
         ensures failed { IfErr result (λ at. at.pes ≡ self.new.ahead.skipped) }
         ensures left { (n : ℕ)
-            → part_number self.old.ahead (P.remaining self.old.inner.inner.now) ≡ Some n
+            → part_first_index self.old.ahead (P.remaining self.old.inner.inner.now) ≡ Some n
             → IfErr result (λ _.
-            part_number self.new.ahead (P.remaining self.new.inner.inner.now) ≡ Some n) }
+            part_first_index self.new.ahead (P.remaining self.new.inner.inner.now) ≡ Some n) }
         ensures found { OnOk result (self.new.ahead.to_skip ≡ 0) }
         ensures unread { OnErr result (Keeps
-            (part_known self.old.ahead.to_skip self.old.inner.left
+            (known_part self.old.ahead.to_skip self.old.inner.left
             (P.remaining self.old.inner.inner.now))
-            (part_left self.new.ahead.to_skip self.new.inner.left
+            (left_after_part self.new.ahead.to_skip self.new.inner.left
             (P.remaining self.new.inner.inner.now) (P.left self.new.inner.inner.now))) }
         ensures none { self.old.ahead.to_skip ≡ 0
             → (self.new ≡ self.old) × (result ≡ Ok self.old.ahead.skipped) }
@@ -76,16 +77,17 @@ impl<P: PesPackets> PartOfPesPackets<'_, P> {
 
 impl<P: PesPackets> PesPackets for PartOfPesPackets<'_, P> {
     ghost remaining = { λ p.
-        part_known p.ahead.to_skip p.inner.left (P.remaining p.inner.inner.now) };
+        known_part p.ahead.to_skip p.inner.left (P.remaining p.inner.inner.now) };
 
-    ghost left = { λ p. part_left p.ahead.to_skip p.inner.left
+    ghost left = { λ p. left_after_part p.ahead.to_skip p.inner.left
         (P.remaining p.inner.inner.now) (P.left p.inner.inner.now) };
 
     ghost failure_count = { λ p. P.failure_count p.inner.inner.now };
 
-    ghost is_rest = { λ p. part_rest p.ahead.to_skip p.inner.left (P.is_rest p.inner.inner.now) };
+    ghost is_rest = { λ p. is_part_rest p.ahead.to_skip p.inner.left
+        (P.is_rest p.inner.inner.now) };
 
-    ghost ready = { λ p. part_ready p.ahead.to_skip (P.ready p.inner.inner.now) };
+    ghost ready = { λ p. is_part_ready p.ahead.to_skip (P.ready p.inner.inner.now) };
 
     ghost device = { λ p. p.inner.inner.ghost_name ∷ P.device p.inner.inner.now };
 
@@ -107,7 +109,7 @@ impl<P: PesPackets> PesPackets for PartOfPesPackets<'_, P> {
 }
 
 impl<P: PesPackets> NumberedPesPackets for PartOfPesPackets<'_, P> {
-    ghost first = { λ p. part_number p.ahead (P.remaining p.inner.inner.now) };
+    ghost first = { λ p. part_first_index p.ahead (P.remaining p.inner.inner.now) };
 
     ghost skipped = { λ p. p.ahead.skipped };
 

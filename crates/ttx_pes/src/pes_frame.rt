@@ -2,7 +2,7 @@
 ghost use Rattle.std.specs.Prelude.{◌≡◌, ◌+◌, ◌^◌, ◌<◌, ◌≤◌, ◌↔◌, true, [], ◌∷◌, ◌++◌, length};
 ghost use Rattle.std.specs.Prelude.{take};
 ghost use Rattle.std.specs.Prelude.{IsOk, OnOk, IfErr, OnErr};
-ghost use Rattle.ttx_pes.specs.PesGrammar.{most_units};
+ghost use Rattle.ttx_pes.specs.PesGrammar.{max_units};
 
 use crate::unit::Unit;
 use arrayvec::ArrayVec;
@@ -10,16 +10,16 @@ use std::marker::Model;
 
 /// The maximum number of Teletext units in a PES packet: nine payloads contain 9 * 4 - 1 data
 /// units.
-pub const MOST_UNITS: usize = 35;
+pub const MAX_UNITS: usize = 35;
 
 /// The contents of one PES packet: a PTS, and Teletext units in line order (EN 300 472; the order
-/// is (own)).
+/// is not defined by a standard).
 #[derive(Drop)]
 pub struct PesFrame {
     pts: u64,
     // Only the first `count` units belong to the frame. For speed, units of earlier frames are not
     // reset.
-    units: ArrayVec<Unit, MOST_UNITS>,
+    units: ArrayVec<Unit, MAX_UNITS>,
     count: usize,
     // The line order position of the last unit, which the next unit must follow.
     last: u8,
@@ -70,7 +70,7 @@ impl PesFrame {
         self.pts
     }
 
-    /// Returns the Teletext units in the order of the packet, at most `MOST_UNITS`.
+    /// Returns the Teletext units in the order of the packet, at most `MAX_UNITS`.
     pub fn units(&self) -> &[Unit]
         ensures value { result.now ≡ self.now.units }
         // The contents of every frame fit in a PES packet.
@@ -83,26 +83,26 @@ impl PesFrame {
     ///
     /// # Errors
     ///
-    /// Returns `unit` if the frame already has `MOST_UNITS` units, or if the line of `unit` does
+    /// Returns `unit` if the frame already has `MAX_UNITS` units, or if the line of `unit` does
     /// not come after the lines of the earlier units; a unit of line 0 may be anywhere. The frame
     /// does not change.
     #[tactic(auto, using(crate::proofs::LineOrderLemmas::order))]
     pub fn add(&mut self, unit: Unit) -> Result<(), Unit>
-        ensures variant { IsOk result ↔ ((length self.old.units < most_units)
+        ensures accepts_ordered_unit { IsOk result ↔ ((length self.old.units < max_units)
             × (may_follow (last_place 0 self.old.units) unit ≡ true)) }
         ensures ok { OnOk result
             (self.new ≡ record self.old { units = self.old.units ++ unit ∷ [] }) }
         ensures err { OnErr result (self.new ≡ self.old) }
         ensures back { IfErr result (λ given. given ≡ unit) }
     {
-        if self.count >= MOST_UNITS {
+        if self.count >= MAX_UNITS {
             return Err(unit);
         }
-        let Some(place) = unit.place_after(self.last) else {
+        let Some(place) = unit.line_place_after(self.last) else {
             return Err(unit);
         };
         self.last = place;
-        put_at(&mut self.units, self.count, unit);
+        insert_unit_at(&mut self.units, self.count, unit);
         self.count += 1;
         Ok(())
     }
@@ -110,13 +110,13 @@ impl PesFrame {
     // Appends a unit to a frame. The unit must fit in it.
     #[tactic(auto, using(crate::proofs::LineOrderLemmas::order))]
     pub(crate) fn push(&mut self, unit: Unit)
-        requires room { length self.old.units < most_units }
-        requires stands { may_follow (last_place 0 self.old.units) unit ≡ true }
+        requires room { length self.old.units < max_units }
+        requires unit_is_in_order { may_follow (last_place 0 self.old.units) unit ≡ true }
         ensures { self.new ≡ record self.old { units = self.old.units ++ unit ∷ [] } }
     {
-        let place = unit.place_after(self.last).unwrap();
+        let place = unit.line_place_after(self.last).unwrap();
         self.last = place;
-        put_at(&mut self.units, self.count, unit);
+        insert_unit_at(&mut self.units, self.count, unit);
         self.count += 1;
     }
 
@@ -140,9 +140,9 @@ impl PesFrame {
 }
 
 // Stores a unit at the index `place`, over a unit of an earlier frame or at the end.
-fn put_at(units: &mut ArrayVec<Unit, MOST_UNITS>, place: usize, unit: Unit)
+fn insert_unit_at(units: &mut ArrayVec<Unit, MAX_UNITS>, place: usize, unit: Unit)
     requires place { place ≤ length units.old.items }
-    requires room { place < most_units }
+    requires room { place < max_units }
     ensures items { take (place + 1) units.new.items ≡ take place units.old.items ++ unit ∷ [] }
     ensures len { place < length units.new.items }
 {

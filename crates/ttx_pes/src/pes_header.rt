@@ -2,10 +2,11 @@
 //! data_identifier).
 ghost use Rattle.std.specs.Prelude.{◌≡◌, ◌+◌, ◌*◌, ◌/◌, ◌%◌, ◌^◌, ◌<◌, ◌≤◌, true, false, length};
 ghost use Rattle.std.specs.Prelude.{slice_index, IfOk, IfErr};
-ghost use Rattle.ttx_pes.specs.Fault.{is_of_pes_packet};
-ghost use Rattle.ttx_pes.specs.PesGrammar.{header_size, longest_packet, payload_size};
+ghost use Rattle.ttx_pes.specs.Fault.{is_packet_content_fault};
+ghost use Rattle.ttx_pes.specs.PesGrammar.{header_size, max_pes_packet_size, payload_size};
 ghost use Rattle.ttx_pes.specs.PesGrammar.{pes_packet_header, pts_bytes};
-ghost use Rattle.ttx_pes.specs.Reading.{flags_fault, is_filled, is_format_fault, is_gap_marker};
+ghost use Rattle.ttx_pes.specs.Reading.{flags_fault, is_all_stuffing, is_format_fault};
+ghost use Rattle.ttx_pes.specs.Reading.{is_gap_marker};
 ghost use Rattle.ttx_pes.specs.Reading.{is_start, pts_at};
 ghost use Rattle.ttx_pes.specs.Reading.{size_at};
 
@@ -18,7 +19,7 @@ use byteorder::{BigEndian, ByteOrder, LittleEndian};
 pub(crate) const PAYLOAD: usize = 184;
 
 /// The size of the longest PES packet in bytes.
-pub(crate) const LONGEST_PACKET: usize = 9 * PAYLOAD;
+pub(crate) const MAX_PES_PACKET_SIZE: usize = 9 * PAYLOAD;
 
 /// Returns the size in bytes of the PES packet that begins with these six bytes, 184 to 1656 (EN
 /// 300 472, PES_packet_length).
@@ -28,18 +29,18 @@ pub(crate) const LONGEST_PACKET: usize = 9 * PAYLOAD;
 /// Returns `Start` if the start code is wrong, then `Length` if the length is wrong.
 #[inline(always)]
 #[tactic(auto, unfolding(crate::specs::Reading::size_at))]
-pub fn size_of(head: &[u8; 6]) -> Result<usize, PesFault>
+pub fn decode_packet_size(head: &[u8; 6]) -> Result<usize, PesFault>
     ensures exact { size_at head.now ≡ result }
     ensures kind { IfErr result (λ fault. is_format_fault fault ≡ true) }
-    ensures of_no_pes_packet { IfErr result (λ fault. is_of_pes_packet fault ≡ false) }
+    ensures is_not_content_fault { IfErr result (λ fault. is_packet_content_fault fault ≡ false) }
     ensures range { IfOk result (λ size.
-        (payload_size ≤ size) × (size ≤ longest_packet) × (size % payload_size ≡ 0)) }
+        (payload_size ≤ size) × (size ≤ max_pes_packet_size) × (size % payload_size ≡ 0)) }
 {
     if !is_start(head) {
         return Err(PesFault::Start);
     }
-    let size = length_of(head) as usize + 6;
-    if size % PAYLOAD != 0 || size > LONGEST_PACKET {
+    let size = decode_packet_length(head) as usize + 6;
+    if size % PAYLOAD != 0 || size > MAX_PES_PACKET_SIZE {
         return Err(PesFault::Length);
     }
     Ok(size)
@@ -47,7 +48,7 @@ pub fn size_of(head: &[u8; 6]) -> Result<usize, PesFault>
 
 // Returns whether the bytes begin with the start code and stream_id of private_stream_1. Compares
 // them as one word.
-#[tactic(auto, using(crate::proofs::PesHeaderLemmas::start_word))]
+#[tactic(auto, using(crate::proofs::PesHeaderLemmas::start_code_comparison_is_correct))]
 pub(crate) fn is_start(head: &[u8; 6]) -> bool
     ensures { result ≡ is_start head.now }
 {
@@ -55,7 +56,7 @@ pub(crate) fn is_start(head: &[u8; 6]) -> bool
 }
 
 // Returns the value of the field PES_packet_length.
-pub(crate) fn length_of(head: &[u8; 6]) -> u16
+pub(crate) fn decode_packet_length(head: &[u8; 6]) -> u16
     ensures { result ≡ 0x100 * slice_index head.now 4 + slice_index head.now 5 }
 {
     BigEndian::read_u16(&head[4..])
@@ -87,7 +88,7 @@ pub(crate) fn pts_of(body: &[u8]) -> Result<u64, PesFault>
         return Err(PesFault::DataId);
     }
     let high = (body[3] / 2 % 8) as u64;
-    Ok(high * (1 << 30) + fifteen_bits(body, 4) * (1 << 15) + fifteen_bits(body, 6))
+    Ok(high * (1 << 30) + decode_pts_bits(body, 4) * (1 << 15) + decode_pts_bits(body, 6))
 }
 
 // Returns the fault of a PES packet whose byte 6 does not begin with 1000: `Lost` for a gap marker,
@@ -95,7 +96,7 @@ pub(crate) fn pts_of(body: &[u8]) -> Result<u64, PesFault>
 fn flags_fault(body: &[u8]) -> PesFault
     ensures { result ≡ flags_fault body.now }
 {
-    if is_filled(body) {
+    if is_all_stuffing(body) {
         PesFault::Lost
     } else {
         PesFault::Flags
@@ -103,14 +104,14 @@ fn flags_fault(body: &[u8]) -> PesFault
 }
 
 // Returns whether all bytes are FF, as in a gap marker from byte 6 on.
-fn is_filled(body: &[u8]) -> bool
-    ensures { result ≡ is_filled body.now }
+fn is_all_stuffing(body: &[u8]) -> bool
+    ensures { result ≡ is_all_stuffing body.now }
 {
     body.iter().all(|byte| *byte == 0xFF)
 }
 
 /// Returns whether a PES packet is a gap marker, which stands for lost PES packets: 184 bytes, all
-/// FF from byte 6 on (own).
+/// FF from byte 6 on (not defined by a standard).
 pub fn is_gap_marker(pes_packet: &[u8]) -> bool
     ensures { result ≡ is_gap_marker pes_packet.now }
 {
@@ -118,11 +119,11 @@ pub fn is_gap_marker(pes_packet: &[u8]) -> bool
         return false;
     }
     let (_, body) = pes_packet.split_at(6);
-    is_filled(body)
+    is_all_stuffing(body)
 }
 
 // Returns 15 bits of the PTS from the two bytes at `place`, without the marker bit.
-fn fifteen_bits(body: &[u8], place: usize) -> u64
+fn decode_pts_bits(body: &[u8], place: usize) -> u64
     requires { place + 2 ≤ length body.now }
     ensures value { result
         ≡ slice_index body.now place * 0x80 + slice_index body.now (place + 1) / 2 }
@@ -132,7 +133,7 @@ fn fifteen_bits(body: &[u8], place: usize) -> u64
 }
 
 // Returns the five bytes that encode a PTS.
-pub(crate) fn bytes_of_pts(pts: u64) -> [u8; 5]
+pub(crate) fn encode_pts(pts: u64) -> [u8; 5]
     requires { pts < 2 ^ 33 }
     ensures { result ≡ pts_bytes pts }
 {
@@ -147,7 +148,7 @@ pub(crate) fn bytes_of_pts(pts: u64) -> [u8; 5]
 
 // Returns the first 46 bytes of the canonical packet of `n` payloads.
 #[tactic(auto, unfolding(crate::specs::PesGrammar::pes_packet_header))]
-pub(crate) fn header_of(n: u16, pts: u64) -> Bytes
+pub(crate) fn header_from_numbers(n: u16, pts: u64) -> Bytes
     requires n { (1 ≤ n) × (n ≤ 9) }
     requires pts { pts < 2 ^ 33 }
     ensures items { result.items ≡ pes_packet_header n pts }
@@ -159,7 +160,7 @@ pub(crate) fn header_of(n: u16, pts: u64) -> Bytes
     add(&mut out, &[0x00, 0x00, 0x01, 0xBD]);
     add(&mut out, &length);
     add(&mut out, &[0x84, 0x80, 0x24]);
-    add(&mut out, &bytes_of_pts(pts));
+    add(&mut out, &encode_pts(pts));
     add(&mut out, &[0xFF; 31]);
     add(&mut out, &[0x10]);
     out

@@ -4,21 +4,22 @@ ghost use Rattle.std.specs.Prelude.{take, true};
 ghost use Rattle.std.specs.Io.KnownBytes.{Consumes, IsAtEnd, prepend_known};
 ghost use Rattle.sub_io.specs.Device.{CanFail, CountsFailure, CountRisesIf};
 ghost use Rattle.sub_io.specs.Reading.{AreBytes};
-ghost use Rattle.ttx_pes.specs.Advancing.{Advances, ReadsForPesPacket, buffered_then, rest_fault};
-ghost use Rattle.ttx_pes.specs.BorrowedPacket.{holds_packet};
-ghost use Rattle.ttx_pes.specs.PesGrammar.{longest_packet};
+ghost use Rattle.ttx_pes.specs.Advancing.{Advances, ReadsTowardPesPacket, buffered_before_known};
+ghost use Rattle.ttx_pes.specs.Advancing.{rest_fault};
+ghost use Rattle.ttx_pes.specs.BorrowedPacket.{has_enough_for_packet};
+ghost use Rattle.ttx_pes.specs.PesGrammar.{max_pes_packet_size};
 
 use crate::fault::PesFault;
-use crate::pes_header::{LONGEST_PACKET, PAYLOAD, size_of};
+use crate::pes_header::{MAX_PES_PACKET_SIZE, PAYLOAD, decode_packet_size};
 use crate::pes_packets::{REST_BUFFER_SIZE, Received, TakePesPacket};
 use std::marker::Model;
 use sub_io::{Failed, Source};
 
 /// A buffer for the bytes of one PES packet.
-pub(crate) type PacketBuffer = [u8; LONGEST_PACKET];
+pub(crate) type PacketBuffer = [u8; MAX_PES_PACKET_SIZE];
 
 // The number of bytes at the front of a PES packet that determine its size.
-const HEAD: usize = 6;
+const HEADER_SIZE: usize = 6;
 
 /// The first bytes of an incomplete PES packet, or bytes that do not begin with a PES packet.
 ///
@@ -32,19 +33,20 @@ pub(crate) struct PesPacketBuffer {
 impl Model for PesPacketBuffer {
     ghost use Rattle.std.specs.Prelude.{ℕ, ◌≤◌, IsSome, List, take};
     ghost use Rattle.ttx_pes.specs.Advancing.{rest_fault};
-    ghost use Rattle.ttx_pes.specs.PesGrammar.{longest_packet};
+    ghost use Rattle.ttx_pes.specs.PesGrammar.{max_pes_packet_size};
 
     ghost Value = { List ℕ };
 
     ghost view = { λ h. take h.len h.room };
 
-    ghost invariant = { λ h. (h.len ≤ longest_packet) × IsSome (rest_fault (take h.len h.room)) };
+    ghost invariant = { λ h. (h.len ≤ max_pes_packet_size) × IsSome
+        (rest_fault (take h.len h.room)) };
 }
 
 // Pulls into `room`, which already has `buffered` bytes, until it has at least `least` bytes, or
 // the source ends or fails. Requests at most `most` bytes in total. Returns the number of bytes in
 // `room`, and whether the source failed.
-fn fill_on<S: Source>(
+fn fill_buffer<S: Source>(
     source: &mut S,
     room: &mut [u8],
     buffered: usize,
@@ -89,32 +91,33 @@ fn read_pes_packet<S: Source>(
     buffered: usize,
 ) -> (usize, Result<Received<()>, Failed>)
     requires count { CanFail (S.failure_count source.old) }
-    requires buffered { buffered ≤ longest_packet }
+    requires buffered { buffered ≤ max_pes_packet_size }
     requires begun { IsSome (rest_fault (take buffered room.old)) }
-    ensures most { result.0 ≤ longest_packet }
-    ensures reads { ReadsForPesPacket
+    ensures most { result.0 ≤ max_pes_packet_size }
+    ensures reads { ReadsTowardPesPacket
         (prepend_known (take buffered room.old) (S.remaining source.old))
         (S.remaining source.new) (take result.0 room.new) result.1 }
-    ensures borrowed { buffered ≡ 0 → holds_packet (S.borrowed source.old) ≡ true → is_ok result.1 ≡
+    ensures borrowed { buffered ≡ 0 → has_enough_for_packet (S.borrowed source.old) ≡ true → is_ok
+        result.1 ≡
         true }
     ensures count { CountsFailure (S.failure_count source.old) result.1
         (S.failure_count source.new) }
 {
-    let (got, is_failed) = fill_on(source, room, buffered, HEAD, PAYLOAD);
+    let (got, is_failed) = fill_buffer(source, room, buffered, HEADER_SIZE, PAYLOAD);
     if is_failed {
         return (got, Err(Failed));
     }
     if got == 0 {
         return (got, Ok(Received::End));
     }
-    if got < HEAD {
+    if got < HEADER_SIZE {
         return (got, Ok(Received::Rest(PesFault::Truncated)));
     }
-    let size = match size_of(room.first_chunk().unwrap()) {
+    let size = match decode_packet_size(room.first_chunk().unwrap()) {
         Ok(size) => size,
         Err(fault) => return (got, Ok(Received::Rest(fault))),
     };
-    let (all, has_failed) = fill_on(source, room, got, size, size);
+    let (all, has_failed) = fill_buffer(source, room, got, size, size);
     if has_failed {
         return (all, Err(Failed));
     }
@@ -126,7 +129,7 @@ fn read_pes_packet<S: Source>(
 
 // Returns the first `size` bytes of a slice.
 #[inline(always)]
-pub(crate) fn prefix_of(bytes: &[u8], size: usize) -> &[u8]
+pub(crate) fn consumed_bytes_are_prefix(bytes: &[u8], size: usize) -> &[u8]
     requires { size ≤ length bytes.now }
     ensures value { result.now ≡ take size bytes.now }
     ensures bytes { AreBytes bytes.now }
@@ -142,7 +145,7 @@ impl PesPacketBuffer {
         ensures { result ≡ [] }
     {
         PesPacketBuffer {
-            room: [0; LONGEST_PACKET],
+            room: [0; MAX_PES_PACKET_SIZE],
             len: 0,
         }
     }
@@ -163,7 +166,7 @@ impl PesPacketBuffer {
         ensures none { self.new ≡ [] }
     {
         let buffered = self.len;
-        let prefix = prefix_of(&self.room, buffered);
+        let prefix = consumed_bytes_are_prefix(&self.room, buffered);
         to[..buffered].copy_from_slice(prefix);
         self.len = 0;
         buffered
@@ -178,10 +181,10 @@ impl PesPacketBuffer {
         taker: &mut T,
     ) -> Result<Received<T::Answer>, Failed>
         requires count { CanFail (S.failure_count source.old) }
-        ensures received { Advances (buffered_then self.old (S.remaining source.old))
-            (buffered_then self.new (S.remaining source.new)) (S.remaining source.new)
+        ensures received { Advances (buffered_before_known self.old (S.remaining source.old))
+            (buffered_before_known self.new (S.remaining source.new)) (S.remaining source.new)
             T.is_take taker.old taker.new result }
-        ensures borrowed { self.old ≡ [] → holds_packet (S.borrowed source.old) ≡ true
+        ensures borrowed { self.old ≡ [] → has_enough_for_packet (S.borrowed source.old) ≡ true
             → is_ok result ≡ true }
         ensures count { CountsFailure (S.failure_count source.old) result
             (S.failure_count source.new) }
@@ -192,7 +195,7 @@ impl PesPacketBuffer {
             Ok(Received::End) => Ok(Received::End),
             Ok(Received::Rest(fault)) => Ok(Received::Rest(fault)),
             Ok(Received::PesPacket(())) => {
-                let pes_packet = prefix_of(&self.room, len);
+                let pes_packet = consumed_bytes_are_prefix(&self.room, len);
                 let answer = taker.take(pes_packet);
                 self.len = 0;
                 Ok(Received::PesPacket(answer))

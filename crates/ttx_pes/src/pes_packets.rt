@@ -7,7 +7,8 @@ ghost use Rattle.std.specs.Borrow.{GName};
 ghost use Rattle.std.specs.Prelude.{◌≡◌, ℕ, Bool, List, Option, is_ok, true};
 ghost use Rattle.std.specs.Io.{ReadsAtMost};
 ghost use Rattle.sub_io.specs.Device.{CanFail, CountsFailure, Pulls};
-ghost use Rattle.ttx_pes.specs.Advancing.{Advances, no_borrowed_devices, never_ready, reports_rest};
+ghost use Rattle.ttx_pes.specs.Advancing.{Advances, no_borrowed_devices, is_never_ready};
+ghost use Rattle.ttx_pes.specs.Advancing.{faulty_rest_is_answer};
 ghost use Rattle.ttx_pes.specs.PesPackets.{IsPesPacket};
 
 use crate::fault::PesFault;
@@ -62,7 +63,7 @@ pub trait PesPackets {
     ghost is_rest: { Self → Bool };
 
     // Whether the next call uses no device.
-    ghost ready: { Self → Bool } = { never_ready };
+    ghost ready: { Self → Bool } = { is_never_ready };
 
     // The references by which the reader borrows its device, outermost first.
     ghost device: { Self → List GName } = { no_borrowed_devices };
@@ -77,7 +78,7 @@ pub trait PesPackets {
         requires failures { CanFail (failure_count self.old) }
         ensures received { Advances (remaining self.old) (remaining self.new) (left self.new)
             T.is_take taker.old taker.new result }
-        ensures rest { reports_rest result ≡ true → is_rest self.new ≡ true }
+        ensures rest { faulty_rest_is_answer result ≡ true → is_rest self.new ≡ true }
         ensures ready { ready self.old ≡ true → is_ok result ≡ true }
         ensures same { device self.new ≡ device self.old }
         ensures count { CountsFailure (failure_count self.old) result (failure_count self.new) };

@@ -1,18 +1,18 @@
 //! Reads the contents of PES packets, one after another.
 ghost use Rattle.std.specs.Prelude.{◌≡◌, ℕ, ◌+◌, ◌%◌, ◌≤◌, ◌≢◌, true, length, Ok, Err, OnOk, IfErr};
-ghost use Rattle.sub_io.specs.Device.{CanFail, CountsIf, failed};
-ghost use Rattle.ttx_pes.specs.Fault.{is_read};
+ghost use Rattle.sub_io.specs.Device.{CanFail, CountsFailureIf, failed};
+ghost use Rattle.ttx_pes.specs.Fault.{is_read_fault};
 ghost use Rattle.ttx_pes.specs.declared.progress.Progress.TheVariants.{Reading, AtEnd, Broken};
-ghost use Rattle.ttx_pes.specs.PesGrammar.{empty_value, longest_packet, payload_size};
-ghost use Rattle.ttx_pes.specs.Reading.{value_at, is_format_fault, most_packets};
-ghost use Rattle.ttx_pes.specs.Reader.{ReportsPacket, yielded_frame, progress_after};
-ghost use Rattle.ttx_pes.specs.Taking.{ReadsValue};
+ghost use Rattle.ttx_pes.specs.PesGrammar.{empty_value, max_pes_packet_size, payload_size};
+ghost use Rattle.ttx_pes.specs.Reading.{value_at, is_format_fault, max_pes_packets};
+ghost use Rattle.ttx_pes.specs.Reader.{ReportsPacket, frame_answer, progress_after};
+ghost use Rattle.ttx_pes.specs.Accepting.{ReadsValue};
 
-use crate::data_unit::{DATA_UNIT, take_units};
+use crate::data_unit::{DATA_UNIT, append_units_from_blocks};
 use crate::fault::PesFault;
 use crate::file_pes_packets::FilePesPackets;
-use crate::kept_frame::body_of_pes_packet;
-use crate::passing::{MOST_PACKETS, read_end};
+use crate::frame_buffer::pes_packet_body;
+use crate::passing::{MAX_PES_PACKETS, read_end};
 use crate::pes_frame::PesFrame;
 use crate::pes_header::pts_of;
 use crate::pes_packets::{PesPackets, Received, TakePesPacket};
@@ -28,20 +28,20 @@ pub struct PesReader {
 
 impl Model for PesReader {
     ghost use Rattle.ttx_pes.specs.declared.progress.Progress.{Progress};
-    ghost use Rattle.ttx_pes.specs.Reader.{GivesAtMost};
-    ghost use Rattle.ttx_pes.specs.Reading.{most_packets};
+    ghost use Rattle.ttx_pes.specs.Reader.{ReturnsAtMost};
+    ghost use Rattle.ttx_pes.specs.Reading.{max_pes_packets};
 
     ghost Value = { Progress };
 
     ghost view = { λ r. r.progress };
 
-    ghost invariant = { λ r. GivesAtMost most_packets r.progress };
+    ghost invariant = { λ r. ReturnsAtMost max_pes_packets r.progress };
 }
 
 // Parses a PES packet, from byte 6 on, into `frame`.
 #[tactic(auto, unfolding(crate::specs::Reading::value_at))]
 fn read_value(body: &[u8], frame: &mut PesFrame) -> Result<(), PesFault>
-    requires short { length body.now + 6 ≤ longest_packet }
+    requires short { length body.now + 6 ≤ max_pes_packet_size }
     requires whole { (length body.now + 6) % payload_size ≡ 0 }
     ensures ok { OnOk result (value_at body.now ≡ Ok frame.new) }
     ensures err { IfErr result (λ fault. value_at body.now ≡ Err fault) }
@@ -50,7 +50,7 @@ fn read_value(body: &[u8], frame: &mut PesFrame) -> Result<(), PesFault>
     let pts = pts_of(body)?;
     frame.restart(pts);
     let (_, blocks) = body.split_at(40);
-    take_units(frame, blocks.len() / DATA_UNIT, blocks)
+    append_units_from_blocks(frame, blocks.len() / DATA_UNIT, blocks)
 }
 
 impl TakePesPacket for PesFrame {
@@ -61,7 +61,7 @@ impl TakePesPacket for PesFrame {
 
     // Parses a PES packet into a `PesFrame`.
     fn take(&mut self, pes_packet: &[u8]) -> Result<(), PesFault> {
-        read_value(body_of_pes_packet(pes_packet), self)
+        read_value(pes_packet_body(pes_packet), self)
     }
 }
 
@@ -74,13 +74,13 @@ fn read_packet<P: PesPackets>(
     requires { CanFail (P.failure_count pes_packets.old) }
     ensures reports { ReportsPacket (Reading given) (P.remaining pes_packets.old)
         (P.left pes_packets.new)
-        (yielded_frame result frame.new) }
-    ensures below { result ≡ Ok true → given ≢ most_packets }
+        (frame_answer result frame.new) }
+    ensures below { result ≡ Ok true → given ≢ max_pes_packets }
     ensures device { P.device pes_packets.new ≡ P.device pes_packets.old }
-    ensures count { CountsIf P.failure_count pes_packets.old (failed is_read result)
+    ensures count { CountsFailureIf P.failure_count pes_packets.old (failed is_read_fault result)
         pes_packets.new }
 {
-    if given == MOST_PACKETS {
+    if given == MAX_PES_PACKETS {
         read_end(given, pes_packets)?;
         return Ok(false);
     }
@@ -97,9 +97,10 @@ fn read_next<S: Source>(given: u32, source: &mut S, frame: &mut PesFrame) -> Res
     requires { CanFail (S.failure_count source.old) }
     ensures reports { ReportsPacket (Reading given) (S.remaining source.old)
         (S.remaining source.new)
-        (yielded_frame result frame.new) }
-    ensures below { result ≡ Ok true → given ≢ most_packets }
-    ensures count { CountsIf S.failure_count source.old (failed is_read result) source.new }
+        (frame_answer result frame.new) }
+    ensures below { result ≡ Ok true → given ≢ max_pes_packets }
+    ensures count { CountsFailureIf S.failure_count source.old (failed is_read_fault result)
+        source.new }
 {
     let mut pes_packets = FilePesPackets::new(source);
     read_packet(given, &mut pes_packets, frame)
@@ -133,9 +134,10 @@ impl PesReader {
             result }
         ensures progress { self.new ≡ progress_after self.old result }
         // After the end of the source or a fault, the reader consumes no bytes.
-        ensures at_end { self.old ≡ AtEnd → source.new ≡ source.old }
+        ensures no_bytes_remain_at_end { self.old ≡ AtEnd → source.new ≡ source.old }
         ensures broken { self.old ≡ Broken → source.new ≡ source.old }
-        ensures count { CountsIf S.failure_count source.old (failed is_read result) source.new }
+        ensures count { CountsFailureIf S.failure_count source.old (failed is_read_fault result)
+            source.new }
     {
         let mut frame = PesFrame::new(0);
         match self.next_into(source, &mut frame) {
@@ -161,14 +163,15 @@ impl PesReader {
     ) -> Result<bool, PesFault>
         requires { CanFail (S.failure_count source.old) }
         ensures reports { ReportsPacket self.old (S.remaining source.old) (S.remaining source.new)
-            (yielded_frame result frame.new) }
+            (frame_answer result frame.new) }
         ensures empty { result ≢ Ok true → frame.new ≡ empty_value }
-        ensures progress { self.new ≡ progress_after self.old (yielded_frame result frame.new) }
-        ensures few { (given : ℕ) → self.new ≡ Reading given → given ≤ most_packets }
+        ensures progress { self.new ≡ progress_after self.old (frame_answer result frame.new) }
+        ensures few { (given : ℕ) → self.new ≡ Reading given → given ≤ max_pes_packets }
         // After the end of the source or a fault, the reader consumes no bytes.
-        ensures at_end { self.old ≡ AtEnd → source.new ≡ source.old }
+        ensures no_bytes_remain_at_end { self.old ≡ AtEnd → source.new ≡ source.old }
         ensures broken { self.old ≡ Broken → source.new ≡ source.old }
-        ensures count { CountsIf S.failure_count source.old (failed is_read result) source.new }
+        ensures count { CountsFailureIf S.failure_count source.old (failed is_read_fault result)
+            source.new }
     {
         let given = match self.progress {
             Progress::Reading(given) => given,

@@ -3,9 +3,9 @@ ghost use Rattle.std.specs.Prelude.{◌≡◌, ◌++◌, ◌^◌, ◌<◌, ◌�
 ghost use Rattle.sub_io.specs.Device.{CanFail, CountsFailure, Writes};
 ghost use Rattle.ttx_pes.specs.PesGrammar.{canonical_packet, numbered_frame, pts_bytes};
 
-use crate::line_numbers::frame_of;
+use crate::numbered_frames::frame_of;
 use crate::pes_frame::PesFrame;
-use crate::pes_header::bytes_of_pts;
+use crate::pes_header::encode_pts;
 use crate::writer::{Bytes, packet_of};
 use std::marker::Model;
 use sub_io::{Failed, Sink, put_all};
@@ -37,7 +37,7 @@ impl RepeatedPacket {
     /// `put_frame` uses.
     ///
     /// At most 32 Teletext packets fit.
-    pub fn of_packets(packets: &[Packet]) -> Self
+    pub fn from_packets(packets: &[Packet]) -> Self
         requires { length packets.now ≤ 32 }
         ensures { result ≡ numbered_frame 0 packets.now }
     {
@@ -78,5 +78,5 @@ fn put_pts(bytes: &mut [u8], pts: u64)
 {
     let (_, rest) = bytes.split_at_mut(9);
     let (time, _) = rest.split_at_mut(5);
-    time.copy_from_slice(&bytes_of_pts(pts));
+    time.copy_from_slice(&encode_pts(pts));
 }

@@ -1,18 +1,18 @@
 //! Compares slices of bytes in blocks.
 ghost use Rattle.std.specs.Prelude.{◌≡◌, ◌↔◌, ◌≤◌, length, true};
-ghost use Rattle.ttx_pes.specs.Taking.{IsFieldSize};
+ghost use Rattle.ttx_pes.specs.Accepting.{IsDataFieldSize};
 
 mod lanes;
 
-use self::lanes::{is_same_block, is_same_long_block};
+use self::lanes::{is_block_equal, is_long_block_equal};
 use byteorder::{ByteOrder, LittleEndian};
 
 // The size in bytes of the data field of a PES packet of one payload.
-const ONE_PAYLOAD: usize = 139;
+const SINGLE_PAYLOAD_SIZE: usize = 139;
 
 // Returns whether the first eight bytes of two slices are equal.
 #[inline(always)]
-pub(crate) fn begin_equally(a: &[u8], b: &[u8]) -> bool
+pub(crate) fn have_equal_starts(a: &[u8], b: &[u8]) -> bool
     requires a { 8 ≤ length a.now }
     requires b { 8 ≤ length b.now }
     ensures { a.now ≡ b.now → result ≡ true }
@@ -24,35 +24,35 @@ pub(crate) fn begin_equally(a: &[u8], b: &[u8]) -> bool
 // each byte would be loaded from both possible buffers.
 #[inline(never)]
 pub(crate) fn is_same(a: &[u8], b: &[u8]) -> bool
-    requires size { IsFieldSize (length a.now) }
+    requires size { IsDataFieldSize (length a.now) }
     requires length { length a.now ≡ length b.now }
     ensures { (result ≡ true) ↔ (a.now ≡ b.now) }
 {
-    if a.len() == ONE_PAYLOAD {
-        is_same_payload(a, b)
+    if a.len() == SINGLE_PAYLOAD_SIZE {
+        is_payload_equal(a, b)
     } else {
-        is_same_by_long_blocks(a, b)
+        are_long_blocks_equal(a, b)
     }
 }
 
 // Returns whether two data fields of one payload are equal. For speed, compares their second 64
 // bytes first, which contain the text of the subtitle's row.
 #[inline(always)]
-#[tactic(auto, using(crate::proofs::SameBytesLemmas::payload_same))]
-fn is_same_payload(a: &[u8], b: &[u8]) -> bool
+#[tactic(auto, using(crate::proofs::SameBytesLemmas::payload_comparison_is_correct))]
+fn is_payload_equal(a: &[u8], b: &[u8]) -> bool
     requires a { length a.now ≡ 139 }
     requires b { length b.now ≡ 139 }
     ensures { (result ≡ true) ↔ (a.now ≡ b.now) }
 {
     let (a_blocks, _) = a.as_chunks::<64>();
     let (b_blocks, _) = b.as_chunks::<64>();
-    if !is_same_block(&a_blocks[1], &b_blocks[1]) {
+    if !is_block_equal(&a_blocks[1], &b_blocks[1]) {
         return false;
     }
-    if !is_same_block(&a_blocks[0], &b_blocks[0]) {
+    if !is_block_equal(&a_blocks[0], &b_blocks[0]) {
         return false;
     }
-    is_same_block::<16>(a.last_chunk().unwrap(), b.last_chunk().unwrap())
+    is_block_equal::<16>(a.last_chunk().unwrap(), b.last_chunk().unwrap())
 }
 
 // Returns whether two slices are equal, by comparing blocks of 256 bytes. The last block overlaps
@@ -60,18 +60,18 @@ fn is_same_payload(a: &[u8], b: &[u8]) -> bool
 // subtitles mostly differ in their last row.
 #[inline(always)]
 #[tactic(auto, using(crate::proofs::SameBytesLemmas::same_blocks))]
-fn is_same_by_long_blocks(a: &[u8], b: &[u8]) -> bool
+fn are_long_blocks_equal(a: &[u8], b: &[u8]) -> bool
     requires long { 256 ≤ length a.now }
     requires length { length a.now ≡ length b.now }
     ensures { (result ≡ true) ↔ (a.now ≡ b.now) }
 {
     let (a_blocks, _) = a.as_chunks::<256>();
     let (b_blocks, _) = b.as_chunks::<256>();
-    if !is_same_long_block(a.last_chunk().unwrap(), b.last_chunk().unwrap()) {
+    if !is_long_block_equal(a.last_chunk().unwrap(), b.last_chunk().unwrap()) {
         return false;
     }
     for i in 0..a_blocks.len() {
-        if !is_same_long_block(&a_blocks[i], &b_blocks[i]) {
+        if !is_long_block_equal(&a_blocks[i], &b_blocks[i]) {
             return false;
         }
     }

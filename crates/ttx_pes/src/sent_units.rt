@@ -2,10 +2,10 @@
 ghost use Rattle.std.specs.Prelude.{◌≡◌, ◌<◌, ◌≤◌, [], length, slice_index_or};
 ghost use Rattle.std.specs.List.{AllByRecursion};
 ghost use Rattle.ttx_pes.specs.DataUnit.{IsUnit, UnitValue};
-ghost use Rattle.ttx_pes.specs.PesGrammar.{most_units};
-ghost use Rattle.ttx_pes.specs.SentUnits.{AreWithin, packets_of_units, sent_units};
+ghost use Rattle.ttx_pes.specs.PesGrammar.{max_units};
+ghost use Rattle.ttx_pes.specs.SentUnits.{EndWithinField, packets_of_units, sent_units};
 
-use crate::data_unit::{DATA_UNIT, unit_in};
+use crate::data_unit::{DATA_UNIT, decode_unit};
 use crate::unit::Unit;
 use std::marker::Model;
 use ttx_packet::SentPacket;
@@ -26,34 +26,34 @@ impl<'a> Model for SentUnits<'a> {
     ghost use Rattle.std.specs.Prelude.{◌≤◌, List, length};
     ghost use Rattle.std.specs.List.{AllByRecursion};
     ghost use Rattle.ttx_pes.specs.DataUnit.{IsUnit, UnitValue};
-    ghost use Rattle.ttx_pes.specs.PesGrammar.{most_units};
-    ghost use Rattle.ttx_pes.specs.SentUnits.{AreWithin, sent_units};
+    ghost use Rattle.ttx_pes.specs.PesGrammar.{max_units};
+    ghost use Rattle.ttx_pes.specs.SentUnits.{EndWithinField, sent_units};
 
     ghost Value = { List UnitValue };
 
     ghost view = { λ u. sent_units u.field.now u.places.now };
 
-    ghost invariant = { λ u. (length u.places.now ≤ most_units)
-        × AreWithin (length u.field.now) u.places.now
+    ghost invariant = { λ u. (length u.places.now ≤ max_units)
+        × EndWithinField (length u.field.now) u.places.now
         × AllByRecursion IsUnit (sent_units u.field.now u.places.now) };
 }
 
 impl<'a> SentUnits<'a> {
     // Creates the list of Teletext units at these offsets of a data field.
     pub(crate) fn new(field: &'a [u8], places: &'a [u16]) -> Self
-        requires few { length places.now ≤ most_units }
-        requires within { AreWithin (length field.now) places.now }
+        requires few { length places.now ≤ max_units }
+        requires within { EndWithinField (length field.now) places.now }
         requires units { AllByRecursion IsUnit (sent_units field.now places.now) }
         ensures { result ≡ sent_units field.now places.now }
     {
         SentUnits { field, places }
     }
 
-    /// Returns the number of Teletext units, at most `MOST_UNITS`.
+    /// Returns the number of Teletext units, at most `MAX_UNITS`.
     #[inline(always)]
     pub fn len(&self) -> usize
         ensures value { result ≡ length self.now }
-        ensures few { result ≤ most_units }
+        ensures few { result ≤ max_units }
     {
         self.places.len()
     }
@@ -76,6 +76,6 @@ impl<'a> SentUnits<'a> {
     {
         let (_, from) = self.field.split_at(self.places[number] as usize);
         let (block, _) = from.split_at(DATA_UNIT);
-        unit_in(block)
+        decode_unit(block)
     }
 }

@@ -95,9 +95,9 @@ impl Unit {
 
     // Returns the line order position that the next unit must follow, or `None` if this unit may
     // not follow the position `last`.
-    pub(crate) fn place_after(&self, last: u8) -> Option<u8>
+    pub(crate) fn line_place_after(&self, last: u8) -> Option<u8>
         requires { last < 64 }
-        ensures variant { is_some result ≡ may_follow last self.now }
+        ensures accepts_ordered_unit { is_some result ≡ may_follow last self.now }
         ensures value { IfSome result (λ next.
             next ≡ (if self.now.line == 0 then last else line_order_place self.now)) }
         ensures range { IfSome result (λ next. next < 64) }

@@ -1,25 +1,25 @@
 //! Writes the canonical packets of frames.
 ghost use Rattle.std.specs.Prelude.{◌≡◌, ◌+◌, ◌<◌, ◌≤◌, ◌++◌, length, Err, IfErr, is_err, true};
 ghost use Rattle.std.specs.Prelude.{false, if◌then◌else◌};
-ghost use Rattle.sub_io.specs.Device.{CanFail, CountsIf, Writes, failed};
-ghost use Rattle.ttx_pes.specs.Fault.{is_write};
+ghost use Rattle.sub_io.specs.Device.{CanFail, CountsFailureIf, Writes, failed};
+ghost use Rattle.ttx_pes.specs.Fault.{is_write_fault};
 ghost use Rattle.ttx_pes.specs.declared.fault.PesFault.TheVariants.{Ended, Write};
-ghost use Rattle.ttx_pes.specs.PesGrammar.{canonical_packet, longest_packet};
+ghost use Rattle.ttx_pes.specs.PesGrammar.{canonical_packet, max_pes_packet_size};
 
 use crate::data_unit::{add_stuffing, add_unit};
 use crate::fault::PesFault;
 use crate::pes_frame::PesFrame;
-use crate::pes_header::{LONGEST_PACKET, header_of};
+use crate::pes_header::{MAX_PES_PACKET_SIZE, header_from_numbers};
 use arrayvec::ArrayVec;
 use std::marker::Model;
 use sub_io::{Sink, put_all};
 
 /// The bytes of a PES packet that is being written.
-pub(crate) type Bytes = ArrayVec<u8, LONGEST_PACKET>;
+pub(crate) type Bytes = ArrayVec<u8, MAX_PES_PACKET_SIZE>;
 
 // Appends bytes to a packet that has space for them.
 pub(crate) fn add(out: &mut Bytes, bytes: &[u8])
-    requires { length out.old.items + length bytes.now ≤ longest_packet }
+    requires { length out.old.items + length bytes.now ≤ max_pes_packet_size }
     ensures items { out.new.items ≡ out.old.items ++ bytes.now }
     ensures len { length out.new.items ≡ length out.old.items + length bytes.now }
 {
@@ -33,7 +33,7 @@ pub(crate) fn packet_of(frame: &PesFrame) -> Bytes
 {
     let units = frame.units();
     let n = units.len() / 4 + 1;
-    let mut out = header_of(n as u16, frame.pts());
+    let mut out = header_from_numbers(n as u16, frame.pts());
     for unit in units {
         add_unit(&mut out, unit);
     }
@@ -67,7 +67,8 @@ impl PesWriter {
     }
 
     /// Writes the canonical packet of a frame: its units in order, then stuffing units, in the
-    /// smallest number of payloads of 184 bytes (EN 300 472; the choice of stuffing is (own)).
+    /// smallest number of payloads of 184 bytes (EN 300 472; the choice of stuffing is not defined
+    /// by a standard).
     ///
     /// # Errors
     ///
@@ -80,7 +81,8 @@ impl PesWriter {
         ensures faults { IfErr result (λ fault. fault ≡ (if self.old then Ended else Write)) }
         ensures ended { self.old ≡ true → (result ≡ Err Ended) × (sink.new ≡ sink.old) }
         ensures state { self.new ≡ is_err result }
-        ensures count { CountsIf K.failure_count sink.old (failed is_write result) sink.new }
+        ensures count { CountsFailureIf K.failure_count sink.old (failed is_write_fault result)
+            sink.new }
     {
         if self.broken {
             return Err(PesFault::Ended);

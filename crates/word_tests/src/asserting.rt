@@ -7,16 +7,16 @@ use std::fmt::Debug;
 use std::process::Abort;
 
 /// Asserts that two values are equal.
-pub fn assert_same<T: PartialEq + Debug>(rt: &impl Abort, got: &T, expected: &T) {
-    assert_eq!(rt; got, expected);
+pub fn assert_same<T: PartialEq + Debug>(rt: &impl Abort, actual: &T, expected: &T) {
+    assert_eq!(rt; actual, expected);
 }
 
 /// Asserts that two values are equal in test case `case`.
-pub fn assert_same_in<T: PartialEq + Debug>(
+pub fn assert_same_for_case<T: PartialEq + Debug>(
     rt: &impl Abort,
-    got: &T,
+    actual: &T,
     expected: &T,
     case: &impl Debug,
 ) {
-    assert_eq!(rt; got, expected, "of {case:?}");
+    assert_eq!(rt; actual, expected, "of {case:?}");
 }

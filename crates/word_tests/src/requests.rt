@@ -1,5 +1,5 @@
 //! Parsing arguments as requests.
-use crate::asserting::{assert_same, assert_same_in};
+use crate::asserting::{assert_same, assert_same_for_case};
 use fixtures::options;
 use mpeg_ts::{PacketSize, Pid};
 use std::alloc::Global;
@@ -204,7 +204,7 @@ fn reads_what_of_a_subtitle_file_is_taken(rt: HostRuntime) {
 }
 
 // Returns the value of `within` in a request's options.
-fn allowed(request: &Request<'_>) -> Option<u64> {
+fn allowed_frames(request: &Request<'_>) -> Option<u64> {
     match request {
         Request::Check { options, .. } => Some(options.within()),
         Request::Listen { listening, .. } => Some(listening.options.within()),
@@ -215,7 +215,7 @@ fn allowed(request: &Request<'_>) -> Option<u64> {
 // Asserts the value of `within` in the requested options.
 fn assert_allows<'a>(rt: &(impl Abort + Alloc<A = Global>), arguments: &'a [&'a str], frames: u64) {
     match Request::parse(rt.alloc(), arguments) {
-        Ok(request) => assert_same(rt, &allowed(&request), &Some(frames)),
+        Ok(request) => assert_same(rt, &allowed_frames(&request), &Some(frames)),
         Err(_) => panic!(rt; "no request"),
     }
 }
@@ -234,7 +234,7 @@ fn reads_the_frames_that_are_allowed(rt: HostRuntime) {
 
 // Returns the repeat bound and the maximum distance of PES packets, in frames, of a requested
 // check.
-fn bounds(request: &Request<'_>) -> Option<(u64, Option<u64>)> {
+fn range_bounds(request: &Request<'_>) -> Option<(u64, Option<u64>)> {
     match request {
         Request::Check { options, .. } => Some((options.every(), options.pace())),
         _ => None,
@@ -249,7 +249,7 @@ fn assert_bounds<'a>(
     want: (u64, Option<u64>),
 ) {
     match Request::parse(rt.alloc(), arguments) {
-        Ok(request) => assert_same(rt, &bounds(&request), &Some(want)),
+        Ok(request) => assert_same(rt, &range_bounds(&request), &Some(want)),
         Err(_) => panic!(rt; "no request"),
     }
 }
@@ -393,8 +393,8 @@ fn assert_reads<'a>(
     match read_by(&request) {
         Some(pes) => {
             assert_same(rt, &pes.name, &"b");
-            assert_same_in(rt, &pes.stream, stream, &arguments);
-            assert_same_in(rt, &pes.range, range, &arguments);
+            assert_same_for_case(rt, &pes.stream, stream, &arguments);
+            assert_same_for_case(rt, &pes.range, range, &arguments);
         }
         None => panic!(rt; "{arguments:?} reads no PES packets"),
     }
@@ -416,8 +416,8 @@ fn reads_which_pes_packets_are_read(rt: HostRuntime) {
     assert_reads(&rt, &["subttx", "check", "a", "b"], &None, &all);
     assert_reads(&rt, &["subttx", "listen", "b", "--at", "10:00:00:10"], &None, &all);
     // A range from the second PES packet on, and ranges between two PES packets.
-    let behind = PesPacketRange::new(2, None);
-    assert_reads(&rt, &["subttx", "packets", "b", "--pes", "2-"], &None, &behind);
+    let range_from_2 = PesPacketRange::new(2, None);
+    assert_reads(&rt, &["subttx", "packets", "b", "--pes", "2-"], &None, &range_from_2);
     let some = PesPacketRange::new(0, Some(1));
     assert_reads(&rt, &["subttx", "check", "--pes=0-1", "a", "b"], &None, &some);
     let one = PesPacketRange::new(3, Some(3));

@@ -1,6 +1,6 @@
 //! Parsing the values of arguments: numbers, bit flips, lists, times, receivers, PIDs, packet sizes
 //! and ranges.
-use crate::asserting::{assert_same, assert_same_in};
+use crate::asserting::{assert_same, assert_same_for_case};
 use mpeg_ts::PacketSize;
 use std::alloc::{AllocError, Global};
 use std::process::Abort;
@@ -16,7 +16,7 @@ fn reads_numbers(rt: HostRuntime) {
     assert_same(&rt, &parse_number("9999999999"), &Some(9_999_999_999));
     // Invalid numbers: more than ten digits, no digits, and other characters than digits.
     for text in ["00000000007", "10000000000", "", "+1", "-1", "1 ", "1x"] {
-        assert_same_in(&rt, &parse_number(text), &None, &text);
+        assert_same_for_case(&rt, &parse_number(text), &None, &text);
     }
 }
 
@@ -61,7 +61,7 @@ fn reads_lists_of_numbers(rt: HostRuntime) {
         "1,10000000000",
         MORE_NUMBERS,
     ] {
-        assert_same_in(&rt, &numbers_in(alloc, text), &Ok(None), &text);
+        assert_same_for_case(&rt, &numbers_in(alloc, text), &Ok(None), &text);
     }
 }
 
@@ -89,7 +89,7 @@ fn assert_flips(
     (packet, byte, bit): (u64, u8, u8),
 ) {
     let last = Flip { packet, byte, bit };
-    assert_same_in(
+    assert_same_for_case(
         rt,
         &flips_in(rt.alloc(), text),
         &Ok(Some((len, last))),
@@ -140,7 +140,7 @@ fn refuses_flips(rt: HostRuntime) {
         "",
         MORE_FLIPS,
     ] {
-        assert_same_in(&rt, &flips_in(rt.alloc(), text), &Ok(None), &text);
+        assert_same_for_case(&rt, &flips_in(rt.alloc(), text), &Ok(None), &text);
     }
 }
 
@@ -161,7 +161,7 @@ fn reads_times(rt: HostRuntime) {
         "10:00:0x:10",
         "",
     ] {
-        assert_same_in(&rt, &parse_time(text), &None, &text);
+        assert_same_for_case(&rt, &parse_time(text), &None, &text);
     }
 }
 
@@ -170,9 +170,13 @@ fn reads_receivers(rt: HostRuntime) {
     assert_same(&rt, &parse_receiver("blank"), &Some(ReceiverKind::Blank));
     assert_same(&rt, &parse_receiver("keep"), &Some(ReceiverKind::Keep));
     assert_same(&rt, &parse_receiver("drop"), &Some(ReceiverKind::DropRow));
-    assert_same(&rt, &parse_receiver("anew"), &Some(ReceiverKind::Anew));
+    assert_same(
+        &rt,
+        &parse_receiver("anew"),
+        &Some(ReceiverKind::BlankEachHeader),
+    );
     for text in ["Drop", "all", "Keep", "new"] {
-        assert_same_in(&rt, &parse_receiver(text), &None, &text);
+        assert_same_for_case(&rt, &parse_receiver(text), &None, &text);
     }
 }
 
@@ -214,7 +218,7 @@ fn refuses_pids(rt: HostRuntime) {
         "", "0x", "x", "-1", "+1", "0x+1", "0x-1", "-0x101", "+0x101", " 257", "257 ", "0x 101",
         "0X101", "x101", "101h", "0x10g", "0x0x101", "1e2", "$101", "257,258",
     ] {
-        assert_same_in(&rt, &pid_in(text), &None, &text);
+        assert_same_for_case(&rt, &pid_in(text), &None, &text);
     }
 }
 
@@ -229,7 +233,7 @@ fn reads_packet_sizes(rt: HostRuntime) {
     for text in [
         "190", "187", "189", "0188", "+188", "188 ", "1880", "18", "0xbc", "0", "",
     ] {
-        assert_same_in(&rt, &parse_packet_size(text), &None, &text);
+        assert_same_for_case(&rt, &parse_packet_size(text), &None, &text);
     }
 }
 
@@ -266,6 +270,6 @@ fn refuses_ranges(rt: HostRuntime) {
         "00000000001-1", "1-00000000001", "10000000000-", "+1-2", "1-+2", " 1-2", "1 -2", "1- 2",
         "1-2 ", "1- ", "a-b", "1-x", "x-1", "x-", "0x1-2", "1,2", "1:2", "1..2",
     ] {
-        assert_same_in(&rt, &range_in(text), &None, &text);
+        assert_same_for_case(&rt, &range_in(text), &None, &text);
     }
 }

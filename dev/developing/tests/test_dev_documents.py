@@ -285,7 +285,7 @@ STORED = "dev/bodies-to-read.txt"
 HELD = [
     "fn main(rt: HostRuntime)",
     "impl<'a, R: Files + Eprint> FileSystem for SystemFiles<'a, R>",
-    "fn found_from_metadata(looked_up: io::Result<Metadata>)",
+    "fn lookup_result_from_metadata(looked_up: io::Result<Metadata>)",
     "impl<'a, R: Files + Eprint> SystemFiles<'a, R>",
     "impl<R: Files + Eprint> SizeLookup for SystemSizeLookup<'_, R>",
     "fn length_of<R: Files>(rt: &R, name: &str)",

@@ -1,10 +1,10 @@
 //! `check STL PES`: checks a PES file against a subtitle file.
 ghost use Rattle.std.specs.Prelude.{◌≡◌, ◌+◌, ℕ, Err, IsFalse, false, true};
-ghost use Rattle.sub_io.specs.Device.{CountsIf, failed};
+ghost use Rattle.sub_io.specs.Device.{CountsFailureIf, failed};
 ghost use Rattle.sub_io.specs.Reading.{IfKnown};
 ghost use Rattle.ttx_pes.specs.Reader.{FailsAtPacket};
 ghost use Rattle.stl_rows.specs.Layout.{drawing_within};
-ghost use Rattle.stl_rows.specs.Fault.{is_load_read};
+ghost use Rattle.stl_rows.specs.Fault.{is_load_read_failure};
 ghost use Rattle.stl_rows.specs.Loading.{FailsLoading};
 ghost use Rattle.stl_rows.specs.declared.fault.LoadFault.{LoadFault};
 ghost use Rattle.sub_check.specs.CheckedFiles.{AreChecked, IsChecked, IsCheckedBy};
@@ -22,7 +22,7 @@ use stl_rows::{Drawing, Layout, National, Programme, law_of_loading, load};
 use sub_check::{Accepted, CheckFault, check_pes_packets};
 use sub_io::{Sink, Source};
 use sub_listing::{
-    Line, Status, line_of_check, print_done, print_fault_line, push_number, push_text,
+    Line, Status, fault_line_of_check, print_done, print_fault_line, push_number, push_text,
 };
 use sub_plan::Options;
 use ttx_pes::{NumberedPesPackets, PesFault};
@@ -50,9 +50,9 @@ pub fn print_verdict<S: Source, P: NumberedPesPackets, K: Sink>(
         (first_number P.first P.skipped pes.old pes.new)
         (pes.new ≡ pes.old)
         (sink_call K.contents K.failure_count out.old out.new) result }
-    ensures stl_count { CountsFault S.failure_count stl.old result stl.new }
+    ensures stl_failure_count { CountsFault S.failure_count stl.old result stl.new }
     ensures device { P.device pes.new ≡ P.device pes.old }
-    ensures pes_count { CountsFault P.failure_count pes.old result pes.new }
+    ensures pes_failure_count { CountsFault P.failure_count pes.old result pes.new }
     ensures out_count { CountsFault K.failure_count out.old result out.new }
 {
     law_of_loading();
@@ -86,20 +86,22 @@ fn check_files<S: Source, P: NumberedPesPackets>(
     ensures starts { failed is_subtitle_fault result.result ≡ false
         → StartsAt (first_number P.first P.skipped pes.old pes.new)
         (read_call P.remaining P.left P.failure_count pes.old pes.new) result.first }
-    ensures stl_read { (fault : LoadFault)
+    ensures stl_failure_is_at_block { (fault : LoadFault)
         → result.result ≡ Err (CheckFault.Subtitles fault)
-        → is_load_read fault ≡ true
+        → is_load_read_failure fault ≡ true
         → FailsLoading (drawing_within national layout scope) (S.remaining stl.old)
         (S.remaining stl.new)
         fault.block }
-    ensures pes_read { (index : ℕ)
+    ensures pes_failure_is_at_packet { (index : ℕ)
         → result.result ≡ Err (CheckFault.Pes index PesFault.Read)
         → FailsAtPacket index (P.remaining pes.old) (P.left pes.new) }
     ensures before { failed is_subtitle_fault result.result ≡ true → pes.new ≡ pes.old }
-    ensures stl_count { CountsIf S.failure_count stl.old (failed is_stl_read result.result)
+    ensures stl_failure_count { CountsFailureIf S.failure_count stl.old
+        (failed is_stl_read result.result)
         stl.new }
     ensures device { P.device pes.new ≡ P.device pes.old }
-    ensures pes_count { CountsIf P.failure_count pes.old (failed is_pes_read result.result)
+    ensures pes_failure_count { CountsFailureIf P.failure_count pes.old
+        (failed is_pes_read result.result)
         pes.new }
 {
     match load(alloc, stl, national, layout, scope) {
@@ -121,7 +123,7 @@ fn check_from<P: NumberedPesPackets>(
     ensures checked { IsFalse options.now.keeps → options.now.within ≡ 0
         → IfKnown (P.remaining pes.old) (λ bytes.
         IsChecked programme.now options.now bytes result.result) }
-    ensures checked_by { IfKnown (P.remaining pes.old) (λ bytes.
+    ensures is_checked_by_options { IfKnown (P.remaining pes.old) (λ bytes.
         IsCheckedBy programme.now options.now bytes result.result) }
     ensures starts { StartsAt (first_number P.first P.skipped pes.old pes.new)
         (read_call P.remaining P.left P.failure_count pes.old pes.new) result.first }
@@ -130,7 +132,8 @@ fn check_from<P: NumberedPesPackets>(
         → FailsAtPacket index (P.remaining pes.old) (P.left pes.new) }
     ensures own { failed is_subtitle_fault result.result ≡ false }
     ensures device { P.device pes.new ≡ P.device pes.old }
-    ensures count { CountsIf P.failure_count pes.old (failed is_pes_read result.result) pes.new }
+    ensures count { CountsFailureIf P.failure_count pes.old (failed is_pes_read result.result)
+        pes.new }
 {
     match pes.find_first() {
         Ok(first) => Answer {
@@ -157,7 +160,7 @@ fn print_answer<K: Sink>(first: u64, answer: Result<Accepted, CheckFault>, out: 
 {
     match answer {
         Ok(accepted) => print_accepted(accepted, out),
-        Err(fault) => print_fault_line(&line_of_check(fault).counted_from(first), out),
+        Err(fault) => print_fault_line(&fault_line_of_check(fault).counted_from(first), out),
     }
 }
 

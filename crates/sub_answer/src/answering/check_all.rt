@@ -1,27 +1,27 @@
 //! `check STL PES --all`: prints every fault of a subtitle file, and then of a PES file.
 ghost use Rattle.std.specs.Prelude.{◌≡◌, ◌<◌, ◌≤◌, IfErr, OnOk, false, is_err, true};
-ghost use Rattle.sub_io.specs.Device.{CountsIf, failed};
-ghost use Rattle.sub_io.specs.Flushing.{BuffersOnlyWhilePending, KeepsReported};
+ghost use Rattle.sub_io.specs.Device.{CountsFailureIf, failed};
+ghost use Rattle.sub_io.specs.Flushing.{BuffersOnlyWhilePending, KeepsReports};
 ghost use Rattle.sub_rules.specs.Fault.{is_pes_read};
 ghost use Rattle.sub_listing.specs.DeviceCall.{CanFail, CountsFault, read_call, sink_call};
 ghost use Rattle.sub_listing.specs.DeviceCall.{source_call};
-ghost use Rattle.sub_answer.specs.EveryFault.{AnswersAll, ReportsBoth, ReportsPes};
-ghost use Rattle.sub_listing.specs.EventLines.{max_count};
-ghost use Rattle.sub_answer.specs.FaultListing.{faults_listing, last_listing};
+ghost use Rattle.sub_answer.specs.EveryFault.{AnswersCheckAll, ReportsBoth, ReportsPes};
+ghost use Rattle.sub_listing.specs.EventLines.{max_fault_count};
+ghost use Rattle.sub_answer.specs.FaultListing.{fault_count_listing, last_listing};
 ghost use Rattle.sub_listing.specs.Faults.{check_line};
 ghost use Rattle.sub_listing.specs.LastLine.{BuffersLastLineOnly, PutsLine};
 ghost use Rattle.sub_listing.specs.Listing.{PrintsOrFails};
 ghost use Rattle.sub_listing.specs.Printer.{printer_value};
-ghost use Rattle.sub_listing.specs.FaultLine.{line_of, counted_from};
+ghost use Rattle.sub_listing.specs.FaultLine.{text_of_fault_line, counted_from};
 ghost use Rattle.sub_listing.specs.FirstPacket.{first_number};
 
 use crate::answering::check::print_accepted;
 use std::alloc::Global;
 use stl_rows::{Drawing, Judging, LoadFault, law_of_loading, load_all};
 use sub_check::{Accepted, CheckFault, check_all_pes_packets};
-use sub_io::{Flush, LiveAudience, Sink, Source, Stopped, put_all};
+use sub_io::{Flush, LiveReportSink, Sink, Source, Stopped, put_all};
 use sub_listing::{
-    Line, Printer, Status, line_of_check, print_fault_line, push_decimal, push_text,
+    Line, Printer, Status, fault_line_of_check, print_fault_line, push_decimal, push_text,
 };
 use sub_plan::Options;
 use ttx_pes::{NumberedPesPackets, PesFault};
@@ -45,15 +45,15 @@ pub fn print_every_fault<S: Source, P: NumberedPesPackets, K: Flush>(
     requires stl { CanFail (S.failure_count stl.old) }
     requires pes { CanFail (P.failure_count pes.old) }
     requires out { CanFail (K.failure_count out.old) }
-    ensures all { AnswersAll drawing options.now
+    ensures all { AnswersCheckAll drawing options.now
         (source_call S.remaining S.failure_count stl.old stl.new)
         (read_call P.remaining P.left P.failure_count pes.old pes.new)
         (first_number P.first P.skipped pes.old pes.new)
         (pes.new ≡ pes.old)
         (sink_call K.contents K.failure_count out.old out.new) result }
-    ensures stl_count { CountsFault S.failure_count stl.old result stl.new }
+    ensures stl_failure_count { CountsFault S.failure_count stl.old result stl.new }
     ensures device { P.device pes.new ≡ P.device pes.old }
-    ensures pes_count { CountsFault P.failure_count pes.old result pes.new }
+    ensures pes_failure_count { CountsFault P.failure_count pes.old result pes.new }
     ensures out_count { CountsFault K.failure_count out.old result out.new }
     // All output is flushed before the device of the PES file is read. So if this read fails, at
     // most the line about the failure is still in the buffer.
@@ -111,7 +111,7 @@ fn report_every_fault<S: Source, P: NumberedPesPackets, K: Flush>(
         (printer_value (K.contents printer.new.out.now) (K.failure_count printer.new.out.now)
         printer.new.refused printer.new.failed printer.new.first) result }
     ensures device { P.device pes.new ≡ P.device pes.old }
-    ensures count { CountsIf P.failure_count pes.old (failed is_pes_read result) pes.new }
+    ensures count { CountsFailureIf P.failure_count pes.old (failed is_pes_read result) pes.new }
     ensures requested { K.buffered printer.old.out.now ≡ 0
         → failed is_pes_read result ≡ true → K.buffered printer.new.out.now ≡ 0 }
 {
@@ -130,19 +130,20 @@ fn report_every_fault<S: Source, P: NumberedPesPackets, K: Flush>(
 }
 
 // Flushes a device that received the faults of a subtitle file, if lines may be pending.
-fn flush_reports<A: LiveAudience<LoadFault>>(audience: &mut A) -> Result<(), Stopped>
-    requires { A.has_stopped audience.old ≡ false }
-    ensures reported { KeepsReported A.is_reported A.has_pending_reports audience.old audience.new }
-    ensures stopped { A.has_stopped audience.new ≡ is_err result }
-    ensures waited { IfErr result (λ _. A.has_pending_reports audience.old ≡ true) }
-    ensures still { OnOk result (A.has_pending_reports audience.new ≡ false) }
-    ensures buffered { BuffersOnlyWhilePending A.has_pending_reports A.buffered audience.old
-        → OnOk result (A.buffered audience.new ≡ 0) }
+fn flush_reports<A: LiveReportSink<LoadFault>>(report_sink: &mut A) -> Result<(), Stopped>
+    requires { A.has_stopped report_sink.old ≡ false }
+    ensures reported { KeepsReports A.is_reported A.has_pending_reports report_sink.old
+        report_sink.new }
+    ensures stopped { A.has_stopped report_sink.new ≡ is_err result }
+    ensures had_pending_reports { IfErr result (λ _. A.has_pending_reports report_sink.old ≡ true) }
+    ensures still { OnOk result (A.has_pending_reports report_sink.new ≡ false) }
+    ensures buffered { BuffersOnlyWhilePending A.has_pending_reports A.buffered report_sink.old
+        → OnOk result (A.buffered report_sink.new ≡ 0) }
 {
-    if !audience.has_pending() {
+    if !report_sink.has_pending() {
         return Ok(());
     }
-    audience.flush_pending()
+    report_sink.flush_pending()
 }
 
 // Reports the events of the PES file, compared with the reliable subtitles, to a printer.
@@ -156,7 +157,7 @@ fn report_transmission<P: NumberedPesPackets, K: Flush>(
     requires out { CanFail (K.failure_count printer.old.out.now) }
     requires continues { printer.old.failed ≡ false }
     requires still { printer.old.pending ≡ false }
-    requires few { printer.old.refused ≤ max_count }
+    requires few { printer.old.refused ≤ max_fault_count }
     ensures same { printer.new.out.ghost_name ≡ printer.old.out.ghost_name }
     ensures reported { ReportsPes judging.now options.now
         (read_call P.remaining P.left P.failure_count pes.old pes.new)
@@ -166,7 +167,7 @@ fn report_transmission<P: NumberedPesPackets, K: Flush>(
         (printer_value (K.contents printer.new.out.now) (K.failure_count printer.new.out.now)
         printer.new.refused printer.new.failed printer.new.first) result }
     ensures device { P.device pes.new ≡ P.device pes.old }
-    ensures count { CountsIf P.failure_count pes.old (failed is_pes_read result) pes.new }
+    ensures count { CountsFailureIf P.failure_count pes.old (failed is_pes_read result) pes.new }
     ensures requested { K.buffered printer.old.out.now ≡ 0
         → failed is_pes_read result ≡ true → K.buffered printer.new.out.now ≡ 0 }
 {
@@ -198,12 +199,13 @@ fn print_end<K: Sink>(
         (sink_call K.contents K.failure_count out.old out.new) (last_listing first refused answer)
         result }
     ensures line { IfErr answer (λ f.
-        PutsLine K.contents K.is_push out.old (line_of (counted_from first (check_line f)))
+        PutsLine K.contents K.is_push out.old
+        (text_of_fault_line (counted_from first (check_line f)))
         out.new) }
     ensures count { CountsFault K.failure_count out.old result out.new }
 {
     match answer {
-        Err(fault) => print_fault_line(&line_of_check(fault).counted_from(first), out),
+        Err(fault) => print_fault_line(&fault_line_of_check(fault).counted_from(first), out),
         Ok(None) => print_count(refused, out),
         Ok(Some(accepted)) => {
             if refused == 0 {
@@ -220,7 +222,8 @@ fn print_end<K: Sink>(
 fn print_count<K: Sink>(refused: u64, out: &mut K) -> Status
     requires { CanFail (K.failure_count out.old) }
     ensures printed { PrintsOrFails
-        (sink_call K.contents K.failure_count out.old out.new) (faults_listing refused) result }
+        (sink_call K.contents K.failure_count out.old out.new) (fault_count_listing refused)
+        result }
     ensures count { CountsFault K.failure_count out.old result out.new }
 {
     let mut line = Line::new();

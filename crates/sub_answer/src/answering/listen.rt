@@ -1,16 +1,17 @@
 //! `listen PES`: runs one receiver over the PES packets of a file.
 ghost use Rattle.std.specs.Prelude.{◌≡◌, ℕ, ◌+◌, ◌<◌, slice_index};
 ghost use Rattle.ttx_page.specs.Page.{AreCodes};
-ghost use Rattle.sub_answer.specs.Answering.{AnswersListen, PrintsHeard};
+ghost use Rattle.sub_answer.specs.Answering.{AnswersListen, PrintsReceived};
 ghost use Rattle.sub_listing.specs.FirstPacket.{first_number};
 ghost use Rattle.sub_listing.specs.DeviceCall.{CanFail, CountsFault, read_call, sink_call};
 ghost use Rattle.sub_answer.specs.ListenListing.{IsOldPage, listen_line};
-ghost use Rattle.sub_listen.specs.Reception.{left_by};
+ghost use Rattle.sub_listen.specs.Reception.{code_left_by_receiver};
 
 use sub_io::Sink;
 use sub_listen::{ListenFault, listen_pes_packets};
 use sub_listing::{
-    FaultLine, Kind, Status, line_of_check, line_of_failed_read, print_fault_line, print_state,
+    FaultLine, Kind, Status, fault_line_of_check, fault_line_of_failed_read, print_fault_line,
+    print_state,
 };
 use sub_request::{Listening, ReceiverKind};
 use sub_rules::FaultPlace;
@@ -34,7 +35,7 @@ pub fn print_listening<P: NumberedPesPackets, K: Sink>(
     // If the bytes of the source are known and it does not fail, the output is the state of a
     // receiver of the frames in these bytes, or the fault. If the source fails, the fault names the
     // PES packet at which it failed, after the packets that were received.
-    ensures exact { AnswersListen (left_by listening.now.receiver) listening.now
+    ensures exact { AnswersListen (code_left_by_receiver listening.now.receiver) listening.now
         (read_call P.remaining P.left P.failure_count pes.old pes.new)
         (first_number P.first P.skipped pes.old pes.new)
         (sink_call K.contents K.failure_count out.old out.new) result }
@@ -52,7 +53,7 @@ pub fn print_listening<P: NumberedPesPackets, K: Sink>(
             print_state_of::<Keep, P, K>(pes, listening, out)
         }
         // The function `listen` restarts a receiver of any type at a header.
-        ReceiverKind::Blank | ReceiverKind::Anew => {
+        ReceiverKind::Blank | ReceiverKind::BlankEachHeader => {
             print_state_of::<Blank, P, K>(pes, listening, out)
         }
     }
@@ -78,14 +79,14 @@ fn print_state_of<R: Receiver + Drop, P: NumberedPesPackets, K: Sink>(
         < P.failure_count pes.new + K.failure_count out.new }
 {
     match pes.find_first() {
-        Ok(first) => print_heard::<R, P, K>(pes, first, listening, out),
-        Err(at) => print_fault_line(&line_of_failed_read(at), out),
+        Ok(first) => print_received::<R, P, K>(pes, first, listening, out),
+        Err(at) => print_fault_line(&fault_line_of_failed_read(at), out),
     }
 }
 
 // Runs a receiver from the first PES packet, which has the number `first` in its file, and prints
 // the receiver's state.
-fn print_heard<R: Receiver + Drop, P: PesPackets, K: Sink>(
+fn print_received<R: Receiver + Drop, P: PesPackets, K: Sink>(
     pes: &mut P,
     first: u64,
     listening: &Listening,
@@ -93,7 +94,7 @@ fn print_heard<R: Receiver + Drop, P: PesPackets, K: Sink>(
 ) -> Status
     requires first { CanFail (P.failure_count pes.old) }
     requires out { CanFail (K.failure_count out.old) }
-    ensures exact { PrintsHeard R.leaves listening.now first
+    ensures exact { PrintsReceived R.leaves listening.now first
         (read_call P.remaining P.left P.failure_count pes.old pes.new)
         (sink_call K.contents K.failure_count out.old out.new) result }
     ensures device { P.device pes.new ≡ P.device pes.old }
@@ -107,7 +108,7 @@ fn print_heard<R: Receiver + Drop, P: PesPackets, K: Sink>(
     let mut screen = None;
     match listen_pes_packets(&mut receiver, &mut screen, pes, listening) {
         Ok(()) => print_state(&receiver, &screen, listening.options.asks_complete(), out),
-        Err(fault) => print_fault_line(&line_of_listen(fault).counted_from(first), out),
+        Err(fault) => print_fault_line(&fault_line_of_listen(fault).counted_from(first), out),
     }
 }
 
@@ -132,11 +133,11 @@ fn old_row() -> [u8; 40]
 }
 
 // Returns the line for a fault of `listen`.
-fn line_of_listen(fault: ListenFault) -> FaultLine
+fn fault_line_of_listen(fault: ListenFault) -> FaultLine
     ensures { result ≡ listen_line fault }
 {
     match fault {
-        ListenFault::File(fault) => line_of_check(fault),
+        ListenFault::File(fault) => fault_line_of_check(fault),
         ListenFault::LostHeader { frame, packet } => {
             FaultLine {
                 kind: Kind::Refused,

@@ -8,7 +8,7 @@ ghost use Rattle.sub_answer.specs.SurveyListing.{PrintsSurvey};
 use mpeg_ts::SurveyOptions;
 use std::alloc::Global;
 use sub_io::{Flush, Source};
-use sub_listing::{Status, line_of_failed_read, line_of_usage, print_fault_line};
+use sub_listing::{Status, fault_line_of_failed_read, print_fault_line, usage_fault_line};
 use sub_request::UsageFault;
 use ts_survey::{SurveyFault, survey};
 use ttx_pes::FailedAt;
@@ -39,8 +39,11 @@ pub fn print_survey<S: Source, K: Flush>(
 {
     match survey(alloc, options, source, out) {
         Ok(()) => Status::Done,
-        Err(SurveyFault::Read) => print_fault_line(&line_of_failed_read(FailedAt { pes: 0 }), out),
+        Err(SurveyFault::Read) => print_fault_line(
+            &fault_line_of_failed_read(FailedAt { pes: 0 }),
+            out,
+        ),
         Err(SurveyFault::Write) => Status::Fault,
-        Err(SurveyFault::Memory) => print_fault_line(&line_of_usage(&UsageFault::Memory), out),
+        Err(SurveyFault::Memory) => print_fault_line(&usage_fault_line(&UsageFault::Memory), out),
     }
 }

@@ -1,14 +1,14 @@
 //! Sources that return one byte at a time, or fail. Other tests cover sources that never end.
 
-use super::files::{a_file, read_all};
-use crate::asserting::{assert_same, assert_same_in};
+use super::files::{read_all, sample_file};
+use crate::asserting::{assert_same, assert_same_for_case};
 use fixtures::Drip;
 use stl_file::{StlFault, StlReader};
 use sub_io::{FailAt, Source};
 
 #[test]
 fn reports_the_block_of_the_byte_that_could_not_be_read(rt: HostRuntime) {
-    let file = a_file();
+    let file = sample_file();
     for k in 0..1665 {
         let block = if k < 1024 {
             0
@@ -23,7 +23,7 @@ fn reports_the_block_of_the_byte_that_could_not_be_read(rt: HostRuntime) {
             2
         };
         let failed = read_all(&mut FailAt::new(Drip { rest: &file }, k));
-        assert_same_in(&rt, &failed, &(done, Some(StlFault::Read), block), &k);
+        assert_same_for_case(&rt, &failed, &(done, Some(StlFault::Read), block), &k);
     }
     // The reader's last pull reached the end.
     let whole = read_all(&mut FailAt::new(Drip { rest: &file }, 1665));
@@ -32,7 +32,7 @@ fn reports_the_block_of_the_byte_that_could_not_be_read(rt: HostRuntime) {
 
 #[test]
 fn answers_ended_after_a_failure(rt: HostRuntime) {
-    let file = a_file();
+    let file = sample_file();
     let mut source = FailAt::new(Drip { rest: &file }, 1100);
     let mut reader = StlReader::open(&mut source).expect(&rt, "it is read");
     assert!(rt; reader.next(&mut source).err() == Some(StlFault::Read));

@@ -1,7 +1,7 @@
 //! The positions of all fields in a GSI block and a TTI block.
 
-use super::files::a_file;
-use crate::asserting::{assert_same, assert_same_in};
+use super::files::sample_file;
+use crate::asserting::{assert_same, assert_same_for_case};
 use fixtures::put;
 use std::process::Abort;
 use stl_file::{Gsi, StlReader, Subtitle, TimeCode, Tti, five_digits_of};
@@ -84,7 +84,7 @@ fn reads_each_gsi_field_at_its_place(rt: HostRuntime) {
     let gsi = Gsi::read(&bytes);
     for (number, place) in FIELDS.iter().enumerate() {
         let (_, after) = bytes.split_at(place[0] % 1024);
-        assert_same_in(&rt, &field(&gsi, number).len(), &place[1], &number);
+        assert_same_for_case(&rt, &field(&gsi, number).len(), &place[1], &number);
         assert!(rt; after.starts_with(field(&gsi, number)), "field {number}");
     }
     // The bytes at 11, 255, 272 and 273: DSC, TCS, TND and DSN.
@@ -137,7 +137,7 @@ fn assert_takes(rt: &impl Abort, times: [u32; 2], [vp, jc]: [u8; 2], text: &[u8]
     assert!(rt; times[0] < 2_160_000 && times[1] < 2_160_000);
     let (tci, tco) = (TimeCode::of_frame(times[0]), TimeCode::of_frame(times[1]));
     let is_taken = Subtitle::new(1, 2, tci, tco, vp, jc, text).is_some();
-    assert_same_in(rt, &is_taken, &want, &[vp, jc]);
+    assert_same_for_case(rt, &is_taken, &want, &[vp, jc]);
 }
 
 #[test]
@@ -175,7 +175,7 @@ fn assert_holds(
 
 #[test]
 fn gives_the_fields_of_the_first_block_and_the_text_of_all(rt: HostRuntime) {
-    let file = a_file();
+    let file = sample_file();
     let mut source = MemSource::new(&file);
     let mut reader = StlReader::open(&mut source).expect(&rt, "it is read");
     assert!(rt; reader.gsi().tnb() == b"99999".as_slice() && reader.block() == 0);

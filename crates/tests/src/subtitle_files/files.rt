@@ -24,7 +24,7 @@ pub(crate) const USER_DATA: [u8; 16] = [9, 9, 9, 0xfe, 9, 9, 9, 9, 9, 9, 9, 9, 9
 
 /// Returns a file with two subtitles in five blocks: a comment, a subtitle of two blocks with user
 /// data between them, and a subtitle of one block with two bytes of text.
-pub(crate) fn a_file() -> [u8; 1664] {
+pub(crate) fn sample_file() -> [u8; 1664] {
     let mut file = [0; 1664];
     put(&mut file, 0, &gsi());
     put(&mut file, 238, b"9999988888".as_slice());

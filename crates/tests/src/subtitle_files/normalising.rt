@@ -1,13 +1,13 @@
 //! Normal forms of subtitle files. Tests of the command `normal` cover rejected files and failing
 //! devices.
 
-use super::files::{ALONE, FIRST, LAST, a_file};
+use super::files::{ALONE, FIRST, LAST, sample_file};
 use crate::asserting::assert_same;
 use fixtures::{block, gsi, put};
 use stl_file::{StlReader, normal, write_subtitle};
 use sub_io::{MemSink, MemSource};
 
-/// Returns the normal form of `a_file`, without the comment and the user data.
+/// Returns the normal form of `sample_file`, without the comment and the user data.
 fn expected() -> [u8; 1408] {
     let mut file = [0; 1408];
     put(&mut file, 0, &gsi());
@@ -23,7 +23,7 @@ fn writes_the_normal_form_and_that_again(rt: HostRuntime) {
     let want = expected();
     let mut buffer = [0; 2000];
     let mut sink = MemSink::new(&mut buffer);
-    assert_same(&rt, &normal(&a_file(), &mut sink), &Ok(2));
+    assert_same(&rt, &normal(&sample_file(), &mut sink), &Ok(2));
     assert!(rt; sink.written() == want.as_slice());
     let mut again = [0; 2000];
     let mut second = MemSink::new(&mut again);
@@ -33,7 +33,7 @@ fn writes_the_normal_form_and_that_again(rt: HostRuntime) {
 
 #[test]
 fn writes_a_subtitle_in_the_fewest_blocks(rt: HostRuntime) {
-    let file = a_file();
+    let file = sample_file();
     let mut source = MemSource::new(&file);
     let mut reader = StlReader::open(&mut source).expect(&rt, "it is read");
     let subtitle = reader

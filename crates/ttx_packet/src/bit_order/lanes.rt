@@ -7,14 +7,14 @@
 //! ```
 ghost use Rattle.std.specs.Prelude.{◌≡◌, ◌<◌, ℕ, map, slice_index};
 ghost use Rattle.ttx_packet.specs.BitOrder.{mirror};
-ghost use Rattle.ttx_packet.specs.Lanes.{swapped};
+ghost use Rattle.ttx_packet.specs.Lanes.{swapped_bits};
 
 use std::simd::prelude::*;
 
 // Swaps the two 4-bit halves of each byte.
 #[inline(always)]
 fn swap_halves(bytes: u8x16) -> u8x16
-    ensures lanes { result ≡ map (swapped 4 0x0F) bytes }
+    ensures lanes { result ≡ map (swapped_bits 4 0x0F) bytes }
     ensures fits { (k : ℕ) → slice_index bytes k < 0x100 }
 {
     let mask = u8x16::splat(0x0F);
@@ -25,7 +25,7 @@ fn swap_halves(bytes: u8x16) -> u8x16
 // Swaps the two bit pairs in each 4-bit half of each byte.
 #[inline(always)]
 fn swap_pairs(bytes: u8x16) -> u8x16
-    ensures { result ≡ map (swapped 2 0x33) bytes }
+    ensures { result ≡ map (swapped_bits 2 0x33) bytes }
 {
     let mask = u8x16::splat(0x33);
     let n = u8x16::splat(2);
@@ -35,7 +35,7 @@ fn swap_pairs(bytes: u8x16) -> u8x16
 // Swaps the two bits of each bit pair of each byte.
 #[inline(always)]
 fn swap_bits(bytes: u8x16) -> u8x16
-    ensures { result ≡ map (swapped 1 0x55) bytes }
+    ensures { result ≡ map (swapped_bits 1 0x55) bytes }
 {
     let mask = u8x16::splat(0x55);
     let n = u8x16::splat(1);
@@ -44,7 +44,7 @@ fn swap_bits(bytes: u8x16) -> u8x16
 
 // Reverses the bits of each of the 16 bytes.
 #[inline(always)]
-pub(super) fn mirrored_block(block: &[u8; 16]) -> [u8; 16]
+pub(super) fn mirror_block(block: &[u8; 16]) -> [u8; 16]
     ensures { result ≡ map mirror block.now }
 {
     swap_bits(swap_pairs(swap_halves(u8x16::from_array(*block)))).to_array()

@@ -1,5 +1,5 @@
-use Rattle.stl_file.proofs.NormalFormLemmas.{normal_is_file}
+use Rattle.stl_file.proofs.NormalFormLemmas.{normal_form_is_file}
 use Rattle.stl_file.proofs.laws.law_of_normal_form.Goals as goal
 
 pub returns : goal.returns
-returns c = normal_is_file
+returns c = normal_form_is_file

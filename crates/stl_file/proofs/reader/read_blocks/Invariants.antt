@@ -2,20 +2,20 @@
 -- may follow.
 use Rattle.std.proofs.Common.{◌≡◌, ◌≤◌, ◌-◌}
 use Rattle.std.specs.Prelude.{option_map}
-use Rattle.stl_file.specs.Reading.{StartedSubtitleFits, started_in, started_skipped}
-use Rattle.stl_file.specs.Tti.{most_blocks}
+use Rattle.stl_file.specs.Reading.{StartedSubtitleFits, current_subtitle, skipped_subtitle_from}
+use Rattle.stl_file.specs.Tti.{max_blocks}
 use Rattle.stl_file.proofs.ReadBlocksLemmas.{HasRead}
 use Rattle.stl_file.proofs.reader.read_blocks.Given as goal
 
-abbrev pub invariant-loop-got : goal.invariant-loop-got
-invariant-loop-got g l = record {
-  fits : StartedSubtitleFits (started_in l.subtitle l.read);
-  taken : HasRead l.scope l.initial.block (option_map started_skipped l.initial.refused)
+abbrev pub invariant-loop-read_count : goal.invariant-loop-read_count
+invariant-loop-read_count g l = record {
+  fits : StartedSubtitleFits (current_subtitle l.subtitle l.read);
+  taken : HasRead l.scope l.initial.block (option_map skipped_subtitle_from l.initial.refused)
       (g.S.Source.remaining l.initial.source) (g.S.Source.remaining l.source) l.block
-      (started_in l.subtitle l.read);
-  few : l.block ≤ most_blocks;
+      (current_subtitle l.subtitle l.read);
+  few : l.block ≤ max_blocks;
   count : g.S.Source.failure_count l.source ≡ g.S.Source.failure_count l.initial.source;
 }
 
-abbrev pub decreases-loop-got : goal.decreases-loop-got
-decreases-loop-got g l = most_blocks - l.block
+abbrev pub decreases-loop-read_count : goal.decreases-loop-read_count
+decreases-loop-read_count g l = max_blocks - l.block

@@ -3,7 +3,7 @@
 use Rattle.std.proofs.Common.{ℕ, ◌+◌, ◌-◌, ◌<◌, ◌≤◌, [], length, drop, slice_index}
 use Rattle.stl_rows.specs.LineByLine.{prepared_lines}
 use Rattle.stl_rows.specs.TextCode.{text_codes}
-use Rattle.stl_rows.proofs.DrawnPageLemmas.{IsDrawn}
+use Rattle.stl_rows.proofs.DrawnPageLemmas.{HasDrawnLines}
 use Rattle.stl_rows.proofs.drawing.draw_text.Given as goal
 
 abbrev pub invariant-loop-at : goal.invariant-loop-at
@@ -12,7 +12,7 @@ invariant-loop-at l = record {
   rows : l.row ≤ l.vp + l.at;
   codes : (k : ℕ) → slice_index l.cells.items k < 128;
   drawn :
-      IsDrawn l.jc l.vp l.row l.page (prepared_lines [] (text_codes l.national 0 l.text))
+      HasDrawnLines l.jc l.vp l.row l.page (prepared_lines [] (text_codes l.national 0 l.text))
       (prepared_lines l.cells.items (text_codes l.national l.at (drop l.at l.text)));
 }
 

@@ -1,5 +1,5 @@
-use Rattle.stl_rows.proofs.PrintingCodeLaw.{printing_codes_stay}
+use Rattle.stl_rows.proofs.PrintingCodeLaw.{drawing_keeps_printing_codes}
 use Rattle.stl_rows.proofs.drawing.law_of_printing_codes.Goals as goal
 
 pub returns : goal.returns
-returns c = printing_codes_stay
+returns c = drawing_keeps_printing_codes

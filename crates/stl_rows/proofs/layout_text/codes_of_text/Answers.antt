@@ -2,7 +2,8 @@
 use Rattle.std.proofs.Common.{arith, Some}
 use Rattle.std.proofs.lemmas.Bool.Decides.{nat_tests}
 use Rattle.std.proofs.lemmas.List.{length-set}
-use Rattle.stl_rows.proofs.LayoutTextLemmas.{codes_filled-end, codes_filled-odd, codes_filled-step}
+use Rattle.stl_rows.proofs.LayoutTextLemmas.{places_with_codes-end, places_with_codes-odd}
+use Rattle.stl_rows.proofs.LayoutTextLemmas.{places_with_codes-step}
 use Rattle.stl_rows.proofs.layout_text.codes_of_text.Goals as goal
 
 pub returns-then-at-text : goal.returns-then-at-text
@@ -10,7 +11,7 @@ returns-then-at-text g c =
     grind (
       arith,
       nat_tests,
-      codes_filled-odd c.args.text.now c.loop-at.at c.loop-at.places c.loop-at.filled,
+      places_with_codes-odd c.args.text.now c.loop-at.at c.loop-at.places c.loop-at.filled,
     )
 
 pub returns-in_err-code : goal.returns-in_err-code
@@ -18,7 +19,7 @@ returns-in_err-code g c =
     grind (
       arith,
       nat_tests,
-      codes_filled-step c.args.text.now c.loop-at.at c.loop-at.places c.loop-at.filled,
+      places_with_codes-step c.args.text.now c.loop-at.at c.loop-at.places c.loop-at.filled,
     )
 
 pub returns-in_err-attribute : goal.returns-in_err-attribute
@@ -26,7 +27,7 @@ returns-in_err-attribute g c =
     grind (
       arith,
       nat_tests,
-      codes_filled-step c.args.text.now c.loop-at.at c.loop-at.places c.loop-at.filled,
+      places_with_codes-step c.args.text.now c.loop-at.at c.loop-at.places c.loop-at.filled,
     )
 
 pub returns-then-filled : goal.returns-then-filled
@@ -34,7 +35,7 @@ returns-then-filled g c =
     grind (
       arith,
       nat_tests,
-      codes_filled-step c.args.text.now c.loop-at.at c.loop-at.places c.loop-at.filled,
+      places_with_codes-step c.args.text.now c.loop-at.at c.loop-at.places c.loop-at.filled,
     )
 
 pub loop-at-preserved : goal.loop-at-preserved
@@ -43,7 +44,7 @@ loop-at-preserved g c =
       arith,
       nat_tests,
       length-set c.loop-at.places c.loop-at.filled (Some c.in_ok-attribute.attribute),
-      codes_filled-step c.args.text.now c.loop-at.at c.loop-at.places c.loop-at.filled,
+      places_with_codes-step c.args.text.now c.loop-at.at c.loop-at.places c.loop-at.filled,
     )
 
 pub returns : goal.returns
@@ -51,5 +52,5 @@ returns g c =
     grind (
       arith,
       nat_tests,
-      codes_filled-end c.args.text.now c.loop-at.at c.loop-at.places c.loop-at.filled,
+      places_with_codes-end c.args.text.now c.loop-at.at c.loop-at.places c.loop-at.filled,
     )

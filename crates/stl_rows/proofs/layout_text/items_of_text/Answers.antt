@@ -2,8 +2,9 @@
 use Rattle.std.proofs.Common.{arith}
 use Rattle.std.proofs.lemmas.Bool.Decides.{nat_tests}
 use Rattle.std.proofs.lemmas.List.{length-set}
-use Rattle.stl_rows.proofs.LayoutTextLemmas.{items_set-again, items_set-bad, items_set-end}
-use Rattle.stl_rows.proofs.LayoutTextLemmas.{items_set-more}
+use Rattle.stl_rows.proofs.LayoutTextLemmas.{items_with_all-again, items_with_all-bad}
+use Rattle.stl_rows.proofs.LayoutTextLemmas.{items_with_all-end}
+use Rattle.stl_rows.proofs.LayoutTextLemmas.{items_with_all-more}
 use Rattle.stl_rows.proofs.layout_text.items_of_text.Goals as goal
 
 pub returns-in_err-number : goal.returns-in_err-number
@@ -11,7 +12,7 @@ returns-in_err-number c =
     grind (
       arith,
       nat_tests,
-      items_set-bad c.texts.items c.texts.received c.first_text.result.0.now,
+      items_with_all-bad c.texts.items c.texts.received c.split_first_item.result.0.now,
     )
 
 pub returns-then-received-number : goal.returns-then-received-number
@@ -19,8 +20,8 @@ returns-then-received-number c =
     grind (
       arith,
       nat_tests,
-      items_set-again c.texts.items c.set_item.new.items c.texts.received c.in_ok-number.number
-          c.first_text.result.0.now,
+      items_with_all-again c.texts.items c.set_item.new.items c.texts.received c.in_ok-number.number
+          c.split_first_item.result.0.now,
     )
 
 pub texts-preserved : goal.texts-preserved
@@ -29,8 +30,8 @@ texts-preserved c =
       arith,
       nat_tests,
       length-set c.texts.received,
-      items_set-more c.texts.items c.set_item.new.items c.texts.received c.in_ok-number.number
-          c.first_text.result.0.now,
+      items_with_all-more c.texts.items c.set_item.new.items c.texts.received c.in_ok-number.number
+          c.split_first_item.result.0.now,
     )
 
 pub returns-in-None : goal.returns-in-None
@@ -38,7 +39,7 @@ returns-in-None c =
     grind (
       arith,
       nat_tests,
-      items_set-end,
-      items_set-more c.texts.items c.set_item.new.items c.texts.received c.in_ok-number.number
-          c.first_text.result.0.now,
+      items_with_all-end,
+      items_with_all-more c.texts.items c.set_item.new.items c.texts.received c.in_ok-number.number
+          c.split_first_item.result.0.now,
     )

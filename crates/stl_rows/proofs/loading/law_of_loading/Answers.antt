@@ -1,5 +1,5 @@
-use Rattle.stl_rows.proofs.LoadingLaw.{loading_is}
+use Rattle.stl_rows.proofs.LoadingLaw.{files_load_as_programmes}
 use Rattle.stl_rows.proofs.loading.law_of_loading.Goals as goal
 
 pub returns : goal.returns
-returns c = loading_is c.law_of_files.ensures
+returns c = files_load_as_programmes c.law_of_files.ensures

@@ -1,5 +1,5 @@
-use Rattle.stl_rows.proofs.PartLemmas.{part_is}
+use Rattle.stl_rows.proofs.PartLemmas.{parts_load_like_cut_files}
 use Rattle.stl_rows.proofs.loading.law_of_parts.Goals as goal
 
 pub returns : goal.returns
-returns c = part_is c.law_of_scope.ensures.part
+returns c = parts_load_like_cut_files c.law_of_scope.ensures.part

@@ -1,27 +1,28 @@
 -- The subtitle that ends at a frame is the first subtitle whose TCO is after the previous frame.
 use Rattle.std.proofs.Common.{arith, rules, ◌-◌, ◌∙◌, ap, Some}
-use Rattle.stl_rows.proofs.DuePageLemmas.{ends-next, none_ends, none_ends-next}
+use Rattle.stl_rows.proofs.DuePageLemmas.{ends-next, no_tco_means_none_ending}
+use Rattle.stl_rows.proofs.DuePageLemmas.{no_tco_means_none_ending-next}
 use Rattle.stl_rows.proofs.programme.tci_ending_at.Goals as goal
 
 pub returns-then-frame-eq0 : goal.returns-then-frame-eq0
-returns-then-frame-eq0 c = none_ends c.args.subtitles.now c.args.frame (λ k d b.
+returns-then-frame-eq0 c = no_tco_means_none_ending c.args.subtitles.now c.args.frame (λ k d b.
     let times = (c.requires.each k d b).times in
     omega (arith, times))
 
 pub returns-then-at-len : goal.returns-then-at-len
-returns-then-at-len c = none_ends c.args.subtitles.now c.args.frame (λ k d b.
-    let before = c.first_after-at.ensures.before k d (omega (arith, b)) in
+returns-then-at-len c = no_tco_means_none_ending c.args.subtitles.now c.args.frame (λ k d b.
+    let before = c.first_ending_after-at.ensures.before k d (omega (arith, b)) in
     omega (arith, before))
 
 pub returns-then-tco-frame : goal.returns-then-tco-frame
 returns-then-tco-frame c =
-    none_ends-next c.args.drawing.now c.args.subtitles.now (c.args.frame - 1)
-    c.first_after-at.result c.at-subtitle.result c.requires (search rules) (omega arith)
+    no_tco_means_none_ending-next c.args.drawing.now c.args.subtitles.now (c.args.frame - 1)
+    c.first_ending_after-at.result c.at-subtitle.result c.requires (search rules) (omega arith)
     c.at-subtitle.ensures.is c.args.frame (omega arith) (search rules)
 
 pub returns : goal.returns
 returns c =
     ap Some (c.frame.ensures.value ∙ c.tci.ensures.value)
     ∙ ends-next c.args.drawing.now c.args.subtitles.now (c.args.frame - 1)
-    c.first_after-at.result c.at-subtitle.result c.requires (search rules) (omega arith)
+    c.first_ending_after-at.result c.at-subtitle.result c.requires (search rules) (omega arith)
     c.at-subtitle.ensures.is c.args.frame (omega arith) (search rules)

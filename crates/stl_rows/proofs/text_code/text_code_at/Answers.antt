@@ -25,4 +25,4 @@ returns-in-Some-cell_of-clause-small c =
 
 pub returns-in-None-cell_of-clause-small : goal.returns-in-None-cell_of-clause-small
 returns-in-None-cell_of-clause-small c =
-    subst HasSevenBits (sym c.code_of_other.ensures) (other-small _)
+    subst HasSevenBits (sym c.code_without_cell.ensures) (other-small _)

@@ -1,15 +1,15 @@
 use Rattle.std.proofs.Common.{◌∙◌, ap, rules}
 use Rattle.ttx_pes.specs.declared.part_of_pes_packets.PartOfPesPackets.{PartOfPesPackets}
-use Rattle.ttx_pes.proofs.PartLemmas.{number_is, part_is}
-use Rattle.sub_answer.proofs.EndingLemmas.{ends_weaker, first_source}
-use Rattle.sub_answer.proofs.PartLemmas.{all_of_pes_packets, range_of_pes_packets}
+use Rattle.ttx_pes.proofs.PartLemmas.{part_number_is_first_index, part_bytes_are_in_range}
+use Rattle.sub_answer.proofs.EndingLemmas.{ends_weaker, first_input_is_source}
+use Rattle.sub_answer.proofs.PartLemmas.{all_pes_packets_are_range, selected_pes_packets_are_range}
 use Rattle.sub_answer.proofs.parts.answer_second_range.Goals as goal
 
 pub returns-in-None-clause-ends : goal.returns-in-None-clause-ends
 returns-in-None-clause-ends g c =
-    rw c.in-None.is (ends_weaker _ _ _ _ _ _ _ _ _ _ _ _ c.answer_pair.ensures.ends
-    (λ input is. is ∙ first_source _ _ _ c.requires.reads)
-    (λ input is. all_of_pes_packets _ _ _ _ _ input g.P.NumberedPesPackets.first
+    rw c.in-None.is (ends_weaker _ _ _ _ _ _ _ _ _ _ _ _ c.answer_both_inputs.ensures.ends
+    (λ input is. is ∙ first_input_is_source _ _ _ c.requires.reads)
+    (λ input is. all_pes_packets_are_range _ _ _ _ _ input g.P.NumberedPesPackets.first
     g.P.NumberedPesPackets.skipped
     c.requires.start is)
     (λ is. is) (λ first call is. is))
@@ -17,10 +17,10 @@ returns-in-None-clause-ends g c =
 pub returns-in-Some-clause-ends : goal.returns-in-Some-clause-ends
 returns-in-Some-clause-ends g c =
     rw c.in-Some.is
-    (ends_weaker _ _ _ _ _ _ _ _ _ _ _ _ c.answer_pair-in-Some.ensures.ends
-    (λ input is. is ∙ first_source _ _ _ c.requires.reads)
+    (ends_weaker _ _ _ _ _ _ _ _ _ _ _ _ c.answer_both_inputs-in-Some.ensures.ends
+    (λ input is. is ∙ first_input_is_source _ _ _ c.requires.reads)
     (λ input is.
-    range_of_pes_packets _ _ _ _ _ input _ c.in-Some.range is
+    selected_pes_packets_are_range _ _ _ _ _ input _ c.in-Some.range is
     (rw (
       c.new.ensures.now,
       c.new.ensures.left,
@@ -28,9 +28,9 @@ returns-in-Some-clause-ends g c =
       c.most.ensures,
       c.first.ensures,
     )
-    (part_is c.in-Some.range _))
+    (part_bytes_are_in_range c.in-Some.range _))
     (rw (c.new.ensures.now, c.new-in-Some.ensures, c.first.ensures)
-    (number_is c.in-Some.range _))
+    (part_number_is_first_index c.in-Some.range _))
     (search rules) (search rules))
     (λ is.
     let same = ap (λ (p : PartOfPesPackets g.row.P.Denot). p.inner.inner.now) is in search rules)

@@ -1,6 +1,6 @@
 use Rattle.std.proofs.Common.{refl}
 use Rattle.sub_io.proofs.ReportingLemmas.{ReportsSome-trans}
-use Rattle.sub_checker.proofs.ReporterLemmas.{relays_two}
+use Rattle.sub_checker.proofs.ReporterLemmas.{appended_steps_are_relayed}
 use Rattle.sub_checker.proofs.file_end.end_and_close.Goals as goal
 
 pub returns-clause-some : goal.returns-clause-some
@@ -11,4 +11,4 @@ returns-clause-some g c = λ criteria list last keeps.
 pub returns-clause-reported : goal.returns-clause-reported
 returns-clause-reported g c = λ criteria list last keeps is.
     let end = c.end_pending_frame.ensures.reported criteria list last keeps in
-    relays_two refl end.0 (c.close.ensures.reported criteria list last end.1 is)
+    appended_steps_are_relayed refl end.0 (c.close.ensures.reported criteria list last end.1 is)

@@ -4,8 +4,8 @@ use Rattle.std.proofs.Common.{◌≡◌, ◌∙◌, ◌∷◌, [], ap, refl, rul
 use Rattle.std.proofs.Common.{Ok, Option, Result, Some, ℕ, length, take}
 use Rattle.sub_checker.specs.LastEvents.{ending_fault}
 use Rattle.sub_rules.specs.declared.fault.CheckFault.{CheckFault}
-use Rattle.sub_io.proofs.FlushingLemmas.{ReportsSome-kept, holds-reported, when_ok}
-use Rattle.ttx_pes.proofs.BorrowedPacketLemmas.{not_pending}
+use Rattle.sub_io.proofs.FlushingLemmas.{ReportsSome-kept, holds-reported, ok_property_applies}
+use Rattle.ttx_pes.proofs.BorrowedPacketLemmas.{failing_read_has_nothing_pending}
 use Rattle.sub_io.proofs.ReportingLemmas.{ReportsSome-none, Reports-none}
 use Rattle.sub_io.specs.Reporting.{Reports}
 use Rattle.ttx_pes.specs.Comparing.{ComparingValue}
@@ -13,18 +13,24 @@ use Rattle.sub_rules.proofs.PesPacketFileLemmas.{takes_no_pes_packets}
 use Rattle.sub_rules.specs.FrameRules.{criteria_of_judged}
 use Rattle.sub_rules.specs.PesPackets.{PesPacket, frames_of}
 use Rattle.sub_rules.specs.PesPacketEvents.{events_of_pes_packets}
-use Rattle.sub_checker.proofs.PesPacketWaysLemmas.{frames_sent, prefix, none_of_pes_packets, step}
-use Rattle.sub_checker.proofs.PesPacketWaysLemmas.{reported_before, reported_stop, reported_whole}
-use Rattle.sub_checker.proofs.PesPacketWaysLemmas.{tracks_none}
+use Rattle.sub_checker.proofs.PesPacketLoopLemmas.{frames_sent_by, prefix}
+use Rattle.sub_checker.proofs.PesPacketLoopLemmas.{no_pes_packets_have_no_events, step}
+use Rattle.sub_checker.proofs.PesPacketLoopLemmas.{reported_events_are_a_prefix}
+use Rattle.sub_checker.proofs.PesPacketLoopLemmas.{stopped_report_is_a_prefix}
+use Rattle.sub_checker.proofs.PesPacketLoopLemmas.{whole_file_is_reported}
+use Rattle.sub_checker.proofs.PesPacketLoopLemmas.{new_checker_tracks_no_packets}
 use Rattle.std.proofs.Common.{◌++◌, None}
-use Rattle.sub_checker.proofs.FusedAudienceLemmas.{unfused, unfused_some}
+use Rattle.sub_checker.proofs.FusedAudienceLemmas.{reported_events_are_received}
+use Rattle.sub_checker.proofs.FusedAudienceLemmas.{some_reported_events_are_received}
 use Rattle.sub_io.proofs.ReportingLemmas.{ReportsSome-trans}
 use Rattle.sub_rules.proofs.PesPacketFileLemmas.{takes_more_pes_packets}
 use Rattle.sub_rules.specs.PacketRules.{packets_of_units}
 use Rattle.sub_rules.specs.declared.pes_packet.NextPesPacket.{NextPesPacket}
 use Rattle.sub_checker.proofs.NextPesPacketLemmas.{again_is, result_is_sending, last_is}
-use Rattle.sub_checker.proofs.ReadsOnLemmas.{named_pes, packets_taken, reads_on_none}
-use Rattle.sub_checker.proofs.EventPartsLemmas.{all_same}
+use Rattle.sub_checker.proofs.RemainingBytesLemmas.{read_fault_names_pes_packet}
+use Rattle.sub_checker.proofs.RemainingBytesLemmas.{carried_packets_are_taken}
+use Rattle.sub_checker.proofs.RemainingBytesLemmas.{reading_starts_at_all_bytes}
+use Rattle.sub_checker.proofs.EventPartsLemmas.{reports_of_equal_lists}
 use Rattle.sub_checker.proofs.pes_file.report_pes_packets.Goals as goal
 
 pub pes_packets-init : goal.pes_packets-init
@@ -42,17 +48,18 @@ pes_packets-init g c = record {
     c.new-checker.ensures.keeps _ None,
     λ no. refl,
   );
-  some = ReportsSome-none c.args.audience.now;
+  some = ReportsSome-none c.args.report_sink.now;
   holds = λ none still. none;
   room = c.new-checker.ensures.none;
   reported = λ pes_packets unread bytes reported reads.
       let criteria = criteria_of_judged c.args.judging.now c.args.options.now unread in (
         [],
-        reads_on_none c.args.options.now pes_packets unread _ bytes reported reads,
+        reading_starts_at_all_bytes c.args.options.now pes_packets unread _ bytes reported reads,
         packets_of_units c.new-reader.result.frame.units,
-        tracks_none criteria _ _ _ (c.new-checker.ensures.keeps _ unread) c.new.ensures,
+        new_checker_tracks_no_packets criteria _ _ _ (c.new-checker.ensures.keeps _ unread)
+            c.new.ensures,
         λ no. refl,
-        all_same _ _ _ _ (none_of_pes_packets criteria) (Reports-none _),
+        reports_of_equal_lists _ _ _ _ (no_pes_packets_have_no_events criteria) (Reports-none _),
       );
 }
 
@@ -60,11 +67,11 @@ pub returns-then-is_source_failure-clause-exact : goal.returns-then-is_source_fa
 returns-then-is_source_failure-clause-exact g c = λ bytes reported pes_packets unread reads.
     let i = c.pes_packets.invariant.reported pes_packets unread bytes reported reads in
     let so_far =
-    c.flush_reports.ensures.reported.kept c.args.audience.now _ c.requires.still i.5 in
+    c.flush_reports.ensures.reported.kept c.args.report_sink.now _ c.requires.still i.5 in
     let at = prefix c.args.judging.now i.1 i.3 in
     let device = c.flush_reports.ensures.same ∙ c.pes_packets.invariant.same in
     let reported =
-    subst (λ (l : List PesPacket). Reports g.A.Audience.is_reported c.args.audience.now
+    subst (λ (l : List PesPacket). Reports g.A.ReportSink.is_reported c.args.report_sink.now
     c.flush_reports.new.fused.device.now
     (events_of_pes_packets (criteria_of_judged c.args.judging.now
     c.args.options.now unread) l)) (sym at.1) so_far in (
@@ -77,7 +84,8 @@ returns-then-is_source_failure-clause-exact g c = λ bytes reported pes_packets 
 pub returns-then-is_source_failure-clause-read : goal.returns-then-is_source_failure-clause-read
 returns-then-is_source_failure-clause-read g c = λ pes is.
     let failed = sym c.is_source_failure.ensures ∙ c.if-is_source_failure.true in
-    let same = named_pes c.in-Err.fault c.pes_packets.pes pes (c.in-Err.ensures.place failed) is
+    let same = read_fault_names_pes_packet c.in-Err.fault c.pes_packets.pes pes
+    (c.in-Err.ensures.place failed) is
     in (
       record {
         following = g.P.PesPackets.remaining c.pes_packets.source;
@@ -91,7 +99,7 @@ returns-then-is_source_failure-clause-read g c = λ pes is.
           record {
             following = g.P.PesPackets.remaining c.pes_packets.source;
             before =
-                packets_taken bytes (frames_of i.0) i.1.rest pes _ _
+                carried_packets_are_taken bytes (frames_of i.0) i.1.rest pes _ _
                 (i.1.taken (ap (λ (l : List PesPacket). length (frames_of l)) (sym done) ∙ sent ∙
                 same
                 ∙ sym i.1.count))
@@ -106,20 +114,20 @@ returns-in-Err-clause-exact g c = λ bytes reported pes_packets unread reads.
     let i = c.pes_packets.invariant.reported pes_packets unread bytes reported reads in
     let criteria = criteria_of_judged c.args.judging.now c.args.options.now unread in
     let so_far =
-    c.flush_reports.ensures.reported.kept c.args.audience.now _ c.requires.still i.5 in
+    c.flush_reports.ensures.reported.kept c.args.report_sink.now _ c.requires.still i.5 in
     let end = c.in-Err.ensures.exact i.1.ahead unread i.1.rest i.1.rest_eq
     (sym c.is_source_failure.ensures ∙ c.if-is_source_failure.false) i.1.left in
     let device =
-    c.finish.ensures.same criteria (frames_sent criteria i.0) i.2 i.3.keeps
+    c.finish.ensures.same criteria (frames_sent_by criteria i.0) i.2 i.3.keeps
     ∙ c.flush_reports.ensures.same
     ∙ c.pes_packets.invariant.same in
     let reported =
-    reported_whole c.args.judging.now i.1 i.3 c.pes_packets.invariant.few end.0 _ _ _
+    whole_file_is_reported c.args.judging.now i.1 i.3 c.pes_packets.invariant.few end.0 _ _ _
     c.finish.result so_far
-    (c.finish.ensures.reported criteria (frames_sent criteria i.0) i.2 i.3.keeps
+    (c.finish.ensures.reported criteria (frames_sent_by criteria i.0) i.2 i.3.keeps
     (ap (λ (f : CheckFault). Some f) end.3
     ∙ ap (ending_fault c.pes_packets.pes) (sym end.2)))
-    (c.finish.ensures.counts criteria (frames_sent criteria i.0) i.2 i.3.keeps) in
+    (c.finish.ensures.counts criteria (frames_sent_by criteria i.0) i.2 i.3.keeps) in
     search rules
 
 pub returns-in_default-clause-exact : goal.returns-in_default-clause-exact
@@ -127,19 +135,19 @@ returns-in_default-clause-exact g c = λ bytes reported pes_packets unread reads
     let i = c.pes_packets.invariant.reported pes_packets unread bytes reported reads in
     let criteria = criteria_of_judged c.args.judging.now c.args.options.now unread in
     let so_far =
-    c.flush_reports.ensures.reported.kept c.args.audience.now _ c.requires.still i.5 in
+    c.flush_reports.ensures.reported.kept c.args.report_sink.now _ c.requires.still i.5 in
     let end = rw c.in_default.is at
     (c.in-Ok.ensures.exact i.1.ahead unread i.1.rest i.1.rest_eq refl i.1.left) in
     let device =
-    c.finish-in_default.ensures.same criteria (frames_sent criteria i.0) i.2 i.3.keeps
+    c.finish-in_default.ensures.same criteria (frames_sent_by criteria i.0) i.2 i.3.keeps
     ∙ c.flush_reports.ensures.same
     ∙ c.pes_packets.invariant.same in
     let reported =
-    reported_whole c.args.judging.now i.1 i.3 c.pes_packets.invariant.few end.0 _ _ _
+    whole_file_is_reported c.args.judging.now i.1 i.3 c.pes_packets.invariant.few end.0 _ _ _
     c.finish-in_default.result so_far
-    (c.finish-in_default.ensures.reported criteria (frames_sent criteria i.0) i.2 i.3.keeps
+    (c.finish-in_default.ensures.reported criteria (frames_sent_by criteria i.0) i.2 i.3.keeps
     (ap (ending_fault c.pes_packets.pes) (sym end.1)))
-    (c.finish-in_default.ensures.counts criteria (frames_sent criteria i.0) i.2 i.3.keeps) in
+    (c.finish-in_default.ensures.counts criteria (frames_sent_by criteria i.0) i.2 i.3.keeps) in
     search rules
 
 -- If the device stops the check while a PES packet is checked, it has received a prefix of the
@@ -150,15 +158,16 @@ returns-then-reporter-clause-exact g c = λ bytes reported pes_packets unread re
     let i = inv.reported pes_packets unread bytes reported reads in
     let criteria = criteria_of_judged c.args.judging.now c.args.options.now unread in
     let so_far =
-    c.flush_reports.ensures.reported.kept c.args.audience.now _ c.requires.still i.5 in
-    let go = c.report_pes_packet-skipped.ensures.reported criteria (frames_sent criteria i.0) i.2
+    c.flush_reports.ensures.reported.kept c.args.report_sink.now _ c.requires.still i.5 in
+    let go = c.report_pes_packet-skipped.ensures.reported criteria (frames_sent_by criteria i.0) i.2
     i.3.keeps
     (again_is c.in-Some.pes_packet c.pes_packets.skipped i.2 c.in-Some.is c.in-Ok.ensures.again i.4)
     in
-    let received = unfused g.A.Audience.is_reported _ _ _ go.0.reported in
+    let received = reported_events_are_received g.A.ReportSink.is_reported _ _ _ go.0.reported in
     let device = received.same ∙ c.flush_reports.ensures.same ∙ inv.same in
     let reported =
-    reported_stop c.args.judging.now i.1 i.3 c.next_pes_packet.new.reader.frame c.in-Some.pes_packet
+    stopped_report_is_a_prefix c.args.judging.now i.1 i.3 c.next_pes_packet.new.reader.frame
+    c.in-Some.pes_packet
     _ _ _
     (rw c.in-Some.is at (c.in-Ok.ensures.exact i.1.ahead unread i.1.rest i.1.rest_eq refl i.1.left))
     so_far received.cut in
@@ -173,7 +182,8 @@ returns-then-reporter-clause-some g c =
     (again_is c.in-Some.pes_packet c.pes_packets.skipped k.1 c.in-Some.is c.in-Ok.ensures.again k.3)
     in
     let received =
-    unfused_some g.A.Audience.is_reported _ _ (record { items = _; reported = go.0.reported }) in
+    some_reported_events_are_received g.A.ReportSink.is_reported
+    _ _ (record { items = _; reported = go.0.reported }) in
     let device = received.0 ∙ c.flush_reports.ensures.same ∙ inv.same in
     let reported =
     ReportsSome-trans _ _ _
@@ -189,7 +199,8 @@ returns-then-reporter-clause-stopped g c =
     (again_is c.in-Some.pes_packet c.pes_packets.skipped k.1 c.in-Some.is c.in-Ok.ensures.again k.3)
     in
     let received =
-    unfused_some g.A.Audience.is_reported _ _ (record { items = _; reported = go.0.reported }) in
+    some_reported_events_are_received g.A.ReportSink.is_reported
+    _ _ (record { items = _; reported = go.0.reported }) in
     let device = received.0 ∙ c.flush_reports.ensures.same ∙ inv.same in
     let reported = c.report_pes_packet-skipped.new.reporter.fused.agrees ∙ c.if-reporter.true in
     search rules
@@ -204,7 +215,8 @@ pes_packets-preserved g c =
     let go = c.report_pes_packet-skipped.ensures.reported _ k.0 k.1 k.2
     (again_is pes_packet c.pes_packets.skipped k.1 c.in-Some.is c.in-Ok.ensures.again k.3) in
     let more =
-    unfused_some g.A.Audience.is_reported _ _ (record { items = _; reported = go.0.reported }) in
+    some_reported_events_are_received g.A.ReportSink.is_reported
+    _ _ (record { items = _; reported = go.0.reported }) in
     record {
       few = omega (arith, below);
       reading = (rw c.in-Some.is at c.in-Ok.ensures.progress) refl;
@@ -225,21 +237,22 @@ pes_packets-preserved g c =
         λ no. last_is pes_packet k.1 _ (sym c.report_pes_packet-skipped.ensures.skipped ∙ no),
       );
       holds = λ none.
-          holds-reported _ _ _ _ _ g.met.A.LiveAudience.stays_reported _ _
-          (when_ok _ (sym c.is_err.ensures.value ∙ c.if-is_err.false)
+          holds-reported _ _ _ _ _ g.met.A.LiveReportSink.flush_keeps_reports _ _
+          (ok_property_applies _ (sym c.is_err.ensures.value ∙ c.if-is_err.false)
           (c.flush_reports.ensures.holds (inv.holds none))) more.1;
       room = c.report_pes_packet-skipped.ensures.room;
       reported = λ pes_packets unread bytes reported reads.
           let i = inv.reported pes_packets unread bytes reported reads in
           let criteria = criteria_of_judged c.args.judging.now c.args.options.now unread in
           let so_far =
-          c.flush_reports.ensures.reported.kept c.args.audience.now _ c.requires.still i.5 in
-          let all = c.report_pes_packet-skipped.ensures.reported criteria (frames_sent criteria i.0)
+          c.flush_reports.ensures.reported.kept c.args.report_sink.now _ c.requires.still i.5 in
+          let all = c.report_pes_packet-skipped.ensures.reported criteria (frames_sent_by criteria
+          i.0)
           i.2
           i.3.keeps
           (again_is pes_packet c.pes_packets.skipped i.2 c.in-Some.is c.in-Ok.ensures.again i.4) in
           let s =
-          step c.args.judging.now i.1 i.3 g.A.Audience.is_reported
+          step c.args.judging.now i.1 i.3 g.A.ReportSink.is_reported
           _ c.next_pes_packet.new.reader.frame
           pes_packet _ _ _ _ _ ((rw c.in-Some.is at (c.in-Ok.ensures.left i.1.rest i.1.rest_eq))
           refl)
@@ -250,7 +263,8 @@ pes_packets-preserved g c =
             c.report_pes_packet-skipped.ensures.frame sending is,
           ))
           all.1 all.0.kept so_far
-          ((unfused g.A.Audience.is_reported _ _ _ all.0.reported).whole c.if-reporter.false) in (
+          ((reported_events_are_received g.A.ReportSink.is_reported _ _ _ all.0.reported).whole
+          c.if-reporter.false) in (
             i.0 ++ s.0 ∷ [],
             s.1.reads,
             _,
@@ -267,8 +281,8 @@ returns-then-is_err-clause-exact g c = λ bytes reported pes_packets unread read
     let i = c.pes_packets.invariant.reported pes_packets unread bytes reported reads in
     let device = c.flush_reports.ensures.same ∙ c.pes_packets.invariant.same in
     let reported =
-    reported_before c.args.judging.now i.1 i.3 _ _
-    (c.flush_reports.ensures.reported.kept c.args.audience.now _ c.requires.still i.5) in
+    reported_events_are_a_prefix c.args.judging.now i.1 i.3 _ _
+    (c.flush_reports.ensures.reported.kept c.args.report_sink.now _ c.requires.still i.5) in
     search rules
 
 pub returns-in-Err-clause-some : goal.returns-in-Err-clause-some
@@ -305,7 +319,9 @@ returns-then-is_source_failure-clause-requested g c = λ none.
     let device = c.flush_reports.ensures.same ∙ c.pes_packets.invariant.same in
     let flushed = sym c.is_err.ensures.value ∙ c.if-is_err.false in
     let reported =
-    when_ok _ flushed (c.flush_reports.ensures.holds (c.pes_packets.invariant.holds none))
-    (not_pending _ _ _ (when_ok _ flushed c.flush_reports.ensures.settled) c.in-Err.ensures.ready
+    ok_property_applies _ flushed
+    (c.flush_reports.ensures.holds (c.pes_packets.invariant.holds none))
+    (failing_read_has_nothing_pending
+    _ _ _ (ok_property_applies _ flushed c.flush_reports.ensures.settled) c.in-Err.ensures.ready
     (sym c.is_source_failure.ensures ∙ c.if-is_source_failure.true)) in
     search rules

@@ -1,7 +1,7 @@
 use Rattle.std.proofs.Common.{◌≡◌, ℕ, ◌+◌, ◌<◌, ◌++◌, List, arith, ap, drop, drop-cons}
 use Rattle.std.proofs.Common.{flat_map, get_or, length, suc, ◌∙◌}
 use Rattle.sub_io.proofs.ReportingLemmas.{Reports-none, Reports-trans}
-use Rattle.sub_rules.specs.Events.{broken_at, end_events, end_rules, rule_events}
+use Rattle.sub_rules.specs.Events.{place_of_broken_rule, end_events, end_rules, rule_events}
 use Rattle.sub_rules.specs.declared.end_rule.EndRule.{EndRule}
 use Rattle.sub_rules.specs.declared.event.Event.{Event}
 use Rattle.sub_checker.proofs.rule_changes.report_change.Goals as goal
@@ -23,13 +23,13 @@ pub loop-rule-preserved : goal.loop-rule-preserved
 unfolding end_rules
 loop-rule-preserved g c =
     let report : EndRule → List Event =
-    λ rule. rule_events rule (broken_at rule c.args.old.now) c.args.before
-    (broken_at rule c.args.new.now) c.args.frame in
+    λ rule. rule_events rule (place_of_broken_rule rule c.args.old.now) c.args.before
+    (place_of_broken_rule rule c.args.new.now) c.args.frame in
     let next = reported_first report end_rules c.loop-rule.rule-index _ (omega arith) in
     record {
       reported = λ new reported.
           c.loop-rule.invariant.reported new
-          (rw next (Reports-trans _ _ _ _ _ c.report_of.ensures reported));
+          (rw next (Reports-trans _ _ _ _ _ c.report_rule_change.ensures reported));
     }
 
 pub returns : goal.returns

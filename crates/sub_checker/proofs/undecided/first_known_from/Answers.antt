@@ -1,7 +1,7 @@
 -- The result is correct in each case: no subtitle was rejected, or the expected page is unknown
 -- now, was unknown before, or was always known.
 use Rattle.std.proofs.Common.{◌∙◌, sym, arith}
-use Rattle.sub_checker.proofs.UndecidedLemmas.{due_known_up_to_last, known_never}
+use Rattle.sub_checker.proofs.UndecidedLemmas.{due_known_up_to_last, unknown_page_is_never_known}
 use Rattle.sub_checker.proofs.UndecidedLemmas.{due_known_without_refusals, due_unknown_after_day}
 use Rattle.sub_checker.proofs.undecided.first_known_from.Goals as goal
 
@@ -27,7 +27,8 @@ returns-in-Some c edge reports =
 
 pub returns-in-None : goal.returns-in-None
 returns-in-None c edge reports =
-    known_never c.args.judging.now c.args.first c.args.within c.args.frame edge reports
+    unknown_page_is_never_known c.args.judging.now c.args.first c.args.within c.args.frame edge
+    reports
     (sym c.requires ∙ c.if-not-any_refused.false) c.earliest-least.result
     c.earliest-least.ensures.least (sym c.is_undecided.ensures ∙ c.if-is_undecided.false)
     c.in-None.ensures

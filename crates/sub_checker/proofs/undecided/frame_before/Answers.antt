@@ -2,7 +2,7 @@
 use Rattle.std.proofs.Common.{◌≡◌, ℕ, arith, subst, sym}
 use Rattle.stl_rows.specs.DuePage.{IsEdge}
 use Rattle.stl_rows.specs.Programme.{ProgrammeValue}
-use Rattle.sub_checker.proofs.UndecidedLemmas.{undecided_same}
+use Rattle.sub_checker.proofs.UndecidedLemmas.{undecided_is_constant_between_changes}
 use Rattle.sub_checker.proofs.undecided.frame_before.Goals as goal
 
 same_cues : (p q : ProgrammeValue) (e : ℕ) → p ≡ q → IsEdge q.records e → IsEdge p.records e
@@ -10,7 +10,7 @@ same_cues p q e same edge = subst (λ (r : ProgrammeValue). IsEdge r.records e) 
 
 pub returns-in_default : goal.returns-in_default
 returns-in_default c f low until =
-    undecided_same c.args.judging.now f c.args.at until
+    undecided_is_constant_between_changes c.args.judging.now f c.args.at until
     (λ e edge after before.
     omega (arith, before, c.in_default.ensures.value e (same_cues _ _ e c.programme.ensures edge)))
 
@@ -21,7 +21,7 @@ returns-then-edge-least c =
       omega (arith, later),
       omega (arith, later, last.until),
       λ f low until.
-          undecided_same c.args.judging.now f c.args.at until
+          undecided_is_constant_between_changes c.args.judging.now f c.args.at until
           (λ e edge after before.
           omega (
             arith,
@@ -36,7 +36,7 @@ pub returns-else-edge-least : goal.returns-else-edge-least
 returns-else-edge-least c f low until =
     let last = c.in-Some.ensures.value in
     let earlier = c.if-edge-least.false in
-    undecided_same c.args.judging.now f c.args.at until
+    undecided_is_constant_between_changes c.args.judging.now f c.args.at until
     (λ e edge after before.
     omega (
       arith,

@@ -6,7 +6,7 @@ pub returns-in-Some-clause-calls : goal.returns-in-Some-clause-calls
 returns-in-Some-clause-calls g c =
     rw c.in-ReadStl.is (record {
       calls = Open c.in-ReadStl.stl (Some c.in-Some.file) ∷ [];
-      are_made = (c.open_stl.new.files, rw c.in-Some.is at c.open_stl.ensures.call, refl);
+      calls_were_made = (c.open_stl.new.files, rw c.in-Some.is at c.open_stl.ensures.call, refl);
       opens = (refl, refl);
     })
 
@@ -14,7 +14,11 @@ pub returns-in-None-open_stl-clause-calls : goal.returns-in-None-open_stl-clause
 returns-in-None-open_stl-clause-calls g c =
     rw c.in-ReadStl.is (record {
       calls = Open c.in-ReadStl.stl None ∷ [];
-      are_made = (c.open_stl.new.files, rw c.in-None-open_stl.is at c.open_stl.ensures.call, refl);
+      calls_were_made = (
+        c.open_stl.new.files,
+        rw c.in-None-open_stl.is at c.open_stl.ensures.call,
+        refl,
+      );
       opens = (refl, refl);
     })
 
@@ -22,7 +26,11 @@ pub returns-in-Some-open_pes-clause-calls : goal.returns-in-Some-open_pes-clause
 returns-in-Some-open_pes-clause-calls g c =
     rw c.in-ReadPes.is (record {
       calls = Open c.in-ReadPes.pes (Some c.in-Some-open_pes.file) ∷ [];
-      are_made = (c.open_pes.new.files, rw c.in-Some-open_pes.is at c.open_pes.ensures.call, refl);
+      calls_were_made = (
+        c.open_pes.new.files,
+        rw c.in-Some-open_pes.is at c.open_pes.ensures.call,
+        refl,
+      );
       opens = (refl, refl);
     })
 
@@ -30,6 +38,10 @@ pub returns-in-None-open_pes-clause-calls : goal.returns-in-None-open_pes-clause
 returns-in-None-open_pes-clause-calls g c =
     rw c.in-ReadPes.is (record {
       calls = Open c.in-ReadPes.pes None ∷ [];
-      are_made = (c.open_pes.new.files, rw c.in-None-open_pes.is at c.open_pes.ensures.call, refl);
+      calls_were_made = (
+        c.open_pes.new.files,
+        rw c.in-None-open_pes.is at c.open_pes.ensures.call,
+        refl,
+      );
       opens = (refl, refl);
     })

@@ -4,4 +4,5 @@ use Rattle.sub_io.proofs.source.fill.Goals as goal
 
 pub returns-clause-told : goal.returns-clause-told
 returns-clause-told g c =
-    Told-from_result _ _ c.fill_up.new.to c.fill_up.result c.fill_up.ensures.fills
+    Told-from_result _ _ c.fill_until_end.new.to c.fill_until_end.result
+    c.fill_until_end.ensures.fills

@@ -1,4 +1,4 @@
-use Rattle.sub_laws.proofs.NothingReportedLemmas.{law_of_broken_places}
+use Rattle.sub_laws.proofs.EmptyReportLemmas.{law_of_broken_places}
 use Rattle.sub_laws.proofs.laws.law_of_broken_places.Goals as goal
 
 pub returns : goal.returns

@@ -1,4 +1,4 @@
-use Rattle.sub_laws.proofs.GoodByLemmas.{law_of_no_delay}
+use Rattle.sub_laws.proofs.GoodWithRepeatsLemmas.{law_of_no_delay}
 use Rattle.sub_laws.proofs.laws.law_of_no_delay.Goals as goal
 
 pub returns : goal.returns

@@ -1,4 +1,4 @@
-use Rattle.sub_laws.proofs.GoodByLemmas.{law_of_plan_repeats}
+use Rattle.sub_laws.proofs.GoodWithRepeatsLemmas.{law_of_plan_repeats}
 use Rattle.sub_laws.proofs.laws.law_of_plan_repeats.Goals as goal
 
 pub returns : goal.returns

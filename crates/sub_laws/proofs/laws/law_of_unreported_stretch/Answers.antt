@@ -1,4 +1,4 @@
-use Rattle.sub_laws.proofs.NoneKeepsLemmas.{law_of_unreported_stretch}
+use Rattle.sub_laws.proofs.ErasingHeaderLemmas.{law_of_unreported_stretch}
 use Rattle.sub_laws.proofs.laws.law_of_unreported_stretch.Goals as goal
 
 pub returns : goal.returns

@@ -5,17 +5,19 @@ use Rattle.std.proofs.lemmas.Result.{err_from_is_err_and}
 use Rattle.ttx_packet.specs.PageId.{PageIdValue}
 use Rattle.ttx_page.specs.Screen.{display}
 use Rattle.ttx_pes.specs.DataUnit.{UnitValue}
-use Rattle.ttx_pes.specs.PesGrammar.{most_units}
-use Rattle.ttx_pes.proofs.TakenPackets.{takes-more}
+use Rattle.ttx_pes.specs.PesGrammar.{max_units}
+use Rattle.ttx_pes.proofs.ConsumedPackets.{takes-more}
 use Rattle.sub_rules.specs.PacketRules.{packets_of_units}
 use Rattle.sub_rules.specs.declared.fault.CheckFault.{CheckFault}
 use Rattle.sub_rules.specs.declared.pes_packet.NextPesPacket.{NextPesPacket}
 use Rattle.sub_rules.specs.declared.pes_packet.NextPesPacket.TheVariants.{Skipped}
-use Rattle.sub_listen.specs.Run.{least_after}
-use Rattle.sub_listen.specs.Reception.{RunsThrough, packets_used_by, first_lost_header}
+use Rattle.sub_listen.specs.Run.{least_frame_after}
+use Rattle.sub_listen.specs.Reception.{ReceivesPackets, packets_used_by, first_lost_header}
 use Rattle.sub_listen.specs.Reception.{reception_of}
-use Rattle.sub_listen.proofs.WaysOutLemmas.{Reaches, ends_at_end, ends_late, ends_lost, ends_order}
-use Rattle.sub_listen.proofs.WaysOutLemmas.{ends_unread, fails_listening, reaches_next}
+use Rattle.sub_listen.proofs.ListenResultLemmas.{ReachesPesPacket, ends_at_end, ends_late}
+use Rattle.sub_listen.proofs.ListenResultLemmas.{ends_lost, ends_order}
+use Rattle.sub_listen.proofs.ListenResultLemmas.{ends_unread, failed_read_ends_listening}
+use Rattle.sub_listen.proofs.ListenResultLemmas.{reaches_next}
 use Rattle.sub_listen.proofs.listening.listen_pes_packets.Goals as goal
 
 pub returns-in_err-next-clause-exact : goal.returns-in_err-next-clause-exact
@@ -41,7 +43,8 @@ pub returns-in_err-next-clause-failed : goal.returns-in_err-next-clause-failed
 returns-in_err-next-clause-failed g c =
     let p = err_from_is_err_and c.from_residual.result c.from_residual.ensures.1 in
     rw (p.1, p.2)
-    (fails_listening c.args.listening.now c.packets.index _ _ _ _ c.packets.invariant.taken
+    (failed_read_ends_listening c.args.listening.now c.packets.index
+    _ _ _ _ c.packets.invariant.taken
     c.in_err-next.ensures.place c.in_err-next.ensures.within
     (λ frames unread bytes reported reads.
     (c.packets.invariant.reported frames unread bytes reported reads).heard))
@@ -108,11 +111,11 @@ packets-preserved g c =
     let counted = c.in_ok-next.ensures.count in
     let before = c.packets.invariant.failures in
     let few = c.packets.invariant.few in
-    let few_sent = c.packets.invariant.few_sent in
+    let sent_count_is_bounded = c.packets.invariant.sent_count_is_bounded in
     let value = c.units-units.ensures.value in
     let long = c.len-count.ensures.value in
     let units =
-    subst (λ (us : List UnitValue). length us ≤ most_units) (sym c.units-units.ensures.value)
+    subst (λ (us : List UnitValue). length us ≤ max_units) (sym c.units-units.ensures.value)
     c.units-units.ensures.frame.few in
     let given = ap (λ x. let r : Result (Option NextPesPacket) CheckFault = Ok x in r)
     (c.in-Some.is ∙ ap (λ (p : NextPesPacket). Some p) c.in-Sent.is) in
@@ -129,7 +132,7 @@ packets-preserved g c =
     ∙ sym c.first_lost_header.ensures.value
     ∙ c.in_default-first_lost_header.is in
     let run =
-    subst (λ (us : List UnitValue). RunsThrough l g.R.Receiver.leaves
+    subst (λ (us : List UnitValue). ReceivesPackets l g.R.Receiver.leaves
     (g.R.Receiver.tuned_to c.packets.receiver)
     (display (g.R.Receiver.state c.packets.receiver) c.packets.screen)
     (packets_used_by l c.packets.number (packets_of_units us))
@@ -138,24 +141,24 @@ packets-preserved g c =
     c.hear_units.ensures.run in
     record {
       reading = (rw c.in-Some.is at c.in_ok-next.ensures.progress) refl;
-      few_packets = omega (arith, packets);
+      packet_count_is_bounded = omega (arith, packets);
       taken = taken;
       failures = omega (arith, counted, before);
       device = c.next_pes_packet.ensures.device ∙ c.packets.invariant.device;
       tuned = c.hear_units.ensures.tuned ∙ c.packets.invariant.tuned;
       few = omega (arith, few, units, long);
-      few_sent =
-          omega (arith, few_sent, c.first_in_frame-before.ensures.most, units, long);
-      day = omega (arith, day, c.least_after-least.ensures.most);
+      sent_count_is_bounded =
+          omega (arith, sent_count_is_bounded, c.first_in_frame-before.ensures.most, units, long);
+      day = omega (arith, day, c.least_frame_after-least.ensures.most);
       reported = λ frames unread bytes reported reads.
           let i = c.packets.invariant.reported frames unread bytes reported reads in
-          rw (long, c.least_after-least.ensures.value, c.within-within.ensures.value)
-          (subst (λ (us : List UnitValue). Reaches g.R.Receiver.leaves l frames unread
+          rw (long, c.least_frame_after-least.ensures.value, c.within-within.ensures.value)
+          (subst (λ (us : List UnitValue). ReachesPesPacket g.R.Receiver.leaves l frames unread
           (g.R.Receiver.tuned_to c.args.receiver.now)
           (display (g.R.Receiver.state c.args.receiver.now) c.args.screen.now)
           (g.P.PesPackets.remaining c.next_pes_packet.new.source) (c.packets.index + 1)
           (c.packets.number + length us) (c.first_in_frame-before.result + length us)
-          (least_after l.options.within c.in-Sent.sending.frame)
+          (least_frame_after l.options.within c.in-Sent.sending.frame)
           (display (g.R.Receiver.state c.hear_units.new.receiver)
           c.hear_units.new.screen))
           (sym value)
@@ -168,7 +171,7 @@ packets-preserved g c =
           (rw (← c.within-within.ensures.value) c.first_in_frame-before.ensures.value)
           (omega (arith, rises)) (omega (arith, in_time)) whole
           ((rw c.in-Some.is at (c.in_ok-next.ensures.left i.rest i.rest_eq)) refl)
-          (subst (λ (w : PageIdValue). RunsThrough l g.R.Receiver.leaves w
+          (subst (λ (w : PageIdValue). ReceivesPackets l g.R.Receiver.leaves w
           (display (g.R.Receiver.state c.packets.receiver) c.packets.screen)
           (packets_used_by l c.packets.number
           (packets_of_units c.next_pes_packet.new.reader.frame.units))

@@ -5,8 +5,8 @@ use Rattle.std.proofs.lemmas.List.{length-map, nil_from_length}
 use Rattle.ttx_pes.specs.DataUnit.{UnitValue}
 use Rattle.sub_rules.specs.PacketRules.{packets_of_units}
 use Rattle.sub_listen.specs.Reception.{reception_of}
-use Rattle.sub_listen.proofs.ReceptionLemmas.{first_lost_header-none, is_first_lost_header}
-use Rattle.sub_listen.proofs.ReceptionLemmas.{lost_later}
+use Rattle.sub_listen.proofs.ReceptionLemmas.{first_lost_header-none, lost_header_is_first}
+use Rattle.sub_listen.proofs.ReceptionLemmas.{lost_header_is_later}
 use Rattle.sub_listen.proofs.reception.first_lost_header.Goals as goal
 
 pub returns-then-is_empty : goal.returns-then-is_empty
@@ -18,7 +18,7 @@ returns-then-is_lost_header-clause-value c =
     let k : ℕ = c.loop-k.k in
     let l : k < length units = search rules in
     let long = length-map units (λ (u : UnitValue). u.packet) in
-    is_first_lost_header (reception_of c.args.listening.now) c.args.number (packets_of_units units)
+    lost_header_is_first (reception_of c.args.listening.now) c.args.number (packets_of_units units)
     k
     c.packet.result (omega (arith, l, long)) c.packet.ensures c.loop-k.invariant
     (sym c.is_lost_header.ensures ∙ c.if-is_lost_header.true)
@@ -29,6 +29,7 @@ loop-k-preserved c =
     let k : ℕ = c.loop-k.k in
     let l : k < length units = search rules in
     let long = length-map units (λ (u : UnitValue). u.packet) in
-    lost_later (reception_of c.args.listening.now) c.args.number (packets_of_units units) k
+    lost_header_is_later (reception_of c.args.listening.now) c.args.number (packets_of_units units)
+    k
     c.packet.result (omega (arith, l, long)) c.packet.ensures c.loop-k.invariant
     (sym c.is_lost_header.ensures ∙ c.if-is_lost_header.false)

@@ -5,8 +5,8 @@ use Rattle.ttx_packet.specs.PageId.{PageIdValue}
 use Rattle.ttx_page.specs.Screen.{display}
 use Rattle.ttx_pes.specs.DataUnit.{UnitValue}
 use Rattle.sub_rules.specs.PacketRules.{packets_of_units}
-use Rattle.sub_listen.specs.Reception.{RunsThrough, packets_used_by}
-use Rattle.sub_listen.proofs.ReceptionLemmas.{next_packet}
+use Rattle.sub_listen.specs.Reception.{ReceivesPackets, packets_used_by}
+use Rattle.sub_listen.proofs.ReceptionLemmas.{packets_from_index_unfold}
 use Rattle.sub_listen.proofs.reception.hear_units.Goals as goal
 
 pub loop-k-preserved : goal.loop-k-preserved
@@ -20,17 +20,18 @@ loop-k-preserved g c =
     let long : length ps ≡ length units = length-map units (λ (u : UnitValue). u.packet) in
     let p : List ℕ = c.packet-packet.result in
     let next : drop k ps ≡ p ∷ drop (k + 1) ps =
-    next_packet ps k p (omega (arith, within, long)) (c.packet-packet.ensures ∙ c.packet.ensures) in
+    packets_from_index_unfold ps k p (omega (arith, within, long)) (c.packet-packet.ensures ∙
+    c.packet.ensures) in
     record {
       tuned = c.hear_packet.ensures.tuned ∙ i.tuned;
       run = λ end rest.
           let on : c.args.number + (k + 1) ≡ c.args.number + k + 1 = omega arith in
           let one =
           subst (λ (w : PageIdValue).
-          RunsThrough l g.R.Receiver.leaves w
+          ReceivesPackets l g.R.Receiver.leaves w
           (display (g.R.Receiver.state c.hear_packet.new.receiver) c.hear_packet.new.screen)
           (packets_used_by l (c.args.number + k + 1) (drop (k + 1) ps)) end
-          → RunsThrough l g.R.Receiver.leaves w
+          → ReceivesPackets l g.R.Receiver.leaves w
           (display (g.R.Receiver.state c.loop-k.receiver) c.loop-k.screen)
           (packets_used_by l (c.args.number + k) (p ∷ drop (k + 1) ps)) end)
           i.tuned (c.hear_packet.ensures.run (drop (k + 1) ps) end) in

@@ -2,7 +2,7 @@
 use Rattle.std.proofs.Common.{◌≡◌, ◌+◌, drop}
 use Rattle.sub_rules.specs.PacketRules.{packets_of_units}
 use Rattle.ttx_page.specs.Screen.{Display, display}
-use Rattle.sub_listen.specs.Reception.{RunsThrough, packets_used_by}
+use Rattle.sub_listen.specs.Reception.{ReceivesPackets, packets_used_by}
 use Rattle.sub_listen.proofs.reception.hear_units.Given as goal
 
 abbrev pub invariant-loop-k : goal.invariant-loop-k
@@ -10,11 +10,11 @@ invariant-loop-k g l = record {
   tuned : g.R.Receiver.tuned_to l.receiver ≡ g.R.Receiver.tuned_to l.fn.receiver;
   run :
       (end : Display)
-      → RunsThrough l.listening g.R.Receiver.leaves
+      → ReceivesPackets l.listening g.R.Receiver.leaves
       (g.R.Receiver.tuned_to l.fn.receiver)
       (display (g.R.Receiver.state l.receiver) l.screen)
       (packets_used_by l.listening (l.fn.number + l.k) (drop l.k (packets_of_units l.units))) end
-      → RunsThrough l.listening g.R.Receiver.leaves
+      → ReceivesPackets l.listening g.R.Receiver.leaves
       (g.R.Receiver.tuned_to l.fn.receiver)
       (display (g.R.Receiver.state l.fn.receiver) l.fn.screen)
       (packets_used_by l.listening l.fn.number (packets_of_units l.units)) end;

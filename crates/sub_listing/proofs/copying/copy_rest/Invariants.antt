@@ -2,7 +2,7 @@
 -- failed.
 use Rattle.std.proofs.Common.{◌≡◌, true}
 use Rattle.sub_io.specs.Reading.{IfKnown}
-use Rattle.sub_listing.proofs.CopyingLemmas.{HasCopiedSome}
+use Rattle.sub_listing.proofs.CopyingLemmas.{HasCopiedAtLeast}
 use Rattle.sub_listing.proofs.copying.copy_rest.Given as goal
 
 abbrev pub invariant-reads : goal.invariant-reads
@@ -14,7 +14,7 @@ invariant-reads g l = record {
   file : g.F.Sink.failure_count l.file ≡ g.F.Sink.failure_count l.initial.file;
   buffered : g.F.Flush.buffered l.initial.file ≡ 0 → g.F.Flush.buffered l.file ≡ 0;
   copied : IfKnown (g.P.PesPackets.remaining l.initial.pes_packets) (λ bytes.
-      HasCopiedSome bytes (g.P.PesPackets.remaining l.pes_packets)
+      HasCopiedAtLeast bytes (g.P.PesPackets.remaining l.pes_packets)
       (g.F.Sink.contents l.initial.file)
       (g.F.Sink.contents l.file) l.turn);
 }

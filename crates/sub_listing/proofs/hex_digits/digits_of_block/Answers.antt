@@ -1,5 +1,5 @@
 use Rattle.hex.specs.Hex.{lower_digits}
-use Rattle.sub_listing.proofs.HexDigitLemmas.{interleaved_eq}
+use Rattle.sub_listing.proofs.HexDigitLemmas.{interleaving_encodes_hex}
 use Rattle.sub_listing.proofs.hex_digits.digits_of_block.Goals as goal
 
 pub returns : goal.returns
@@ -10,4 +10,4 @@ returns c =
       c.first_digits-first.ensures,
       c.second_digits-second.ensures,
     )
-    (interleaved_eq lower_digits c.args.block.now c.told-block)
+    (interleaving_encodes_hex lower_digits c.args.block.now c.told-block)

@@ -6,7 +6,8 @@ use Rattle.sub_listing.specs.DeviceCall.{read_call, sink_call}
 use Rattle.sub_listing.specs.Listing.{has_failed}
 use Rattle.sub_listing.proofs.ListingLemmas.{counts-fault, counts-status, prefix-cut, prefix-end}
 use Rattle.sub_listing.proofs.ListingLemmas.{prefix-kept, prefix-more, prefix-none, prefix-stopped}
-use Rattle.sub_listing.proofs.LastLineLemmas.{last_alone, risen_fails}
+use Rattle.sub_listing.proofs.LastLineLemmas.{only_last_line_is_buffered}
+use Rattle.sub_listing.proofs.LastLineLemmas.{raised_count_means_failure}
 use Rattle.sub_listing.proofs.listing.list_to.Goals as goal
 
 pub pes_packets-init : goal.pes_packets-init
@@ -31,17 +32,17 @@ returns-then-printer-clause-out_count g c =
     record {
       kept = λ other. absurd (other refl);
       risen = omega (arith, risen, out);
-      once = omega (arith, risen, out);
+      rises_at_most_once = omega (arith, risen, out);
     }
 
 pub returns-then-printer-clause-input_count : goal.returns-then-printer-clause-input_count
 returns-then-printer-clause-input_count g c =
-    let same = c.next-end.ensures.cut_count c.if-printer.true in
+    let same = c.next-end.ensures.counts_failure c.if-printer.true in
     let source = c.pes_packets.invariant.source in
     record {
       kept = λ _. same ∙ source;
       risen = omega (arith, same, source);
-      once = omega (arith, same, source);
+      rises_at_most_once = omega (arith, same, source);
     }
 
 pub returns-then-printer-clause-listing : goal.returns-then-printer-clause-listing
@@ -57,7 +58,7 @@ returns-then-printer-clause-listing g c =
     c.next-end.new.printer.out.now)
     _ _ before.prefix (c.next-end.ensures.cut c.if-printer.true) stays.kept
     (risen ∙ ap (λ (n : ℕ). n + 1) before.out)
-    (c.next-end.ensures.cut_count c.if-printer.true ∙ before.source)
+    (c.next-end.ensures.counts_failure c.if-printer.true ∙ before.source)
 
 pub returns-then-printer-clause-fault : goal.returns-then-printer-clause-fault
 returns-then-printer-clause-fault g c = λ _.
@@ -65,7 +66,7 @@ returns-then-printer-clause-fault g c = λ _.
     let risen =
     (c.next-end.ensures.stays.risen
     (λ same. true≢false (sym c.if-printer.true ∙ same ∙ before.continues))).1 in
-    let same = c.next-end.ensures.cut_count c.if-printer.true in
+    let same = c.next-end.ensures.counts_failure c.if-printer.true in
     let out = before.out in
     let source = before.source in
     omega (arith, risen, same, out, source)
@@ -101,7 +102,7 @@ returns-in-Err-clause-out_count g c =
     record {
       kept = λ other. absurd (other refl);
       risen = omega (arith, out, put);
-      once = omega (arith, out, put);
+      rises_at_most_once = omega (arith, out, put);
     }
 
 pub returns-in-Err-clause-input_count : goal.returns-in-Err-clause-input_count
@@ -152,7 +153,7 @@ returns-in-Some-clause-out_count g c =
     record {
       kept = λ _. omega (arith, out, put);
       risen = omega (arith, out, put);
-      once = omega (arith, out, put);
+      rises_at_most_once = omega (arith, out, put);
     }
 
 pub returns-in-Some-clause-input_count : goal.returns-in-Some-clause-input_count
@@ -203,25 +204,25 @@ pes_packets-preserved g c =
 
 pub returns-then-printer-clause-followed : goal.returns-then-printer-clause-followed
 returns-then-printer-clause-followed g c = λ is sound risen.
-    let same = c.next-end.ensures.cut_count c.if-printer.true in
+    let same = c.next-end.ensures.counts_failure c.if-printer.true in
     let source = c.pes_packets.invariant.source in absurd (omega (arith, same, source, risen))
 
 pub returns-in-Err-clause-followed : goal.returns-in-Err-clause-followed
 returns-in-Err-clause-followed g c = λ is sound risen.
     let before = c.pes_packets.invariant in
-    let fails = risen_fails _ _ (has_failed c.next-end.result) risen
+    let fails = raised_count_means_failure _ _ (has_failed c.next-end.result) risen
     (c.next-end.ensures.count c.if-printer.false
     ∙ ap (λ (n : ℕ). n + (if has_failed c.next-end.result then 1 else 0)) before.source) in
-    last_alone _ _ _ _ _ _ _
+    only_last_line_is_buffered _ _ _ _ _ _ _
     (c.next-end.ensures.followed is (before.holds sound) fails c.if-printer.false)
     c.as_slice.ensures.value c.put.ensures.line
 
 pub returns-in-Some-clause-followed : goal.returns-in-Some-clause-followed
 returns-in-Some-clause-followed g c = λ is sound risen.
     let before = c.pes_packets.invariant in
-    let fails = risen_fails _ _ (has_failed c.next-end.result) risen
+    let fails = raised_count_means_failure _ _ (has_failed c.next-end.result) risen
     (c.next-end.ensures.count c.if-printer.false
     ∙ ap (λ (n : ℕ). n + (if has_failed c.next-end.result then 1 else 0)) before.source) in
-    last_alone _ _ _ _ _ _ _
+    only_last_line_is_buffered _ _ _ _ _ _ _
     (c.next-end.ensures.followed is (before.holds sound) fails c.if-printer.false)
     c.as_slice.ensures.value c.put.ensures.line

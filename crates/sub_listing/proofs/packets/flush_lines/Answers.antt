@@ -1,7 +1,8 @@
 -- Flushing changes neither the printed lines nor the device.
 use Rattle.std.proofs.Common.{◌≡◌, ◌∙◌, ℕ, Bool, List, Option, false, refl, true}
-use Rattle.sub_io.proofs.FlushingLemmas.{not_ok}
-use Rattle.sub_listing.proofs.PrinterLemmas.{flush_failed, flush_same, flush_stays}
+use Rattle.sub_io.proofs.FlushingLemmas.{error_is_not_ok}
+use Rattle.sub_listing.proofs.PrinterLemmas.{failed_flush_is_recorded, flush_keeps_name}
+use Rattle.sub_listing.proofs.PrinterLemmas.{flush_keeps_printed_lines}
 use Rattle.sub_listing.specs.Printer.{FlushesLines, PrinterValue, printer_value}
 use Rattle.sub_listing.specs.declared.printer.Printer.{Printer}
 use Rattle.sub_listing.proofs.packets.flush_lines.Goals as goal
@@ -18,7 +19,7 @@ IsFlushed contents count buffered s ok t = (t.out.ghost_name ≡ s.out.ghost_nam
 
 pub returns-clause-same : goal.returns-clause-same
 returns-clause-same g c =
-    flush_same (λ (p : Printer g.row.K.Denot). p.out.ghost_name)
+    flush_keeps_name (λ (p : Printer g.row.K.Denot). p.out.ghost_name)
     (value_of g.K.Sink.contents g.K.Sink.failure_count) (λ p. p.pending)
     (IsFlushed g.K.Sink.contents g.K.Sink.failure_count g.K.Flush.buffered) _ _ _
     c.flush_first.ensures.call
@@ -26,7 +27,7 @@ returns-clause-same g c =
 
 pub returns-clause-stays : goal.returns-clause-stays
 returns-clause-stays g c =
-    flush_stays (λ (p : Printer g.row.K.Denot). p.out.ghost_name)
+    flush_keeps_printed_lines (λ (p : Printer g.row.K.Denot). p.out.ghost_name)
     (value_of g.K.Sink.contents g.K.Sink.failure_count) (λ p. p.pending)
     (IsFlushed g.K.Sink.contents g.K.Sink.failure_count g.K.Flush.buffered) _ _ _
     c.flush_first.ensures.call
@@ -34,9 +35,9 @@ returns-clause-stays g c =
 
 pub returns-clause-failed : goal.returns-clause-failed
 returns-clause-failed g c =
-    flush_failed (λ (p : Printer g.row.K.Denot). p.out.ghost_name)
+    failed_flush_is_recorded (λ (p : Printer g.row.K.Denot). p.out.ghost_name)
     (value_of g.K.Sink.contents g.K.Sink.failure_count) (λ p. p.pending)
     (IsFlushed g.K.Sink.contents g.K.Sink.failure_count g.K.Flush.buffered) _ _ _
     c.flush_first.ensures.call
     (λ on. (on.0, on.1)) c.requires.continues c.requires.out
-    ∙ not_ok _ _ refl
+    ∙ error_is_not_ok _ _ refl

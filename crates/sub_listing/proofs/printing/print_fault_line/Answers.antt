@@ -3,12 +3,12 @@ use Rattle.std.proofs.Common.{◌≡◌, rules, subst, true}
 use Rattle.std.specs.Io.KnownBytes.{Appends}
 use Rattle.sub_io.proofs.DeviceLemmas.{AppendsPrefix-whole}
 use Rattle.sub_io.specs.Calls.{PutsByPushes}
-use Rattle.sub_listing.specs.FaultLine.{line_of}
+use Rattle.sub_listing.specs.FaultLine.{text_of_fault_line}
 use Rattle.sub_listing.proofs.printing.print_fault_line.Goals as goal
 
 pub returns-in-Ok-clause-line : goal.returns-in-Ok-clause-line
 returns-in-Ok-clause-line g c =
-    let line : c.as_slice.result.now ≡ line_of c.args.reported.now = search rules in
+    let line : c.as_slice.result.now ≡ text_of_fault_line c.args.reported.now = search rules in
     record {
       ok = true;
       calls =

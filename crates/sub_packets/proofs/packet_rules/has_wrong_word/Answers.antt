@@ -1,5 +1,5 @@
-use Rattle.sub_packets.proofs.PacketRuleLemmas.{wrong_header}
+use Rattle.sub_packets.proofs.PacketRuleLemmas.{wrong_header_test_is_exact}
 use Rattle.sub_packets.proofs.packet_rules.has_wrong_word.Goals as goal
 
 pub returns : goal.returns
-returns c = wrong_header c.args.packet.now _ c.is_clean_header.ensures
+returns c = wrong_header_test_is_exact c.args.packet.now _ c.is_clean_header.ensures

@@ -9,9 +9,9 @@ pub returns-then-pts-ge-PTS_END : goal.returns-then-pts-ge-PTS_END
 unfolding frame_with_tolerance
 returns-then-pts-ge-PTS_END c = grind (arith, nat_tests)
 
-pub returns-then-frame-ge-FRAMES_OF_DAY : goal.returns-then-frame-ge-FRAMES_OF_DAY
+pub returns-then-frame-ge-FRAMES_PER_DAY : goal.returns-then-frame-ge-FRAMES_PER_DAY
 unfolding frame_with_tolerance
-returns-then-frame-ge-FRAMES_OF_DAY c = grind (arith, nat_tests)
+returns-then-frame-ge-FRAMES_PER_DAY c = grind (arith, nat_tests)
 
 pub returns : goal.returns
 unfolding frame_with_tolerance

@@ -2,11 +2,15 @@
 -- last TCO.
 use Rattle.std.proofs.Common.{arith, refl}
 use Rattle.std.proofs.lemmas.Bool.Decides.{nat_tests}
-use Rattle.sub_plan.proofs.ProgrammeLemmas.{none_in, last_tco_of_first_tci, span-rises}
+use Rattle.sub_plan.proofs.ProgrammeLemmas.{no_first_tci_means_empty, last_tco_of_first_tci}
+use Rattle.sub_plan.proofs.ProgrammeLemmas.{span-rises}
 use Rattle.sub_plan.proofs.scheduling.schedule.Goals as goal
 
 pub returns-in_default-clause-empty : goal.returns-in_default-clause-empty
-returns-in_default-clause-empty g c = (λ e. none_in _ c.in_default.ensures.value, λ e. refl)
+returns-in_default-clause-empty g c = (
+  λ e. no_first_tci_means_empty _ c.in_default.ensures.value,
+  λ e. refl,
+)
 
 pub returns-in_default-last_tco-clause-empty : goal.returns-in_default-last_tco-clause-empty
 returns-in_default-last_tco-clause-empty g c = grind (arith, nat_tests, last_tco_of_first_tci)

@@ -2,9 +2,9 @@
 -- last frame.
 use Rattle.std.proofs.Common.{◌≡◌, arith, refl, rules, ◌∙◌, inr, []}
 use Rattle.std.proofs.lemmas.Result.{err_from_is_err_and}
-use Rattle.sub_plan.specs.Schedule.{due_in}
+use Rattle.sub_plan.specs.Schedule.{due_page_in}
 use Rattle.sub_plan.specs.Sending.{sending}
-use Rattle.sub_plan.proofs.StepLemmas.{IsStretch, sendings-last, sendings-step}
+use Rattle.sub_plan.proofs.StepLemmas.{IsIntervalOfOnePage, sendings-last, sendings-step}
 use Rattle.sub_plan.proofs.PartLemmas.{part-end, part-more, part-one, prefix-more, prefix-one}
 use Rattle.sub_plan.proofs.PartLemmas.{stretch-bytes}
 use Rattle.sub_plan.proofs.scheduling.send_all.Goals as goal
@@ -14,14 +14,19 @@ returns-in_err-count-clause-bytes g c =
     let i = c.loop-frame.invariant in
     let p = c.args.programme.now in
     let o = c.args.options.now in
-    let s : IsStretch (due_in p) c.args.first c.loop-frame.frame c.next_change-end.result.0
+    let s : IsIntervalOfOnePage (due_page_in p) c.args.first c.loop-frame.frame
+    c.next_change-end.result.0
     c.args.last = search rules in
     let packets : c.packets.result.now ≡ sending o.page p.drawing.national c.args.serial
-    (due_in p c.loop-frame.frame) = search rules in
+    (due_page_in p c.loop-frame.frame) = search rules in
     let e = err_from_is_err_and c.from_residual.result c.from_residual.ensures.1 in
     rw (e.1)
-    (prefix-more i.part _ _ _ (sendings-step (due_in p) o.every c.args.first _ _ _ s)
-    (rw (packets, stretch-bytes (due_in p) o p.drawing.national c.args.serial c.args.first _ _ _ s)
+    (prefix-more i.part _ _ _ (sendings-step (due_page_in p) o.every c.args.first _ _ _ s)
+    (rw (
+      packets,
+      stretch-bytes (due_page_in p) o p.drawing.national c.args.serial c.args.first
+          _ _ _ s,
+    )
     at c.in_err-count.ensures.bytes))
 
 pub loop-frame-preserved : goal.loop-frame-preserved
@@ -30,10 +35,11 @@ loop-frame-preserved g c =
     let p = c.args.programme.now in
     let o = c.args.options.now in
     let n = c.next_change-end.ensures in
-    let s : IsStretch (due_in p) c.args.first c.loop-frame.frame c.next_change-end.result.0
+    let s : IsIntervalOfOnePage (due_page_in p) c.args.first c.loop-frame.frame
+    c.next_change-end.result.0
     c.args.last = search rules in
     let packets : c.packets.result.now ≡ sending o.page p.drawing.national c.args.serial
-    (due_in p c.loop-frame.frame) = search rules in
+    (due_page_in p c.loop-frame.frame) = search rules in
     let e = c.in_ok-count.ensures in
     record {
       low = omega (arith, i.low, n.after);
@@ -44,10 +50,10 @@ loop-frame-preserved g c =
       few = omega (arith, e.few, i.few, n.after, i.low);
       failures = search rules;
       part = rw e.number
-          (part-more i.part _ (sendings-step (due_in p) o.every c.args.first _ _ _ s)
+          (part-more i.part _ (sendings-step (due_page_in p) o.every c.args.first _ _ _ s)
           (rw (
             packets,
-            stretch-bytes (due_in p) o p.drawing.national c.args.serial c.args.first _ _ _ s,
+            stretch-bytes (due_page_in p) o p.drawing.national c.args.serial c.args.first _ _ _ s,
           )
           at e.bytes));
     }
@@ -58,11 +64,11 @@ returns g c =
     let o = c.args.options.now in
     let at_end : c.loop-frame.frame ≡ c.args.last = omega arith in
     let packets : c.packets-2.result.now ≡ sending o.page p.drawing.national c.args.serial
-    (due_in p c.loop-frame.frame) = search rules in
+    (due_page_in p c.loop-frame.frame) = search rules in
     let all =
     part-end
     (part-one c.loop-frame.invariant.part {f = c.args.last} {left' = []}
-    (rw at_end (sendings-last (due_in p) o.every c.args.first c.args.last))
+    (rw at_end (sendings-last (due_page_in p) o.every c.args.first c.args.last))
     (rw (packets, at_end) at c.in_ok-put_at.ensures.bytes)) refl in
     record { number = all.0; bytes = all.1; count = search rules }
 
@@ -72,10 +78,10 @@ returns-in_err-put_at-clause-bytes g c =
     let o = c.args.options.now in
     let at_end : c.loop-frame.frame ≡ c.args.last = omega arith in
     let packets : c.packets-2.result.now ≡ sending o.page p.drawing.national c.args.serial
-    (due_in p c.loop-frame.frame) = search rules in
+    (due_page_in p c.loop-frame.frame) = search rules in
     let e = err_from_is_err_and c.from_residual-in_err-put_at.result
     c.from_residual-in_err-put_at.ensures.1 in
     rw (e.1)
     (prefix-one c.loop-frame.invariant.part _ {f = c.args.last} {left' = []}
-    (rw at_end (sendings-last (due_in p) o.every c.args.first c.args.last))
+    (rw at_end (sendings-last (due_page_in p) o.every c.args.first c.args.last))
     (rw (packets, at_end) at c.in_err-put_at.ensures.bytes))

@@ -8,7 +8,7 @@ use Rattle.sub_plan.proofs.scheduling.send_steps.Goals as goal
 pub loop-frame-preserved : goal.loop-frame-preserved
 loop-frame-preserved g c =
     let i = c.loop-frame.invariant in
-    let every = c.step_of-every.ensures in
+    let every = c.repeat_interval-every.ensures in
     record {
       low = omega arith;
       few = omega arith;
@@ -35,5 +35,5 @@ returns-in_err-repeat_at-clause-bytes g c =
     rw (p.1)
     (prefix-one i.part _
     (steps-more c.args.options.now.every c.loop-frame.frame c.args.end
-    (omega (arith, c.step_of-every.ensures.value)) c.loop-frame-test.true)
+    (omega (arith, c.repeat_interval-every.ensures.value)) c.loop-frame-test.true)
     (c.in_err-repeat_at.ensures.bytes c.args.packets.now i.units))

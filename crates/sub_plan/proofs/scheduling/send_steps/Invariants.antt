@@ -3,7 +3,7 @@
 use Rattle.std.proofs.Common.{◌≡◌, ◌-◌, ◌<◌, ◌≤◌}
 use Rattle.ttx_pes.specs.LineOrder.{numbered_units}
 use Rattle.sub_plan.specs.Steps.{packets_at, steps}
-use Rattle.sub_plan.proofs.PartLemmas.{IsPartDone}
+use Rattle.sub_plan.proofs.PartLemmas.{IsPartWritten}
 use Rattle.sub_plan.proofs.scheduling.send_steps.Given as goal
 
 abbrev pub invariant-loop-frame : goal.invariant-loop-frame
@@ -14,7 +14,7 @@ invariant-loop-frame g l = record {
   units : l.packet.units ≡ numbered_units 0 l.packets;
   failures : g.K.Sink.failure_count l.sink ≡ g.K.Sink.failure_count l.initial.sink;
   part :
-      IsPartDone (g.K.Sink.contents l.initial.sink) (g.K.Sink.contents l.sink)
+      IsPartWritten (g.K.Sink.contents l.initial.sink) (g.K.Sink.contents l.sink)
       (packets_at l.options.origin l.packets) l.count
       (steps l.options.every l.frame l.end)
       (steps l.options.every l.from l.end);

@@ -12,5 +12,5 @@ invariant-loop-argument l = record {
   app :
       fold with_rule (app_of l.command) (map clap_rule (drop l.argument-index l.arguments))
       ≡ fold with_rule (app_of l.initial.command) (map clap_rule l.arguments);
-  local : (out-Command l.command).has_globals ≡ false;
+  has_no_globals : (out-Command l.command).has_globals ≡ false;
 }

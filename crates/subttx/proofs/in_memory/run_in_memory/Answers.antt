@@ -22,8 +22,8 @@ returns-clause-complete g c = (c.law_of_headline.ensures _ _ _ _ _ _ c.run.ensur
 pub returns-clause-recording : goal.returns-clause-recording
 returns-clause-recording g c = (c.law_of_headline.ensures _ _ _ _ _ _ c.run.ensures).6
 
-pub returns-clause-recording_too : goal.returns-clause-recording_too
-returns-clause-recording_too g c = (c.law_of_headline.ensures _ _ _ _ _ _ c.run.ensures).7
+pub returns-clause-recording_receivers : goal.returns-clause-recording_receivers
+returns-clause-recording_receivers g c = (c.law_of_headline.ensures _ _ _ _ _ _ c.run.ensures).7
 
 pub returns-clause-recording_files : goal.returns-clause-recording_files
 returns-clause-recording_files g c = (c.law_of_headline.ensures _ _ _ _ _ _ c.run.ensures).8

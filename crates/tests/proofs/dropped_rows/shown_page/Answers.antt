@@ -1,5 +1,5 @@
 use Rattle.std.proofs.Common.{List, ℕ, [], ◌∷◌, ◌++◌, refl, replicate}
-use Rattle.ttx_page.proofs.PageLemmas.{codes_from_test}
+use Rattle.ttx_page.proofs.PageLemmas.{code_test_is_correct}
 use Rattle.tests.proofs.dropped_rows.shown_page.Goals as goal
 
 -- The codes of row 22 with the text `Hi`.
@@ -10,4 +10,4 @@ codes =
     ++ replicate 17 0x20
 
 pub set_row-requires-clause-codes : goal.set_row-requires-clause-codes
-set_row-requires-clause-codes c = codes_from_test codes refl
+set_row-requires-clause-codes c = code_test_is_correct codes refl

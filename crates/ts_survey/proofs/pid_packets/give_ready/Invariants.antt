@@ -1,11 +1,11 @@
 use Rattle.std.proofs.Common.{◌≡◌, length}
-use Rattle.ts_survey.proofs.FollowingLemmas.{Continues}
+use Rattle.ts_survey.proofs.FollowingLemmas.{CompletesReceivedBytes}
 use Rattle.ts_survey.proofs.pid_packets.give_ready.Given as goal
 
 abbrev pub invariant-pes_packets : goal.invariant-pes_packets
 invariant-pes_packets g l = record {
   same : l.joining ≡ record l.fn.joining { pending = l.joining.pending };
-  taken : Continues g.T.TakesPesPackets.is_taken l.fn.to l.fn.joining.pending l.to
+  taken : CompletesReceivedBytes g.T.TakesPesPackets.is_taken l.fn.to l.fn.joining.pending l.to
       l.joining.pending;
 }
 

@@ -3,7 +3,7 @@ use Rattle.std.proofs.Common.{◌≡◌, ◌≤◌, ◌++◌, ◌∙◌, [], ap,
 use Rattle.std.proofs.Common.{sym, take}
 use Rattle.std.proofs.KnownBytes.{Appends-trans, Consumes-nil, Consumes-trans}
 use Rattle.mpeg_ts.specs.declared.survey_options.SurveyOptions.{SurveyOptions}
-use Rattle.ts_survey.specs.Counted.{IsAtPlace}
+use Rattle.ts_survey.specs.Counted.{HasReadUpToBuffer}
 use Rattle.ts_survey.specs.FirstLines.{head_size}
 use Rattle.ts_survey.specs.Listed.{IsAsRequested}
 use Rattle.ts_survey.proofs.CountedLemmas.{is_at_place-kept, is_at_place-next, is_at_place-start}
@@ -38,7 +38,7 @@ returns-then-received-clause-listed g c =
     (g.S.Source.remaining c.reads.source) (g.S.Source.remaining c.pull.new.source) given.read.0
     received.received given.read.1 received.consumed)
     (search rules)
-    (subst (λ b. IsAtPlace taken.new.self.kind taken.new.self.skipped
+    (subst (λ b. HasReadUpToBuffer taken.new.self.kind taken.new.self.skipped
     (given.read.0 ++ received.received)
     (take c.skip_bytes.new.self.len c.skip_bytes.new.self.bytes.items) b)
     c.if-received.true
@@ -49,13 +49,13 @@ returns-then-received-clause-listed g c =
     (take c.skip_bytes.new.self.len c.skip_bytes.new.self.bytes.items) c.in-Ok.received.is_end
     given.is_at_place
     received.buffered c.buffered.ensures.bytes c.skip_bytes.ensures.buffered taken.ensures.within
-    taken.ensures.passed taken.ensures.begun (λ known. (taken.ensures.continues known).2)
+    taken.ensures.skipped_before taken.ensures.begun (λ known. (taken.ensures.continues known).2)
     taken.ensures.taken))
     given.grows.1
     ends
     (reported-on c.reads.recording taken.new.self given.read.0 (given.read.0 ++ received.received)
     c.buffered.result.now given.grows.0 ends.before.bytes.items c.reads.first taken.new.first
-    given.reported taken.ensures.finds taken.ensures.continues (search rules) given.first
+    given.reported taken.ensures.kind_is_found taken.ensures.continues (search rules) given.first
     (search rules)
     (begins-as c.reads.recording.has_head given.read.0 received.received given.long)
     (λ not. received-all given.read.0 (take c.reads.buffer.len c.reads.buffer.bytes.items)
@@ -81,7 +81,7 @@ reads-preserved g c =
     let reported =
     reported-on c.reads.recording taken.new.self given.read.0 (given.read.0 ++ received.received)
     c.buffered.result.now given.grows.0 c.pause.new.text.bytes.items c.reads.first taken.new.first
-    given.reported taken.ensures.finds taken.ensures.continues (search rules) given.first
+    given.reported taken.ensures.kind_is_found taken.ensures.continues (search rules) given.first
     (search rules)
     (begins-as c.reads.recording.has_head given.read.0 received.received given.long)
     all
@@ -121,7 +121,7 @@ reads-preserved g c =
           (take c.skip_bytes.new.self.len c.skip_bytes.new.self.bytes.items) false
           (c.pause.ensures.kind c.if-received.false) (c.pause.ensures.reads c.if-received.false)
           (c.pause.ensures.skipped c.if-received.false)
-          (subst (λ b. IsAtPlace taken.new.self.kind taken.new.self.skipped
+          (subst (λ b. HasReadUpToBuffer taken.new.self.kind taken.new.self.skipped
           (given.read.0 ++ received.received)
           (take c.skip_bytes.new.self.len c.skip_bytes.new.self.bytes.items) b)
           c.if-received.false
@@ -133,7 +133,8 @@ reads-preserved g c =
           given.is_at_place
           received.buffered c.buffered.ensures.bytes c.skip_bytes.ensures.buffered
           taken.ensures.within
-          taken.ensures.passed taken.ensures.begun (λ known. (taken.ensures.continues known).2)
+          taken.ensures.skipped_before taken.ensures.begun
+          (λ known. (taken.ensures.continues known).2)
           taken.ensures.taken));
       long = λ has.
           long-on c.reads.recording.has_head taken.new.self.has_head given.read.0 received.received
@@ -149,7 +150,7 @@ reads-preserved g c =
       none = search rules;
       kept = search rules;
       buffer = search rules;
-      holds = search rules;
+      stays_flushed = search rules;
     }
 
 pub reads-init : goal.reads-init
@@ -175,5 +176,5 @@ reads-init g c = record {
   none = search rules;
   kept = search rules;
   buffer = search rules;
-  holds = search rules;
+  stays_flushed = search rules;
 }

@@ -1,4 +1,4 @@
-use Rattle.ttx_packet.proofs.MadePackets.{law_of_header_packet}
+use Rattle.ttx_packet.proofs.EncodedPacketLemmas.{law_of_header_packet}
 use Rattle.ttx_packet.proofs.laws.law_of_header_packet.Goals as goal
 
 pub returns : goal.returns

@@ -1,5 +1,5 @@
-use Rattle.ttx_pes.proofs.LinePairLemmas.{line_order}
+use Rattle.ttx_pes.proofs.LinePairLemmas.{line_order_is_pairwise}
 use Rattle.ttx_pes.proofs.laws.law_of_line_order.Goals as goal
 
 pub returns : goal.returns
-returns c = line_order
+returns c = line_order_is_pairwise

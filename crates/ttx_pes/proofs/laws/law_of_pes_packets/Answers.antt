@@ -1,5 +1,5 @@
-use Rattle.ttx_pes.proofs.PesPacketListLemmas.{splits_into}
+use Rattle.ttx_pes.proofs.PesPacketListLemmas.{pes_packets_split_bytes}
 use Rattle.ttx_pes.proofs.laws.law_of_pes_packets.Goals as goal
 
 pub returns : goal.returns
-returns c = splits_into
+returns c = pes_packets_split_bytes

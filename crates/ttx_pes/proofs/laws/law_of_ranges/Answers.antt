@@ -1,5 +1,5 @@
-use Rattle.ttx_pes.proofs.RangeLemmas.{ranges}
+use Rattle.ttx_pes.proofs.RangeLemmas.{ranges_select_packets}
 use Rattle.ttx_pes.proofs.laws.law_of_ranges.Goals as goal
 
 pub returns : goal.returns
-returns c = ranges
+returns c = ranges_select_packets

@@ -1,5 +1,5 @@
-use Rattle.ttx_pes.proofs.ReadingLemmas.{written_is_read}
+use Rattle.ttx_pes.proofs.ReadingLemmas.{written_packet_reads_back}
 use Rattle.ttx_pes.proofs.laws.law_of_reading_back.Goals as goal
 
 pub returns : goal.returns
-returns c = written_is_read
+returns c = written_packet_reads_back

@@ -1,7 +1,7 @@
 -- Skipping `count` bytes drops them from the front of the unprocessed bytes.
 use Rattle.mpeg_ts.specs.Stream.{StreamValue}
 use Rattle.mpeg_ts.specs.contracts.stream.Stream.{the_view}
-use Rattle.mpeg_ts.proofs.StreamLemmas.{ahead_moved}
+use Rattle.mpeg_ts.proofs.StreamLemmas.{advancing_moves_bytes_ahead}
 use Rattle.mpeg_ts.proofs.stream.Stream.advance.Goals as goal
 
 pub returns-clause-ahead : goal.returns-clause-ahead
@@ -17,5 +17,6 @@ returns-clause-ahead c =
       joining = i.joining;
     } in
     rw (← c.self.view_is) (λ bytes.
-    ahead_moved (the_view i) moved c.args.count bytes c.advance-self-inside.ensures.buffered
+    advancing_moves_bytes_ahead (the_view i) moved c.args.count bytes
+    c.advance-self-inside.ensures.buffered
     c.advance-self-inside.ensures.left c.advance-self-inside.ensures.rest)

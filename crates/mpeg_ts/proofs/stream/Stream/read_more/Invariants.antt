@@ -1,9 +1,9 @@
 -- In each iteration of `read_more`, the output still to be returned is the same, and no pull has
 -- failed.
 use Rattle.std.proofs.Common.{◌≡◌, true}
-use Rattle.sub_io.specs.Asking.{Requests}
+use Rattle.sub_io.specs.Requesting.{Requests}
 use Rattle.mpeg_ts.specs.Stream.{bytes_at_most, output_of, has_output}
-use Rattle.mpeg_ts.specs.TakenBytes.{TakesPrefix}
+use Rattle.mpeg_ts.specs.ConsumedStreamBytes.{TakesPrefix}
 use Rattle.mpeg_ts.proofs.stream.Stream.read_more.Given as goal
 
 abbrev pub invariant-loop-self : goal.invariant-loop-self

@@ -4,7 +4,8 @@ use Rattle.std.proofs.Common.{◌≡◌, ◌≤◌, ◌+◌, ◌∙◌, [], ap, 
 use Rattle.mpeg_ts.specs.PacketsInStep.{bytes_needed}
 use Rattle.mpeg_ts.specs.Stream.{StreamValue}
 use Rattle.mpeg_ts.specs.contracts.stream.Stream.{the_view}
-use Rattle.mpeg_ts.proofs.StreamLemmas.{cut_gives, given_takes, need_requests, needs_packet}
+use Rattle.mpeg_ts.proofs.StreamLemmas.{cut_window_outputs_nothing, window_consumes_prefix}
+use Rattle.mpeg_ts.proofs.StreamLemmas.{needed_bytes_are_requested, needed_bytes_hold_packet}
 use Rattle.mpeg_ts.proofs.stream.Stream.read_needed.Goals as goal
 
 pub returns-clause-packet : goal.returns-clause-packet
@@ -12,36 +13,45 @@ returns-clause-packet g c = λ ok.
     let v = c.args.self.now in
     let near : 188 ≤ v.distance =
     omega (arith, c.self.invariant.near, ap (λ (s : StreamValue). s.distance) c.self.view_is) in
-    omega
-    (arith, c.fill_to.ensures.there ok, c.needed.ensures, needs_packet v.distance v.in_step near)
+    omega (
+      arith,
+      c.fill_window_to.ensures.there ok,
+      c.count_needed_bytes.ensures,
+      needed_bytes_hold_packet v.distance v.in_step near,
+    )
 
 pub returns-clause-takes : goal.returns-clause-takes
 returns-clause-takes g c =
     rw (← c.self.view_is)
-    (given_takes (g.S.Source.remaining c.args.source.now)
-    (g.S.Source.remaining c.fill_to.new.source) (the_view c.self.inside) c.fill_to.new.self
-    c.fill_to.ensures.takes)
+    (window_consumes_prefix (g.S.Source.remaining c.args.source.now)
+    (g.S.Source.remaining c.fill_window_to.new.source) (the_view c.self.inside)
+    c.fill_window_to.new.self
+    c.fill_window_to.ensures.takes)
 
 pub returns-clause-cut : goal.returns-clause-cut
 returns-clause-cut g c = λ failed.
     let i = c.self.inside in
     let idle : i.joining.pending ≡ [] =
     ap (λ (s : StreamValue). s.joining.pending) c.self.view_is ∙ c.requires.idle in
-    let count : c.needed.result ≡ bytes_needed i.distance i.in_step =
-    c.needed.ensures ∙ ap (λ (s : StreamValue). bytes_needed s.distance s.in_step)
+    let count : c.count_needed_bytes.result ≡ bytes_needed i.distance i.in_step =
+    c.count_needed_bytes.ensures ∙ ap (λ (s : StreamValue). bytes_needed s.distance s.in_step)
     (sym c.self.view_is) in
-    cut_gives (record (the_view i) { window = c.fill_to.new.self }) c.self.invariant.near idle
-    (omega (arith, c.fill_to.ensures.cut failed, count))
+    cut_window_outputs_nothing (record (the_view i) { window = c.fill_window_to.new.self })
+    c.self.invariant.near idle
+    (omega (arith, c.fill_window_to.ensures.cut failed, count))
 
 pub returns-clause-requests : goal.returns-clause-requests
 returns-clause-requests g c =
     let i = c.self.inside in
-    let count : i.lead + c.needed.result ≡ i.lead + bytes_needed i.distance i.in_step =
-    ap (λ n. i.lead + n) (c.needed.ensures
+    let count : i.lead + c.count_needed_bytes.result ≡ i.lead + bytes_needed i.distance i.in_step =
+    ap (λ n. i.lead + n) (c.count_needed_bytes.ensures
     ∙ ap (λ (s : StreamValue). bytes_needed s.distance s.in_step) (sym c.self.view_is)) in
     let idle : i.joining.pending ≡ [] =
     ap (λ (s : StreamValue). s.joining.pending) c.self.view_is ∙ c.requires.idle in
     rw (← c.self.view_is)
-    (need_requests g.S.Source.is_pull g.S.Source.borrowed g.S.Source.remaining (the_view i)
-    c.fill_to.new.self c.args.source.now c.fill_to.new.source (is_ok c.fill_to.result)
-    (i.lead + c.needed.result) c.fill_to.ensures.requests count c.self.invariant.near idle)
+    (needed_bytes_are_requested g.S.Source.is_pull g.S.Source.borrowed g.S.Source.remaining
+    (the_view i)
+    c.fill_window_to.new.self c.args.source.now c.fill_window_to.new.source
+    (is_ok c.fill_window_to.result)
+    (i.lead + c.count_needed_bytes.result) c.fill_window_to.ensures.requests count
+    c.self.invariant.near idle)

@@ -6,16 +6,20 @@ use Rattle.mpeg_ts.specs.Joining.{JoiningValue, has_ended}
 use Rattle.mpeg_ts.specs.Stream.{StreamValue}
 use Rattle.mpeg_ts.specs.Window.{WindowValue}
 use Rattle.mpeg_ts.specs.contracts.stream.Stream.{the_view}
-use Rattle.mpeg_ts.proofs.StreamLemmas.{borrowed_skipped, borrowed_within, others_given}
-use Rattle.mpeg_ts.proofs.StreamLemmas.{packet_given}
-use Rattle.mpeg_ts.proofs.StreamLemmas.{same_pid}
+use Rattle.mpeg_ts.proofs.StreamLemmas.{skipping_borrowed_is_valid, borrowed_count_is_available}
+use Rattle.mpeg_ts.proofs.StreamLemmas.{other_units_change_no_output}
+use Rattle.mpeg_ts.proofs.StreamLemmas.{borrowed_packet_is_output}
+use Rattle.mpeg_ts.proofs.StreamLemmas.{packet_of_pid_is_noted}
 use Rattle.mpeg_ts.proofs.stream.Stream.take_borrowed.Goals as goal
 
-pub returns-then-not-begins_unit-clause-kept : goal.returns-then-not-begins_unit-clause-kept
-returns-then-not-begins_unit-clause-kept g c =
+pub returns-then-not-is_unit_of_pid-clause-kept : goal.returns-then-not-is_unit_of_pid-clause-kept
+returns-then-not-is_unit_of_pid-clause-kept g c =
     let i = c.self.inside in
     let v : StreamValue = the_view i in
-    let w : StreamValue = record v { window = c.skip_bytes-then-not-begins_unit.new.self; lead = 0 }
+    let w : StreamValue = record v {
+      window = c.skip_bytes-then-not-is_unit_of_pid.new.self;
+      lead = 0;
+    }
     in
     let borrowed = c.buffered-borrowed.result.now in
     let place = c.place_after_other_pids-place.result in
@@ -24,40 +28,41 @@ returns-then-not-begins_unit-clause-kept g c =
     let skipped : c.skip_bytes.result ≡ true = search rules in
     let within : length borrowed ≤ i.window.left = omega arith in
     let none : i.window.buffered ≡ [] = nil_from_length i.window.buffered (omega arith) in
-    let going : has_ended i.joining.part ≡ false =
-    ap (λ (s : StreamValue). has_ended s.joining.part) c.self.view_is ∙ c.requires.going in
+    let part_is_open : has_ended i.joining.part ≡ false =
+    ap (λ (s : StreamValue). has_ended s.joining.part) c.self.view_is ∙ c.requires.part_is_open in
     let idle : i.joining.pending ≡ [] =
     ap (λ (s : StreamValue). s.joining.pending) c.self.view_is ∙ c.requires.idle in
     rw (← c.self.view_is)
-    (borrowed_skipped g.S.Source.is_pull g.S.Source.borrowed g.S.Source.remaining v w
+    (skipping_borrowed_is_valid g.S.Source.is_pull g.S.Source.borrowed g.S.Source.remaining v w
     c.args.source.now c.skip_bytes.new.self borrowed place c.buffered-borrowed.ensures.bytes
     c.buffered-borrowed.ensures.borrowed fits (c.skip_bytes.ensures.call skipped)
     (c.skip_bytes.ensures.bytes skipped)
-    (λ bytes. others_given v w _ bytes place (length-take-le place borrowed fits) none
-    (omega (arith, fits, within)) step (c.self.invariant.no_run step)
-    (λ rest. c.place_after_other_pids-place.ensures.gives rest i.joining going idle)
+    (λ bytes. other_units_change_no_output v w _ bytes place (length-take-le place borrowed fits)
+    none
+    (omega (arith, fits, within)) step (c.self.invariant.no_run_in_step step)
+    (λ rest. c.place_after_other_pids-place.ensures.gives rest i.joining part_is_open idle)
     (ap (λ (u : WindowValue). record v { window = u; lead = 0 })
-    c.skip_bytes-then-not-begins_unit.ensures)))
+    c.skip_bytes-then-not-is_unit_of_pid.ensures)))
 
 pub returns-clause-kept : goal.returns-clause-kept
 returns-clause-kept g c =
     let i = c.self.inside in
     let v : StreamValue = the_view i in
-    let packet = c.packet_in.result.now in
+    let packet = c.packet_in_unit.result.now in
     let borrowed = c.buffered-borrowed.result.now in
     let place = c.place_after_other_pids-place.result in
     let count = place + i.distance in
     let step : i.in_step ≡ true = search rules in
-    let unit : c.begins_unit.result ≡ true = search rules in
-    let fits : count ≤ length borrowed = c.begins_unit.ensures.fits unit in
-    let mine = c.begins_unit.ensures.packet unit in
+    let unit : c.is_unit_of_pid.result ≡ true = search rules in
+    let fits : count ≤ length borrowed = c.is_unit_of_pid.ensures.fits unit in
+    let mine = c.is_unit_of_pid.ensures.packet unit in
     let within : length borrowed ≤ i.window.left = omega arith in
     let skipped : c.skip_bytes-2.result ≡ true = c.skip_bytes-2.ensures.whole
-    (borrowed_within borrowed (g.S.Source.borrowed c.args.source.now) count
+    (borrowed_count_is_available borrowed (g.S.Source.borrowed c.args.source.now) count
     c.buffered-borrowed.ensures.borrowed fits) in
     let none : i.window.buffered ≡ [] = nil_from_length i.window.buffered (omega arith) in
-    let going : has_ended i.joining.part ≡ false =
-    ap (λ (s : StreamValue). has_ended s.joining.part) c.self.view_is ∙ c.requires.going in
+    let part_is_open : has_ended i.joining.part ≡ false =
+    ap (λ (s : StreamValue). has_ended s.joining.part) c.self.view_is ∙ c.requires.part_is_open in
     let idle : i.joining.pending ≡ [] =
     ap (λ (s : StreamValue). s.joining.pending) c.self.view_is ∙ c.requires.idle in
     let w : StreamValue = record v {
@@ -65,7 +70,7 @@ returns-clause-kept g c =
       lead = 0;
       joining = c.take_packet.new.self;
     } in
-    let joined =
+    let joined_output =
     ap (λ (u : WindowValue). record v {
       window = u;
       lead = 0;
@@ -76,13 +81,15 @@ returns-clause-kept g c =
       lead = 0;
       joining = j;
     }) (c.take_packet.ensures
-    ∙ sym (same_pid i.number packet i.joining (rw c.packet_in.ensures mine.1))) in
+    ∙ sym (packet_of_pid_is_noted i.number packet i.joining (rw c.packet_in_unit.ensures mine.1)))
+    in
     rw (← c.self.view_is)
-    (borrowed_skipped g.S.Source.is_pull g.S.Source.borrowed g.S.Source.remaining v w
+    (skipping_borrowed_is_valid g.S.Source.is_pull g.S.Source.borrowed g.S.Source.remaining v w
     c.args.source.now c.skip_bytes-2.new.self borrowed count c.buffered-borrowed.ensures.bytes
     c.buffered-borrowed.ensures.borrowed fits (c.skip_bytes-2.ensures.call skipped)
     (c.skip_bytes-2.ensures.bytes skipped)
-    (λ bytes. packet_given v w borrowed packet bytes place count refl fits none
-    (omega (arith, fits, within)) step (c.self.invariant.no_run step) c.self.invariant.near
-    c.packet_in.ensures (rw c.packet_in.ensures mine.0) going idle
-    (λ rest. c.place_after_other_pids-place.ensures.gives rest i.joining going idle) joined))
+    (λ bytes. borrowed_packet_is_output v w borrowed packet bytes place count refl fits none
+    (omega (arith, fits, within)) step (c.self.invariant.no_run_in_step step) c.self.invariant.near
+    c.packet_in_unit.ensures (rw c.packet_in_unit.ensures mine.0) part_is_open idle
+    (λ rest. c.place_after_other_pids-place.ensures.gives rest i.joining part_is_open idle)
+    joined_output))

@@ -2,7 +2,8 @@
 -- found.
 use Rattle.std.proofs.Common.{◌≡◌, ◌+◌, arith, inl, inr}
 use Rattle.sub_listing.specs.DeviceCall.{read_call}
-use Rattle.sub_answer.proofs.ListenListingLemmas.{heard_kept, none_heard}
+use Rattle.sub_answer.proofs.ListenListingLemmas.{keeping_preserves_listening}
+use Rattle.sub_answer.proofs.ListenListingLemmas.{failed_read_hears_nothing}
 use Rattle.sub_answer.proofs.answering.listen.print_state_of.Goals as goal
 
 pub returns-in-Ok-clause-exact : goal.returns-in-Ok-clause-exact
@@ -14,8 +15,8 @@ returns-in-Ok-clause-exact g c =
       number = c.in-Ok.first;
       starts = λ n is. inl (c.in-Ok.ensures.first n is);
       heard =
-          heard_kept _ _ c.in-Ok.first _ _ _ _ _ _ _ _ c.in-Ok.ensures.kept same
-          c.print_heard.ensures.exact;
+          keeping_preserves_listening _ _ c.in-Ok.first _ _ _ _ _ _ _ _ c.in-Ok.ensures.kept same
+          c.print_received.ensures.exact;
     }
 
 pub returns-in-Err-clause-exact : goal.returns-in-Err-clause-exact
@@ -33,10 +34,10 @@ returns-in-Err-clause-exact g c =
             (risen, c.in-Err.ensures.unread),
           );
       heard =
-          none_heard _ _ c.in-Err.at.pes
+          failed_read_hears_nothing _ _ c.in-Err.at.pes
           (read_call g.P.PesPackets.remaining g.P.PesPackets.left g.P.PesPackets.failure_count
           c.args.pes.now
           c.find_first.new.self)
           _ _ c.in-Err.ensures.unread risen
-          (rw c.line_of_failed_read.ensures at c.print_fault_line.ensures.printed);
+          (rw c.fault_line_of_failed_read.ensures at c.print_fault_line.ensures.printed);
     }

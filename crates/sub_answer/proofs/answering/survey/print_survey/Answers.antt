@@ -10,21 +10,22 @@ pub returns-in-Err-Read-clause-printed : goal.returns-in-Err-Read-clause-printed
 returns-in-Err-Read-clause-printed g c =
     let counted = rw c.in-Err-Read.field-0-is at c.in-Err-Read.ensures.out_count in
     let reported = c.print_fault_line.ensures in
-    let is_fault = ap (λ (line : FaultLine). status_of line.kind) c.line_of_failed_read.ensures in
+    let is_fault = ap (λ (line : FaultLine). status_of line.kind)
+    c.fault_line_of_failed_read.ensures in
     printed-reported c.args.options (g.S.Source.remaining c.args.source.now)
     (sink_call g.K.Sink.contents g.K.Sink.failure_count c.args.out.now c.print_fault_line.new.out)
     (g.K.Sink.contents c.survey.new.out) (g.K.Sink.failure_count c.survey.new.out) _ _
-    c.survey.ensures.grows (omega (arith, counted)) reported.printed is_fault reported.not_done
+    c.survey.ensures.grows (omega (arith, counted)) reported.printed is_fault reported.is_not_done
     (reported.fault is_fault)
 
 pub returns-in-Err-Memory-clause-printed : goal.returns-in-Err-Memory-clause-printed
 returns-in-Err-Memory-clause-printed g c =
     let counted = rw c.in-Err-Memory.field-0-is at c.in-Err-Memory.ensures.out_count in
     let reported = c.print_fault_line-in-Err-Memory.ensures in
-    let is_fault = ap (λ (line : FaultLine). status_of line.kind) c.line_of_usage.ensures in
+    let is_fault = ap (λ (line : FaultLine). status_of line.kind) c.usage_fault_line.ensures in
     printed-reported c.args.options (g.S.Source.remaining c.args.source.now)
     (sink_call g.K.Sink.contents g.K.Sink.failure_count c.args.out.now
     c.print_fault_line-in-Err-Memory.new.out)
     (g.K.Sink.contents c.survey.new.out) (g.K.Sink.failure_count c.survey.new.out) _ _
-    c.survey.ensures.grows (omega (arith, counted)) reported.printed is_fault reported.not_done
+    c.survey.ensures.grows (omega (arith, counted)) reported.printed is_fault reported.is_not_done
     (reported.fault is_fault)

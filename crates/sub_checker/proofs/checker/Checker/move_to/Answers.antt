@@ -21,18 +21,18 @@ returns-then-is_before c =
     let before : CheckerValue = record {
       programme = i.programme.now;
       judging = i.judging.now;
-      any_refused = i.has_refused;
+      any_refused = i.has_unreliable_subtitle;
       every = i.every;
       within = i.within;
       pace = i.pace;
       listener = i.listener;
       first = i.first;
-      latest = i.latest;
+      latest_frame = i.latest_frame;
       frame = i.frame;
       last = i.last;
       active_faults = i.active_faults;
       first_unfinished = i.first_unfinished;
-      late_at = i.late_at;
+      repeat_deadline = i.repeat_deadline;
       counts = i.counts;
     } in
     at_frame-stays c.args.f before at.due_eq ∙ ap (at_frame c.args.f) c.self.view_is

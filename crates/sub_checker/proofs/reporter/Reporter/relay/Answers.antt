@@ -1,25 +1,32 @@
 use Rattle.std.proofs.Common.{[], ◌∷◌, ◌++◌, ◌∙◌, subst, sym}
 use Rattle.sub_io.proofs.ReportingLemmas.{Reports-trans}
-use Rattle.sub_io.specs.Reporting.{Reports, first_alone}
+use Rattle.sub_io.specs.Reporting.{Reports, first_as_list}
 use Rattle.sub_rules.specs.Trusted.CheckStep.{Emits}
 use Rattle.sub_checker.specs.FusedAudience.{IsFused}
-use Rattle.sub_checker.specs.SkippedPesPackets.{as_run}
-use Rattle.sub_checker.proofs.RelayLemmas.{both_are, both_kept, relay_one, emits_with}
+use Rattle.sub_checker.specs.SkippedPesPackets.{skipped_run_of}
+use Rattle.sub_checker.proofs.RelayLemmas.{announcing_appends_one_event}
+use Rattle.sub_checker.proofs.RelayLemmas.{skipped_run_is_kept_after_event}
+use Rattle.sub_checker.proofs.RelayLemmas.{reporting_one_step_relays_it}
+use Rattle.sub_checker.proofs.RelayLemmas.{emitted_event_reports_trusted_frames}
 use Rattle.sub_checker.proofs.reporter.Reporter.relay.Goals as goal
 
 pub returns : goal.returns
 returns g c =
-    let run = as_run c.args.self.now.relay.run in
-    relay_one g.A.Audience.is_reported c.args.self.now _ (Emits c.args.event)
-    (first_alone c.say-first.result ++ c.at_pes-event.result ∷ [])
-    (emits_with c.args.self.now.relay.tracker c.say-first.new.self c.args.event
-    c.at_pes-event.result c.say-first.result c.say-first.ensures.before c.say-first.ensures.kept
-    c.at_pes-event.ensures)
+    let run = skipped_run_of c.args.self.now.relay.run in
+    reporting_one_step_relays_it g.A.ReportSink.is_reported c.args.self.now _ (Emits c.args.event)
+    (first_as_list c.say-first.result ++ c.with_pes_number-event.result ∷ [])
+    (emitted_event_reports_trusted_frames c.args.self.now.relay.tracker c.say-first.new.self
+    c.args.event
+    c.with_pes_number-event.result c.say-first.result c.say-first.ensures.before
     c.say-first.ensures.kept
-    (subst (Reports (IsFused g.A.Audience.is_reported) c.args.self.now.fused _)
-    (sym (both_are run c.announce_some.new.run (first_alone c.say-first.result)
-    c.at_pes-event.result c.announce_some.ensures.kept))
-    (Reports-trans _ _ _ _ _ c.announce_some.ensures.reported c.announce.ensures.reported))
+    c.with_pes_number-event.ensures)
+    c.say-first.ensures.kept
+    (subst (Reports (IsFused g.A.ReportSink.is_reported) c.args.self.now.fused _)
+    (sym (announcing_appends_one_event run c.announce_if_present.new.run
+    (first_as_list c.say-first.result)
+    c.with_pes_number-event.result c.announce_if_present.ensures.kept))
+    (Reports-trans _ _ _ _ _ c.announce_if_present.ensures.reported c.announce.ensures.reported))
     (c.announce.ensures.kept
-    ∙ both_kept run c.announce_some.new.run (first_alone c.say-first.result)
-    c.at_pes-event.result c.announce_some.ensures.kept)
+    ∙ skipped_run_is_kept_after_event run c.announce_if_present.new.run
+    (first_as_list c.say-first.result)
+    c.with_pes_number-event.result c.announce_if_present.ensures.kept)

@@ -2,7 +2,7 @@
 use Rattle.std.proofs.Common.{◌∙◌}
 use Rattle.sub_listing.proofs.normal.NormalWorkWork.work.Goals as goal
 
-pub returns-clause-has_worked : goal.returns-clause-has_worked
-returns-clause-has_worked g c = λ bytes reported.
-    c.in-Err-put_normal.ensures.answer bytes
+pub returns-clause-is_written_as_specified : goal.returns-clause-is_written_as_specified
+returns-clause-is_written_as_specified g c = λ bytes reported.
+    c.in-Err-write_normal_form.ensures.answer bytes
     (c.as_slice.ensures.value ∙ c.in-Ok.ensures.bytes bytes reported)

@@ -1,15 +1,15 @@
 use Rattle.std.proofs.Common.{◌≡◌, ◌∙◌, ◌+◌, ap, arith, refl, rules, sym, None, Some, false}
-use Rattle.stl_file.specs.Fault.{is_file_read}
-use Rattle.stl_file.specs.Reader.{outcome_left}
+use Rattle.stl_file.specs.Fault.{is_file_read_failure}
+use Rattle.stl_file.specs.Reader.{remaining_outcome}
 use Rattle.stl_file.specs.Reading.{ends, fails, gives}
 use Rattle.stl_file.specs.declared.progress.Progress.TheVariants.{Reading}
-use Rattle.sub_listing.specs.Faults.{kind_by}
+use Rattle.sub_listing.specs.Faults.{kind_of_failure}
 use Rattle.sub_listing.specs.Lines.{subtitle_line}
 use Rattle.sub_listing.specs.Listing.{followed}
 use Rattle.sub_listing.specs.ShowListing.{ReadsSubtitles, subtitles_listing}
 use Rattle.sub_listing.specs.FaultLine.{status_of}
 use Rattle.sub_listing.proofs.ListingLemmas.{block-rises, gives-last, gives-next, gives-opened}
-use Rattle.sub_listing.proofs.ListingLemmas.{gives-refused, kind_by-failed}
+use Rattle.sub_listing.proofs.ListingLemmas.{gives-refused, kind_of_failure-failed}
 use Rattle.sub_listing.proofs.show.SubtitleListerLister.next.Goals as goal
 
 pub returns-in-Ok-clause-gives : goal.returns-in-Ok-clause-gives
@@ -24,7 +24,7 @@ pub returns-in-Err-clause-gives : goal.returns-in-Err-clause-gives
 returns-in-Err-clause-gives g c =
     let none : c.args.self.now.reader ≡ None = search rules in
     let end : c.end_with_fault_line.result ≡ Some
-    (status_of (kind_by (is_file_read c.in-Err.fault))) =
+    (status_of (kind_of_failure (is_file_read_failure c.in-Err.fault))) =
     search rules in
     rw (none, end) (λ _.
     gives-refused c.args.self.now.count c.in-Err.fault _ _ c.end_with_fault_line.new.text.items
@@ -40,7 +40,7 @@ returns-in-Ok-Some-clause-gives g c =
     search rules in
     rw c.in-Some.is (λ _.
     gives-next _ (subtitles_listing count) (subtitles_listing (count + 1))
-    (outcome_left old) (outcome_left new)
+    (remaining_outcome old) (remaining_outcome new)
     (λ failed. ReadsSubtitles failed old.block)
     (λ failed. ReadsSubtitles failed new.block)
     (gives c.in-Ok-Some.subtitle new.block) _ _ c.push_subtitle.new.text.items
@@ -65,8 +65,9 @@ returns-in-Ok-Some-clause-ready g c = λ goes none.
       rw progress at c.in-Ok-Some.ensures.place,
     )
 
-pub returns-in-Ok-Some-clause-fewer : goal.returns-in-Ok-Some-clause-fewer
-returns-in-Ok-Some-clause-fewer g c = λ goes none.
+pub returns-in-Ok-Some-clause-pes_packets_decrease :
+    goal.returns-in-Ok-Some-clause-pes_packets_decrease
+returns-in-Ok-Some-clause-pes_packets_decrease g c = λ goes none.
     let ready = rw c.in-Some.is at c.requires.ready in
     let taken = rw c.in-Ok-Some.field-0-is at (c.in-Ok-Some.ensures.subtitle ready.0) in
     let rises = block-rises _ _ _ _ _ taken in
@@ -78,10 +79,10 @@ returns-in-Ok-Some-clause-fewer g c = λ goes none.
 pub returns-in-Ok-None-clause-gives : goal.returns-in-Ok-None-clause-gives
 returns-in-Ok-None-clause-gives g c =
     let ready = rw c.in-Some.is at c.requires.ready in
-    rw (c.in-Some.is, c.end_at.ensures.end) (λ _.
-    gives-last _ (subtitles_listing c.args.self.now.count) (outcome_left c.in-Some.reader)
+    rw (c.in-Some.is, c.end_with_count.ensures.end) (λ _.
+    gives-last _ (subtitles_listing c.args.self.now.count) (remaining_outcome c.in-Some.reader)
     (λ failed. ReadsSubtitles failed c.in-Some.reader.block) _ _ ends _ false
-    c.end_at.ensures.line refl
+    c.end_with_count.ensures.line refl
     (λ bytes reported ok.
     let answers = rw c.in-Ok-None.field-0-is at (c.in-Ok-None.ensures.exact bytes reported refl) in
     sym answers.outcome)
@@ -92,13 +93,13 @@ returns-in-Err-next-clause-gives g c =
     let f = c.in-Err-next.fault in
     let ready = rw c.in-Some.is at c.requires.ready in
     let end : c.end_with_fault_line-in-Err-next.result ≡ Some
-    (status_of (kind_by (is_file_read f))) =
+    (status_of (kind_of_failure (is_file_read_failure f))) =
     search rules in
     rw (c.in-Some.is, end) (λ _.
-    gives-last _ (subtitles_listing c.args.self.now.count) (outcome_left c.in-Some.reader)
+    gives-last _ (subtitles_listing c.args.self.now.count) (remaining_outcome c.in-Some.reader)
     (λ failed. ReadsSubtitles failed c.in-Some.reader.block) _ _
     (fails f c.next.new.self.block) c.end_with_fault_line-in-Err-next.new.text.items
-    (is_file_read f)
-    (search rules) (kind_by-failed (is_file_read f))
+    (is_file_read_failure f)
+    (search rules) (kind_of_failure-failed (is_file_read_failure f))
     (λ bytes reported ok. sym (c.in-Err-next.ensures.exact bytes reported ok).outcome)
     (refl, c.in-Err-next.ensures.failed ready.0, c.in-Err-next.ensures.refused ready.0))

@@ -1,10 +1,16 @@
 -- The number of wrong cells changes by the difference of the changed row.
 use Rattle.std.proofs.Common.{arith}
-use Rattle.ttx_page.proofs.DifferingLemmas.{row_le, rows_le, rows-set}
+use Rattle.ttx_page.proofs.DifferingLemmas.{page_difference_bounds_row, differing_cells_are_bounded}
+use Rattle.ttx_page.proofs.DifferingLemmas.{rows-set}
 use Rattle.sub_packets.proofs.comparison.Comparison.set_row.Goals as goal
 
-pub recounted-self-inside-requires-clause-wrong : goal.recounted-self-inside-requires-clause-wrong
-recounted-self-inside-requires-clause-wrong c = grind (arith, row_le, rows_le)
+pub updated_wrong_count-self-inside-requires-clause-wrong :
+    goal.updated_wrong_count-self-inside-requires-clause-wrong
+updated_wrong_count-self-inside-requires-clause-wrong c = grind (
+  arith,
+  page_difference_bounds_row,
+  differing_cells_are_bounded,
+)
 
 pub invariant_of-self : goal.invariant_of-self
-invariant_of-self c = grind (arith, row_le, rows-set)
+invariant_of-self c = grind (arith, page_difference_bounds_row, rows-set)

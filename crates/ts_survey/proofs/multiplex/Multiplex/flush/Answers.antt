@@ -1,6 +1,6 @@
 -- Flushing a followed PID does not change which PIDs are followed.
 use Rattle.std.proofs.Common.{◌<◌, ◌∙◌, length, rules}
-use Rattle.ts_survey.specs.Requested.{pid_followed}
+use Rattle.ts_survey.specs.Requested.{followed_pid}
 use Rattle.ts_survey.proofs.RequestedLemmas.{map-same}
 use Rattle.ts_survey.proofs.multiplex.Multiplex.flush.Goals as goal
 
@@ -9,5 +9,5 @@ loop-carrier-preserved c =
     let items = c.loop-carrier.carrier-items in
     let at = c.loop-carrier.carrier-index in
     let below : at < length items = search rules in
-    map-same pid_followed items at c.flush.new.self c.carrier-item.result below c.flush.ensures
+    map-same followed_pid items at c.flush.new.self c.carrier-item.result below c.flush.ensures
     ∙ c.loop-carrier.invariant

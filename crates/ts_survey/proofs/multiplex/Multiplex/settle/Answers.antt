@@ -1,6 +1,6 @@
 -- Printing the irregular PCRs of a followed PID does not change which PIDs are followed.
 use Rattle.std.proofs.Common.{◌≡◌, ◌<◌, ◌∙◌, length, map, rules, slice_set}
-use Rattle.ts_survey.specs.Requested.{pid_followed}
+use Rattle.ts_survey.specs.Requested.{followed_pid}
 use Rattle.ts_survey.proofs.RequestedLemmas.{map-same}
 use Rattle.ts_survey.proofs.multiplex.Multiplex.settle.Goals as goal
 
@@ -10,9 +10,9 @@ loop-carrier-preserved c =
     let at = c.loop-carrier.carrier-index in
     let below : at < length items = search rules in
     let next :
-    map pid_followed (slice_set items at c.settle.new.self)
-    ≡ map pid_followed c.args.self.now.carriers.items =
-    map-same pid_followed items at c.settle.new.self c.carrier-item.result below
+    map followed_pid (slice_set items at c.settle.new.self)
+    ≡ map followed_pid c.args.self.now.carriers.items =
+    map-same followed_pid items at c.settle.new.self c.carrier-item.result below
     c.settle.ensures
     ∙ c.loop-carrier.invariant in
     search rules

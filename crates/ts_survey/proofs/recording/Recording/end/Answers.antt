@@ -4,5 +4,5 @@ use Rattle.ts_survey.proofs.recording.Recording.end.Goals as goal
 
 pub returns-clause-reported : goal.returns-clause-reported
 returns-clause-reported c =
-    ends-reported c.args.self.now _ _ _ _ c.report_last-skipped.ensures.skipped
-    c.report_last-skipped.ensures.packets c.put_over.ensures
+    ends-reported c.args.self.now _ _ _ _ c.report_remaining_lines-skipped.ensures.skipped
+    c.report_remaining_lines-skipped.ensures.packets c.put_counts_line.ensures

@@ -10,6 +10,6 @@ pub returns-in-Some-clause-reported : goal.returns-in-Some-clause-reported
 returns-in-Some-clause-reported c = λ unknown enough.
     let size = codes "size 0\n" ∷ [] in
     subst (λ head. AddsTexts c.args.first.now (head_texts head ++ size) c.put.new.self)
-    c.head_in-head.ensures.bytes
-    (adds-words (head_texts c.head_in-head.result.now) size c.put_head.ensures
+    c.first_bytes_of-head.ensures.bytes
+    (adds-words (head_texts c.first_bytes_of-head.result.now) size c.put_head_line.ensures
     (adds-last c.put.ensures))

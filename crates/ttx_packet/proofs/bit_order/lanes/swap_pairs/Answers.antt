@@ -1,5 +1,5 @@
-use Rattle.ttx_packet.proofs.LaneLemmas.{swapped_lanes}
+use Rattle.ttx_packet.proofs.LaneLemmas.{lanes_swap_bits}
 use Rattle.ttx_packet.proofs.bit_order.lanes.swap_pairs.Goals as goal
 
 pub returns : goal.returns
-returns c = swapped_lanes c.args.bytes 16 2 0x33 c.fits-bytes.0
+returns c = lanes_swap_bits c.args.bytes 16 2 0x33 c.fits-bytes.0

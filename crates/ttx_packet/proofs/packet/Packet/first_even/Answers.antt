@@ -3,8 +3,9 @@ use Rattle.std.proofs.Common.{◌*◌, ◌/◌, ◌<◌, length, drop, not, arit
 use Rattle.std.proofs.lemmas.Bool.Decides.{nat_tests}
 use Rattle.std.proofs.lemmas.Bool.{not-false}
 use Rattle.std.proofs.lemmas.List.{get_or-drop}
-use Rattle.ttx_packet.specs.Lanes.{is_even, evens_mask}
-use Rattle.ttx_packet.proofs.BlockLemmas.{block_of, none_so_far, first_so_far}
+use Rattle.ttx_packet.specs.Lanes.{has_even_parity, even_parity_flags}
+use Rattle.ttx_packet.proofs.BlockLemmas.{block_is_chunk, zero_mask_extends_search}
+use Rattle.ttx_packet.proofs.BlockLemmas.{nonzero_mask_gives_first}
 use Rattle.ttx_packet.proofs.RowPacketLemmas.{first_even-at, first_even-none}
 use Rattle.ttx_packet.proofs.packet.Packet.first_even.Goals as goal
 
@@ -14,9 +15,11 @@ loop-i-preserved c k below =
     let i = c.loop-i.i in
     let prefix : i < length xs / 16 = search rules in
     let blocks = rw c.data.ensures at c.as_chunks.ensures.front in
-    let mask = c.evens-mask.ensures ∙ ap evens_mask (block_of _ 16 xs i blocks prefix) in
+    let mask = c.find_even_parity_bytes-mask.ensures ∙ ap even_parity_flags
+    (block_is_chunk _ 16 xs i blocks prefix) in
     not-false _
-    (none_so_far is_even xs (16 * i) c.evens-mask.result 0 (omega arith) mask c.if-mask-ne0.false
+    (zero_mask_extends_search has_even_parity xs (16 * i) c.find_even_parity_bytes-mask.result 0
+    (omega arith) mask c.if-mask-ne0.false
     (λ k l. ap not (c.loop-i.invariant k l)) k (omega arith))
 
 pub returns-then-mask-ne0 : goal.returns-then-mask-ne0
@@ -25,9 +28,11 @@ returns-then-mask-ne0 c =
     let i = c.loop-i.i in
     let prefix : i < length xs / 16 = search rules in
     let blocks = rw c.data.ensures at c.as_chunks.ensures.front in
-    let mask = c.evens-mask.ensures ∙ ap evens_mask (block_of _ 16 xs i blocks prefix) in
+    let mask = c.find_even_parity_bytes-mask.ensures ∙ ap even_parity_flags
+    (block_is_chunk _ 16 xs i blocks prefix) in
     let found =
-    first_so_far is_even xs (16 * i) c.evens-mask.result 0 (omega arith) mask c.if-mask-ne0.true
+    nonzero_mask_gives_first has_even_parity xs (16 * i) c.find_even_parity_bytes-mask.result 0
+    (omega arith) mask c.if-mask-ne0.true
     (λ k l. ap not (c.loop-i.invariant k l)) in
     let first = first_even-at c.args.self.now _ (omega (arith, found.0)) found.1 in
     record { value = first.value; odd = first.odd }

@@ -1,5 +1,5 @@
-use Rattle.ttx_packet.proofs.LaneLemmas.{folded_lanes}
+use Rattle.ttx_packet.proofs.LaneLemmas.{lanes_fold_bits}
 use Rattle.ttx_packet.proofs.parity.lanes.fold_pairs.Goals as goal
 
 pub returns : goal.returns
-returns c = folded_lanes c.args.bytes 16 2 c.fits-bytes.0
+returns c = lanes_fold_bits c.args.bytes 16 2 c.fits-bytes.0

@@ -1,14 +1,15 @@
 -- The parsed fields of a PES packet follow from its header and its data field.
 use Rattle.std.proofs.Common.{ap, ◌≡◌, arith, refl, rules}
 use Rattle.std.proofs.lemmas.Result.{err_from_is_err_and}
-use Rattle.ttx_pes.specs.Taking.{BufferedPacketValue}
-use Rattle.ttx_pes.proofs.KeptFrameLemmas.{IsBody, facts_of_repeat, facts_of_new_units}
-use Rattle.ttx_pes.proofs.KeptFrameLemmas.{value_refused}
+use Rattle.ttx_pes.specs.Accepting.{BufferedPacketValue}
+use Rattle.ttx_pes.proofs.FrameBufferLemmas.{IsPesBody, repeated_units_describe_packet}
+use Rattle.ttx_pes.proofs.FrameBufferLemmas.{new_units_describe_packet}
+use Rattle.ttx_pes.proofs.FrameBufferLemmas.{unit_fault_refuses_value}
 use Rattle.ttx_pes.proofs.buffered_packet.BufferedPacket.take.Goals as goal
 use Rattle.ttx_pes.proofs.buffered_packet.BufferedPacket.take.Goals.{In_ok-pts}
 
-is_body : (c : In_ok-pts) → IsBody c.args.body.now
-is_body c = record {
+body_size_is_valid : (c : In_ok-pts) → IsPesBody c.args.body.now
+body_size_is_valid c = record {
   short = c.requires.short;
   whole = c.requires.whole;
   long = c.requires.long;
@@ -26,27 +27,31 @@ returns-then-is_kept-clause-value c =
       count = c.self.inside.count;
       places = c.self.inside.places;
     } in
-    (facts_of_repeat c.args.body.now c.split_at.result.1.now _ _ h
-    (is_body (goal.at.returns-then-is_kept-clause-value c).In_ok-pts) c.in_ok-pts.ensures.exact
+    (repeated_units_describe_packet c.args.body.now c.split_at.result.1.now _ _ h
+    (body_size_is_valid (goal.at.returns-then-is_kept-clause-value c).In_ok-pts)
+    c.in_ok-pts.ensures.exact
     (search rules) (search rules) c.requires.known count places).value
 
 pub returns-in_err-find_places-clause-err : goal.returns-in_err-find_places-clause-err
 returns-in_err-find_places-clause-err c =
     let p = err_from_is_err_and c.from_residual-in_err-find_places.result
     c.from_residual-in_err-find_places.ensures.1 in
-    rw (p.1, p.2) (value_refused c.args.body.now c.split_at.result.1.now c.in_ok-pts.pts _
+    rw (p.1, p.2) (unit_fault_refuses_value c.args.body.now c.split_at.result.1.now c.in_ok-pts.pts
+    _
     c.in_ok-pts.ensures.exact (search rules) c.in_err-find_places.ensures.err)
 
 pub returns-clause-value : goal.returns-clause-value
 returns-clause-value c =
-    (facts_of_new_units c.args.body.now c.split_at.result.1.now _
-    (is_body (goal.at.returns-clause-value c).In_ok-pts) c.in_ok-pts.ensures.exact (search rules)
+    (new_units_describe_packet c.args.body.now c.split_at.result.1.now _
+    (body_size_is_valid (goal.at.returns-clause-value c).In_ok-pts) c.in_ok-pts.ensures.exact
+    (search rules)
     refl c.in_ok-find_places.ensures.within c.in_ok-find_places.ensures.all
     c.in_ok-find_places.ensures.ok).value
 
 pub returns-clause-known : goal.returns-clause-known
 returns-clause-known c =
-    (facts_of_new_units c.args.body.now c.split_at.result.1.now _
-    (is_body (goal.at.returns-clause-known c).In_ok-pts) c.in_ok-pts.ensures.exact (search rules)
+    (new_units_describe_packet c.args.body.now c.split_at.result.1.now _
+    (body_size_is_valid (goal.at.returns-clause-known c).In_ok-pts) c.in_ok-pts.ensures.exact
+    (search rules)
     refl c.in_ok-find_places.ensures.within c.in_ok-find_places.ensures.all
     c.in_ok-find_places.ensures.ok).known

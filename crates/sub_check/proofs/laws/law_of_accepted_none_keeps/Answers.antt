@@ -1,5 +1,0 @@
-use Rattle.sub_check.proofs.AcceptedKeepingLemmas as lemmas
-use Rattle.sub_check.proofs.laws.law_of_accepted_none_keeps.Goals as goal
-
-pub returns : goal.returns
-returns c = lemmas.law_of_accepted_none_keeps

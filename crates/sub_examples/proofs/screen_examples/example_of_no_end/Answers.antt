@@ -1,5 +1,0 @@
-use Rattle.sub_examples.proofs.ScreenTests as example
-use Rattle.sub_examples.proofs.screen_examples.example_of_no_end.Goals as goal
-
-pub returns : goal.returns
-returns c = example.example_of_no_end

@@ -1,0 +1,58 @@
+-- Limits how far a reader may read ahead: it requests no byte that it does not need.
+--
+-- The predicate `is_enough` is true for a list of the next bytes if the reader needs no more bytes
+-- than these.
+use Rattle.std.specs.Prelude.{◌≡◌, ℕ, ◌<◌, ◌≤◌, ◌⊎◌, Bool, true, false, List, [], ◌++◌, length}
+use Rattle.std.specs.Prelude.{Option, Some, None}
+use Rattle.std.specs.Io.KnownBytes.{Consumes}
+
+-- The reader may request `count` bytes: they are buffered already, or no list of fewer bytes is
+-- enough for the reader.
+abbrev pub MayRequest : (List ℕ → Bool) → List ℕ → ℕ → Type 0
+MayRequest is_enough borrowed count =
+    (count ≤ length borrowed) ⊎ ((bytes : List ℕ) → length bytes < count → is_enough bytes ≡ false)
+
+-- How the predicate `is_enough` changes when the reader consumes the bytes `taken`: the new
+-- predicate is true for some bytes if the old one is true for `taken` followed by these bytes.
+abbrev pub IsRequestAfterReading : List ℕ → (List ℕ → Bool) → (List ℕ → Bool) → Type 0
+IsRequestAfterReading taken old new =
+    (bytes : List ℕ) → old (taken ++ bytes) ≡ true → new bytes ≡ true
+
+-- Calls of a source that request no more bytes than the reader needs. The arguments are the
+-- predicate `is_enough` before the calls, whether all calls succeeded, and the predicate after
+-- them. A failed call is the last call. After the end of the source, any call is allowed.
+pub data Requests {D : Type 0} (IsPull : D → ℕ → Option ℕ → D → Type 0) (borrowed : D → List ℕ)
+    (remaining : D → Option (List ℕ))
+    : (List ℕ → Bool) → D → Bool → (List ℕ → Bool) → D → Type 0 where
+  -- No call was made.
+  requests_nothing :
+      (old new : List ℕ → Bool) (source : D)
+      → IsRequestAfterReading [] old new
+      → Requests IsPull borrowed remaining old source true new source
+  -- One call was made, and returned the bytes `taken`.
+  requests_once :
+      (old new : List ℕ → Bool) (before after : D) (count : ℕ) (taken : List ℕ)
+      → MayRequest old (borrowed before) count
+      → IsPull before count (Some (length taken)) after
+      → Consumes (remaining before) (remaining after) taken
+      → IsRequestAfterReading taken old new
+      → Requests IsPull borrowed remaining old before true new after
+  -- One call was made, and failed.
+  requests_in_vain :
+      (old new : List ℕ → Bool) (before after : D) (count : ℕ)
+      → MayRequest old (borrowed before) count
+      → IsPull before count None after
+      → Requests IsPull borrowed remaining old before false new after
+  -- One call was made, and found the end of the source.
+  asks_at_end :
+      (old new : List ℕ → Bool) (before mid after : D) (count : ℕ) (ok : Bool)
+      → 0 < count
+      → MayRequest old (borrowed before) count
+      → IsPull before count (Some 0) mid
+      → Requests IsPull borrowed remaining old before ok new after
+  -- Some calls succeeded, and more calls followed.
+  requests_on :
+      (old between new : List ℕ → Bool) (before mid after : D) (ok : Bool)
+      → Requests IsPull borrowed remaining old before true between mid
+      → Requests IsPull borrowed remaining between mid ok new after
+      → Requests IsPull borrowed remaining old before ok new after

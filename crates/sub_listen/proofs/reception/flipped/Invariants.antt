@@ -1,9 +1,0 @@
--- Applying the remaining bit flips to the bytes gives the packet with all bit flips.
-use Rattle.std.proofs.Common.{◌≡◌, drop}
-use Rattle.sub_request.specs.Flips.{with_flips}
-use Rattle.sub_listen.proofs.reception.flipped.Given as goal
-
-abbrev pub invariant-loop-flip : goal.invariant-loop-flip
-invariant-loop-flip l =
-    with_flips l.flips l.number l.packet
-    ≡ with_flips (drop l.flip-index l.flips) l.number l.bytes

@@ -1,5 +1,0 @@
-use Rattle.sub_trusted.proofs.TrustedOnAirLemmas.{law_of_trusted}
-use Rattle.sub_trusted.proofs.laws.law_of_trusted.Goals as goal
-
-pub returns : goal.returns
-returns c = law_of_trusted

@@ -1,0 +1,14 @@
+-- Recording a loss for a followed PID does not change which PIDs are followed.
+use Rattle.std.proofs.Common.{◌<◌, ◌∙◌, length, rules}
+use Rattle.ts_survey.specs.Requested.{followed_pid}
+use Rattle.ts_survey.proofs.RequestedLemmas.{map-same}
+use Rattle.ts_survey.proofs.multiplex.MultiplexTakesPackets.record_loss.Goals as goal
+
+pub loop-carrier-preserved : goal.loop-carrier-preserved
+loop-carrier-preserved c =
+    let items = c.loop-carrier.carrier-items in
+    let at = c.loop-carrier.carrier-index in
+    let below : at < length items = search rules in
+    let kept = c.record_loss.ensures in
+    map-same followed_pid items at c.record_loss.new.self c.carrier-item.result below kept
+    ∙ c.loop-carrier.invariant

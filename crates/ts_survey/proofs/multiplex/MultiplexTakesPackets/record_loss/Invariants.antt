@@ -1,0 +1,8 @@
+-- In each iteration of `record_loss`, the followed PIDs stay the same.
+use Rattle.std.proofs.Common.{◌≡◌, map}
+use Rattle.ts_survey.specs.Requested.{followed_pid}
+use Rattle.ts_survey.proofs.multiplex.MultiplexTakesPackets.record_loss.Given as goal
+
+abbrev pub invariant-loop-carrier : goal.invariant-loop-carrier
+invariant-loop-carrier l =
+    map followed_pid l.carrier-items ≡ map followed_pid l.fn.self.carriers.items

@@ -1,0 +1,10 @@
+-- The lines `survey 1` and `head` are printed word by word.
+use Rattle.ts_survey.proofs.TextLemmas.{adds-last, adds-word}
+use Rattle.ts_survey.proofs.recording.put_head_line.Goals as goal
+
+pub returns : goal.returns
+returns c =
+    adds-word c.put.ensures
+    (adds-word (rw c.space_unless_empty.ensures at c.put-2.ensures)
+    (adds-word c.hex.ensures
+    (adds-last c.put-3.ensures)))

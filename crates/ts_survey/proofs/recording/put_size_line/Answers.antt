@@ -1,0 +1,9 @@
+-- The line `size` is printed word by word.
+use Rattle.ts_survey.proofs.TextLemmas.{adds-last, adds-word}
+use Rattle.ts_survey.proofs.recording.put_size_line.Goals as goal
+
+pub returns : goal.returns
+returns c =
+    adds-word c.put.ensures
+    (adds-word (rw c.bytes.ensures at c.number.ensures)
+    (adds-last c.put-2.ensures))

@@ -1,9 +1,0 @@
-use Rattle.std.proofs.Common.{◌≡◌, ◌≤◌, ◌*◌}
-use Rattle.ttx_page.specs.Differing.{rows_differing}
-use Rattle.ttx_page.specs.Page.{blank}
-use Rattle.ttx_page.proofs.page.Page.cells_not_blank.Given as goal
-
--- After each iteration, `count` is the number of cells in the rows so far that are not spaces.
-abbrev pub invariant-loop-row : goal.invariant-loop-row
-invariant-loop-row l =
-    (l.count ≤ 40 * l.row) × (l.count ≡ rows_differing l.row blank l.self-inside.rows)
