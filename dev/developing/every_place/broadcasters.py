@@ -16,9 +16,9 @@ from subtitles.common.times import FRAMES_OF_A_DAY, frame_of_code, time_of
 from subtitles.formats.layout import FLAGS, NUMBERS
 from subtitles.formats.stl import GSI, TTI
 from subtitles.formats.teletext import CODE_WORDS, NUMBER
-from .broken import LETTERS, MOST_LINES, teletext_in
+from .broken import LETTERS, MAX_PACKETS, read_teletext
 
-DISPLAY = 11  # place of DSC in the GSI block
+DISPLAY_CODE = 11  # place of DSC in the GSI block
 CODES = [0x0A, 0x0B, 0x0B, 0x0D, 0x07, 0x03, 0x01, 0x0C]
 WRONG_LAYOUTS = ["", "fit,fit", "Fit", "before=0", "left=40", "after=0A*", "row=+1", "strip=20"]
 WRONG_PACES = ["0", "2160001", "", "x", "+1", "00000000001"]
@@ -26,147 +26,149 @@ WRONG_TIMES = ["", "24:00:00:00", "1:00:00:00", "10:00:00:25", "10:00:00"]
 SUBCODE, S2_C4, S4_C6 = 4, 5, 7  # places in a header
 
 
-def codes(chance: Random, most: int, some: list[int]) -> str:
-    return "".join(f"{chance.choice(some):02X}" for _ in range(chance.randrange(most + 1)))
+def make_codes(rng: Random, most: int, some: list[int]) -> str:
+    return "".join(f"{rng.choice(some):02X}" for _ in range(rng.randrange(most + 1)))
 
 
-def layout_text(chance: Random) -> str:
+def make_layout(rng: Random) -> str:
     """Return a layout, rarely an invalid one."""
-    if chance.random() < 0.04:
-        return chance.choice(WRONG_LAYOUTS)
-    items = [name for name in FLAGS if chance.random() < 0.2]
-    items += [f"{name}={chance.choice(numbers[:6])}" for name, numbers in NUMBERS.items()
-              if chance.random() < 0.15 and name != "row"]
-    if chance.random() < 0.15:
-        items.append(f"row={chance.randrange(-3, 3)}")
-    if chance.random() < 0.4:
-        star = "*" + codes(chance, 3, CODES) if chance.random() < 0.6 else ""
-        items.append(f"before={codes(chance, 3, CODES)}{star}")
-    if chance.random() < 0.3:
-        items.append(f"after={codes(chance, 3, CODES)}")
-    if chance.random() < 0.3:
-        stripped = chance.sample([0x00, 0x0A, 0x0B, 0x0D, 0x03, 0x1F], chance.randrange(1, 4))
+    if rng.random() < 0.04:
+        return rng.choice(WRONG_LAYOUTS)
+    items = [name for name in FLAGS if rng.random() < 0.2]
+    items += [f"{name}={rng.choice(numbers[:6])}" for name, numbers in NUMBERS.items()
+              if rng.random() < 0.15 and name != "row"]
+    if rng.random() < 0.15:
+        items.append(f"row={rng.randrange(-3, 3)}")
+    if rng.random() < 0.4:
+        star = "*" + make_codes(rng, 3, CODES) if rng.random() < 0.6 else ""
+        items.append(f"before={make_codes(rng, 3, CODES)}{star}")
+    if rng.random() < 0.3:
+        items.append(f"after={make_codes(rng, 3, CODES)}")
+    if rng.random() < 0.3:
+        stripped = rng.sample([0x00, 0x0A, 0x0B, 0x0D, 0x03, 0x1F], rng.randrange(1, 4))
         items.append("strip=" + bytes(stripped).hex())
-    chance.shuffle(items)
+    rng.shuffle(items)
     return ",".join(items) or "fit"
 
 
-def blocks_of(stl: bytes) -> list[bytearray]:
+def split_blocks(stl: bytes) -> list[bytearray]:
     return [bytearray(stl[at:at + TTI]) for at in range(GSI, len(stl), TTI)]
 
 
-def part_words(chance: Random, stl: bytes) -> list[str]:
+def make_part_options(rng: Random, stl: bytes) -> list[str]:
     """Return --from and --to, near the start of some subtitles."""
-    words: list[str] = []
-    begins = [frame for block in blocks_of(stl)
+    arguments: list[str] = []
+    begins = [frame for block in split_blocks(stl)
               if (frame := frame_of_code(bytes(block[5:9]))) is not None] or [0]
     for name in ("--from", "--to"):
-        if chance.random() < 0.6:
-            frame = chance.choice(begins) + chance.choice([0, 0, 1, -1, 30])
-            wrong = chance.random() < 0.04
-            words += [name, chance.choice(WRONG_TIMES) if wrong
-                      else time_of(min(max(frame, 0), FRAMES_OF_A_DAY - 1))]
-    return words
+        if rng.random() < 0.6:
+            frame = rng.choice(begins) + rng.choice([0, 0, 1, -1, 30])
+            wrong = rng.random() < 0.04
+            arguments += [name, rng.choice(WRONG_TIMES) if wrong
+                          else time_of(min(max(frame, 0), FRAMES_OF_A_DAY - 1))]
+    return arguments
 
 
-def as_open(stl: bytes, chance: Random) -> bytes:
+def mark_as_open(stl: bytes, rng: Random) -> bytes:
     """Mark the file as open subtitles, rarely as something else."""
-    return stl[:DISPLAY] + chance.choice([b"0", b"0", b" ", b"3"]) + stl[DISPLAY + 1:]
+    return stl[:DISPLAY_CODE] + rng.choice([b"0", b"0", b" ", b"3"]) + stl[DISPLAY_CODE + 1:]
 
 
-class Repeats(NamedTuple):
+class RepeatSettings(NamedTuple):
     """How pages are repeated: how often a header keeps the page or has its rows changed, and
     subcodes."""
 
-    often: float
-    seldom: float
-    wrong: float
-    turns: bool
+    repeat_probability: float
+    change_probability: float
+    error_probability: float
+    has_new_subcodes: bool
 
 
-def with_header(chance: Random, teletext: list[bytes], subcode: int, keeps: bool) -> None:
+def change_header(rng: Random, teletext: list[bytes], subcode: int, keeps: bool) -> None:
     """Give the first header this subcode, and C4 clear if it keeps the page; rarely C6 clear too.
     """
     head = bytearray(teletext[0])
     head[SUBCODE] = CODE_WORDS[subcode]
     if keeps:
         head[S2_C4] = CODE_WORDS[(NUMBER[head[S2_C4]] or 0) & 7]
-    if keeps and chance.random() < 0.02:
+    if keeps and rng.random() < 0.02:
         head[S4_C6] = CODE_WORDS[(NUMBER[head[S4_C6]] or 0) & 7]
     teletext[0] = bytes(head)
 
 
-def send_otherwise(chance: Random, teletext: list[bytes]) -> None:
+def change_page_body(rng: Random, teletext: list[bytes]) -> None:
     """Change what follows a header: fewer or more rows, another byte, no closing header, and so on.
     """
-    at, way = chance.randrange(1, len(teletext)), chance.randrange(9)
+    at, way = rng.randrange(1, len(teletext)), rng.randrange(9)
     one = bytearray(teletext[at])
     if way < 3:
         del teletext[at]
     elif way == 3:
-        one[chance.randrange(2, 42)] ^= 0x80
+        one[rng.randrange(2, 42)] ^= 0x80
         teletext[at] = bytes(one)
     elif way == 4:
-        one[chance.randrange(10, 42)] = add_odd_parity(chance.choice(LETTERS))
+        one[rng.randrange(10, 42)] = add_odd_parity(rng.choice(LETTERS))
         teletext[at] = bytes(one)
     elif way == 5:
-        text = chance.choice([b" " * 40, bytes(chance.choices(LETTERS, k=40))])
-        teletext.insert(at, teletext_packet(0, chance.randrange(1, 25), [], text))
+        text = rng.choice([b" " * 40, bytes(rng.choices(LETTERS, k=40))])
+        teletext.insert(at, teletext_packet(0, rng.randrange(1, 25), [], text))
     elif way == 6:  # the page ends early, or not at all
-        teletext.insert(chance.randrange(len(teletext)), teletext.pop())
+        teletext.insert(rng.randrange(len(teletext)), teletext.pop())
     elif way == 7:
         teletext.pop()
     else:
-        teletext.insert(chance.randrange(1, len(teletext) + 1), teletext[0])
+        teletext.insert(rng.randrange(1, len(teletext) + 1), teletext[0])
 
 
-def without_erasing(chance: Random, pes: bytes) -> bytes:
+def keep_pages(rng: Random, pes: bytes) -> bytes:
     """Let headers keep the page, usually in repeats; rarely change what follows, or the subcode."""
-    made: list[bytes] = []
-    before: list[bytes] = []
-    repeats = Repeats(chance.choice([0.3, 0.9, 1.0]), chance.choice([0, 0, 0, 0.08, 1.0]),
-                      chance.choice([0, 0, 0, 0.04, 0.2]), chance.random() < 0.1)
-    subcode = chance.choice([0, 0, 1])
+    packets: list[bytes] = []
+    previous_packets: list[bytes] = []
+    repeats = RepeatSettings(rng.choice([0.3, 0.9, 1.0]), rng.choice([0, 0, 0, 0.08, 1.0]),
+                             rng.choice([0, 0, 0, 0.04, 0.2]), rng.random() < 0.1)
+    subcode = rng.choice([0, 0, 1])
     for packet in read_pes_packets(io.BytesIO(pes)):
-        teletext = teletext_in(bytearray(packet))
-        is_repeat = teletext == before
-        before = list(teletext)
-        if repeats.turns and not is_repeat or chance.random() < repeats.wrong / 4:
-            subcode = chance.randrange(4)
+        teletext = read_teletext(bytearray(packet))
+        is_repeat = teletext == previous_packets
+        previous_packets = list(teletext)
+        if (repeats.has_new_subcodes and not is_repeat
+                or rng.random() < repeats.error_probability / 4):
+            subcode = rng.randrange(4)
         if teletext:
-            keeps = chance.random() < (repeats.often if is_repeat else repeats.seldom)
-            with_header(chance, teletext, subcode, keeps)
-            if keeps and len(teletext) > 1 and chance.random() < repeats.wrong:
-                send_otherwise(chance, teletext)
-        made.append(make_pes_packet(decode_pts(packet), teletext) if len(teletext) < MOST_LINES
-                    else bytes(packet))
-    return b"".join(made)
+            keeps = rng.random() < (repeats.repeat_probability if is_repeat
+                                    else repeats.change_probability)
+            change_header(rng, teletext, subcode, keeps)
+            if keeps and len(teletext) > 1 and rng.random() < repeats.error_probability:
+                change_page_body(rng, teletext)
+        packets.append(make_pes_packet(decode_pts(packet), teletext) if len(teletext) < MAX_PACKETS
+                       else bytes(packet))
+    return b"".join(packets)
 
 
-def refuse_some(chance: Random, stl: bytes) -> bytes:
+def spoil_subtitles(rng: Random, stl: bytes) -> bytes:
     """Make one or two subtitles refused: by a letter, a field of the first block, or the order."""
-    blocks = blocks_of(stl)
-    for _ in range(chance.choice([1, 1, 2])):
+    blocks = split_blocks(stl)
+    for _ in range(rng.choice([1, 1, 2])):
         if not blocks:
             break
-        at, way = chance.randrange(len(blocks)), chance.randrange(6)
+        at, way = rng.randrange(len(blocks)), rng.randrange(6)
         block = blocks[at]
         if way < 2:
-            block[16 + chance.randrange(4)] = chance.choice([0xE6, 0xC2, 0x00, 0x1F])
+            block[16 + rng.randrange(4)] = rng.choice([0xE6, 0xC2, 0x00, 0x1F])
         elif way == 2:
-            field, value = chance.choice([(14, 4), (4, 1), (8, 25), (12, 25), (9, 23), (13, 24)])
+            field, value = rng.choice([(14, 4), (4, 1), (8, 25), (12, 25), (9, 23), (13, 24)])
             block[field] = value
         elif way == 3:  # ends within the next one, or after it
             tco = frame_of_code(bytes(block[9:13])) or 0
-            block[9:13] = encode_time_code(min(tco + chance.randrange(1, 90), FRAMES_OF_A_DAY - 1))
+            block[9:13] = encode_time_code(min(tco + rng.randrange(1, 90), FRAMES_OF_A_DAY - 1))
         elif way == 4:
-            blocks.insert(at, blocks.pop(chance.randrange(len(blocks))))
+            blocks.insert(at, blocks.pop(rng.randrange(len(blocks))))
         else:
-            blocks.insert(at, bytearray(chance.choice(blocks)))
+            blocks.insert(at, bytearray(rng.choice(blocks)))
     return stl[:GSI] + b"".join(blocks)
 
 
-def pace_words(chance: Random) -> list[str]:
-    wrong = chance.random() < 0.04
-    return ["--pace", chance.choice(WRONG_PACES) if wrong
-            else str(chance.choice([1, 2, 25, 26, 50, 100, 250, 2160000]))]
+def make_pace_options(rng: Random) -> list[str]:
+    wrong = rng.random() < 0.04
+    return ["--pace", rng.choice(WRONG_PACES) if wrong
+            else str(rng.choice([1, 2, 25, 26, 50, 100, 250, 2160000]))]

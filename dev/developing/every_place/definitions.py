@@ -8,23 +8,23 @@ from typing import Iterable
 
 from developing.pes import decode_address
 from subtitles.common.times import time_of
-from .due import Due, judge_subtitles
-from .ends import Ends
-from .on_air import Packet, erases, decode, packet_faults, page_of
-from .reading import CUT, header_of, split_packets, read_packet
-from .recordings import Range, read_stream, range_of
-from .told import ended, refused
-from .trust import Course, End, Event, Sent, lines_of
-from .words import Options
+from .due import ExpectedPages, judge_subtitles
+from .ends import FrameEnds
+from .on_air import Packet, erases_page, decode, find_packet_faults, get_page
+from .reading import CUT, decode_header, split_packets, read_packet
+from .recordings import Range, read_stream, select_range
+from .told import format_ended, format_refused
+from .trust import Course, FrameEnd, Event, SentPacket, list_lines
+from .arguments import Options
 
 
 class Transmission:
     """The PES packets and gap markers of a file, in order, and their faults; `first` is their
     index."""
 
-    def __init__(self, due: Due, options: Options, first: int) -> None:
+    def __init__(self, due: ExpectedPages, options: Options, first: int) -> None:
         self.due, self.options, self.first = due, options, first
-        self.course, self.ends = Course(), Ends(due, options)
+        self.course, self.ends = Course(), FrameEnds(due, options)
         self.frames: list[int] = []  # of readable PES packets
         self.packets: list[Packet] = []
         self.headers: list[int] = []  # the frames with a header of the page
@@ -35,14 +35,15 @@ class Transmission:
         # The last run of skipped items: their fault, the first and the last one.
         self.skipped: tuple[int, int, int] | None = None
 
-    def place_of(self, pes: int) -> str:
+    def describe_place(self, pes: int) -> str:
         """Return the place of an item."""
         return f"pes {self.first + pes}"
 
-    def tell(self, number: int, place: str, pes: int | None, frame: int | None = None) -> None:
-        self.add(Event(refused(number, place), number, pes, frame))
+    def report_fault(self, number: int, place: str, pes: int | None,
+                     frame: int | None = None) -> None:
+        self.add_event(Event(format_refused(number, place), number, pes, frame))
 
-    def add(self, event: Event) -> None:
+    def add_event(self, event: Event) -> None:
         """Add an event, after the end of skipped items."""
         self.end_skipped()
         self.course.events.append(event)
@@ -53,100 +54,101 @@ class Transmission:
         if self.skipped and (self.skipped[0], self.skipped[2]) == (number, pes - 1):
             self.skipped = number, self.skipped[1], pes
         else:
-            self.tell(number, self.place_of(pes), pes)
+            self.report_fault(number, self.describe_place(pes), pes)
             self.skipped = number, pes, pes
 
     def end_skipped(self) -> None:
         """Report the end of a run of skipped items with more than one."""
         if self.skipped and self.skipped[1] < self.skipped[2]:
             number, _, last = self.skipped
-            self.course.events.append(Event(ended(number, self.place_of(last)), number, last))
+            self.course.events.append(Event(format_ended(number, self.describe_place(last)), number,
+                                            last))
         self.skipped = None
 
-    def take(self, pes: int, frame: int, teletext: list[bytes]) -> None:
+    def receive(self, pes: int, frame: int, teletext: list[bytes]) -> None:
         """Take a PES packet. If pages may be late, those of one frame belong together."""
         if self.options.within == 0 or self.frames[-1:] != [frame]:
-            self.end_sending()
-            self.begin(pes, frame)
+            self.end_current_frame()
+            self.begin_frame(pes, frame)
             self.count = 0
-        has_header = self.take_packets(pes, frame, teletext)
+        has_header = self.receive_packets(pes, frame, teletext)
         self.frames.append(frame)
         self.sending = pes
         if self.course.is_rising:
-            self.course.sent.append(Sent(pes, frame, has_header))
+            self.course.sent.append(SentPacket(pes, frame, has_header))
         if self.options.within == 0:
-            self.end_sending()
+            self.end_current_frame()
 
-    def begin(self, pes: int, frame: int) -> None:
+    def begin_frame(self, pes: int, frame: int) -> None:
         """Report what is due before the packets of a frame."""
         begin = self.due.first()
         if not self.frames:
             self.ends.first = frame
             if begin is not None and begin < frame:
-                self.tell(63, f"frame {time_of(frame)}", pes)
+                self.report_fault(63, f"frame {time_of(frame)}", pes)
             return
         if frame <= self.frames[-1]:
             self.course.is_rising = False
-            self.tell(62, self.place_of(pes), pes)
-        self.end(pes, range(max(self.frames) + 1, frame))
+            self.report_fault(62, self.describe_place(pes), pes)
+        self.end_frames(pes, range(max(self.frames) + 1, frame))
 
-    def take_packets(self, pes: int, frame: int, teletext: list[bytes]) -> bool:
+    def receive_packets(self, pes: int, frame: int, teletext: list[bytes]) -> bool:
         """Take its Teletext packets; return whether one is a header that erases the page."""
         page, has_erased = self.options.page, False
         for one in teletext:
-            packet = Packet(one, decode_address(one), header_of(one))
-            for fault in packet_faults(packet, self.packets, self.options):
-                self.tell(fault, f"frame {time_of(frame)} packet {self.count}", pes, frame)
+            packet = Packet(one, decode_address(one), decode_header(one))
+            for fault in find_packet_faults(packet, self.packets, self.options):
+                self.report_fault(fault, f"frame {time_of(frame)} packet {self.count}", pes, frame)
             self.packets.append(packet)
             self.count += 1
-            if page_of(packet) == page:
+            if get_page(packet) == page:
                 self.headers.append(frame)
-                has_erased |= erases(packet)
+                has_erased |= erases_page(packet)
         return has_erased
 
-    def end_sending(self) -> None:
+    def end_current_frame(self) -> None:
         """End the frame that was read last, if it has not ended."""
         if self.sending is None:
             return
         pes, frame, self.sending = self.sending, self.frames[-1], None
         if self.is_first and not self.headers:
-            self.tell(71, f"frame {time_of(frame)}", pes)
+            self.report_fault(71, f"frame {time_of(frame)}", pes)
         self.is_first = False
-        self.end(pes, [frame])
+        self.end_frames(pes, [frame])
 
-    def end(self, pes: int, frames: Iterable[int]) -> None:
+    def end_frames(self, pes: int, frames: Iterable[int]) -> None:
         """End frames: those without packets before a PES packet, or its own."""
         decoded, ends = decode(self.packets, self.options), self.ends
         for frame in frames:
             for number, line in ends.at(frame, decoded, self.headers, self.frames):
-                self.add(Event(line, number, pes, frame, True))
+                self.add_event(Event(line, number, pes, frame, True))
             if self.course.is_rising:
                 self.course.ends.append(
-                    End(frame, bool(ends.active), ends.unfinished_since, ends.is_late))
+                    FrameEnd(frame, bool(ends.active), ends.unfinished_since, ends.is_late))
 
-    def close(self, broken: int | None, pes: int) -> None:
+    def end_file(self, broken: int | None, pes: int) -> None:
         """End the file after `pes` items; `broken` is the fault of the bytes after them."""
-        self.end_sending()
+        self.end_current_frame()
         self.end_skipped()
-        for number, line in self.ends.after_the_last():
-            self.add(Event(line, number, None))
+        for number, line in self.ends.list_final_lines():
+            self.add_event(Event(line, number, None))
         end = self.due.last()
         if broken is not None:
             self.course.is_left = True
-            self.tell(broken, self.place_of(pes), None)
+            self.report_fault(broken, self.describe_place(pes), None)
         elif pes == 0:
-            self.tell(60, "", None)
+            self.report_fault(60, "", None)
         elif self.frames and (self.ends.unfinished_since is not None and not self.ends.is_late
                               or end is not None and end > self.frames[-1]):
-            self.tell(74, f"frame {time_of(self.frames[-1])}", None)
+            self.report_fault(74, f"frame {time_of(self.frames[-1])}", None)
 
-    def accepted(self) -> str:
+    def format_accepted(self) -> str:
         """Return the line for a transmission without faults."""
         count = self.frames[-1] - self.frames[0] + 1
         return f"accepted {count} frames {len(self.headers)} transmissions"
 
 
-def failure_at(read: Range, count: int, broken: int | None, is_failing: bool) -> str | None:
+def find_failure_line(read: Range, count: int, broken: int | None, is_failing: bool) -> str | None:
     """Return the line of a failing source, `None` if the failure is not reached.
 
     The source fails where its bytes end, after `count` items; `broken` is the fault of the bytes
@@ -156,10 +158,10 @@ def failure_at(read: Range, count: int, broken: int | None, is_failing: bool) ->
     return f"fault 41 Read pes {read.first + count}" if is_so else None
 
 
-def read_range(data: bytes, options: Options) -> Range:
+def select_data(data: bytes, options: Options) -> Range:
     """Return what is read of a PES file or a transport stream with these options."""
     pes = data if options.pid is None else read_stream(data, options.pid, options.size).data
-    return range_of(pes, options.first, options.last)
+    return select_range(pes, options.first, options.last)
 
 
 def check_all(stl: bytes, pes: bytes, options: Options, is_failing: bool = False) -> list[str]:
@@ -171,21 +173,21 @@ def check_all(stl: bytes, pes: bytes, options: Options, is_failing: bool = False
     told = subtitles.lines
     if subtitles.records is None:
         return [*told, f"{len(told)} faults"]
-    read = read_range(pes, options)
+    read = select_data(pes, options)
     pieces, broken = split_packets(read.data)
-    due = Due(subtitles.records, subtitles.others, options)
+    due = ExpectedPages(subtitles.records, subtitles.has_fault_before, options)
     transmission = Transmission(due, options, read.first)
     for number, piece in enumerate(pieces):
         sending = read_packet(piece, options.origin, options.within)
         if isinstance(sending, int):
             transmission.skip(number, sending)
         else:
-            transmission.take(number, *sending)
+            transmission.receive(number, *sending)
     # After a failure of the source nothing more is reported, and nothing ends.
     course, is_refused = transmission.course, bool(told)
-    if failure := failure_at(read, len(pieces), broken, is_failing):
-        return [*told, *lines_of(course, True, is_refused), failure]
-    transmission.close(broken, len(pieces))
-    lines = [*told, *lines_of(course, False, is_refused)]
+    if failure := find_failure_line(read, len(pieces), broken, is_failing):
+        return [*told, *list_lines(course, True, is_refused), failure]
+    transmission.end_file(broken, len(pieces))
+    lines = [*told, *list_lines(course, False, is_refused)]
     count = sum(line.startswith("refused") for line in lines)
-    return [*lines, f"{count} faults"] if count else [transmission.accepted()]
+    return [*lines, f"{count} faults"] if count else [transmission.format_accepted()]

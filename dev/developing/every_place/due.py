@@ -3,37 +3,38 @@ from __future__ import annotations
 
 from typing import Iterator, NamedTuple
 
-from .reading import OF_FIRST_BLOCK, Outside, Record, StlFault, read_subtitles
+from .reading import FIRST_BLOCK_FAULTS, OutsideSubtitle, Record, StlFault, read_subtitles
 from .rows import BLANK, TextFault, draw_page
-from .told import refused
-from .words import Options
+from .told import format_refused
+from .arguments import Options
 
 
 class Subtitles(NamedTuple):
     """The faults of a subtitle file, and its correct records.
 
-    `others` says for each record, and for the end, whether a subtitle with a fault comes before it.
+    `has_fault_before` says for each record, and for the end of the file, whether a subtitle with a
+    fault comes directly before it.
     `records` is `None` if the PES file is not read.
     """
 
     lines: list[str]
     records: list[Record] | None
-    others: list[bool]
+    has_fault_before: list[bool]
 
 
 def record_faults(record: Record, before: Record | None, options: Options) -> Iterator[str]:
     """Yield a line for each fault of a record."""
     if before and record.tci < before.tci:
-        yield refused(56, f"block {record.block}")
+        yield format_refused(56, f"block {record.block}")
     elif before and record.tci < before.tco:
-        yield refused(57, f"block {record.block}")
+        yield format_refused(57, f"block {record.block}")
     try:
         draw_page(record, options.option, options.layout)
     except TextFault as fault:
-        yield refused(fault.number, f"block {record.block} at {fault.at}")
+        yield format_refused(fault.number, f"block {record.block} at {fault.at}")
 
 
-def is_of_order(line: str) -> bool:
+def is_order_fault(line: str) -> bool:
     return line.startswith(("refused 56 ", "refused 57 "))
 
 
@@ -43,11 +44,11 @@ def judge_subtitles(data: bytes, options: Options) -> Subtitles:
     groups: list[Record | None] = []  # requested subtitles, `None` for one with a fault
     faults: dict[int, list[str]] = {}  # of records, by their index in `groups`
     before: Record | None = None
-    found: list[Record | StlFault | Outside] = list(
+    found: list[Record | StlFault | OutsideSubtitle] = list(
         read_subtitles(data, options.is_open, options.from_frame, options.to_frame))
     for one in found:
         if isinstance(one, StlFault):
-            told.append(refused(one.number, f"block {one.block}"))
+            told.append(format_refused(one.number, f"block {one.block}"))
             groups.append(None)
         elif isinstance(one, Record):
             faults[len(groups)] = list(record_faults(one, before, options))
@@ -56,22 +57,24 @@ def judge_subtitles(data: bytes, options: Options) -> Subtitles:
             before = one
     places = list(faults)
     judged = [place for place, after in zip(places, [*places[1:], None])
-              if not faults[place] and not (after and any(map(is_of_order, faults[after])))]
+              if not faults[place] and not (after and any(map(is_order_fault, faults[after])))]
     records = [record for place in judged if (record := groups[place])]
-    others = [second - first > 1 for first, second in zip([-1, *judged], [*judged, len(groups)])]
-    is_known = not any(isinstance(one, StlFault) and one.number not in OF_FIRST_BLOCK
+    has_fault_before = [second - first > 1 for first,
+                        second in zip([-1, *judged], [*judged, len(groups)])]
+    is_known = not any(isinstance(one, StlFault) and one.number not in FIRST_BLOCK_FAULTS
                        for one in found)
     in_order = all(one.tci >= earlier.tco for at, one in enumerate(records)
                    for earlier in records[:at])
     is_read = not told or is_known and bool(records) and in_order
-    return Subtitles(told, records if is_read else None, others)
+    return Subtitles(told, records if is_read else None, has_fault_before)
 
 
-class Due:
+class ExpectedPages:
     """The expected page of each frame, and the frames where it is undecided."""
 
-    def __init__(self, records: list[Record], others: list[bool], options: Options) -> None:
-        self.others = others
+    def __init__(self, records: list[Record], has_fault_before: list[bool],
+                 options: Options) -> None:
+        self.has_fault_before = has_fault_before
         self.pages = [(one.tci, one.tco, draw_page(one, options.option, options.layout))
                       for one in records]
 
@@ -81,7 +84,8 @@ class Due:
     def is_undecided(self, frame: int) -> bool:
         """Return whether no page is expected, but the file has a subtitle with a fault there."""
         count = sum(tci <= frame for tci, _, _ in self.pages)
-        return self.others[count] and not any(tci <= frame < tco for tci, tco, _ in self.pages)
+        return self.has_fault_before[count] and not any(tci <= frame < tco for tci, tco,
+                                                        _ in self.pages)
 
     def first(self) -> int | None:
         return self.pages[0][0] if self.pages else None
@@ -89,6 +93,6 @@ class Due:
     def last(self) -> int | None:
         return self.pages[-1][1] if self.pages else None
 
-    def begins_of(self, end: int) -> list[int]:
+    def list_starts(self, end: int) -> list[int]:
         """Return the first frames of the subtitles that end at a frame."""
         return [tci for tci, tco, _ in self.pages if tco == end]

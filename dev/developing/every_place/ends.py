@@ -4,19 +4,19 @@ from __future__ import annotations
 from typing import Iterator
 
 from subtitles.common.times import time_of
-from .due import Due
+from .due import ExpectedPages
 from .on_air import Decoded
 from .rows import COLUMNS, SPACE
-from .told import ended, refused
-from .words import Options
+from .told import format_ended, format_refused
+from .arguments import Options
 
 NO_CELL = -1  # of faults without a cell
 
 
-class Ends:
+class FrameEnds:
     """The active faults at the end of a frame, to compare with those at the end before."""
 
-    def __init__(self, due: Due, options: Options) -> None:
+    def __init__(self, due: ExpectedPages, options: Options) -> None:
         self.due, self.options = due, options
         self.first = self.frame = 0  # the first frame, and the previous one
         self.active: dict[int, int] = {}  # the cell of each active fault (72 alone has one)
@@ -24,7 +24,7 @@ class Ends:
         self.unfinished_since: int | None = None
         self.is_late = False  # at the last end
 
-    def active_faults(self, frame: int, decoded: Decoded, headers: list[int], sent: list[int]
+    def find_active_faults(self, frame: int, decoded: Decoded, headers: list[int], sent: list[int]
                       ) -> dict[int, int]:
         """Return the active faults at the end of a frame, each with its cell.
 
@@ -33,7 +33,7 @@ class Ends:
         options = self.options
         is_open = options.is_complete and decoded.is_open
         differs = None if self.due.is_undecided(frame) else \
-            decoded.first_difference(self.due.at(frame))
+            decoded.find_first_difference(self.due.at(frame))
         is_finished = differs is None and not is_open
         if is_finished:
             self.unfinished_since = None
@@ -41,18 +41,18 @@ class Ends:
             self.unfinished_since = frame
         self.is_late = self.is_overdue(frame)
         cell = differs if self.is_late else None
-        cell = self.first_unexpected(decoded.page, frame) if cell is None else cell
+        cell = self.find_unexpected_cell(decoded.page, frame) if cell is None else cell
         is_window = frame >= self.first + options.every - 1
         found = {
             72: cell is not None,
             73: is_window and not any(frame < one + options.every for one in headers),
             77: self.is_late and is_open,
-            78: any(map(self.due.is_undecided, self.allowed(frame))),
+            78: any(map(self.due.is_undecided, self.list_allowed_frames(frame))),
             79: options.pace and not any(frame < one + options.pace for one in sent)}
         return {number: cell if number == 72 and cell is not None else NO_CELL
                 for number, is_so in found.items() if is_so}
 
-    def allowed(self, frame: int) -> list[int]:
+    def list_allowed_frames(self, frame: int) -> list[int]:
         """Return a frame and those before it whose page is still allowed."""
         return [frame, *range(max(self.first, frame - self.options.within), frame)]
 
@@ -64,15 +64,15 @@ class Ends:
         start, within = self.unfinished_since, self.options.within
         return start is not None and (within == 0 or frame >= start + within or any(
             begin >= start or begin < self.first == start
-            for begin in self.due.begins_of(frame + 1)))
+            for begin in self.due.list_starts(frame + 1)))
 
-    def first_unexpected(self, page: bytes, frame: int) -> int | None:
+    def find_unexpected_cell(self, page: bytes, frame: int) -> int | None:
         """Return the first cell with neither a space nor a code that is, or was lately, expected
         there.
 
         Return `None` if one of these frames is undecided.
         """
-        frames = self.allowed(frame)
+        frames = self.list_allowed_frames(frame)
         if any(map(self.due.is_undecided, frames)):
             return None
         dues = [self.due.at(one) for one in frames]
@@ -84,24 +84,24 @@ class Ends:
     def at(self, frame: int, decoded: Decoded, headers: list[int], sent: list[int]
            ) -> Iterator[tuple[int, str]]:
         """Yield the lines of faults that begin or end at the end of a frame, with their numbers."""
-        found = self.active_faults(frame, decoded, headers, sent)
+        found = self.find_active_faults(frame, decoded, headers, sent)
         for number in (72, 73, 77, 78, 79):
             now, before = found.get(number), self.active.get(number)
             if now == before:
                 continue
             if before is not None:
-                yield number, ended(number, f"frame {time_of(self.frame)}")
+                yield number, format_ended(number, f"frame {time_of(self.frame)}")
             if now is not None:
-                yield number, refused(number, self.place(number, frame, now))
+                yield number, format_refused(number, self.describe_place(number, frame, now))
         self.active, self.frame = found, frame
 
     @staticmethod
-    def place(number: int, frame: int, cell: int) -> str:
-        words = f"frame {time_of(frame)}"
-        return f"{words} row {cell // COLUMNS + 1} column {cell % COLUMNS}" if number == 72 \
-            else words
+    def describe_place(number: int, frame: int, cell: int) -> str:
+        arguments = f"frame {time_of(frame)}"
+        return f"{arguments} row {cell // COLUMNS + 1} column {cell % COLUMNS}" if number == 72 \
+            else arguments
 
-    def after_the_last(self) -> Iterator[tuple[int, str]]:
+    def list_final_lines(self) -> Iterator[tuple[int, str]]:
         """Yield the lines that end the faults active after the last frame."""
         for number in sorted(self.active):
-            yield number, ended(number, f"frame {time_of(self.frame)}")
+            yield number, format_ended(number, f"frame {time_of(self.frame)}")

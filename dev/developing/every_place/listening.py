@@ -6,46 +6,48 @@ from typing import Iterator, NamedTuple
 from developing.pes import decode_address, decode_pts
 from subtitles.common.times import frame_of, time_of
 from subtitles.formats.teletext import is_odd
-from .definitions import failure_at, read_range
+from .definitions import find_failure_line, select_data
 from .on_air import ERASE, SERIAL
-from .reading import head_fault, header_of, line_of, split_packets, read_packet, units_of
+from .reading import (
+    decode_header, find_head_fault, get_line, read_packet, read_units, split_packets)
 from .recordings import Range
 from .rows import COLUMNS, ROWS, SPACE
-from .told import refused
-from .words import Options, parse_words
+from .told import format_refused
+from .arguments import Options, parse_arguments
 
-UNHEARD = 0x3F  # code of each cell before the first page
+NOT_RECEIVED = 0x3F  # code of each cell before the first page
 
 
-def end_fault(read: Range, count: int, broken: int | None, is_failing: bool) -> str | None:
+def find_end_fault(read: Range, count: int, broken: int | None, is_failing: bool) -> str | None:
     """Return the line of the fault after so many items; `None` if there is none."""
-    failure = failure_at(read, count, broken, is_failing)
-    return failure or (None if broken is None else refused(broken, f"pes {read.first + count}"))
+    failure = find_failure_line(read, count, broken, is_failing)
+    return failure or (None if broken is None
+                       else format_refused(broken, f"pes {read.first + count}"))
 
 
 # `packets`
 
-def unit_lines(piece: bytes) -> Iterator[str]:
+def list_unit_lines(piece: bytes) -> Iterator[str]:
     """Yield a line for each data unit with Teletext."""
     units = (piece[at:at + 46] for at in range(46, len(piece), 46))
     teletext = [unit for unit in units if unit[0] in (2, 3)]
-    for number, (unit, packet) in enumerate(zip(teletext, units_of(piece)[0])):
-        which, line = line_of(unit)
+    for number, (unit, packet) in enumerate(zip(teletext, read_units(piece)[0])):
+        which, line = get_line(unit)
         yield f"unit {number} id {unit[0]:02x} field {which + 1} line {line} {packet.hex()}"
 
 
-def packets_lines(data: bytes, options: Options, is_failing: bool) -> Iterator[str]:
+def list_packets_lines(data: bytes, options: Options, is_failing: bool) -> Iterator[str]:
     """Yield the lines of `packets`, which stops at the first fault."""
-    read = read_range(data, options)
+    read = select_data(data, options)
     pieces, broken = split_packets(read.data)
     for pes, piece in enumerate(pieces, read.first):
-        number = head_fault(piece) or units_of(piece)[1]
+        number = find_head_fault(piece) or read_units(piece)[1]
         if number:
-            yield refused(number, f"pes {pes}")
+            yield format_refused(number, f"pes {pes}")
             return
         yield f"pes {pes} pts {decode_pts(piece)}"
-        yield from unit_lines(piece)
-    yield end_fault(read, len(pieces), broken, is_failing) or f"{len(pieces)} pes"
+        yield from list_unit_lines(piece)
+    yield find_end_fault(read, len(pieces), broken, is_failing) or f"{len(pieces)} pes"
 
 
 # `listen`
@@ -61,7 +63,7 @@ class ListenOptions(NamedTuple):
     receiver: str
     is_complete: bool
 
-    def corrupt(self, number: int, packet: bytes) -> bytes:
+    def flip_bits(self, number: int, packet: bytes) -> bytes:
         """Return a packet with its wrong bits."""
         changed = bytearray(packet)
         for which, at, bit in self.flips:
@@ -70,16 +72,16 @@ class ListenOptions(NamedTuple):
         return bytes(changed)
 
 
-def listen_options(words: list[str]) -> ListenOptions:
+def parse_listen_options(arguments: list[str]) -> ListenOptions:
     """Parse the options that `check` does not have."""
-    given = parse_words(words)
+    given = parse_arguments(arguments)
     last = frame_of(given["--at"])
     assert last is not None
     flips = [[int(number) for number in one.split(":")]
              for one in given.get("--flip", "").split(",") if one]
     lost = [int(one) for one in given.get("--lose", "").split(",") if one]
     return ListenOptions(last, int(given.get("--skip", "0")), flips, lost,
-                         given.get("--receiver", "blank"), "--complete" in words)
+                         given.get("--receiver", "blank"), "--complete" in arguments)
 
 
 class Receiver:
@@ -88,12 +90,12 @@ class Receiver:
     def __init__(self, options: Options, kind: str) -> None:
         self.page, self.kind = options.page, kind
         self.is_heard = self.is_open = False
-        self.decoded = [bytes([UNHEARD]) * COLUMNS] * ROWS
+        self.decoded = [bytes([NOT_RECEIVED]) * COLUMNS] * ROWS
         self.shown: list[bytes] | None = None
 
     def receive(self, packet: bytes) -> None:
         """Take a packet (EN 300 706)."""
-        address, header = decode_address(packet), header_of(packet)
+        address, header = decode_address(packet), decode_header(packet)
         if header and header[0] == self.page:
             self.is_heard = self.is_open = True
             if ERASE in header[1] or self.kind == "anew":
@@ -114,7 +116,7 @@ class Receiver:
             byte & 0x7F if is_odd(byte) else old[at] if self.kind == "keep" else SPACE
             for at, byte in enumerate(data))
 
-    def lines(self, is_complete: bool) -> Iterator[str]:
+    def list_lines(self, is_complete: bool) -> Iterator[str]:
         """Yield the lines printed about it."""
         yield "heard yes" if self.is_heard else "heard no"
         if not self.is_heard:
@@ -132,9 +134,10 @@ class Receiver:
             yield "blank"
 
 
-def listen_lines(data: bytes, options: Options, words: list[str], is_failing: bool) -> list[str]:
+def list_receiver_lines(data: bytes, options: Options, arguments: list[str],
+                        is_failing: bool) -> list[str]:
     """Return the lines of `listen`, about a receiver or the first fault."""
-    heard, read = listen_options(words), read_range(data, options)
+    heard, read = parse_listen_options(arguments), select_data(data, options)
     receiver = Receiver(options, heard.receiver)
     pieces, broken = split_packets(read.data)
     before = -1  # the frame of the PES packet before
@@ -142,12 +145,12 @@ def listen_lines(data: bytes, options: Options, words: list[str], is_failing: bo
     for pes, piece in enumerate(pieces, read.first):
         sending = read_packet(piece, options.origin, options.within)
         if isinstance(sending, int):
-            return [refused(sending, f"pes {pes}")]
+            return [format_refused(sending, f"pes {pes}")]
         frame, packets = sending
         if frame < before or frame == before and not options.within:
-            return [refused(62, f"pes {pes}")]
+            return [format_refused(62, f"pes {pes}")]
         if frame > heard.last:
-            return list(receiver.lines(heard.is_complete))
+            return list(receiver.list_lines(heard.is_complete))
         place = place if frame == before else 0
         before = frame
         for packet in packets:
@@ -155,7 +158,7 @@ def listen_lines(data: bytes, options: Options, words: list[str], is_failing: bo
                 if (decode_address(packet) or (0, 0))[1] == 0:
                     return [f"refused 76 LostHeader frame {time_of(frame)} packet {place}"]
             elif number >= heard.skip:
-                receiver.receive(heard.corrupt(number, packet))
+                receiver.receive(heard.flip_bits(number, packet))
             number, place = number + 1, place + 1
-    fault = end_fault(read, len(pieces), broken, is_failing)
-    return [fault] if fault else list(receiver.lines(heard.is_complete))
+    fault = find_end_fault(read, len(pieces), broken, is_failing)
+    return [fault] if fault else list(receiver.list_lines(heard.is_complete))

@@ -13,12 +13,12 @@ BITS: dict[str, set[int]] = {
 ALL_BITS = {12, 13, 14}
 
 # Bytes with the same cell in each sub-set: spacing attributes, digits, letters, symbols.
-SAME = (*range(0x01, 0x0E), 0x1C, 0x1D, *range(0x20, 0x23), *range(0x25, 0x40), *range(0x41, 0x5B),
-        *range(0x61, 0x7B))
+SAME_IN_ALL = (*range(0x01, 0x0E), 0x1C, 0x1D, *range(0x20, 0x23), *range(0x25, 0x40),
+               *range(0x41, 0x5B), *range(0x61, 0x7B))
 
 # The text bytes for each cell that differs between sub-sets: a byte, several, or a pair. Each
 # sub-set has 13 such cells; English and German have no bytes for some of them.
-OF_CELLS = """
+CELL_TEXTS = """
 23  A3     23     23     A3     C2.65  CB.63  23
 24  24,A4  24,A4  A8     24,A4  C8.69  24,A4  CA.75
 40  40     A7     C2.45  C2.65  C1.61  A1     CF.63
@@ -35,15 +35,15 @@ OF_CELLS = """
 """
 
 
-def cells_by_option() -> dict[str, dict[bytes, int]]:
+def map_cells_by_option() -> dict[str, dict[bytes, int]]:
     """Return the cell of each byte or pair of bytes, by sub-set."""
-    found = {option: {bytes([code]): code for code in SAME} for option in BITS}
-    for line in OF_CELLS.split("\n")[1:-1]:
+    found = {option: {bytes([code]): code for code in SAME_IN_ALL} for option in BITS}
+    for line in CELL_TEXTS.split("\n")[1:-1]:
         cell, *columns = line.split()
-        for option, words in zip(BITS, columns):
-            for word in words.split(",") if words != "-" else []:
+        for option, arguments in zip(BITS, columns):
+            for word in arguments.split(",") if arguments != "-" else []:
                 found[option][bytes.fromhex(word.replace(".", ""))] = int(cell, 16)
     return found
 
 
-CELLS = cells_by_option()
+CELLS = map_cells_by_option()

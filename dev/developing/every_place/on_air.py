@@ -5,9 +5,9 @@ from typing import NamedTuple, Sequence
 
 from subtitles.formats.teletext import CODE_WORDS, Page, is_odd
 from .national import ALL_BITS, BITS
-from .reading import Header, subcode_of
+from .reading import Header, decode_subcode
 from .rows import BLANK, COLUMNS, SPACE
-from .words import Options
+from .arguments import Options
 
 ERASE, SERIAL = 4, 11
 WITHOUT_PARITY = bytes(byte & 0x7F for byte in range(256))
@@ -21,56 +21,57 @@ class Packet(NamedTuple):
     header: Header | None
 
 
-def span_of(packets: Sequence[Packet], page: Page) -> tuple[Sequence[Packet], bool]:
+def find_page_span(packets: Sequence[Packet], page: Page) -> tuple[Sequence[Packet], bool]:
     """Return the packets from the last header of the page to its end, and whether the page is open.
     """
-    begin = last_header(packets, page)
+    begin = find_last_header(packets, page)
     if begin is None:
         return [], False
     for end, packet in enumerate(packets[begin + 1:], begin + 1):
-        if ends_page(packet, page):
+        if ends_open_page(packet, page):
             return packets[begin + 1:end], False
     return packets[begin + 1:], True
 
 
-def last_header(packets: Sequence[Packet], page: Page, has_to_erase: bool = False) -> int | None:
+def find_last_header(packets: Sequence[Packet], page: Page,
+                     has_to_erase: bool = False) -> int | None:
     """Return the index of the last header of the page, or of the last one that erases it."""
-    return next((at for at in reversed(range(len(packets))) if page_of(packets[at]) == page
-                 and (erases(packets[at]) or not has_to_erase)), None)
+    return next((at for at in reversed(range(len(packets))) if get_page(packets[at]) == page
+                 and (erases_page(packets[at]) or not has_to_erase)), None)
 
 
-def ends_page(packet: Packet, page: Page) -> bool:
+def ends_open_page(packet: Packet, page: Page) -> bool:
     """Return whether a packet is a header that ends an open page."""
     header = packet.header
     return header is not None and (header[0][0] == page[0] or SERIAL in header[1])
 
 
-def long_span_of(packets: Sequence[Packet], page: Page, may_keep: bool) -> list[Packet]:
+def find_kept_span(packets: Sequence[Packet], page: Page, may_keep: bool) -> list[Packet]:
     """Return the packets of the page since it was last erased.
 
     If no header erases it, start at the first header if headers may keep the page, else at the
     last.
     """
-    first = last_header(packets, page, may_keep)
+    first = find_last_header(packets, page, may_keep)
     if first is None:
-        first = next((at for at, packet in enumerate(packets) if page_of(packet) == page), None)
+        first = next((at for at, packet in enumerate(packets) if get_page(packet) == page), None)
     span: list[Packet] = []
     is_open = False
     for packet in packets[first:] if first is not None else []:
-        if page_of(packet) == page:
+        if get_page(packet) == page:
             is_open = True
-        elif ends_page(packet, page):
+        elif ends_open_page(packet, page):
             is_open = False
         elif is_open:
             span.append(packet)
     return span
 
 
-def erases(packet: Packet) -> bool:
+def erases_page(packet: Packet) -> bool:
     return packet.header is not None and ERASE in packet.header[1]
 
 
-def page_of(packet: Packet) -> Page | None:
+def get_page(packet: Packet) -> Page | None:
     return packet.header[0] if packet.header else None
 
 
@@ -79,16 +80,16 @@ def is_row(packet: Packet, page: Page) -> bool:
     return address is not None and address[0] == page[0] and 1 <= address[1] <= 24
 
 
-def rows_in(span: Sequence[Packet], page: Page) -> dict[int, bytes]:
+def read_rows(span: Sequence[Packet], page: Page) -> dict[int, bytes]:
     """Return the codes of the first packet of each row."""
     rows: dict[int, bytes] = {}
     for packet in span:
         if packet.address and is_row(packet, page) and packet.address[1] not in rows:
-            rows[packet.address[1]] = codes_of(packet)
+            rows[packet.address[1]] = get_codes(packet)
     return rows
 
 
-def codes_of(packet: Packet) -> bytes:
+def get_codes(packet: Packet) -> bytes:
     return packet.data[2:].translate(WITHOUT_PARITY)
 
 
@@ -99,7 +100,7 @@ class Decoded(NamedTuple):
     is_open: bool
     received_rows: set[int]
 
-    def first_difference(self, due: bytes) -> int | None:
+    def find_first_difference(self, due: bytes) -> int | None:
         """Return the first cell with an unexpected code, or with text that was not sent again."""
         for row, place in enumerate(range(0, len(due), COLUMNS), 1):
             own, its = self.page[place:place + COLUMNS], due[place:place + COLUMNS]
@@ -112,10 +113,10 @@ class Decoded(NamedTuple):
 
 def decode(packets: Sequence[Packet], options: Options) -> Decoded:
     """Return the page that a receiver has after the packets, if it was blank before."""
-    span, is_open = span_of(packets, options.page)
-    rows = rows_in(long_span_of(packets, options.page, options.may_keep), options.page)
+    span, is_open = find_page_span(packets, options.page)
+    rows = read_rows(find_kept_span(packets, options.page, options.may_keep), options.page)
     return Decoded(b"".join(rows.get(row, BLANK[:COLUMNS]) for row in range(1, 25)), is_open,
-                   {*rows_in(span, options.page)})
+                   {*read_rows(span, options.page)})
 
 
 # The rules of a packet
@@ -134,18 +135,18 @@ def is_repeat(packet: Packet, before: Sequence[Packet], is_open: bool, options: 
 
     It must have the subcode of the previous header, and, with --complete, the page must have ended.
     """
-    last = next((one for one in reversed(before) if page_of(one) == options.page), None)
+    last = next((one for one in reversed(before) if get_page(one) == options.page), None)
     return (options.may_keep and not (options.is_complete and is_open)
-            and (last is None or subcode_of(last.data) == subcode_of(packet.data)))
+            and (last is None or decode_subcode(last.data) == decode_subcode(packet.data)))
 
 
-def packet_faults(packet: Packet, before: Sequence[Packet], options: Options) -> list[int]:
+def find_packet_faults(packet: Packet, before: Sequence[Packet], options: Options) -> list[int]:
     """Return the rules that a packet breaks after the packets before it."""
     address, header, page = packet.address, packet.header, options.page
-    _, is_open = span_of(before, page)
+    _, is_open = find_page_span(before, page)
     is_stored = is_open and is_row(packet, page)
     headers = (one.header for one in before if one.header)
-    rows = rows_in(long_span_of(before, page, options.may_keep), page)
+    rows = read_rows(find_kept_span(before, page, options.may_keep), page)
     known = rows.get(address[1]) if address and is_stored else None
     broken: dict[int, object] = {
         64: not is_exact(packet.data[:2]),
@@ -153,9 +154,9 @@ def packet_faults(packet: Packet, before: Sequence[Packet], options: Options) ->
         66: header and (SERIAL in header[1]) != (SERIAL in next(headers, header)[1]),
         67: header and header[0] == page and not (
             is_plain_subtitle_header(header[1], options.option)
-            and (erases(packet) or is_repeat(packet, before, is_open, options))),
+            and (erases_page(packet) or is_repeat(packet, before, is_open, options))),
         68: is_stored and not all(map(is_odd, packet.data[2:])),
-        69: known is not None and known != codes_of(packet),
+        69: known is not None and known != get_codes(packet),
         70: is_open and address and address[0] == page[0] and 25 <= address[1] <= 28,
     }
     return [number for number, is_so in broken.items() if is_so]

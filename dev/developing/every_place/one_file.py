@@ -12,26 +12,26 @@ from developing.pes import make_packet, make_pes_packet
 from developing.stl import make_gsi_block, make_subtitle_blocks, make_tti_block
 from subtitles.common.times import TICKS
 from subtitles.formats.stl import GSI, TEXT, TTI, USER_DATA
-from .calls import KnownCall, known_check
-from .known import poked, with_count
+from .calls import KnownCall, make_known_check
+from .known import replace_bytes, add_count_line
 from .one_rule import CLOSING, FIRST, HEADER
-from .reading import OF_FIRST_BLOCK
+from .reading import FIRST_BLOCK_FAULTS
 
 EBN, CS, TCI, TCO, VP, JC, CF = 3, 4, 5, 9, 13, 14, 15  # where the fields of a block begin
 
 
-def refused(fault: str) -> list[str]:
+def expect_refused(fault: str) -> list[str]:
     """Return the lines of a file with this fault.
 
     If it is a fault of a subtitle's first block, the other subtitle is checked too.
     """
-    is_read = int(fault.split()[0]) in OF_FIRST_BLOCK
-    return with_count(f"refused {fault}", *["refused 60 Empty"] * is_read)
+    is_read = int(fault.split()[0]) in FIRST_BLOCK_FAULTS
+    return add_count_line(f"refused {fault}", *["refused 60 Empty"] * is_read)
 
 
 # Blocks
 
-def a_file() -> bytes:
+def make_file() -> bytes:
     """Return a comment, a subtitle of two blocks with user data between them, and one of one block.
 
     Of comments and user data only EBN and CF are read.
@@ -45,12 +45,12 @@ def a_file() -> bytes:
         make_tti_block(0x106, 50, 124, 1, 0, b"Hi", group=7)])
 
 
-WHOLE = a_file()
+WHOLE = make_file()
 TWO, LAST_OF_TWO = GSI + TTI, GSI + 3 * TTI  # where the blocks of its first subtitle are
 
 # Changed bytes and the reported fault: limits that no test of the crates has, and the first of two
 # faults in a block, in order of the checks. CS, times, VP and JC of a further block are ignored.
-BLOCKS: list[tuple[str, dict[int, int]]] = [
+BLOCK_CASES: list[tuple[str, dict[int, int]]] = [
     ("60 Empty", {11: ord("2")}), ("13 Display block 0", {11: ord(" ")}),
     ("11 Format block 0", {3: ord(" ")}), ("11 Format block 0", {10: ord("2")}),
     ("17 CommentFlag block 2", {TWO + CF: 0xFF}), ("20 Time block 2", {TWO + TCI + 1: 60}),
@@ -76,57 +76,58 @@ class Line(NamedTuple):
     cells: bytes
 
 
-def boxed(cells: bytes) -> bytes:
+def make_box(cells: bytes) -> bytes:
     """Return the cells of a line in a box."""
     return b"\x0b\x0b" + cells + b"\x0a\x0a"
 
 
-def name_of(text: bytes, what: str) -> str:
+def make_name(text: bytes, what: str) -> str:
     """Return the name of a pair and its files."""
     return f"{text[:8].hex()} of {len(text)} bytes {what}"
 
 
-def of_text(text: bytes, row: int, justify: int) -> bytes:
+def make_text_file(text: bytes, row: int, justify: int) -> bytes:
     """Return a file with one subtitle of one frame."""
     return make_gsi_block(b"One text", 1, 1) + make_subtitle_blocks(1, FIRST, FIRST + 1, row,
                                                                     justify, text)
 
 
-def row_packet(line: Line) -> bytes:
+def make_row_packet(line: Line) -> bytes:
     codes = b" " * line.column + line.cells
     return make_packet(0, line.row, [], codes.ljust(40))
 
 
-def pes_of(lines: Iterable[Line]) -> bytes:
+def make_transmission(lines: Iterable[Line]) -> bytes:
     """Return a transmission of exactly these lines in the first frame, and a blank page in the
     next."""
     return b"".join(make_pes_packet((FIRST + frame) * TICKS, [HEADER, *rows, CLOSING])
-                    for frame, rows in enumerate((map(row_packet, lines), [])))
+                    for frame, rows in enumerate((map(make_row_packet, lines), [])))
 
 
-def draw_page(text: bytes, row: int, justify: int, *lines: Line) -> KnownCall:
+def expect_drawn(text: bytes, row: int, justify: int, *lines: Line) -> KnownCall:
     """Return a text with a transmission of exactly these lines."""
-    return known_check(name_of(text, f"drawn at row {row}, JC {justify}"),
-                       of_text(text, row, justify), pes_of(lines), "",
-                       ["accepted 2 frames 2 transmissions"])
+    return make_known_check(make_name(text, f"drawn at row {row}, JC {justify}"),
+                            make_text_file(text, row, justify), make_transmission(lines), "",
+                            ["accepted 2 frames 2 transmissions"])
 
 
-def not_drawn(text: bytes, row: int, fault: str, at: int) -> KnownCall:
+def expect_refused_text(text: bytes, row: int, fault: str, at: int) -> KnownCall:
     """Return a refused text."""
-    return known_check(name_of(text, f"refused at row {row}"), of_text(text, row, 0), b"", "",
-                       refused(f"{fault} block 1 at {at}"))
+    return make_known_check(make_name(text, f"refused at row {row}"), make_text_file(text, row, 0),
+                            b"", "", expect_refused(f"{fault} block 1 at {at}"))
 
 
 FULL = b"A" * 36  # fills a row with its box
 DRAWN = [
-    draw_page(b"\x80A\x81", 5, 1, Line(5, 0, boxed(b"A"))),
-    draw_page(FULL, 5, 2, Line(5, 0, boxed(FULL))),
-    not_drawn(FULL + b"A", 5, "52 RowTooLong", 0),
+    expect_drawn(b"\x80A\x81", 5, 1, Line(5, 0, make_box(b"A"))),
+    expect_drawn(FULL, 5, 2, Line(5, 0, make_box(FULL))),
+    expect_refused_text(FULL + b"A", 5, "52 RowTooLong", 0),
     # Empty lines may extend past row 23.
-    draw_page(b"A\x8a\x8a", 23, 0, Line(23, 0, boxed(b"A"))),
-    not_drawn(b"A\x9f", 5, "51 Control", 1),
-    not_drawn(b"\x0dA\x8a\x0e", 23, "51 Control", 3),  # a byte before any line
+    expect_drawn(b"A\x8a\x8a", 23, 0, Line(23, 0, make_box(b"A"))),
+    expect_refused_text(b"A\x9f", 5, "51 Control", 1),
+    expect_refused_text(b"\x0dA\x8a\x0e", 23, "51 Control", 3),  # a byte before any line
 ]
 
-ONE_FILE = [*(known_check(f"{fault}: {bytes_at}", poked(WHOLE, bytes_at), b"", "", refused(fault))
-              for fault, bytes_at in BLOCKS), *DRAWN]
+ONE_FILE = [*(make_known_check(f"{fault}: {bytes_at}", replace_bytes(WHOLE, bytes_at), b"", "",
+                               expect_refused(fault))
+              for fault, bytes_at in BLOCK_CASES), *DRAWN]

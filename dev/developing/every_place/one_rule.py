@@ -24,37 +24,38 @@ class OneRule(NamedTuple):
     number: int
     stl: bytes
     pes: bytes
-    words: str
+    arguments: str
 
 
-def coded(head: str, byte: int = 0x20) -> bytes:
+def make_packet(head: str, byte: int = 0x20) -> bytes:
     """Return a packet with these first bytes, filled with 20 (a space) or another byte."""
     first = bytes.fromhex(head)
     return first + bytes([byte]) + b"\x20" * (41 - len(first))
 
 
-def header(c4: str = "D0", c5_c6: str = "D0", c7_c10: str = "02", c11_c14: str = "15") -> bytes:
+def make_header(c4: str = "D0", c5_c6: str = "D0", c7_c10: str = "02",
+                c11_c14: str = "15") -> bytes:
     """Return a header of page 888 with these bytes of control bits, by default those of a subtitle.
     """
-    return coded(f"15 15 D0 D0 15 {c4} 15 {c5_c6} {c7_c10} {c11_c14}")
+    return make_packet(f"15 15 D0 D0 15 {c4} 15 {c5_c6} {c7_c10} {c11_c14}")
 
 
-def row_1(byte: int) -> bytes:
+def make_row_1(byte: int) -> bytes:
     """Return row 1 of magazine 8: a byte and 39 spaces."""
-    return coded("D0 15", byte)
+    return make_packet("D0 15", byte)
 
 
-HEADER = header()
-CLOSING = coded("15 15 EA EA EA 2F EA 5E 15 15")  # page FF, subcode 3F7F
-SERIAL_CLOSING = coded("15 15 EA EA EA 2F EA 5E 15 02")  # with C11
-NO_HEADER = coded("15 15 D3 D0 15 D0 15 D0 02 15")  # its page units can't be decoded
-PACKET_26 = coded("15 B6")
+HEADER = make_header()
+CLOSING = make_packet("15 15 EA EA EA 2F EA 5E 15 15")  # page FF, subcode 3F7F
+SERIAL_CLOSING = make_packet("15 15 EA EA EA 2F EA 5E 15 02")  # with C11
+NO_HEADER = make_packet("15 15 D3 D0 15 D0 15 D0 02 15")  # its page units can't be decoded
+PACKET_26 = make_packet("15 B6")
 ROW_22 = bytes.fromhex("15 9B") + b"\x20" * 17 + bytes.fromhex("0B 0B C8 E9 8A 8A") + b"\x20" * 17
-MARK = row_1(0xA1)  # an exclamation mark with odd parity
+MARK = make_row_1(0xA1)  # an exclamation mark with odd parity
 PAGE = [HEADER, CLOSING]
 
 
-def pes_packets_of(packets: str, meaning: dict[str, bytes]) -> list[bytes]:
+def parse_transmission(packets: str, meaning: dict[str, bytes]) -> list[bytes]:
     """Return the PES packets that a text names, separated by commas."""
     made = []
     for frame, *names in map(str.split, packets.split(",")):
@@ -63,7 +64,7 @@ def pes_packets_of(packets: str, meaning: dict[str, bytes]) -> list[bytes]:
     return made
 
 
-def programme(text: bytes | None = None, begin: int = 0, end: int = 1) -> bytes:
+def make_programme(text: bytes | None = None, begin: int = 0, end: int = 1) -> bytes:
     """Return a file without a subtitle, or with one on row 22:
 
     in the first frame only, or from one frame to another.
@@ -74,77 +75,86 @@ def programme(text: bytes | None = None, begin: int = 0, end: int = 1) -> bytes:
                                                                     22, 2, text)
 
 
-NONE, BLANK, HI = programme(), programme(b""), programme(b"Hi")
-HI_OF_9, HI_LATER = programme(b"Hi", 0, 9), programme(b"Hi", 2, 9)
+NONE, BLANK, HI = make_programme(), make_programme(b""), make_programme(b"Hi")
+HI_OF_9, HI_LATER = make_programme(b"Hi", 0, 9), make_programme(b"Hi", 2, 9)
 
 
-def rule(name: str, number: int, packets: str, tried: bytes = b"", words: str = "--every 1",
-         stl: bytes = NONE) -> OneRule:
-    meaning = {"h": HEADER, "r": ROW_22, "c": CLOSING, "*": tried, "s": row_1(0x20)}
-    return OneRule(name, number, stl, b"".join(pes_packets_of(packets, meaning)), words)
+def make_case(name: str, number: int, packets: str, tried: bytes = b"",
+              arguments: str = "--every 1", stl: bytes = NONE) -> OneRule:
+    meaning = {"h": HEADER, "r": ROW_22, "c": CLOSING, "*": tried, "s": make_row_1(0x20)}
+    return OneRule(name, number, stl, b"".join(parse_transmission(packets, meaning)), arguments)
 
 
-def near_the_day(name: str, *ticks: int) -> OneRule:
+def make_pair_at_day_bound(name: str, *ticks: int) -> OneRule:
     """Return a page without rows at two times, one of them just outside the day."""
     pes = b"".join(make_pes_packet(one % CLOCK, PAGE) for one in ticks)
     return OneRule(name, 61, NONE, pes, "--every 1")
 
 
 PLAIN = [
-    rule("frames that do not rise", 62, "0 h c, 2 h c, 1 h c", words="--every 3"),
-    rule("the first TCI is before the first frame", 63, "1 h c", stl=BLANK),
-    rule("the last TCO is after the last frame", 74, "0 h c", stl=BLANK),
-    rule("an address byte with a wrong bit", 64, "0 * c", b"\x14" + HEADER[1:]),
-    rule("a coded byte of a header with a wrong bit", 65, "0 * c",
-         HEADER[:2] + b"\xd1" + HEADER[3:]),
-    rule("a packet X/0 that is no header", 65, "0 h c *", NO_HEADER),
-    rule("a closing header in another mode", 66, "0 h *", SERIAL_CLOSING),
-    rule("C4, erase page, is clear", 67, "0 * c", header(c4="15")),
-    rule("C5, newsflash, is set", 67, "0 * c", header(c5_c6="A1")),
-    rule("C6, subtitle, is clear", 67, "0 * c", header(c5_c6="15")),
-    rule("C7, suppress header, is clear", 67, "0 * c", header(c7_c10="15")),
-    rule("C10, inhibit display, is set", 67, "0 * c", header(c7_c10="C7")),
-    rule("C12 names another sub-set", 67, "0 * c", header(c11_c14="49")),
-    rule("C13 names another sub-set", 67, "0 * c", header(c11_c14="64")),
-    rule("C14 names the German sub-set", 67, "0 * c", header(c11_c14="D0")),
-    rule("C14 is clear where German is asked for", 67, "0 h c", words="--every 1 --option german"),
-    rule("a row with a space of even parity", 68, "0 h * c", row_1(0xA0)),
-    rule("a second packet of a row that differs", 69, "0 h s * c", MARK),
-    rule("a packet X/26 while the page is open", 70, "0 h * c", PACKET_26),
-    rule("a frame without a header of the page", 73, "0 h c, 1 c"),
-    rule("a first frame without one", 71, "0 c, 1 h c", words="--every 2"),
-    rule("a letter that is not due", 72, "0 h * c", MARK),
-    rule("no row where one is due", 72, "0 h c, 1 h c", stl=HI),
-    rule("a row that stands for a frame too long", 72, "0 h r c, 2 h c", words="--every 2", stl=HI),
+    make_case("frames that do not rise", 62, "0 h c, 2 h c, 1 h c", arguments="--every 3"),
+    make_case("the first TCI is before the first frame", 63, "1 h c", stl=BLANK),
+    make_case("the last TCO is after the last frame", 74, "0 h c", stl=BLANK),
+    make_case("an address byte with a wrong bit", 64, "0 * c", b"\x14" + HEADER[1:]),
+    make_case("a coded byte of a header with a wrong bit", 65, "0 * c",
+              HEADER[:2] + b"\xd1" + HEADER[3:]),
+    make_case("a packet X/0 that is no header", 65, "0 h c *", NO_HEADER),
+    make_case("a closing header in another mode", 66, "0 h *", SERIAL_CLOSING),
+    make_case("C4, erase page, is clear", 67, "0 * c", make_header(c4="15")),
+    make_case("C5, newsflash, is set", 67, "0 * c", make_header(c5_c6="A1")),
+    make_case("C6, subtitle, is clear", 67, "0 * c", make_header(c5_c6="15")),
+    make_case("C7, suppress header, is clear", 67, "0 * c", make_header(c7_c10="15")),
+    make_case("C10, inhibit display, is set", 67, "0 * c", make_header(c7_c10="C7")),
+    make_case("C12 names another sub-set", 67, "0 * c", make_header(c11_c14="49")),
+    make_case("C13 names another sub-set", 67, "0 * c", make_header(c11_c14="64")),
+    make_case("C14 names the German sub-set", 67, "0 * c", make_header(c11_c14="D0")),
+    make_case("C14 is clear where German is asked for", 67, "0 h c",
+              arguments="--every 1 --option german"),
+    make_case("a row with a space of even parity", 68, "0 h * c", make_row_1(0xA0)),
+    make_case("a second packet of a row that differs", 69, "0 h s * c", MARK),
+    make_case("a packet X/26 while the page is open", 70, "0 h * c", PACKET_26),
+    make_case("a frame without a header of the page", 73, "0 h c, 1 c"),
+    make_case("a first frame without one", 71, "0 c, 1 h c", arguments="--every 2"),
+    make_case("a letter that is not due", 72, "0 h * c", MARK),
+    make_case("no row where one is due", 72, "0 h c, 1 h c", stl=HI),
+    make_case("a row that stands for a frame too long", 72, "0 h r c, 2 h c", arguments="--every 2",
+              stl=HI),
 ]
 
 # The page may be two frames late.
 LATE = [
-    near_the_day("a PTS just before the day", -901, 0),
-    near_the_day("a PTS just after the day", 0, TICKS * FRAMES_OF_A_DAY - 900),
-    rule("a frame before that of the PES packet before", 62, "0 h c, 1 h c, 0 h c"),
-    rule("the first TCI is before the first frame", 63, "1 h c", stl=BLANK),
-    rule("a wrong bit in the second PES packet of a frame", 64, "0 h c, 0 * c",
-         b"\x14" + HEADER[1:]),
-    rule("a packet X/0 that is no header in the second PES packet of a frame", 65, "0 h c, 0 *",
-         NO_HEADER),
-    rule("C4 is clear in the second PES packet of a frame", 67, "0 h c, 0 * c", header(c4="15")),
-    rule("another mode in the second PES packet of a frame", 66, "0 h, 0 *", SERIAL_CLOSING),
-    rule("an even byte in the second PES packet of a frame", 68, "0 h, 0 * c", row_1(0xA0)),
-    rule("another row in the second PES packet of a frame", 69, "0 h s, 0 * c", MARK),
-    rule("a packet X/26 in the second PES packet of a frame", 70, "0 h, 0 * c", PACKET_26),
-    rule("two PES packets of the first frame without a header", 71, "0 c, 0 c, 1 h c",
-         words="--every 2"),
-    rule("a frame of two PES packets without a header", 73, "0 h c, 1 c, 1 c"),
-    rule("a row three frames after its header", 72, "0 h, 3 r c, 9 h c", words="", stl=HI_OF_9),
-    rule("a page that is not whole before its TCO", 72, "0 h c, 1 h r c, 2 h c", words="", stl=HI),
-    rule("a letter that was never due", 72, "0 h * c, 1 h c", MARK, words=""),
-    rule("a page a frame early", 72, "0 h c, 1 h r c, 9 h c", words="", stl=HI_LATER),
-    rule("a page of three frames before", 72, "0 h r c, 1 h c, 3 h r c, 4 h c", words="", stl=HI),
-    rule("a page that is open for three frames", 77, "0 h, 3 c", words="--complete"),
-    rule("a page that is open at its last frame", 77, "0 h r, 1 h c", words="--complete", stl=HI),
-    rule("the last TCO is after the last frame", 74, "0 h c", words="", stl=BLANK),
-    rule("a last frame that is not whole yet", 74, "0 h r c, 1", words="", stl=HI),
-    rule("a last frame with an open page", 74, "0 h", words="--complete"),
+    make_pair_at_day_bound("a PTS just before the day", -901, 0),
+    make_pair_at_day_bound("a PTS just after the day", 0, TICKS * FRAMES_OF_A_DAY - 900),
+    make_case("a frame before that of the PES packet before", 62, "0 h c, 1 h c, 0 h c"),
+    make_case("the first TCI is before the first frame", 63, "1 h c", stl=BLANK),
+    make_case("a wrong bit in the second PES packet of a frame", 64, "0 h c, 0 * c",
+              b"\x14" + HEADER[1:]),
+    make_case("a packet X/0 that is no header in the second PES packet of a frame", 65,
+              "0 h c, 0 *", NO_HEADER),
+    make_case("C4 is clear in the second PES packet of a frame", 67, "0 h c, 0 * c",
+              make_header(c4="15")),
+    make_case("another mode in the second PES packet of a frame", 66, "0 h, 0 *", SERIAL_CLOSING),
+    make_case("an even byte in the second PES packet of a frame", 68, "0 h, 0 * c",
+              make_row_1(0xA0)),
+    make_case("another row in the second PES packet of a frame", 69, "0 h s, 0 * c", MARK),
+    make_case("a packet X/26 in the second PES packet of a frame", 70, "0 h, 0 * c", PACKET_26),
+    make_case("two PES packets of the first frame without a header", 71, "0 c, 0 c, 1 h c",
+              arguments="--every 2"),
+    make_case("a frame of two PES packets without a header", 73, "0 h c, 1 c, 1 c"),
+    make_case("a row three frames after its header", 72, "0 h, 3 r c, 9 h c", arguments="",
+              stl=HI_OF_9),
+    make_case("a page that is not whole before its TCO", 72, "0 h c, 1 h r c, 2 h c", arguments="",
+              stl=HI),
+    make_case("a letter that was never due", 72, "0 h * c, 1 h c", MARK, arguments=""),
+    make_case("a page a frame early", 72, "0 h c, 1 h r c, 9 h c", arguments="", stl=HI_LATER),
+    make_case("a page of three frames before", 72, "0 h r c, 1 h c, 3 h r c, 4 h c", arguments="",
+              stl=HI),
+    make_case("a page that is open for three frames", 77, "0 h, 3 c", arguments="--complete"),
+    make_case("a page that is open at its last frame", 77, "0 h r, 1 h c", arguments="--complete",
+              stl=HI),
+    make_case("the last TCO is after the last frame", 74, "0 h c", arguments="", stl=BLANK),
+    make_case("a last frame that is not whole yet", 74, "0 h r c, 1", arguments="", stl=HI),
+    make_case("a last frame with an open page", 74, "0 h", arguments="--complete"),
 ]
-ONE_RULE = [*PLAIN, *(one._replace(words=f"--within 2 {one.words}".rstrip()) for one in LATE)]
+ONE_RULE_PAIRS = [*PLAIN, *(one._replace(arguments=f"--within 2 {one.arguments}".rstrip())
+                            for one in LATE)]

@@ -7,102 +7,104 @@ from random import Random
 
 from subtitles.common.times import FRAMES_OF_A_DAY, time_of
 from .calls import ALL, Call
-from .pairs import Pair, Schedule, listed, random_pair, random_subtitles, random_words, stl_file
+from .pairs import (
+    Pair, Schedule, list_arguments, make_random_options, make_random_pair, make_random_subtitles,
+    make_stl_file)
 from .reading import split_packets, read_packet
 from .recordings import SIZES
-from .streams import random_stream
-from .words import UsageFault, parse_options
+from .streams import make_random_stream
+from .arguments import UsageFault, parse_options
 
-MOST_PACKETS = 40  # PES packets of a stream
-MOST_BYTES = 65_535  # of a stream whose end may fail: it is read in one step
-OF_LISTEN = ("--page", "--origin", "--within")  # options that `listen` has too
+MAX_PACKETS = 40  # PES packets of a stream
+MAX_BYTES = 65_535  # of a stream whose end may fail: it is read in one step
+LISTEN_OPTIONS = ("--page", "--origin", "--within")  # options that `listen` has too
 
 
-def spell_pid(chance: Random, pid: int) -> str:
+def format_pid(rng: Random, pid: int) -> str:
     """Return a PID as an argument, rarely an invalid one."""
-    if chance.random() < 0.02:
-        return chance.choice(["8191", "0x1FFF", "x", "", "0x", "257 ", "0X101"])
-    return chance.choice([str(pid), f"{pid:010}", hex(pid), f"0x{pid:08X}"])
+    if rng.random() < 0.02:
+        return rng.choice(["8191", "0x1FFF", "x", "", "0x", "257 ", "0X101"])
+    return rng.choice([str(pid), f"{pid:010}", hex(pid), f"0x{pid:08X}"])
 
 
-def range_words(chance: Random, count: int) -> list[str]:
+def make_range_options(rng: Random, count: int) -> list[str]:
     """Return a range of PES packets, usually none, rarely an invalid one."""
-    way = chance.random()
+    way = rng.random()
     if way < 0.6:
         return []
     if way < 0.62:
-        return ["--pes", chance.choice(["2-1", "1", "-", "x-", "00000000000-1"])]
-    first = chance.choice([0, chance.randrange(count + 2)])
-    last = chance.choice(["", str(first + chance.choice([0, 1, chance.randrange(count + 2)]))])
+        return ["--pes", rng.choice(["2-1", "1", "-", "x-", "00000000000-1"])]
+    first = rng.choice([0, rng.randrange(count + 2)])
+    last = rng.choice(["", str(first + rng.choice([0, 1, rng.randrange(count + 2)]))])
     return ["--pes", f"{first}-{last}"]
 
 
-def recording_words(chance: Random, pid: int, size: int, count: int) -> list[str]:
+def make_recording_options(rng: Random, pid: int, size: int, count: int) -> list[str]:
     """Return the options of a recording, rarely with another PID or packet size."""
-    asked = pid ^ 1 if chance.random() < 0.03 else pid
-    words = ["--pid", spell_pid(chance, asked)]
-    if size != SIZES[0] or chance.random() < 0.2:
-        wrong = chance.choice(["188", "204", "189", "", "0188"])
-        words += ["--packet-size", wrong if chance.random() < 0.03 else str(size)]
-    return words
+    asked = pid ^ 1 if rng.random() < 0.03 else pid
+    arguments = ["--pid", format_pid(rng, asked)]
+    if size != SIZES[0] or rng.random() < 0.2:
+        wrong = rng.choice(["188", "204", "189", "", "0188"])
+        arguments += ["--packet-size", wrong if rng.random() < 0.03 else str(size)]
+    return arguments
 
 
-def flips(chance: Random, count: int) -> str:
+def make_bit_flips(rng: Random, count: int) -> str:
     """Return some wrong bits, at most one in a byte."""
-    places = {(chance.randrange(count + 2), chance.choice([0, 5, 20, chance.randrange(42)]))
-              for _ in range(chance.randrange(1, 9))}
-    return ",".join(f"{packet}:{byte}:{chance.randrange(1, 9)}" for packet, byte in sorted(places))
+    places = {(rng.randrange(count + 2), rng.choice([0, 5, 20, rng.randrange(42)]))
+              for _ in range(rng.randrange(1, 9))}
+    return ",".join(f"{packet}:{byte}:{rng.randrange(1, 9)}" for packet, byte in sorted(places))
 
 
-def listen_words(chance: Random, words: list[str], packets: list[bytes]) -> list[str]:
+def make_listen_options(rng: Random, arguments: list[str], packets: list[bytes]) -> list[str]:
     """Return options of `listen`: a time near a PES packet, wrong bits, lost packets."""
     frames = [0]
     with contextlib.suppress(UsageFault):
-        options = parse_options(words)
+        options = parse_options(arguments)
         sendings = (read_packet(one, options.origin, options.within) for one in packets)
         frames += [one[0] for one in sendings if not isinstance(one, int)]
-    frame = chance.choice(frames) + chance.choice([0, 0, 1, -1, 30])
-    words = ["--at", time_of(min(max(0, frame), FRAMES_OF_A_DAY - 1))]
+    frame = rng.choice(frames) + rng.choice([0, 0, 1, -1, 30])
+    arguments = ["--at", time_of(min(max(0, frame), FRAMES_OF_A_DAY - 1))]
     count = 3 * len(packets)
-    if chance.random() < 0.3:
-        words += ["--skip", str(chance.randrange(count + 2))]
-    if chance.random() < 0.4:
-        words += ["--flip", flips(chance, count)]
-    if chance.random() < 0.3:
-        lost = {chance.randrange(count + 2) for _ in range(3)}
-        words += ["--lose", ",".join(map(str, sorted(lost)))]
-    if chance.random() < 0.6:
-        words += ["--receiver", chance.choice(["blank", "keep", "drop", "anew"])]
-    return words + ["--complete"] * (chance.random() < 0.3)
+    if rng.random() < 0.3:
+        arguments += ["--skip", str(rng.randrange(count + 2))]
+    if rng.random() < 0.4:
+        arguments += ["--flip", make_bit_flips(rng, count)]
+    if rng.random() < 0.3:
+        lost = {rng.randrange(count + 2) for _ in range(3)}
+        arguments += ["--lose", ",".join(map(str, sorted(lost)))]
+    if rng.random() < 0.6:
+        arguments += ["--receiver", rng.choice(["blank", "keep", "drop", "anew"])]
+    return arguments + ["--complete"] * (rng.random() < 0.3)
 
 
-def accepted_pair(chance: Random, schedule: Schedule) -> Pair:
+def make_accepted_pair(rng: Random, schedule: Schedule) -> Pair:
     """Return a subtitle file with its accepted transmission."""
-    words = random_words(chance)
-    stl = stl_file(chance, random_subtitles(chance, words["--option"]))
-    return Pair(stl, schedule(stl, listed(words)), listed(words))
+    arguments = make_random_options(rng)
+    stl = make_stl_file(rng, make_random_subtitles(rng, arguments["--option"]))
+    return Pair(stl, schedule(stl, list_arguments(arguments)), list_arguments(arguments))
 
 
-def random_calls(seed: int, schedule: Schedule, is_keeping: bool = False) -> list[Call]:
+def make_random_calls(seed: int, schedule: Schedule, is_keeping: bool = False) -> list[Call]:
     """Return random calls on a stream with a random transmission; on request headers keep the page.
 
     `schedule` returns the transmission of a subtitle file.
     """
-    chance = Random(f"recording {seed}")
-    pair = accepted_pair(chance, schedule) if chance.random() < 0.6 and not is_keeping else \
-        random_pair(seed, schedule, False, is_keeping)
-    packets = split_packets(pair.pes)[0][:MOST_PACKETS]
-    pid, size = chance.choice([0x101, 0x1001, chance.randrange(0x1FFF)]), chance.choice(SIZES)
-    stream = random_stream(chance, packets, pid, size)
-    name, of_stream = f"recording {seed}", recording_words(chance, pid, size, len(packets))
+    rng = Random(f"recording {seed}")
+    pair = make_accepted_pair(rng, schedule) if rng.random() < 0.6 and not is_keeping else \
+        make_random_pair(seed, schedule, False, is_keeping)
+    packets = split_packets(pair.pes)[0][:MAX_PACKETS]
+    pid, size = rng.choice([0x101, 0x1001, rng.randrange(0x1FFF)]), rng.choice(SIZES)
+    stream = make_random_stream(rng, packets, pid, size)
+    name, of_stream = f"recording {seed}", make_recording_options(rng, pid, size, len(packets))
     given = dict(zip(pair.options[::2], pair.options[1::2]))
-    shared = [word for key in OF_LISTEN if key in given for word in (key, given[key])]
-    pieces = range_words(chance, len(packets))
-    is_failing = chance.random() < 0.2 and 0 < len(stream) < MOST_BYTES
-    heard = listen_words(chance, pair.options, packets)
+    shared = [word for key in LISTEN_OPTIONS if key in given for word in (key, given[key])]
+    pieces = make_range_options(rng, len(packets))
+    is_failing = rng.random() < 0.2 and 0 < len(stream) < MAX_BYTES
+    heard = make_listen_options(rng, pair.options, packets)
 
-    def call(command: str, words: list[str], *files: bytes) -> Call:
-        return Call(name, command, (*files, stream), shlex.join(words), is_failing)
+    def call(command: str, arguments: list[str], *files: bytes) -> Call:
+        return Call(name, command, (*files, stream), shlex.join(arguments), is_failing)
 
     return [call("check", [*pair.options, *of_stream, *pieces, ALL], pair.stl),
             call("extract", of_stream), call("packets", [*of_stream, *pieces]),

@@ -15,7 +15,7 @@ from subtitles.formats.teletext import NUMBER, Page
 
 HEAD = 6  # bytes of a PES packet up to the end of PES_packet_length
 CUT, START, LENGTH = 30, 31, 32  # faults of bytes that are not a PES packet
-MOST_BLOCKS, MOST_BLOCKS_OF_ONE, MOST_PES_PACKETS = 99_999, 9, 2_160_000
+MAX_BLOCKS, MAX_SUBTITLE_BLOCKS, MAX_PES_PACKETS = 99_999, 9, 2_160_000
 
 ReadPacket = tuple[int, list[bytes]]  # a readable PES packet: its frame, its Teletext packets
 Header = tuple[Page, set[int]]  # a header's page, and which control bits of C4 to C14 are set
@@ -44,10 +44,10 @@ class StlFault(NamedTuple):
 
 
 # Faults of fields in a subtitle's first block: CS, JC, VP, TCI and TCO.
-OF_FIRST_BLOCK = {16, 18, 19, 20, 21}
+FIRST_BLOCK_FAULTS = {16, 18, 19, 20, 21}
 
 
-class Outside(NamedTuple):
+class OutsideSubtitle(NamedTuple):
     """A subtitle outside of the requested part, by the number of its last block: it is skipped."""
 
     block: int
@@ -55,7 +55,7 @@ class Outside(NamedTuple):
 
 # Subtitle files
 
-def general_fault(data: bytes, takes_open: bool) -> int | None:
+def find_gsi_fault(data: bytes, accepts_open: bool) -> int | None:
     """Return the fault of the GSI block, if any."""
     if len(data) < GSI:
         return 10
@@ -64,12 +64,12 @@ def general_fault(data: bytes, takes_open: bool) -> int | None:
         return 11
     if format_code == b"STL30.01":
         return 12
-    if display not in (b"1", b"2", *(b"0", b" ") * takes_open):
+    if display not in (b"1", b"2", *(b"0", b" ") * accepts_open):
         return 13
     return None if table == b"00" else 14
 
 
-def first_block_fault(block: bytes) -> int | None:
+def find_first_block_fault(block: bytes) -> int | None:
     """Return the fault of a subtitle's first block, if any."""
     tci, tco = frame_of_code(block[5:9]), frame_of_code(block[9:13])
     for number, is_broken in ((16, block[4] != 0), (18, block[14] > 3),
@@ -79,7 +79,7 @@ def first_block_fault(block: bytes) -> int | None:
     return 20 if tci is None or tco is None else 21 if tci >= tco else None
 
 
-def block_fault(block: bytes, group: list[bytes], is_outside: bool) -> int | None:
+def find_block_fault(block: bytes, group: list[bytes], is_outside: bool) -> int | None:
     """Return the fault of a block after the blocks `group` of its subtitle, if any.
 
     Skipped blocks, user data and comments, have none.
@@ -94,10 +94,10 @@ def block_fault(block: bytes, group: list[bytes], is_outside: bool) -> int | Non
     if comment == 1:
         return None
     if not group:
-        return None if is_outside else first_block_fault(block)
+        return None if is_outside else find_first_block_fault(block)
     if block[0:3] != group[0][0:3]:
         return 22
-    return 23 if len(group) == MOST_BLOCKS_OF_ONE else None
+    return 23 if len(group) == MAX_SUBTITLE_BLOCKS else None
 
 
 def make_record(group: list[bytes], number: int) -> Record:
@@ -109,15 +109,15 @@ def make_record(group: list[bytes], number: int) -> Record:
     return Record(number, tci, tco, head[13], head[14], text)
 
 
-def read_subtitles(data: bytes, takes_open: bool = False, begin: int = 0, end: int = FRAMES_OF_A_DAY
-                   ) -> Iterator[Record | StlFault | Outside]:
+def read_subtitles(data: bytes, accepts_open: bool = False, begin: int = 0,
+                   end: int = FRAMES_OF_A_DAY ) -> Iterator[Record | StlFault | OutsideSubtitle]:
     """Yield the subtitles of a file and its faults, by block.
 
     After a fault of OF_FIRST_BLOCK the subtitle is no record, and reading goes on; any other fault
     is the last. A subtitle is in the requested part if its TCI is from `begin` on and before `end`,
     or is not a time.
     """
-    number = general_fault(data, takes_open)
+    number = find_gsi_fault(data, accepts_open)
     if number:
         yield StlFault(number, 0)
         return
@@ -129,19 +129,19 @@ def read_subtitles(data: bytes, takes_open: bool = False, begin: int = 0, end: i
         if not group and len(block) == TTI:
             tci = frame_of_code(block[5:9])
             is_outside = tci is not None and not begin <= tci < end
-        number = 25 if count > MOST_BLOCKS else 10 if len(block) < TTI \
-            else block_fault(block, group, is_outside)
+        number = 25 if count > MAX_BLOCKS else 10 if len(block) < TTI \
+            else find_block_fault(block, group, is_outside)
         if number:
             yield StlFault(number, count)
             is_record = False
-            if number not in OF_FIRST_BLOCK:
+            if number not in FIRST_BLOCK_FAULTS:
                 return
         elif block[3] == USER_DATA or block[15] == 1:
             continue
         group.append(block)
         if block[3] == LAST:
             if is_outside:
-                yield Outside(count)
+                yield OutsideSubtitle(count)
             elif is_record:
                 yield make_record(group, count)
             group, is_record = [], True
@@ -151,7 +151,7 @@ def read_subtitles(data: bytes, takes_open: bool = False, begin: int = 0, end: i
 
 # PES packets
 
-def is_pts(field: bytes) -> bool:
+def is_valid_pts(field: bytes) -> bool:
     """Return whether five bytes are a PTS: 0010, and the marker bits between its parts."""
     return field[0] >> 4 == 2 and field[0] & field[2] & field[4] & 1 == 1
 
@@ -161,15 +161,15 @@ def is_gap_marker(packet: bytes) -> bool:
     return packet[6:] == b"\xff" * len(packet[6:])
 
 
-def head_fault(packet: bytes) -> int | None:
+def find_head_fault(packet: bytes) -> int | None:
     """Return the fault of a complete packet before its data units, if any."""
     questions = [(45, not is_gap_marker(packet)), (33, packet[6] >> 4 == 8),
-                 (34, packet[7] >> 6 == 2), (35, packet[8] == 0x24), (36, is_pts(packet[9:14])),
-                 (37, 0x10 <= packet[45] <= 0x1F)]
+                 (34, packet[7] >> 6 == 2), (35, packet[8] == 0x24),
+                 (36, is_valid_pts(packet[9:14])), (37, 0x10 <= packet[45] <= 0x1F)]
     return next((number for number, is_kept in questions if not is_kept), None)
 
 
-def unit_fault(unit: bytes, last_line: tuple[int, int]) -> int | None:
+def find_unit_fault(unit: bytes, last_line: tuple[int, int]) -> int | None:
     """Return the fault of a data unit after a line of the field, if any."""
     if unit[1] != 0x2C:
         return 38
@@ -177,32 +177,32 @@ def unit_fault(unit: bytes, last_line: tuple[int, int]) -> int | None:
         return None
     if unit[3] != 0xE4:
         return 39
-    return 40 if unit[2] & 31 and line_of(unit) <= last_line else None
+    return 40 if unit[2] & 31 and get_line(unit) <= last_line else None
 
 
-def line_of(unit: bytes) -> tuple[int, int]:
+def get_line(unit: bytes) -> tuple[int, int]:
     """Return the field and line of a data unit, in ascending order; the first field has the bit
     set."""
     return (0 if unit[2] & 32 else 1, unit[2] & 31)
 
 
-def units_of(packet: bytes) -> tuple[list[bytes], int | None]:
+def read_units(packet: bytes) -> tuple[list[bytes], int | None]:
     """Return the Teletext packets of the data units, and the fault of one, if any."""
     packets: list[bytes] = []
     last_line = 0, 0
     for at in range(46, len(packet), 46):
         unit = packet[at:at + 46]
-        number = unit_fault(unit, last_line)
+        number = find_unit_fault(unit, last_line)
         if number:
             return packets, number
         if unit[0] in (2, 3):
             packets.append(reverse_bits(unit[4:]))
             if unit[2] & 31:
-                last_line = line_of(unit)
+                last_line = get_line(unit)
     return packets, None
 
 
-def length_at(data: bytes, begin: int = 0) -> int | None:
+def read_length(data: bytes, begin: int = 0) -> int | None:
     """Return the length of the PES packet that begins there, 184 bytes or more.
 
     Return 31 or 32 for another start or length, `None` if six bytes are missing.
@@ -216,9 +216,9 @@ def length_at(data: bytes, begin: int = 0) -> int | None:
     return length if length in range(184, 184 * 9 + 1, 184) else LENGTH
 
 
-def packet_at(data: bytes, begin: int) -> bytes | int:
+def read_packet_at(data: bytes, begin: int) -> bytes | int:
     """Return the PES packet that begins there, or a fault."""
-    length = length_at(data, begin)
+    length = read_length(data, begin)
     if length is None or length in (START, LENGTH):
         return length or CUT
     piece = data[begin:begin + length]
@@ -231,7 +231,7 @@ def split_packets(data: bytes) -> tuple[list[bytes], int | None]:
     found: list[bytes] = []
     begin = 0
     while begin < len(data):
-        piece = packet_at(data, begin) if len(found) < MOST_PES_PACKETS else 44
+        piece = read_packet_at(data, begin) if len(found) < MAX_PES_PACKETS else 44
         if isinstance(piece, int):
             return found, piece
         found.append(piece)
@@ -239,7 +239,7 @@ def split_packets(data: bytes) -> tuple[list[bytes], int | None]:
     return found, None
 
 
-def frame_near(pts: int, origin: int) -> int | None:
+def find_frame(pts: int, origin: int) -> int | None:
     """Return the frame of the day of a PTS up to a quarter frame early or less than three quarters
     late."""
     frame = (pts - origin + TICKS // 4) % CLOCK // TICKS
@@ -248,25 +248,25 @@ def frame_near(pts: int, origin: int) -> int | None:
 
 def read_packet(piece: bytes, origin: int, within: int) -> ReadPacket | int:
     """Return the frame and the Teletext packets of a PES packet, or its fault."""
-    number = head_fault(piece)
+    number = find_head_fault(piece)
     if number is not None:
         return number
-    packets, number = units_of(piece)
+    packets, number = read_units(piece)
     if number is not None:
         return number
-    frame = frame_near(decode_pts(piece), origin) if within else frame_at(decode_pts(piece), origin)
+    frame = find_frame(decode_pts(piece), origin) if within else frame_at(decode_pts(piece), origin)
     return 61 if frame is None else (frame, packets)
 
 
 # Teletext packets
 
-def subcode_of(packet: bytes) -> tuple[int, ...]:
+def decode_subcode(packet: bytes) -> tuple[int, ...]:
     """Return the subcode of a page header, S1 to S4."""
     numbers = [NUMBER[byte] or 0 for byte in packet[4:8]]
     return numbers[0], numbers[1] & 7, numbers[2], numbers[3] & 3
 
 
-def header_of(packet: bytes) -> Header | None:
+def decode_header(packet: bytes) -> Header | None:
     """Return the page and control bits of a corrected packet X/0, `None` for other packets."""
     address = decode_address(packet)
     numbers = [number for number in map(NUMBER.__getitem__, packet[2:10]) if number is not None]

@@ -9,15 +9,15 @@ from __future__ import annotations
 
 from typing import Iterator, NamedTuple
 
-from .reading import HEAD, LENGTH, START, length_at, packet_at
+from .reading import HEAD, LENGTH, START, read_length, read_packet_at
 
 SYNC = 0x47
 PACKET = 188
 SIZES = PACKET, 192, 204  # distances of packets
 TIME_STAMP = 4  # bytes before each packet if the distance is 192
-MOST_BYTES = 2**48  # more are not read
-UNSEEN = 15  # packets: more skipped bytes may hide a complete turn of the counter
-MARK = b"\0\0\1\xbd\0\xb2" + b"\xff" * 178  # gap marker
+MAX_PACKET_BYTES = 2**48  # more are not read
+MAX_UNSEEN_PACKETS = 15  # packets: more skipped bytes may hide a complete turn of the counter
+GAP_MARKER = b"\0\0\1\xbd\0\xb2" + b"\xff" * 178  # gap marker
 
 
 # Packets
@@ -47,24 +47,24 @@ class TransportPacket:
         self.payload = data[5 + data[4]:] if has_field else data[4:]
 
 
-def packets_of(data: bytes, size: int) -> Iterator[TransportPacket | Skipped]:
+def find_packets(data: bytes, size: int) -> Iterator[TransportPacket | Skipped]:
     """Yield the packets of a stream, and the bytes skipped between them.
 
     After each packet the next one is expected at its distance; otherwise two sync bytes that far
     apart are searched.
     """
-    data = data[:MOST_BYTES]
+    data = data[:MAX_PACKET_BYTES]
     place = TIME_STAMP if size == 192 else 0
-    in_step, skipped = True, 0
+    is_in_step, skipped = True, 0
     while len(data) - place >= PACKET:
-        if not in_step and data[place:place + 1] + data[place + size:place + size + 1] \
+        if not is_in_step and data[place:place + 1] + data[place + size:place + size + 1] \
                 == bytes([SYNC, SYNC]):
-            in_step = True
-        elif not in_step:
+            is_in_step = True
+        elif not is_in_step:
             skipped += 1
             place += 1
         elif data[place] != SYNC:
-            in_step = False
+            is_in_step = False
         else:
             if skipped:
                 yield Skipped(skipped)
@@ -77,7 +77,7 @@ def packets_of(data: bytes, size: int) -> Iterator[TransportPacket | Skipped]:
 
 # Good packets of a PID
 
-class Good(NamedTuple):
+class GoodPacket(NamedTuple):
     """An intact packet, and what precedes it.
 
     A break means that packets may be missing; a seam is an announced jump of the counter, with
@@ -106,23 +106,23 @@ class Stretch:
             and packet.data[:4] == before.data[:4] and packet.payload == before.payload \
             and (before.announces_jump or not packet.announces_jump)
 
-    def good(self, packet: TransportPacket) -> Good:
+    def make_good_packet(self, packet: TransportPacket) -> GoodPacket:
         """Return the intact packet that ends the stretch."""
         if self.before is None:
-            return Good(packet, False, False)
+            return GoodPacket(packet, False, False)
         is_announced = self.has_jump or packet.announces_jump
-        goes_on = packet.counter == (self.before.counter + 1) % 16
-        is_break = self.is_hurt or not is_announced and not goes_on
-        return Good(packet, is_break, is_announced and not is_break)
+        is_continued = packet.counter == (self.before.counter + 1) % 16
+        is_break = self.is_hurt or not is_announced and not is_continued
+        return GoodPacket(packet, is_break, is_announced and not is_break)
 
 
-def good_packets(data: bytes, pid: int, size: int) -> tuple[list[Good], bool]:
+def find_good_packets(data: bytes, pid: int, size: int) -> tuple[list[GoodPacket], bool]:
     """Return the intact packets of a PID, and whether a faulty one follows the last."""
-    found: list[Good] = []
+    found: list[GoodPacket] = []
     stretch, is_wrong_last = Stretch(None), False
-    for one in packets_of(data, size):
+    for one in find_packets(data, size):
         if isinstance(one, Skipped):
-            stretch.is_hurt |= one.length >= UNSEEN * size
+            stretch.is_hurt |= one.length >= MAX_UNSEEN_PACKETS * size
         elif one.pid != pid:
             continue
         elif one.is_wrong:
@@ -132,7 +132,7 @@ def good_packets(data: bytes, pid: int, size: int) -> tuple[list[Good], bool]:
         elif stretch.is_repeat(one):
             stretch.has_repeat = True
         else:
-            found.append(stretch.good(one))
+            found.append(stretch.make_good_packet(one))
             stretch, is_wrong_last = Stretch(one), False
     return found, is_wrong_last and bool(found)
 
@@ -142,11 +142,11 @@ def good_packets(data: bytes, pid: int, size: int) -> tuple[list[Good], bool]:
 class Part:
     """Intact packets that belong together; the first one may begin a PES packet."""
 
-    def __init__(self, packets: list[Good]) -> None:
+    def __init__(self, packets: list[GoodPacket]) -> None:
         self.has_break = packets[0].is_break
         payloads = [one.packet.payload for one in packets]
         self.payload = b"".join(payloads)
-        found = length_at(self.payload) if packets[0].packet.begins else None
+        found = read_length(self.payload) if packets[0].packet.begins else None
         # The fault of the PES packet's first six bytes, or its length; `None` if unknown.
         self.wrong_head = found if found in (START, LENGTH) else None
         self.length = None if self.wrong_head else found
@@ -156,9 +156,9 @@ class Part:
             self.head += payload if len(self.head) < HEAD else b""
 
 
-def parts_of(good_list: list[Good]) -> list[Part]:
+def cut_parts(good_list: list[GoodPacket]) -> list[Part]:
     """Cut intact packets at each start of a PES packet, each break and each seam."""
-    parts: list[list[Good]] = []
+    parts: list[list[GoodPacket]] = []
     for one in good_list:
         if not parts or one.packet.begins or one.is_break or one.is_seam:
             parts.append([])
@@ -186,15 +186,15 @@ class StreamContent(NamedTuple):
 
 def read_stream(data: bytes, pid: int, size: int) -> StreamContent:
     """Return the PES packets of a PID, with a gap marker after each one that a gap follows."""
-    good_list, is_wrong_last = good_packets(data, pid, size)
-    parts = parts_of(good_list)
+    good_list, is_wrong_last = find_good_packets(data, pid, size)
+    parts = cut_parts(good_list)
     pieces: list[bytes] = []
     marks: list[bool] = []
     has_gap = False
 
     def mark() -> None:
         if pieces and has_gap:
-            pieces.append(MARK)
+            pieces.append(GAP_MARKER)
             marks.append(True)
 
     for number, part in enumerate(parts, 1):
@@ -227,14 +227,14 @@ class Range(NamedTuple):
     is_end: bool  # the end of the data was reached
 
 
-def range_of(data: bytes, first: int, last: int | None) -> Range:
+def select_range(data: bytes, first: int, last: int | None) -> Range:
     """Return the items from `first` to `last`, `None` for no end, and the rest if no item follows.
     """
     place, count, begin = 0, 0, 0
     while last is None or count <= last:
         if count == first:
             begin = place
-        piece = packet_at(data, place) if place < len(data) else None
+        piece = read_packet_at(data, place) if place < len(data) else None
         if not isinstance(piece, bytes):
             return Range(data[begin if count >= first else place:], min(first, count), True)
         place += len(piece)

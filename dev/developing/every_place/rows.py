@@ -19,7 +19,7 @@ class TextFault(Exception):
         self.number, self.at = number, at
 
 
-def lines_of(text: bytes, option: str, strip: bytes) -> list[bytes]:
+def split_lines(text: bytes, option: str, strip: bytes) -> list[bytes]:
     """Return the lines of a text as cells, without the bytes of `strip`."""
     lines: list[list[int]] = [[]]
     at = 0
@@ -42,7 +42,7 @@ def lines_of(text: bytes, option: str, strip: bytes) -> list[bytes]:
 
 def draw_page(record: Record, option: str, layout: Layout) -> bytes:
     """Return the page of a subtitle, 960 codes by row. Raise `TextFault` if it has none."""
-    cells = lines_of(record.text, option, layout.strip)
+    cells = split_lines(record.text, option, layout.strip)
     lines = drawn_lines(cells, record.row, record.justify, layout)
     if isinstance(lines, Refused):
         raise TextFault(*lines)

@@ -1,15 +1,15 @@
 """Make random transport streams: a multiplexer's output, with losses, and with worse faults.
 
-`multiplexed` sends PES packets as a multiplexer may. `with_losses` removes and corrupts units, as
-in a recording that lost packets. `random_stream` also repeats, moves and changes units, inserts
-bytes and cuts the ends.
+`multiplex` sends PES packets as a multiplexer may. `lose_units` removes and corrupts units, as
+in a recording that lost packets. `make_random_stream` also repeats, moves and changes units,
+inserts bytes and cuts the ends.
 """
 from __future__ import annotations
 
 from random import Random
 from typing import NamedTuple
 
-from .recordings import PACKET, SYNC, TIME_STAMP, UNSEEN
+from .recordings import PACKET, SYNC, TIME_STAMP, MAX_UNSEEN_PACKETS
 
 MOST = 184  # bytes of payload of a packet
 JUMP, BEGINS, WRONG = 0x80, 0x40, 0x80  # bits of b5, b1 and b1
@@ -32,49 +32,49 @@ class Unit(NamedTuple):
         return bool(self.packet[1] & WRONG or self.packet[3] & 0xC0)
 
 
-def random_bytes(chance: Random, count: int) -> bytes:
+def make_random_bytes(rng: Random, count: int) -> bytes:
     """Return bytes, many of them with a meaning to a reader."""
-    if chance.random() < 0.5:
-        return bytes([chance.choice([0, 0xFF, SYNC])]) * count
-    return bytes(chance.choices([0, 1, 0x47, 0xBD, 0xFF, *range(256)], k=count))
+    if rng.random() < 0.5:
+        return bytes([rng.choice([0, 0xFF, SYNC])]) * count
+    return bytes(rng.choices([0, 1, 0x47, 0xBD, 0xFF, *range(256)], k=count))
 
 
 # Packets
 
-def adaptation_field(chance: Random, length: int, is_jump: bool) -> bytes:
+def make_adaptation_field(rng: Random, length: int, is_jump: bool) -> bytes:
     """Return an adaptation field of this length; a jump needs one byte."""
     if length == 0:
         return b"\0"
-    flags = chance.choice([0, 0, 0x40, 0x10]) | JUMP * is_jump
-    return bytes([length, flags]) + random_bytes(chance, length - 1)
+    flags = rng.choice([0, 0, 0x40, 0x10]) | JUMP * is_jump
+    return bytes([length, flags]) + make_random_bytes(rng, length - 1)
 
 
-def packet(chance: Random, pid: int, counter: int, payload: bytes, begins: bool = False,
-           is_jump: bool = False) -> bytes:
+def make_packet(rng: Random, pid: int, counter: int, payload: bytes, begins: bool = False,
+                is_jump: bool = False) -> bytes:
     """Return a packet with a payload; a short one is after an adaptation field."""
     field = b""
     if len(payload) < MOST:
-        field = adaptation_field(chance, MOST - 1 - len(payload), is_jump)
-    priority = chance.choice([0, 0, 0x20])
+        field = make_adaptation_field(rng, MOST - 1 - len(payload), is_jump)
+    priority = rng.choice([0, 0, 0x20])
     head = [SYNC, BEGINS * begins | priority | pid >> 8, pid & 255,
             counter | (0x30 if field else 0x10)]
     return bytes(head) + field + payload
 
 
-def without_payload(chance: Random, pid: int, is_jump: bool) -> bytes:
+def make_packet_without_payload(rng: Random, pid: int, is_jump: bool) -> bytes:
     """Return a packet with an adaptation field alone; its counter may be anything."""
-    head = bytes([SYNC, pid >> 8, pid & 255, chance.randrange(16) | 0x20])
-    return head + adaptation_field(chance, MOST - 1, is_jump)
+    head = bytes([SYNC, pid >> 8, pid & 255, rng.randrange(16) | 0x20])
+    return head + make_adaptation_field(rng, MOST - 1, is_jump)
 
 
-def of_another_pid(chance: Random, pid: int) -> bytes:
+def make_packet_of_other_pid(rng: Random, pid: int) -> bytes:
     """Return a packet of another PID, of any form."""
-    other = chance.choice([NULL_PID, pid ^ 1, pid ^ 0x1000, chance.randrange(0x2000)])
+    other = rng.choice([NULL_PID, pid ^ 1, pid ^ 0x1000, rng.randrange(0x2000)])
     if other == pid:
         other ^= 1
-    head = bytes([SYNC, chance.choice([0, BEGINS, WRONG]) | other >> 8, other & 255,
-                  chance.randrange(256)])
-    return head + chance.choice([b"\xb7\x80", b"\1\x80", b"\0\0"]) + random_bytes(chance, 182)
+    head = bytes([SYNC, rng.choice([0, BEGINS, WRONG]) | other >> 8, other & 255,
+                  rng.randrange(256)])
+    return head + rng.choice([b"\xb7\x80", b"\1\x80", b"\0\0"]) + make_random_bytes(rng, 182)
 
 
 # A multiplexer
@@ -82,107 +82,107 @@ def of_another_pid(chance: Random, pid: int) -> bytes:
 class Multiplexer:
     """Sends the PES packets of a PID. The counter may jump between two of them, if announced."""
 
-    def __init__(self, chance: Random, pid: int, has_jumps: bool) -> None:
-        self.chance, self.pid, self.has_jumps = chance, pid, has_jumps
+    def __init__(self, rng: Random, pid: int, has_jumps: bool) -> None:
+        self.rng, self.pid, self.has_jumps = rng, pid, has_jumps
         self.units: list[Unit] = []
-        self.counter, self.number = chance.randrange(16), 0
-        self.repeats = chance.choice([0.0, 0.0, 0.1, 0.5, 1.0])
-        self.others = chance.choice([0.0, 0.2, 0.6])
-        self.empty = chance.choice([0.0, 0.1, 0.3])
+        self.counter, self.number = rng.randrange(16), 0
+        self.repeats = rng.choice([0.0, 0.0, 0.1, 0.5, 1.0])
+        self.others = rng.choice([0.0, 0.2, 0.6])
+        self.empty = rng.choice([0.0, 0.1, 0.3])
 
-    def between(self, pes: int | None) -> None:
+    def send_other_packets(self, pes: int | None) -> None:
         """Send packets of other PIDs, and those of this one without a payload."""
-        while self.chance.random() < self.others:
-            self.units.append(Unit(of_another_pid(self.chance, self.pid)))
-        while self.chance.random() < self.empty:
-            self.units.append(Unit(without_payload(self.chance, self.pid, False), pes))
+        while self.rng.random() < self.others:
+            self.units.append(Unit(make_packet_of_other_pid(self.rng, self.pid)))
+        while self.rng.random() < self.empty:
+            self.units.append(Unit(make_packet_without_payload(self.rng, self.pid, False), pes))
 
-    def jump(self, pes: int) -> bool:
+    def announce_jump(self, pes: int) -> bool:
         """Sometimes announce a jump; return whether the next packet must announce it."""
-        if not self.has_jumps or self.chance.random() < 0.6:
+        if not self.has_jumps or self.rng.random() < 0.6:
             return False
-        self.counter = self.chance.choice([self.counter, self.chance.randrange(16)])
-        if self.chance.random() < 0.5:
+        self.counter = self.rng.choice([self.counter, self.rng.randrange(16)])
+        if self.rng.random() < 0.5:
             return True
-        self.units.append(Unit(without_payload(self.chance, self.pid, True), pes))
-        self.between(pes)
+        self.units.append(Unit(make_packet_without_payload(self.rng, self.pid, True), pes))
+        self.send_other_packets(pes)
         return False
 
     def send(self, pes: int, data: bytes) -> None:
         """Send a PES packet."""
-        chance = self.chance
-        self.between(None)
-        is_jump = self.jump(pes)
-        sizes = chance.choice([[MOST], [MOST, 183, 182, 1, 92, 100], [*range(1, 185)]])
+        rng = self.rng
+        self.send_other_packets(None)
+        is_jump = self.announce_jump(pes)
+        sizes = rng.choice([[MOST], [MOST, 183, 182, 1, 92, 100], [*range(1, 185)]])
         place = 0
         while place < len(data):
-            size = min(chance.choice(sizes), len(data) - place)
+            size = min(rng.choice(sizes), len(data) - place)
             if is_jump and place == 0:
                 size = min(size, 182)
             payload = data[place:place + size]
-            times = 2 if chance.random() < self.repeats else 1
+            times = 2 if rng.random() < self.repeats else 1
             for turn in range(times):
-                made = packet(chance, self.pid, self.counter, payload, place == 0,
-                              is_jump and place == 0 and (turn == 0 or chance.random() < 0.7))
+                made = make_packet(rng, self.pid, self.counter, payload, place == 0,
+                                   is_jump and place == 0 and (turn == 0 or rng.random() < 0.7))
                 if turn:  # b1 to b3 are those of the first one
-                    made = self.units_packet(pes)[:4] + made[4:]
+                    made = self.get_last_packet(pes)[:4] + made[4:]
                 self.units.append(Unit(made, pes, self.number))
-                self.between(pes)
+                self.send_other_packets(pes)
             self.counter = (self.counter + 1) % 16
             self.number += 1
             place += size
 
-    def units_packet(self, pes: int) -> bytes:
+    def get_last_packet(self, pes: int) -> bytes:
         """Return the last packet with a payload."""
         return next(one.packet for one in reversed(self.units)
                     if one.pes == pes and one.number is not None)
 
 
-def multiplexed(chance: Random, packets: list[bytes], pid: int, has_jumps: bool) -> list[Unit]:
+def multiplex(rng: Random, packets: list[bytes], pid: int, has_jumps: bool) -> list[Unit]:
     """Return PES packets as a multiplexer sends them."""
-    sender = Multiplexer(chance, pid, has_jumps)
+    sender = Multiplexer(rng, pid, has_jumps)
     for number, data in enumerate(packets):
         sender.send(number, data)
-    sender.between(None)
+    sender.send_other_packets(None)
     return sender.units
 
 
-def stream_of(chance: Random, units: list[Unit], size: int) -> bytes:
+def join_units(rng: Random, units: list[Unit], size: int) -> bytes:
     """Return the bytes of units, with a time stamp before or 16 bytes after each; the last may lack
     them."""
     before, behind = (TIME_STAMP, 0) if size == 192 else (0, size - PACKET)
-    data = b"".join(random_bytes(chance, before) + one.packet + random_bytes(chance, behind)
+    data = b"".join(make_random_bytes(rng, before) + one.packet + make_random_bytes(rng, behind)
                     for one in units)
-    return data[:-behind] if behind and data and chance.random() < 0.3 else data
+    return data[:-behind] if behind and data and rng.random() < 0.3 else data
 
 
 # Losses
 
-def made_wrong(chance: Random, unit: Unit) -> Unit:
+def corrupt_unit(rng: Random, unit: Unit) -> Unit:
     """Return the unit with a bit that says that it is corrupt."""
     changed = bytearray(unit.packet)
-    at, bits = chance.choice([(1, WRONG), (3, 0x40), (3, 0x80), (3, 0xC0)])
+    at, bits = rng.choice([(1, WRONG), (3, 0x40), (3, 0x80), (3, 0xC0)])
     changed[at] |= bits
     return unit._replace(packet=bytes(changed))
 
 
-def with_losses(chance: Random, units: list[Unit]) -> list[Unit]:
+def lose_units(rng: Random, units: list[Unit]) -> list[Unit]:
     """Remove and corrupt units of the PID, fewer than 15 in a row with a payload."""
-    lost = chance.choice([0.02, 0.1, 0.4, 0.8])
-    wrong = chance.choice([0.0, 0.0, 0.05, 0.3])
+    lost = rng.choice([0.02, 0.1, 0.4, 0.8])
+    wrong = rng.choice([0.0, 0.0, 0.05, 0.3])
     made: list[Unit] = []
     kept: set[int] = set()  # numbers of packets with an intact copy
     bursts = 0
     for unit in units:
-        bursts = chance.randrange(1, 30) if chance.random() < lost / 10 else max(0, bursts - 1)
-        is_lost = bursts > 0 or chance.random() < lost / 4
-        is_wrong = unit.pes is not None and chance.random() < wrong / 4
+        bursts = rng.randrange(1, 30) if rng.random() < lost / 10 else max(0, bursts - 1)
+        is_lost = bursts > 0 or rng.random() < lost / 4
+        is_wrong = unit.pes is not None and rng.random() < wrong / 4
         if unit.number is not None and (is_lost or is_wrong) \
                 and gone(unit.number, kept):
             is_lost = is_wrong = False
         if is_lost:
             continue
-        unit = made_wrong(chance, unit) if is_wrong else unit
+        unit = corrupt_unit(rng, unit) if is_wrong else unit
         if unit.number is not None and not is_wrong:
             kept.add(unit.number)
         made.append(unit)
@@ -191,7 +191,8 @@ def with_losses(chance: Random, units: list[Unit]) -> list[Unit]:
 
 def gone(number: int, kept: set[int]) -> bool:
     """Return whether too many packets in a row would be lost with this one."""
-    return number >= UNSEEN - 1 and kept.isdisjoint(range(number - UNSEEN + 1, number + 1))
+    return number >= MAX_UNSEEN_PACKETS - 1 and kept.isdisjoint(range(number - MAX_UNSEEN_PACKETS +
+                                                                      1, number + 1))
 
 
 # Worse
@@ -206,85 +207,85 @@ def is_packet(unit: Unit) -> bool:
     return len(unit.packet) == PACKET
 
 
-def any_place(chance: Random, units: list[Unit]) -> int:
+def choose_packet(rng: Random, units: list[Unit]) -> int:
     """Return the index of a packet, usually of the PID."""
     places = [at for at, one in enumerate(units) if one.pes is not None]
-    if places and chance.random() < 0.9:
-        return chance.choice(places)
-    return chance.choice([at for at, one in enumerate(units) if is_packet(one)])
+    if places and rng.random() < 0.9:
+        return rng.choice(places)
+    return rng.choice([at for at, one in enumerate(units) if is_packet(one)])
 
 
-def change(chance: Random, units: list[Unit], size: int) -> None:
+def change_units(rng: Random, units: list[Unit], size: int) -> None:
     """Make a random change to the units."""
-    way = chance.choice(CHANGES)
+    way = rng.choice(CHANGES)
     if way == "bytes":  # between two units: few, a packet's, or so many that packets may be there
-        unseen = UNSEEN * size
-        count = chance.choice([1, 5, 187, 188, size, *[unseen - 1, unseen] * 3, 15 * 188, 3000])
-        units.insert(any_place(chance, units), Unit(random_bytes(chance, count)))
+        unseen = MAX_UNSEEN_PACKETS * size
+        count = rng.choice([1, 5, 187, 188, size, *[unseen - 1, unseen] * 3, 15 * 188, 3000])
+        units.insert(choose_packet(rng, units), Unit(make_random_bytes(rng, count)))
         return
-    at = any_place(chance, units)
+    at = choose_packet(rng, units)
     changed = bytearray(units[at].packet)
     if way == "leave out":
-        del units[at:at + chance.choice([1, 1, 2, 3, 14, 15, 16])]
+        del units[at:at + rng.choice([1, 1, 2, 3, 14, 15, 16])]
         return
     if way == "again":  # once or twice more, at once or a few units later
-        for _ in range(chance.choice([1, 1, 2])):
-            units.insert(min(at + chance.choice([1, 1, 1, 2, 3]), len(units)), units[at])
+        for _ in range(rng.choice([1, 1, 2])):
+            units.insert(min(at + rng.choice([1, 1, 1, 2, 3]), len(units)), units[at])
         return
     if way == "wrong":
-        changed = bytearray(made_wrong(chance, units[at]).packet)
+        changed = bytearray(corrupt_unit(rng, units[at]).packet)
     elif way == "head":  # another bit there, or in the first bytes behind it
-        changed[chance.choice([0, 1, 1, 2, 3, 3, 3, 3, 4, 5, 5, 6, 7, 8, 9])] ^= \
-            1 << chance.randrange(8)
+        changed[rng.choice([0, 1, 1, 2, 3, 3, 3, 3, 4, 5, 5, 6, 7, 8, 9])] ^= \
+            1 << rng.randrange(8)
     elif way == "length":  # of an adaptation field, up to more than there are bytes
         changed[3] |= 0x20
-        changed[4] = chance.choice([0, 1, 7, 181, 182, 183, 184, 255])
-        changed[5] = chance.choice([0, 0, JUMP, 0xFF])
+        changed[4] = rng.choice([0, 1, 7, 181, 182, 183, 184, 255])
+        changed[5] = rng.choice([0, 0, JUMP, 0xFF])
     elif way == "payload":  # other bytes at the end of a packet, or fewer or more of them there
-        count = chance.choice([1, 16, 100])
-        changed[-count:] = random_bytes(chance, count)
+        count = rng.choice([1, 16, 100])
+        changed[-count:] = make_random_bytes(rng, count)
     units[at] = units[at]._replace(packet=bytes(changed))
     if way == "counters":
-        move_counters(chance, units, at)
+        move_counters(rng, units, at)
     elif way == "jump":
-        announce(chance, units, at)
+        insert_jump(rng, units, at)
 
 
-def announce(chance: Random, units: list[Unit], at: int) -> None:
+def insert_jump(rng: Random, units: list[Unit], at: int) -> None:
     """Announce a jump anywhere, in a packet of any PID."""
-    one = bytearray(without_payload(chance, 0, True))
+    one = bytearray(make_packet_without_payload(rng, 0, True))
     one[1] |= units[at].packet[1] & 0x1F
     one[2] = units[at].packet[2]
-    if chance.random() < 0.2:
+    if rng.random() < 0.2:
         one[4] = 0
     units.insert(at, Unit(bytes(one), units[at].pes))
 
 
-def move_counters(chance: Random, units: list[Unit], at: int) -> None:
+def move_counters(rng: Random, units: list[Unit], at: int) -> None:
     """Change the counters from a unit on, with or without an announcement."""
-    more = chance.randrange(1, 16)
+    more = rng.randrange(1, 16)
     for place in filter(lambda place: is_packet(units[place]), range(at, len(units))):
         changed = bytearray(units[place].packet)
         changed[3] = changed[3] & 0xF0 | (changed[3] + more) % 16
         units[place] = units[place]._replace(packet=bytes(changed))
-    if chance.random() < 0.6:
-        announce(chance, units, any_place(chance, units))
+    if rng.random() < 0.6:
+        insert_jump(rng, units, choose_packet(rng, units))
 
 
-def random_stream(chance: Random, packets: list[bytes], pid: int, size: int) -> bytes:
+def make_random_stream(rng: Random, packets: list[bytes], pid: int, size: int) -> bytes:
     """Return a multiplexer's stream with losses and random changes."""
-    units = multiplexed(chance, packets, pid, chance.random() < 0.5)
-    if chance.random() < 0.3:
-        units = with_losses(chance, units)
-    for _ in range(chance.choice([0, 0, 1, 1, 2, 4])):
+    units = multiplex(rng, packets, pid, rng.random() < 0.5)
+    if rng.random() < 0.3:
+        units = lose_units(rng, units)
+    for _ in range(rng.choice([0, 0, 1, 1, 2, 4])):
         if any(map(is_packet, units)):
-            change(chance, units, size)
-    data = stream_of(chance, units, size)
-    way = chance.random()
+            change_units(rng, units, size)
+    data = join_units(rng, units, size)
+    way = rng.random()
     if way < 0.1:
-        data = data[chance.randrange(len(data) + 1):]
+        data = data[rng.randrange(len(data) + 1):]
     elif way < 0.2:
-        data = data[:chance.randrange(len(data) + 1)]
+        data = data[:rng.randrange(len(data) + 1)]
     elif way < 0.25:
-        data = random_bytes(chance, chance.choice([1, 4, 188, 400])) + data
+        data = make_random_bytes(rng, rng.choice([1, 4, 188, 400])) + data
     return data

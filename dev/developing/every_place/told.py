@@ -2,7 +2,7 @@
 from __future__ import annotations
 
 NAMES = dict(
-    (int(words[0]), words[1]) for words in map(str.split, """
+    (int(fields[0]), fields[1]) for fields in map(str.split, """
     10 Truncated|11 Format|12 Rate|13 Display|14 Alphabet|15 Extension|16 Cumulative|17 CommentFlag
     |18 Justify|19 Row|20 Time|21 EmptyTime|22 Sequence|23 TooLong|24 Unfinished|25 TooManyBlocks
     |30 Truncated|31 Start|32 Length|33 Flags|34 NoTime|35 HeaderLength|36 Time|37 DataId
@@ -13,9 +13,9 @@ NAMES = dict(
     """.split("|")))
 
 
-def refused(number: int, place: str = "") -> str:
+def format_refused(number: int, place: str = "") -> str:
     return f"refused {number} {NAMES[number]} {place}".rstrip()
 
 
-def ended(number: int, place: str) -> str:
+def format_ended(number: int, place: str) -> str:
     return f"ended {number} {NAMES[number]} {place}"

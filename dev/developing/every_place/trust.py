@@ -10,7 +10,7 @@ from typing import Iterator, NamedTuple
 from subtitles.common.times import time_of
 
 # Faults that no PES packet of a clean frame may have; a receiver depends on these rules.
-OF_PACKETS = {64, 65, 67, 68, 69}
+PACKET_FAULTS = {64, 65, 67, 68, 69}
 ORDER = 62
 SKIPPED = {*range(33, 41), 45, 61}  # faults of skipped items
 
@@ -29,7 +29,7 @@ class Event(NamedTuple):
     is_end: bool = False
 
 
-class Sent(NamedTuple):
+class SentPacket(NamedTuple):
     """A PES packet: its index, its frame, and whether it has a header that erases the page."""
 
     pes: int
@@ -37,7 +37,7 @@ class Sent(NamedTuple):
     has_header: bool
 
 
-class End(NamedTuple):
+class FrameEnd(NamedTuple):
     """The end of a frame: whether a fault is active, since when the page is incomplete, if it is
     late."""
 
@@ -47,7 +47,7 @@ class End(NamedTuple):
     is_late: bool
 
 
-class Run(NamedTuple):
+class CleanRun(NamedTuple):
     """Consecutive clean frames."""
 
     first: int
@@ -64,14 +64,14 @@ class Course:
     """
 
     events: list[Event] = field(default_factory=list)
-    sent: list[Sent] = field(default_factory=list)
-    ends: list[End] = field(default_factory=list)
+    sent: list[SentPacket] = field(default_factory=list)
+    ends: list[FrameEnd] = field(default_factory=list)
     skipped: list[int] = field(default_factory=list)
     is_rising: bool = True
     is_left: bool = False
 
 
-class Trust:
+class TrustedFrames:
     """The clean frames before the first PES packet whose frame does not rise.
 
     `is_refused` is whether the subtitle file has faults.
@@ -84,7 +84,7 @@ class Trust:
         self.ends = {item.frame: item for item in course.ends}
         pes = {item.pes for item in self.sent}
         self.unclean = {item.frame for item in self.events
-                        if item.pes in pes and item.number in OF_PACKETS}
+                        if item.pes in pes and item.number in PACKET_FAULTS}
         self.unclean |= {item.frame for item in course.ends if item.has_active}
         # Unread data after a PES packet may belong to its frame, or to a later one.
         if not course.is_rising or course.is_left:
@@ -96,31 +96,31 @@ class Trust:
                 end = after[0] if after else self.last + 1
                 self.unclean |= {before[-1], *range(before[-1], end)}
 
-    def runs(self) -> Iterator[Run]:
+    def find_runs(self) -> Iterator[CleanRun]:
         """Yield the runs of clean frames, as long as possible."""
         begin = self.first
         for frame in range(self.first, self.last + 2):
             if frame in self.unclean or frame > self.last:
                 if begin < frame:
-                    yield Run(begin, frame - 1)
+                    yield CleanRun(begin, frame - 1)
                 begin = frame + 1
 
-    def trusted(self) -> Iterator[tuple[int, Run]]:
+    def find_trusted_frames(self) -> Iterator[tuple[int, CleanRun]]:
         """Yield the trusted part of each run, from its first header on, and the event before its
         line."""
-        for run in self.runs():
+        for run in self.find_runs():
             headers = [packet.frame for packet in self.sent
                        if packet.has_header and run.first <= packet.frame <= run.last]
             if headers:
-                at = self.place(run.last)
-                found = Run(headers[0], self.last_trusted(run.last, at))
+                at = self.find_report_place(run.last)
+                found = CleanRun(headers[0], self.find_last_trusted(run.last, at))
                 if any(self.is_complete_at(frame) for frame in range(found.first, found.last + 1)):
                     yield at, found
 
     def is_complete_at(self, frame: int) -> bool:
         return frame in self.ends and self.ends[frame].unfinished_since is None
 
-    def place(self, last: int) -> int:
+    def find_report_place(self, last: int) -> int:
         """Return the index of the event before which trust up to a frame is reported.
 
         It is the first that makes the next frame unclean, or that comes after all frames before it.
@@ -130,19 +130,19 @@ class Trust:
         for at, event in enumerate(self.events):
             is_passed = event.number in SKIPPED and event.pes is not None
             if event.number == ORDER or event.pes is None \
-                    or event.frame == after and (event.is_end or event.number in OF_PACKETS) \
+                    or event.frame == after and (event.is_end or event.number in PACKET_FAULTS) \
                     or is_passed and pes and event.pes > pes[0]:
                 return at
         return len(self.events)
 
-    def last_trusted(self, last: int, at: int) -> int:
+    def find_last_trusted(self, last: int, at: int) -> int:
         """Return the last trusted frame of a run, reported before the event at `at`.
 
         Frames with an incomplete page are not trusted if that event is a late end or the last one,
         nor at all if the subtitle file has faults.
         """
         event = self.events[at] if at < len(self.events) else None
-        end: End | None = None
+        end: FrameEnd | None = None
         if event is None or event.pes is None:
             end = self.ends.get(self.last)
         elif event.is_end and event.frame is not None and self.ends[event.frame].is_late:
@@ -153,14 +153,14 @@ class Trust:
         return last if end is None or end.unfinished_since is None else end.unfinished_since - 1
 
 
-def lines_of(course: Course, has_failed: bool, is_refused: bool) -> Iterator[str]:
+def list_lines(course: Course, has_failed: bool, is_refused: bool) -> Iterator[str]:
     """Yield the lines of a course, with those about trusted frames if there is any fault.
 
     If the source failed, the end of the last run is unknown.
     """
     before: dict[int, list[str]] = {}
     if (course.events or is_refused) and course.sent:
-        for at, run in Trust(course, is_refused).trusted():
+        for at, run in TrustedFrames(course, is_refused).find_trusted_frames():
             line = f"trusted frames {time_of(run.first)} {time_of(run.last)}"
             before.setdefault(at, []).append(line)
     for at, event in enumerate(course.events):

@@ -7,27 +7,27 @@ import shlex
 import shutil
 import subprocess
 
-from .calls import Answer, Call, KnownCall, with_first_fault
+from .calls import Answer, Call, KnownCall, add_first_fault_call
 
-WRITES = ("extract", "schedule")  # the commands that write a file
-ONE_READ = 65536  # bytes: the second read of a shorter file is at its end
+WRITING_COMMANDS = ("extract", "schedule")  # the commands that write a file
+READ_SIZE = 65536  # bytes: the second read of a shorter file is at its end
 
 
-def failing_at_end(path: str, data: bytes) -> list[str]:
+def make_reads_fail(path: str, data: bytes) -> list[str]:
     """Return a command prefix that makes reads at the end of a file fail."""
     when = 2 if data else 1
     return ["strace", "-qq", "-o", os.devnull, "-P", path, "-e", "trace=read",
             "-e", f"inject=read:error=EIO:when={when}+"]
 
 
-def status_of(line: str) -> int:
+def get_status(line: str) -> int:
     """Return the status of a call, from its last line."""
     if re.fullmatch(r"refused .*|\d+ faults", line):
         return 1
     return 2 if line.split()[0] in ("fault", "usage") else 0
 
 
-def first_difference(printed: list[str], expected: list[str]) -> str:
+def find_first_difference(printed: list[str], expected: list[str]) -> str:
     """Return a message about the first difference of two lists of lines."""
     for number, (one, other) in enumerate(zip(printed, expected), 1):
         if one != other:
@@ -46,7 +46,7 @@ class Trial:
     def __init__(self, program: str, folder: str) -> None:
         self.program, self.folder = program, folder
         self.can_fail = bool(shutil.which("strace")) and not subprocess.run(
-            [*failing_at_end("/dev/null", b""), "true"], stderr=subprocess.DEVNULL,
+            [*make_reads_fail("/dev/null", b""), "true"], stderr=subprocess.DEVNULL,
             check=False).returncode
 
     def call_program(self, call: Call) -> tuple[int, Answer]:
@@ -57,8 +57,8 @@ class Trial:
             with open(name, "wb") as file:
                 file.write(data)
         written = os.path.join(self.folder, f"written-{os.getpid()}")
-        before = failing_at_end(names[-1], call.files[-1]) if call.is_failing else []
-        outputs = [written] if call.command in WRITES else []
+        before = make_reads_fail(names[-1], call.files[-1]) if call.is_failing else []
+        outputs = [written] if call.command in WRITING_COMMANDS else []
         done = subprocess.run(
             [*before, self.program, call.command, *names, *outputs, *call.options], check=False,
             stdin=subprocess.DEVNULL, stdout=subprocess.PIPE, stderr=subprocess.DEVNULL)
@@ -72,25 +72,27 @@ class Trial:
         lines = done.stdout.decode("utf-8", "replace").splitlines()
         return done.returncode, Answer(lines, made)
 
-    def schedule(self, stl: bytes, words: list[str]) -> bytes:
+    def schedule(self, stl: bytes, arguments: list[str]) -> bytes:
         """Return the transmission that the program writes."""
-        return self.call_program(Call("", "schedule", (stl,), shlex.join(words)))[1].written or b""
+        return self.call_program(Call("", "schedule", (stl,),
+                                      shlex.join(arguments)))[1].written or b""
 
-    def differences(self, known: KnownCall) -> list[str]:
+    def find_differences(self, known: KnownCall) -> list[str]:
         """Return messages about differences from the expected output.
 
         Calls with a failing file are skipped if no file can be made to fail.
         """
         told = []
-        for call, expected in with_first_fault(*known):
+        for call, expected in add_first_fault_call(*known):
             if call.is_failing and not self.can_fail:
                 continue
             status, own = self.call_program(call)
-            wanted = status_of(expected.lines[-1])
-            what = " ".join([call.command, call.words, *(["failing"] if call.is_failing else [])])
+            wanted = get_status(expected.lines[-1])
+            what = " ".join([call.command, call.arguments, *(["failing"] if call.is_failing
+                                                             else [])])
             if (status, own.lines) != (wanted, expected.lines):
                 told.append(f"{what}: status {status}, expected {wanted}; "
-                            f"{first_difference(own.lines, expected.lines)}")
+                            f"{find_first_difference(own.lines, expected.lines)}")
             if own.written != expected.written:
                 sizes = [None if data is None else len(data)
                          for data in (own.written, expected.written)]

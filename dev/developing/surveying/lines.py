@@ -4,7 +4,7 @@ from __future__ import annotations
 from collections import defaultdict
 from math import inf
 
-from developing.every_place.recordings import TIME_STAMP, UNSEEN, Skipped, packets_of
+from developing.every_place.recordings import TIME_STAMP, MAX_UNSEEN_PACKETS, Skipped, find_packets
 from developing.every_place.reading import HEAD
 from subtitles.common.times import ticks_between
 from subtitles.formats.teletext import START, Page
@@ -78,11 +78,11 @@ class Stream:
         if self.asked is not None:
             self.follow(self.asked)
         skipped = 0
-        for one in packets_of(data, self.size):
+        for one in find_packets(data, self.size):
             if isinstance(one, Skipped):
                 skipped += one.length
                 for teletext in self.teletext.values():
-                    teletext.stretch.is_hurt |= one.length >= UNSEEN * self.size
+                    teletext.stretch.is_hurt |= one.length >= MAX_UNSEEN_PACKETS * self.size
             elif one.pid == NULL:
                 self.place += 1
             else:
@@ -188,7 +188,8 @@ class Stream:
         pcr_pid = self.named[teletext.pid][0]
         if pcr_pid == NO_PCR:
             return
-        video = next((one for pid, one in self.video.items() if self.named[pid][0] == pcr_pid), None)
+        video = next((one for pid, one in self.video.items() if self.named[pid][0] == pcr_pid),
+                     None)
         if video and video.decoding is not None and (video, video.number) != teletext.picture:
             if video != teletext.picture[0]:
                 teletext.leads = Seconds()

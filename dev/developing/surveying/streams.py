@@ -7,8 +7,9 @@ from random import Random
 from typing import Callable, NamedTuple
 
 from developing.every_place.recordings import PACKET, SIZES, SYNC
-from developing.every_place.streams import (Unit, any_place, change, is_packet, made_wrong,
-                                            random_bytes, stream_of, without_payload)
+from developing.every_place.streams import (
+    Unit, change_units, choose_packet, corrupt_unit, is_packet, join_units,
+    make_packet_without_payload, make_random_bytes)
 from developing.pes import (
     encode_pts, encode_triplet, make_packet as teletext_packet, make_pes_packet)
 from subtitles.common.times import CLOCK, wrapped
@@ -178,7 +179,8 @@ def picture_pes(chance: Random, kind: int, pts: int, dts: int, is_first: bool, i
         changed[place] = chance.choice(values)
         head = bytes(changed)
     codes = [code for code in BEFORE_PICTURE[kind] if is_first and chance.random() < 0.8]
-    for code in [*codes, chance.choice(OF_PICTURE[kind]), *BEFORE_PICTURE[kind][:chance.choice([0, 0, 4])]]:
+    for code in [*codes, chance.choice(OF_PICTURE[kind]),
+                 *BEFORE_PICTURE[kind][:chance.choice([0, 0, 4])]]:
         head += b"\0" * chance.choice([2, 2, 3]) + bytes([1, code]) \
             + chance.randbytes(chance.choice([4, 8, 60, 200]))
     return head
@@ -225,9 +227,9 @@ class Programme:
             if chance.random() < 0.3:
                 mux.counters[pid] = chance.randrange(16)
             if chance.random() < 0.5:
-                mux.units.append(Unit(without_payload(chance, pid, True)))
+                mux.units.append(Unit(make_packet_without_payload(chance, pid, True)))
                 if chance.random() < 0.3:
-                    mux.units[-1] = made_wrong(chance, mux.units[-1])
+                    mux.units[-1] = corrupt_unit(chance, mux.units[-1])
         mux.losses.append(len(mux.units) + chance.randrange(-3, 6))
 
     def random_jumps(self, ticks: list[int], count: int) -> TimeJumps:
@@ -344,9 +346,9 @@ def pid_of(unit: Unit) -> int:
 
 def announce_jump(chance: Random, units: list[Unit]) -> None:
     """Announce a jump of a PID's counter, instead of a TS packet or before it."""
-    at, more = any_place(chance, units), chance.choice([0, 1, 5])
+    at, more = choose_packet(chance, units), chance.choice([0, 1, 5])
     pid = pid_of(units[at])
-    announcing = bytearray(without_payload(chance, pid, True))
+    announcing = bytearray(make_packet_without_payload(chance, pid, True))
     if units[at].packet[3] & 0x20 and units[at].packet[4] and chance.random() < 0.5:
         announcing = bytearray(units[at].packet)  # again, but announced
         announcing[5] |= 0x80
@@ -387,7 +389,7 @@ def random_pes_file(chance: Random) -> bytes:
         pts += chance.choice([3600, 3600, 3600, 1800, 0, -900])
         same = random_teletext(chance, True) if chance.random() < 0.3 else same
         data += teletext_pes(chance, pts, same if chance.random() < 0.8 else [])
-    data += random_bytes(chance, chance.choice([0, 0, 0, 5, 20]))
+    data += make_random_bytes(chance, chance.choice([0, 0, 0, 5, 20]))
     return START + (data[4:] or b"\0\xb2") if chance.random() < 0.9 else \
         data[:chance.randrange(len(data) + 1)]
 
@@ -402,7 +404,7 @@ def random_recording(seed: int) -> Recording:
     for _ in range(chance.choice([0, 0, 1, 3, 10, 20, 40])):
         if any(map(is_packet, units)):
             if chance.random() < 0.85:
-                change(chance, units, size)
+                change_units(chance, units, size)
             else:
                 announce_jump(chance, units)
     for _ in range(4 if chance.random() < 0.08 else 0):  # null packets
@@ -411,9 +413,9 @@ def random_recording(seed: int) -> Recording:
     if chance.random() < 0.05:  # as many breaks as are kept, or one more
         units += [Unit(bytes([SYNC, 0x1F, 0xF0, 0x10 + 8 * (at % 2)]).ljust(PACKET, b"\xff"))
                   for at in range(chance.choice([256, 257]))]
-    data = stream_of(chance, units, size)
+    data = join_units(chance, units, size)
     if chance.random() < 0.05:  # a few packets of another size
-        data = stream_of(chance, units[:4], chance.choice(SIZES)) + data
+        data = join_units(chance, units[:4], chance.choice(SIZES)) + data
     data = data[chance.randrange(1000) if chance.random() < 0.2 else 0:]
     data = data[:len(data) - (chance.randrange(1000) if chance.random() < 0.2 else 0)]
     if chance.random() < 0.01:

@@ -1,7 +1,7 @@
 """The lines about a PID with Teletext: its PES packets, gaps, pages."""
 from __future__ import annotations
 
-from developing.every_place.reading import LENGTH, START, head_fault, length_at, units_of
+from developing.every_place.reading import LENGTH, START, find_head_fault, read_length, read_units
 from developing.every_place.recordings import Stretch
 from developing.pes import (
     decode_address, decode_header, decode_pts, get_data_field, get_page_number,
@@ -23,7 +23,7 @@ CHARACTER_SETS = 28, 29  # packets with character sets
 def fault_of(data: bytes) -> int:
     """Return the fault that `packets` reports, 0 if none."""
     is_length = len(data) in range(184, 184 * 9 + 1, 184)
-    return (head_fault(data) or units_of(data)[1] or 0) if is_length else LENGTH
+    return (find_head_fault(data) or read_units(data)[1] or 0) if is_length else LENGTH
 
 
 def step_of(times: list[int | None]) -> int:
@@ -169,7 +169,7 @@ class Teletext:
         return None
 
     def take_good(self, packet: Packet, stretch: Stretch) -> None:
-        good, before = stretch.good(packet), stretch.before
+        good, before = stretch.make_good_packet(packet), stretch.before
         self.stretch, self.is_wrong_last = Stretch(packet), False
         self.has_gap |= good.is_break
         self.has_seam |= good.is_seam
@@ -187,7 +187,7 @@ class Teletext:
 
     def give(self, payload: bytes) -> None:
         """Read the PES packet that these bytes end."""
-        length = length_at(self.part) if self.begins else None
+        length = read_length(self.part) if self.begins else None
         if self.is_given:
             self.has_gap |= payload != b""
         elif length in (START, LENGTH):

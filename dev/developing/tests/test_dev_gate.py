@@ -10,10 +10,10 @@ import unittest
 from random import Random
 
 from developing import read_counts
-from developing.every_place.carried_laws import LAWS, random_packets
-from developing.every_place.recordings import UNSEEN
-from developing.every_place.streams import multiplexed, with_losses
-from developing.every_place.trying import status_of
+from developing.every_place.carried_laws import LAWS, make_random_packets
+from developing.every_place.recordings import MAX_UNSEEN_PACKETS
+from developing.every_place.streams import multiplex, lose_units
+from developing.every_place.trying import get_status
 from subtitles.common.program import TOP, read
 from subtitles.results.files import object_at
 from . import runner, table
@@ -128,7 +128,7 @@ class LastLines(unittest.TestCase):
                 ("refused 45 Lost pes 1", 1), ("refused 60 Empty", 1), ("usage 86 Pid", 2),
                 ("fault 41 Read pes 1", 2)):
             with self.subTest(line):
-                self.assertEqual(status_of(line), status)
+                self.assertEqual(get_status(line), status)
 
 
 class RecordingProperties(unittest.TestCase):
@@ -142,13 +142,13 @@ class RecordingProperties(unittest.TestCase):
         most = 0
         for seed in range(SEEDS):
             chance = Random(seed)
-            sent = multiplexed(chance, random_packets(chance) * 3, 257, False)
-            kept = {one.number for one in with_losses(chance, sent) if not one.is_wrong}
+            sent = multiplex(chance, make_random_packets(chance) * 3, 257, False)
+            kept = {one.number for one in lose_units(chance, sent) if not one.is_wrong}
             row = 0
             for number in sorted({one.number for one in sent if one.number is not None}):
                 row = 0 if number in kept else row + 1
                 most = max(most, row)
-        self.assertEqual(most, UNSEEN - 1)
+        self.assertEqual(most, MAX_UNSEEN_PACKETS - 1)
 
 
 # The selection of tests by name, or by module or script of the tools.

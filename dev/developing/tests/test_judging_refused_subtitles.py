@@ -13,7 +13,7 @@ from typing import Sequence
 from unittest import mock
 
 from developing.every_place import due as defined
-from developing.every_place.words import parse_options
+from developing.every_place.arguments import parse_options
 from developing.multiplex import BEGINS, PACKET, PAYLOAD, make_head
 from developing.stl import make_gsi_block, make_tti_block
 from subtitles.cli.collection import pair_row, summary_table
@@ -367,7 +367,7 @@ class RandomFiles(Case):
                 f"{len(first)} of {len(places | found.skipped_positions)} subtitles "),
                 found.describe())
             due = draw_valid_pages(found.judged, PAGE, "english")
-            pages = defined.Due(wanted.records, wanted.others, options)
+            pages = defined.ExpectedPages(wanted.records, wanted.has_fault_before, options)
             decoded = due.timeline
             for one, rows in zip(found.judged, due.pages):
                 self.must("page", b"".join(rows) == pages.at(one.begin) and decoded and all(

@@ -14,8 +14,8 @@ from subtitles.formats.listing import fault_of_line
 from subtitles.formats.teletext import BY_WORD, ENGLISH, Page
 from subtitles.stream.layout import Choice, Sent, choices_of, is_found, missed
 from .. import DEV
-from ..every_place.on_air import Packet, rows_in, span_of
-from ..every_place.reading import header_of, split_packets, read_packet
+from ..every_place.on_air import Packet, read_rows, find_page_span
+from ..every_place.reading import decode_header, split_packets, read_packet
 from .bench import Case
 
 
@@ -227,8 +227,8 @@ def sent_in(pes: bytes) -> str:
     page: Page = (0, 0x88)
     sending = read_packet(split_packets(pes)[0][0], 0, 0)
     assert not isinstance(sending, int)
-    packets = [Packet(one, decode_address(one), header_of(one)) for one in sending[1]]
-    return format_rows(sorted(rows_in(span_of(packets, page)[0], page).items()))
+    packets = [Packet(one, decode_address(one), decode_header(one)) for one in sending[1]]
+    return format_rows(sorted(read_rows(find_page_span(packets, page)[0], page).items()))
 
 
 def format_rows(rows: Iterable[tuple[int, bytes]]) -> str:

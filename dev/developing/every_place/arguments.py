@@ -9,11 +9,11 @@ from subtitles.formats.layout import Layout, PLAIN, layout_of
 from subtitles.formats.teletext import Page
 from .national import BITS
 
-MOST_WITHIN = 50
+MAX_WITHIN = 50
 COMPLETE, OPEN, KEEPING = FLAGS = "--complete", "--open", "--keeping"
 DEFAULTS = {"--page": "888", "--every": "250", "--origin": "0", "--option": "english",
             "--within": "0", "--packet-size": "188", "--pes": "0-"}
-MOST_PID = 8190  # 8191 is for null packets
+MAX_PID = 8190  # 8191 is for null packets
 
 
 class UsageFault(Exception):
@@ -57,13 +57,13 @@ def parse_pid(text: str) -> int | None:
     """Parse a PID, decimal or hexadecimal after 0x; return `None` for other text."""
     is_hexadecimal = re.fullmatch(r"0x[0-9A-Fa-f]{1,8}", text)
     pid = int(text, 16) if is_hexadecimal else parse_number(text)
-    return None if pid is None or pid > MOST_PID else pid
+    return None if pid is None or pid > MAX_PID else pid
 
 
-def parse_words(words: list[str]) -> dict[str, str]:
+def parse_arguments(arguments: list[str]) -> dict[str, str]:
     """Return option values by name, with defaults. `--name=text` is allowed, a repeated name is
     not."""
-    parts = [part for word in words for part in (
+    parts = [part for word in arguments for part in (
         word.split("=", 1) if word.startswith("--") else [word]) if word not in FLAGS]
     names = parts[::2]
     if len({*names}) < len(names):
@@ -71,9 +71,9 @@ def parse_words(words: list[str]) -> dict[str, str]:
     return {**DEFAULTS, **dict(zip(names, parts[1::2]))}
 
 
-def parse_options(words: list[str]) -> Options:
+def parse_options(arguments: list[str]) -> Options:
     """Parse the options of `check`. Raise the first `UsageFault`."""
-    given = parse_words(words)
+    given = parse_arguments(arguments)
     page, option = given["--page"], given["--option"]
     every, origin, within = (
         parse_number(given[name]) for name in ("--every", "--origin", "--within"))
@@ -85,7 +85,7 @@ def parse_options(words: list[str]) -> Options:
         raise UsageFault("81 Origin")
     if option not in BITS:
         raise UsageFault("83 BadOption")
-    if within is None or within > MOST_WITHIN:
+    if within is None or within > MAX_WITHIN:
         raise UsageFault("85 Within")
     pid = parse_pid(given["--pid"]) if "--pid" in given else None
     if "--pid" in given and pid is None:
@@ -103,9 +103,10 @@ def parse_options(words: list[str]) -> Options:
             for name, whole in (("--from", 0), ("--to", FRAMES_OF_A_DAY))]
     if ends[0] is None or ends[1] is None:
         raise UsageFault("6 BadTime")
-    return Options((int(page[0]) % 8, int(page[1:], 16)), every, origin, option, COMPLETE in words,
-                   within, pid, int(given["--packet-size"]), first, last, layout, OPEN in words,
-                   ends[0], ends[1], KEEPING in words, pace)
+    return Options((int(page[0]) % 8, int(page[1:], 16)), every, origin, option,
+                   COMPLETE in arguments,
+                   within, pid, int(given["--packet-size"]), first, last, layout, OPEN in arguments,
+                   ends[0], ends[1], KEEPING in arguments, pace)
 
 
 def parse_range(text: str) -> tuple[int, int | None]:
