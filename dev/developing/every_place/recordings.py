@@ -61,8 +61,9 @@ def find_packets(data: bytes, size: int) -> Iterator[TransportPacket | Skipped]:
                 == bytes([SYNC, SYNC]):
             is_in_step = True
         elif not is_in_step:
-            skipped += 1
-            place += 1
+            after = data.find(SYNC, place + 1, len(data) - PACKET + 1)
+            after = after if after > 0 else len(data) - PACKET + 1
+            skipped, place = skipped + after - place, after
         elif data[place] != SYNC:
             is_in_step = False
         else:

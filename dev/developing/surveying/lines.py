@@ -185,11 +185,10 @@ class Stream:
 
     def compare(self, teletext: Teletext, pts: int) -> None:
         """Compare a PTS with the programme's pictures and PCR."""
-        pcr_pid = self.named[teletext.pid][0]
-        if pcr_pid == NO_PCR:
+        pcr, _ = self.named[teletext.pid]
+        if pcr == NO_PCR:
             return
-        video = next((one for pid, one in self.video.items() if self.named[pid][0] == pcr_pid),
-                     None)
+        video = next((one for pid, one in self.video.items() if self.named[pid][0] == pcr), None)
         if video and video.decoding is not None and (video, video.number) != teletext.picture:
             if video != teletext.picture[0]:
                 teletext.leads = Seconds()
@@ -197,7 +196,7 @@ class Stream:
             if teletext.leads.is_next(pts):
                 self.say(f"lead {teletext.pid} {pts} {ticks_between(video.decoding, pts)} "
                          f"{video.pid} {video.number}")
-        clock = self.clocks.get(pcr_pid)
-        if clock and clock.last is not None and clock.is_near(self.place) and not teletext.is_behind_gap \
-                and teletext.aheads.is_next(pts):
+        clock = self.clocks.get(pcr)
+        if clock and clock.last is not None and clock.is_near(self.place) \
+                and not teletext.is_behind_gap and teletext.aheads.is_next(pts):
             self.say(f"ahead {teletext.pid} {pts} {ticks_between(clock.last, pts)}")

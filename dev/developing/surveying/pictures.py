@@ -2,7 +2,7 @@
 from __future__ import annotations
 
 from developing.every_place.recordings import Stretch
-from developing.pes import decode_pts
+from developing.pes import has_pts, decode_pts
 from subtitles.common.times import ticks_between
 from .clocks import Say, number
 from .packets import Packet
@@ -18,6 +18,11 @@ START = b"\0\0\1"
 def is_video(data: bytes) -> bool:
     """Return whether a PES packet of video begins, as far as its bytes are known."""
     return data[:3] == START[:len(data)] and (len(data) < 4 or data[3] & 0xF0 == VIDEO)
+
+
+def has_times(header: bytes) -> bool:
+    """Return whether the header of a PES packet is there up to its times."""
+    return len(header) > 8 and len(header) >= {2: 14, 3: 19}.get(header[7] >> 6, 9)
 
 
 def form_of(kind: int, data: bytes) -> str | None:
@@ -107,13 +112,12 @@ class Video:
         if not is_video(data):
             self.header = None
             return
-        flags = data[7] >> 6 if len(data) > 8 else 3
-        if len(data) < {2: 14, 3: 19}.get(flags, 9):
+        if not has_times(data):
             return
-        has_times = flags >= 2 and data[6] != 0xFF
-        pts = decode_pts(data) if has_times else None
+        pts = decode_pts(data) if has_pts(data) else None
+        decoding = decode_pts(data[5:]) if has_pts(data) and data[7] & 0x40 else pts  # the DTS
         self.header = None
-        if self.begin(pts, decode_pts(data[5:]) if has_times and flags == 3 else pts):  # the DTS
+        if self.begin(pts, decoding):
             self.first = b""
             self.read_first(data[9 + data[8]:])
 

@@ -141,7 +141,7 @@ def teletext_pes(chance: Random, pts: int, packets: list[bytes]) -> bytes:
     data = make_pes_packet(wrapped(pts), packets)
     if chance.random() < 0.02:
         return data[:6] + b"\xff" * (len(data) - 6)  # a gap marker, if it is short
-    if chance.random() < 0.04:  # another PTS_DTS_flags
+    if chance.random() < 0.06:  # another PTS_DTS_flags
         return data[:7] + bytes([chance.choice([0, 0x40, 0xC0])]) + data[8:]
     if chance.random() < 0.05:
         unit = 46 * chance.randrange(1, len(data) // 46)
@@ -179,8 +179,8 @@ def picture_pes(chance: Random, kind: int, pts: int, dts: int, is_first: bool, i
         changed[place] = chance.choice(values)
         head = bytes(changed)
     codes = [code for code in BEFORE_PICTURE[kind] if is_first and chance.random() < 0.8]
-    for code in [*codes, chance.choice(OF_PICTURE[kind]),
-                 *BEFORE_PICTURE[kind][:chance.choice([0, 0, 4])]]:
+    second = BEFORE_PICTURE[kind] if chance.random() < 0.3 else []
+    for code in [*codes, chance.choice(OF_PICTURE[kind]), *second]:
         head += b"\0" * chance.choice([2, 2, 3]) + bytes([1, code]) \
             + chance.randbytes(chance.choice([4, 8, 60, 200]))
     return head
@@ -205,15 +205,15 @@ class Programme:
         self.events: list[Event] = []
         self.streams: list[tuple[int, int, bool]] = []  # stream_type, PID, whether it is announced
         videos, teletexts = chance.choice([0, 1, 1, 1, 2]), chance.choice([0, 1, 1, 1, 2, 3])
-        self.clock = chance.choice([first + 15, first + 15, FIRST_PCR, first if videos else first +
-                                    15, NO_PCR])
+        own = first + 15
+        self.clock = chance.choice([own, own, FIRST_PCR, NO_PCR, first if videos else own])
         for at in range(min(videos, 1) if is_small else videos):
             self.add_video(first + at)
         for at in range(min(teletexts, 1) if is_small else teletexts):
             self.add_teletext(first + 8 + at)
         if chance.random() < 0.3:
             self.add_other(first + 14)
-        if self.clock == first + 15:
+        if self.clock == own:
             self.each(chance.choice([1800, 3600, 3600, 9000, 20_000]), lambda _, time: (
                 mux.send(self.clock, bytes(chance.choice([0, 0, 10, 177])), pcr=self.pcr_at(time))))
         for at, _ in self.jumps:
@@ -228,7 +228,7 @@ class Programme:
                 mux.counters[pid] = chance.randrange(16)
             if chance.random() < 0.5:
                 mux.units.append(Unit(make_packet_without_payload(chance, pid, True)))
-                if chance.random() < 0.3:
+                for _ in range(chance.choice([0, 0, 1, 3])):
                     mux.units[-1] = corrupt_unit(chance, mux.units[-1])
         mux.losses.append(len(mux.units) + chance.randrange(-3, 6))
 
@@ -254,7 +254,7 @@ class Programme:
         kind = chance.choice(list(OF_PICTURE))
         self.streams.append((kind, pid, False))
         step, group = chance.choice([3600, 3600, 3003, 1800, 40_000]), chance.choice([5, 12, 400])
-        late, odd = chance.choice([0, 0, 1, 2]), chance.choice([0, 0, 0, 0.1])
+        late, odd = chance.choice([0, 0, 1, 2]), chance.choice([0, 0, 0.1])
         sizes = chance.choice([(FULL,), (FULL,), (FULL, FULL, 5, 12, 100)])
         lead, flagged = chance.choice([0, 0, 18_000]), chance.choice([1, 1, 1, 0.5])
         jumps = self.random_jumps([3600, -3600, 180_000, 1], chance.choice([0, 0, 1]))
@@ -317,8 +317,9 @@ def random_units(chance: Random) -> list[Unit]:
     """Return the TS packets of some programmes."""
     mux = Multiplex(chance)
     count, length = chance.choice([
-        (1, 1_200_000), (1, 400_000), (1, 90_000), (1, 90_000), (2, 200_000), (2, 90_000),
-        (3, 90_000), chance.choice([(40, 9000), (140, 4500)])])
+        (1, 1_000_000), (1, 200_000), (1, 90_000), (1, 90_000), (1, 30_000), (1, 30_000),
+        (2, 200_000), (2, 50_000), (3, 60_000),
+        chance.choice([(40, 9000), (70, 9000), (140, 4500)])])
     programmes = [Programme(chance, mux, number, length, count > 3)
                   for number in range(1, count + 1)]
 
@@ -407,7 +408,7 @@ def random_recording(seed: int) -> Recording:
                 change_units(chance, units, size)
             else:
                 announce_jump(chance, units)
-    for _ in range(4 if chance.random() < 0.08 else 0):  # null packets
+    for _ in range(4 if chance.random() < 0.05 else 0):  # null packets
         many = (NULL + bytes(size - PACKET)) * 1700
         units.insert(chance.randrange(len(units) + 1), Unit(many + NULL))
     if chance.random() < 0.05:  # as many breaks as are kept, or one more

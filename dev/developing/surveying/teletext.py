@@ -11,7 +11,7 @@ from subtitles.formats.teletext import NUMBER, START as PES_START, SUBTITLE, Pag
     page_name
 from .clocks import Counters, Jump, Say, Seconds, number
 from .packets import Packet
-from .pictures import Video
+from .pictures import Video, has_times
 from .page import DecodedPage, Rows, decode_triplet, shown
 
 MARK = 45  # the fault of a gap marker
@@ -133,10 +133,12 @@ class Teletext:
         self.lines = PesLines(pid, page, say)
         self.packets = self.scrambled = 0
         self.refusal = 0
+        self.refused: Stretch | None = None  # after the refused TS packet
         # The content of good packets, from a start, a break or a seam on.
         self.stretch = Stretch(None)
         self.part = b""
-        self.begins = self.is_given = self.is_timed = False
+        self.header: bytes | None = None  # of a PES packet whose times are unknown
+        self.begins = self.is_given = False
         self.has_gap = self.has_seam = self.is_wrong_last = False
         self.lost = self.scrambled_there = 0
         # Of the last PES packet that began.
@@ -161,7 +163,7 @@ class Teletext:
             self.scrambled_there += packet.is_scrambled
         elif not packet.has_payload:
             stretch.has_jump |= packet.announces_jump
-        elif stretch.is_repeat(packet):
+        elif (self.refused or stretch).is_repeat(packet):
             stretch.has_repeat = True
         else:
             self.take_good(packet, stretch)
@@ -173,13 +175,17 @@ class Teletext:
         self.stretch, self.is_wrong_last = Stretch(packet), False
         self.has_gap |= good.is_break
         self.has_seam |= good.is_seam
-        if before and good.is_break and not (stretch.has_jump or packet.announces_jump):
-            self.lost += (packet.counter - before.counter - 1) % 16
+        is_announced = stretch.has_jump or packet.announces_jump
+        lost = (packet.counter - before.counter - 1) % 16 if before and not is_announced else 0
+        self.lost += lost
+        self.header = b"" if packet.begins else None if lost or is_announced else self.header
+        if self.header is not None:
+            self.header += packet.payload
         if packet.begins or good.is_break or good.is_seam or not before:
             self.has_gap |= self.part != b"" and not self.is_given
             self.is_behind_gap = not self.refusal and self.lines.count > 0 \
                 and (self.has_gap or self.lines.ends_with_gap)
-            self.part, self.begins, self.is_given, self.is_timed = b"", packet.begins, False, False
+            self.part, self.begins, self.is_given = b"", packet.begins, False
             self.is_complete &= not packet.begins
         self.part += packet.payload
         if not self.refusal:
@@ -192,7 +198,7 @@ class Teletext:
             self.has_gap |= payload != b""
         elif length in (START, LENGTH):
             self.mark()
-            self.refusal = length or 0
+            self.refusal, self.refused = length or 0, Stretch(self.stretch.before)
         elif length is not None and len(self.part) >= length:
             self.is_given = self.is_complete = True
             self.mark()
@@ -210,9 +216,13 @@ class Teletext:
 
     def time(self) -> int | None:
         """Return the PTS of the PES packet that began last, once it is known."""
-        if self.is_timed or not self.begins or self.part[:4] != PES_START or not has_pts(self.part):
+        header = self.header
+        if header is None or not has_times(header):
             return None
-        self.is_timed, self.last_pts = True, decode_pts(self.part)
+        self.header = None
+        if header[:4] != PES_START or not has_pts(header):
+            return None
+        self.last_pts = decode_pts(header)
         self.waiting = [(jump, before, self.last_pts if after is None else after)
                         for jump, before, after in self.waiting]
         return self.last_pts
