@@ -61,9 +61,8 @@ class Clock:
 
     def usual(self) -> tuple[int, int]:
         """Return the medians of the distances, in ticks and in TS packets."""
-        if not self.distances:
-            return 0, 0
-        ticks, packets = (sorted(some)[len(some) // 2] for some in zip(*self.distances))
+        ticks, packets = (sorted(some)[len(some) // 2]
+                          for some in zip(*self.distances or [(0, 0)]))
         return ticks, packets
 
     def is_near(self, place: int) -> bool:

@@ -14,8 +14,6 @@ from .pictures import Video, is_video
 from .tables import PAT, PMT, Programme, Sections, pids_in, programme_of
 from .teletext import PesLines, Teletext
 
-HEAD_BYTES = 11
-TIMED = 192  # size of packets with a time stamp
 READ = 65_536  # bytes that the program reads at once
 MOST, MOST_TABLES = 64, 128  # PIDs
 NO_PCR = NULL = 0x1FFF  # PCR_PID of a programme without PCR; PID of null packets
@@ -24,7 +22,7 @@ DATA_IDENTIFIERS = range(0x10, 0x20)
 
 def survey(data: bytes, page: Page, pid: int | None = None, size: int | None = None) -> list[str]:
     """Return the lines of `survey`; the PID and the packet size are detected if not given."""
-    lines = ["survey 1", f"head {data[:HEAD_BYTES].hex()}".rstrip()]
+    lines = ["survey 1", f"head {data[:11].hex()}".rstrip()]
     if data.startswith(START) and data[4:5] != b"\x47":
         return lines + pes_file_lines(data, page)
     size, is_short = (size, False) if size else size_of(data)
@@ -91,7 +89,7 @@ class Stream:
             for teletext in self.teletext.values():
                 teletext.lines.flush()
         self.end()
-        read = TIME_STAMP * (self.size == TIMED) + skipped + self.place * self.size
+        read = TIME_STAMP * (self.size == 192) + skipped + self.place * self.size
         return [*self.lines, f"over {skipped + max(0, len(data) - read)} {self.place}"]
 
     def end(self) -> None:

@@ -47,14 +47,12 @@ class DecodedPage:
         self.begin()
 
     def begin(self) -> None:
-        """Begin a PES packet."""
         self.does = ""
         self.control: list[str] = []
         self.strays: Rows = {}
         self.is_opened_here = self.is_closed_here = self.has_strays = False
 
     def take(self, data: bytes) -> None:
-        """Take a Teletext packet."""
         address = decode_address(data)
         if address is None:
             return

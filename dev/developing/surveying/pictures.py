@@ -70,7 +70,6 @@ class Video:
         return self.has_begun and not self.has_ended
 
     def take(self, packet: Packet) -> None:
-        """Take a TS packet of the PID."""
         if packet.has_error:
             return
         if not packet.has_payload:
@@ -146,7 +145,6 @@ class Video:
         return is_first
 
     def add(self, pts: int | None) -> None:
-        """Add a picture to the group."""
         self.say(f"picture {self.pid} {number(pts)}")
         if pts is None:
             return

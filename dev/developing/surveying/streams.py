@@ -19,13 +19,10 @@ from .tables import checked
 FULL = PACKET - 4
 BEGINS, RANDOM_ACCESS, PCR_FLAG = 0x40, 0x40, 0x10
 MPEG_1, MPEG_2, H264, HEVC = 0x01, 0x02, 0x1B, 0x24  # stream_type
-NO_PCR = 0x1FFF
-FIRST_PCR = 0x11F  # PCR_PID of the first programme, if it has a PID of its own
+NO_PCR, FIRST_PCR = 0x1FFF, 0x11F  # PCR_PIDs; the second one of the first programme
 NULL = bytes([SYNC, 0x1F, 0xFF, 0x10]).ljust(PACKET, b"\xff")
 PAGES: list[Page] = [(0, 0x88), (0, 0x88), (0, 0x88), (0, 0x77), (1, 0x88), (0, 0xFF), (7, 0x99)]
 
-
-# TS packets
 
 class Multiplex:
     """The transmitted TS packets, with a counter for each PID."""
@@ -142,7 +139,7 @@ def teletext_pes(chance: Random, pts: int, packets: list[bytes]) -> bytes:
     if chance.random() < 0.02:
         return data[:6] + b"\xff" * (len(data) - 6)  # a gap marker, if it is short
     if chance.random() < 0.06:  # another PTS_DTS_flags
-        return data[:7] + bytes([chance.choice([0, 0x40, 0xC0])]) + data[8:]
+        return data[:7] + bytes([chance.choice([0, 0xC0])]) + data[8:]
     if chance.random() < 0.05:
         unit = 46 * chance.randrange(1, len(data) // 46)
         places = [range(unit, unit + 4), [0, 3, 4, 5, 6, 7, 8, 9, 11, 13, 45]]
@@ -186,8 +183,6 @@ def picture_pes(chance: Random, kind: int, pts: int, dts: int, is_first: bool, i
     return head
 
 
-# A programme
-
 JUMPS = [90_000, -90_000, 3600, -3600, 400_000, 1 << 31, -900_000, 20_000]
 TimeJumps = list[tuple[int, int]]  # times, and ticks of jumps
 Event = tuple[int, Callable[[], None]]  # its time, and what it sends
@@ -216,8 +211,7 @@ class Programme:
         if self.clock == own:
             self.each(chance.choice([1800, 3600, 3600, 9000, 20_000]), lambda _, time: (
                 mux.send(self.clock, bytes(chance.choice([0, 0, 10, 177])), pcr=self.pcr_at(time))))
-        for at, _ in self.jumps:
-            self.events.append((at, self.splice))
+        self.events += [(at, self.splice) for at, _ in self.jumps]
         self.change_pmt()
 
     def splice(self) -> None:
@@ -230,16 +224,16 @@ class Programme:
                 mux.units.append(Unit(make_packet_without_payload(chance, pid, True)))
                 for _ in range(chance.choice([0, 0, 1, 3])):
                     mux.units[-1] = corrupt_unit(chance, mux.units[-1])
-        mux.losses.append(len(mux.units) + chance.randrange(-3, 6))
+        mux.losses.append(len(mux.units) + chance.randrange(-9, 6))
 
     def random_jumps(self, ticks: list[int], count: int) -> TimeJumps:
-        return [(self.chance.randrange(self.length), self.chance.choice(ticks))
-                for _ in range(count)]
+        return [(self.chance.randrange(self.chance.choice([self.length, 9000])),
+                 self.chance.choice(ticks)) for _ in range(count)]
 
     def each(self, step: int, send: Callable[[int, int], None], first: int = 0) -> None:
         """Add an event each `step` ticks, by its number and time."""
-        for number, time in enumerate(range(first, self.length, step)):
-            self.events.append((time, partial(send, number, time)))
+        self.events += [(time, partial(send, number, time))
+                        for number, time in enumerate(range(first, self.length, step))]
 
     def ticks(self, time: int, more: TimeJumps | None = None) -> int:
         """Return the PTS of a time, after the jumps before it."""
@@ -256,7 +250,7 @@ class Programme:
         step, group = chance.choice([3600, 3600, 3003, 1800, 40_000]), chance.choice([5, 12, 400])
         late, odd = chance.choice([0, 0, 1, 2]), chance.choice([0, 0, 0.1])
         sizes = chance.choice([(FULL,), (FULL,), (FULL, FULL, 5, 12, 100)])
-        lead, flagged = chance.choice([0, 0, 18_000]), chance.choice([1, 1, 1, 0.5])
+        lead, flagged = chance.choice([0, 0, 18_000]), chance.choice([1, 1, 0.5, 0.3])
         jumps = self.random_jumps([3600, -3600, 180_000, 1], chance.choice([0, 0, 1]))
 
         def send(number: int, time: int) -> None:
@@ -308,7 +302,7 @@ class Programme:
         for kind, pid, is_announced in self.streams:
             if self.chance.random() < 0.15:
                 continue
-            kind = kind if self.chance.random() < 0.9 else 6
+            kind = kind if self.chance.random() < 0.8 else 6
             more = random_descriptors(self.chance, is_announced)
             self.pmt += struct.pack(">BHH", kind, 0xE000 | pid, 0xF000 | len(more)) + more
 
@@ -319,7 +313,7 @@ def random_units(chance: Random) -> list[Unit]:
     count, length = chance.choice([
         (1, 1_000_000), (1, 200_000), (1, 90_000), (1, 90_000), (1, 30_000), (1, 30_000),
         (2, 200_000), (2, 50_000), (3, 60_000),
-        chance.choice([(40, 9000), (70, 9000), (140, 4500)])])
+        chance.choice([(60, 9000), (80, 9000), (140, 4500)])])
     programmes = [Programme(chance, mux, number, length, count > 3)
                   for number in range(1, count + 1)]
 
@@ -365,8 +359,6 @@ def announce_jump(chance: Random, units: list[Unit]) -> None:
             units[place] = Unit(data, 0)
 
 
-# Recordings
-
 class Recording(NamedTuple):
     """A recording, and the options of `survey`."""
 
@@ -377,7 +369,6 @@ class Recording(NamedTuple):
 
     @property
     def words(self) -> list[str]:
-        """Return the options."""
         given = {"--page": page_name(*self.page), "--pid": self.pid, "--packet-size": self.size}
         return [str(word) for option in given.items() if option[1] is not None for word in option]
 
@@ -398,17 +389,17 @@ def random_pes_file(chance: Random) -> bytes:
 def random_recording(seed: int) -> Recording:
     chance = Random(f"survey {seed}")
     page = chance.choice(PAGES[2:5]) if chance.random() < 0.2 else PAGES[0]
-    if chance.random() < 0.1:
+    if chance.random() < 0.15:
         return Recording(random_pes_file(chance), page)
     units, size = random_units(chance), chance.choice(SIZES)
     pid = pid_of(chance.choice(units)) if units and chance.random() < 0.1 else None
-    for _ in range(chance.choice([0, 0, 1, 3, 10, 20, 40])):
+    for _ in range(chance.choice([0, 1, 3, 10, 20, 40, 60])):
         if any(map(is_packet, units)):
-            if chance.random() < 0.85:
+            if chance.random() < 0.75:
                 change_units(chance, units, size)
             else:
                 announce_jump(chance, units)
-    for _ in range(4 if chance.random() < 0.05 else 0):  # null packets
+    for _ in range(4 if chance.random() < 0.08 else 0):  # null packets
         many = (NULL + bytes(size - PACKET)) * 1700
         units.insert(chance.randrange(len(units) + 1), Unit(many + NULL))
     if chance.random() < 0.05:  # as many breaks as are kept, or one more

@@ -61,7 +61,6 @@ class PesLines:
         self.count, self.marks, self.ends_with_gap = self.count + 1, self.marks + 1, True
 
     def read(self, data: bytes) -> None:
-        """Read a PES packet."""
         fault = fault_of(data)
         if fault == MARK and len(data) == 184:
             self.gap()
@@ -145,7 +144,6 @@ class Teletext:
         self.last_pts: int | None = None
         self.is_complete = True
         self.is_behind_gap = False
-        # Next to other clocks.
         self.aheads, self.leads = Seconds(), Seconds()
         self.picture: tuple[Video | None, int] = None, 0  # of the last `lead`, and its number
         self.settled: int | None = None  # the last PTS before the last PCR
@@ -228,7 +226,6 @@ class Teletext:
         return self.last_pts
 
     def note_pcr(self, jump: Jump | None) -> None:
-        """Note a PCR of the programme."""
         if jump:
             self.waiting.append((jump, self.settled, None))
             self.print_jumps(jump.last)
