@@ -288,7 +288,7 @@ HELD = [
     "fn lookup_result_from_metadata(looked_up: io::Result<Metadata>)",
     "impl<'a, R: Files + Eprint> SystemFiles<'a, R>",
     "impl<R: Files + Eprint> SizeLookup for SystemSizeLookup<'_, R>",
-    "fn length_of<R: Files>(rt: &R, name: &str)",
+    "fn file_length<R: Files>(rt: &R, name: &str)",
     "fn is_folder_stored<R: Files + Eprint>(rt: &R, name: &str)",
     "impl<T: Read, E: Eprint> Read for ErrorReporter<'_, T, E>",
     "impl<T: Write, E: Eprint> Write for ErrorReporter<'_, T, E>",
@@ -305,7 +305,7 @@ HELD = [
     "impl<W: Write + Release + Store> Close for IntoFile<W>",
     "impl<T: OpenFile> Store for T",
     "impl<T: Drop> Release for T",
-    "impl Taken",
+    "impl ConsumedBytes",
 ]
 # An impl of Drop, at any indentation and over several lines, or under another name; comments don't
 # count.
