@@ -19,7 +19,7 @@ from subtitles.judging.part import Part
 from subtitles.request.commands import Names
 from subtitles.request.lines import read_options
 from subtitles.request.request import Request, add_options, option_words, request_with
-from subtitles.stream.gaps import Place
+from subtitles.stream.gaps import LossPlace
 from subtitles.stream.packets import Packets
 from subtitles.stream.receiver import Timeline
 from subtitles.stream.survey import Survey, survey
@@ -51,7 +51,8 @@ def make_answer(lines: Sequence[str] = ("accepted 10 frames 2 transmissions",),
 
 def make_part(begin: int | None, end: int | None, origin: int | None,
               printed: CheckOutput | None = None, number: int = 1, source: str = GIVEN,
-              packets: Packets | None = None, places: Sequence[Place] = (), **more: Any) -> Part:
+              packets: Packets | None = None, places: Sequence[LossPlace] = (),
+              **more: Any) -> Part:
     """Return a part of some frames, with the PES packets and the losses of its recording."""
     alignment = None if begin is None or end is None or origin is None else \
         TimedPart(begin, end, Clock(origin, source))
@@ -74,7 +75,7 @@ def read_survey(*lines: str) -> Survey:
     """Parse lines of `survey`."""
     survey = Survey()
     for line in lines:
-        survey.take(line)
+        survey.read_line(line)
     return survey
 
 

@@ -20,7 +20,7 @@ from subtitles.common.times import TICKS
 from subtitles.formats.stl import Subtitle
 from subtitles.formats.teletext import BY_WORD
 from subtitles.request.commands import CommandWords
-from subtitles.stream.repeats import repeats_in
+from subtitles.stream.repeats import measure_repeats
 from subtitles.stream.packets import Packets
 from subtitles.stream.receiver import BLANK_PAGE, Timeline
 from .bench import BENCH, Case
@@ -81,9 +81,9 @@ def timeline_with(pages: dict[int, str], first: int, last: int) -> Timeline:
     """Return a timeline with one character, or a blank page, from given frames on."""
     decoded = Timeline(Packets(0), PAGE, 0)
     decoded.first, decoded.last = first, last
-    decoded.change(first, BLANK_PAGE)
+    decoded.note_page(first, BLANK_PAGE)
     for frame, text in pages.items():
-        decoded.change(frame, (text.encode().ljust(40), *BLANK_PAGE[1:]))
+        decoded.note_page(frame, (text.encode().ljust(40), *BLANK_PAGE[1:]))
     return decoded
 
 
@@ -165,7 +165,7 @@ class Cues(Case):
                 ("one of twenty", [*range(0, 400, 25), *range(425, 550, 25)], 50, []),
                 ("none is lost", [*range(0, 900, 25)], 25, []),
                 ("some are longer", [at for at in range(0, 900, 25) if at % 100 != 50], 50, [])):
-            found = repeats_in([TICKS * frame for frame in frames], None, 0, [(0, 900)])
+            found = measure_repeats([TICKS * frame for frame in frames], None, 0, [(0, 900)])
             self.check(name, found and (found.longest, found.exceptions), (longest, exceptions))
 
 

@@ -29,7 +29,7 @@ from subtitles.report import page as report_page
 from subtitles.request.commands import CommandWords, Names
 from subtitles.request.request import Request, Unclear, Unsaid
 from subtitles.results.files import Row, found
-from subtitles.stream.gaps import Place
+from subtitles.stream.gaps import LossPlace
 from .bench import Case, example
 from .judged import LineRecorder
 from .parts import make_answer, request_for, markup_text, make_part
@@ -41,8 +41,8 @@ REFUSED = ["refused 72 Content frame 00:00:01:00 row 1 column 2", "refused 68 Pa
 
 def gap(is_judged: bool, mark: int | None = None) -> Gap:
     """Return a gap with lost packets."""
-    return Gap("00:00:01:00", "00:00:02:00", "3 TS packets lost", Place(1, 2, 3, mark=mark),
-               is_judged)
+    return Gap("00:00:01:00", "00:00:02:00", "3 TS packets lost",
+               LossPlace(1, 2, 3, gap_marker=mark), is_judged)
 
 
 class LastLines(Case):

@@ -26,7 +26,7 @@ from subtitles.results.files import (
     Row, TestCase, cell_words, column_rows, junit_file as junit_of, modified, part_columns, said,
     table_lines as csv_of, unjudged)
 from subtitles.results.schema import JUDGED_PART, LOSS, PartOf
-from subtitles.stream.gaps import Place
+from subtitles.stream.gaps import LossPlace
 from .bench import Case
 from .parts import make_part
 from .results import FAULT, REQUEST as PLAIN, make_result
@@ -170,7 +170,7 @@ class Members(unittest.TestCase):
             self.assertEqual(modified(about), "1970-01-01T00:00:01.000000007Z")
 
     def test_writes_a_gap_with_times_and_pts(self) -> None:
-        place = Place(5, 9, 3, scrambled=2, missing=4, mark=7)
+        place = LossPlace(5, 9, 3, scrambled=2, missing=4, gap_marker=7)
         for is_judged in (True, False):
             with self.subTest(is_judged=is_judged):
                 self.assertEqual(LOSS.made(Gap("00:00:01:00", None, "3 lost", place, is_judged)), {

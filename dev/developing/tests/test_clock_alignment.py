@@ -21,8 +21,8 @@ from subtitles.common.command_line import Lateness, late_word
 from subtitles.common.times import CLOCK, FRAMES_OF_A_DAY, Span, TICKS, time_in
 from subtitles.judging.part import belongs_to_part, find_lost_spans, find_recorded_span
 
-from subtitles.stream.gaps import Place
-from subtitles.stream.packets import Change
+from subtitles.stream.gaps import LossPlace
+from subtitles.stream.packets import PageChange
 from .bench import Case
 from .judged import JudgedPair, judge_files
 from .parts import make_part
@@ -54,8 +54,8 @@ class BeginsAndEnds(Case):
         for is_begin in (True, False):
             for others, is_told in ((0, True), (1, True), (2, False)):
                 late = [one for one in cues if one.is_begin == is_begin][others:]
-                changes = [Change(TICKS * (cue.frame + 7 * (cue in late)), cue.letters, at,
-                                  ((20, cue.letters),)) for at, cue in enumerate(cues)]
+                changes = [PageChange(TICKS * (cue.frame + 7 * (cue in late)), cue.letters, at,
+                                      ((20, cue.letters),)) for at, cue in enumerate(cues)]
                 base = TimeBase(cues, changes, 0, 1000 * TICKS, (0, 19), 0)
                 found = base.find_cue_offset(base.compare(0))
                 self.must(f"{is_begin} {others}", (found and found[:3]) == (
@@ -65,10 +65,10 @@ class BeginsAndEnds(Case):
 class RepeatedPages(Case):
     def test_ignores_a_page_that_is_erased_and_sent_again(self) -> None:
         for origin in (0, CLOCK - TICKS, CLOCK - 2 * TICKS, CLOCK - 5 * TICKS, CLOCK - 100 * TICKS):
-            def change(frame: int, letters: bytes, number: int) -> Change:
+            def change(frame: int, letters: bytes, number: int) -> PageChange:
                 pts = (origin + frame * TICKS) % CLOCK
-                return Change(pts, letters, number, () if not letters else
-                              TEXT if letters == b"text" else OTHER)
+                return PageChange(pts, letters, number, () if not letters else
+                                  TEXT if letters == b"text" else OTHER)
 
             for frame, most, wanted in ((3, 1, 2), (3, 2, 2), (4, 1, None), (4, 2, 2), (52, 50, 2),
                                         (53, 50, None)):
@@ -86,9 +86,9 @@ class RepeatedPages(Case):
             cues = find_expected_cues([ExpectedSubtitle(100, 130, 1, b"text"),
                                        ExpectedSubtitle(130 + due, 160, 1, b"text")])
             frames = [100, 110, 110 + away, 130, 130 + due, 160]
-            base = TimeBase(cues, [Change(TICKS * frame, b"" if at % 2 else b"text", at,
-                                          () if at % 2
-                                          else TEXT) for at, frame in enumerate(frames)],
+            base = TimeBase(cues, [PageChange(TICKS * frame, b"" if at % 2 else b"text", at,
+                                              () if at % 2
+                                              else TEXT) for at, frame in enumerate(frames)],
                             0, 1000 * TICKS, (0, 5), 0)
             if away <= min(MOST_ERASED, due - 1):
                 del frames[1:3]
@@ -371,7 +371,7 @@ class LossesInParts(unittest.TestCase):
         for shift, (before, after, more, wanted) in itertools.product(SHIFTS, self.PLACES):
             pts = [None if one is None else shift_pts(TICKS * one + more, shift)
                    for one in (before, after)]
-            place = Place(pts[0], pts[1], lost=1)
+            place = LossPlace(pts[0], pts[1], lost=1)
             with self.subTest(shift=shift, before=before, after=after):
                 self.assertEqual(belongs_to_part(place, make_part(100, 200, shift)), wanted)
 
@@ -383,7 +383,7 @@ class LossesInParts(unittest.TestCase):
                                (hours * hour - hour // 2, True), (hours * hour - 2, True),
                                (hours * hour + hour // 2, False)):
                 before, after = (shift_pts(TICKS * (at + more), shift) for more in (-1, 1))
-                for place in (Place(before, after), Place(before, after, missing=90_000)):
+                for place in (LossPlace(before, after), LossPlace(before, after, missing=90_000)):
                     self.assertEqual(belongs_to_part(place, part), wanted, (hours, at))
             found, ends = part.alignment, (-hour // 2, hours * hour + hour // 2)
             assert found
@@ -396,19 +396,21 @@ class LossesInParts(unittest.TestCase):
         part = make_part(100, 200, 0, pes=(7, 19))
         for mark, wanted in ((0, False), (6, False), (7, True), (12, True), (19, True),
                              (20, False)):
-            for place in (Place(None, None, mark=mark), Place(TICKS * 150, TICKS * 151, mark=mark),
-                          Place(TICKS * 300, None, mark=mark)):
+            for place in (LossPlace(None, None, gap_marker=mark),
+                          LossPlace(TICKS * 150, TICKS * 151, gap_marker=mark),
+                          LossPlace(TICKS * 300, None, gap_marker=mark)):
                 self.assertEqual(belongs_to_part(place, part), wanted, mark)
 
     def test_returns_the_frames_that_a_loss_hides(self) -> None:
         day = FRAMES_OF_A_DAY
         for shift in SHIFTS:
-            places = [Place(None, shift_pts(5 * TICKS, shift)),
-                      Place(shift_pts(7 * TICKS, shift), shift_pts(9 * TICKS, shift)),
-                      Place(shift_pts(20 * TICKS, shift), None),
-                      Place(shift_pts(-TICKS, shift), shift_pts(TICKS, shift)), Place(None, None),
-                      Place(shift_pts(TICKS * (day - 1), shift), shift_pts(TICKS * day, shift)),
-                      Place(shift_pts(TICKS * day, shift), shift_pts(9 * TICKS, shift))]
+            places = [LossPlace(None, shift_pts(5 * TICKS, shift)),
+                      LossPlace(shift_pts(7 * TICKS, shift), shift_pts(9 * TICKS, shift)),
+                      LossPlace(shift_pts(20 * TICKS, shift), None),
+                      LossPlace(shift_pts(-TICKS, shift), shift_pts(TICKS, shift)),
+                      LossPlace(None, None),
+                      LossPlace(shift_pts(TICKS * (day - 1), shift), shift_pts(TICKS * day, shift)),
+                      LossPlace(shift_pts(TICKS * day, shift), shift_pts(9 * TICKS, shift))]
             with self.subTest(shift=shift):
                 self.assertEqual(list(find_lost_spans(places, shift, 0)), [
                     Span(0, 5), Span(7, 9), Span(20, day), Span(0, 1), Span(0, day),

@@ -17,7 +17,7 @@ from subtitles.clock.start import (
 from subtitles.clock.stretches import Stretch
 from subtitles.common.times import CLOCK, TICKS
 from subtitles.request.request import ORIGIN_CHOICE, Selection, Unclear
-from subtitles.stream.packets import Change, Mark, Packets, Run
+from subtitles.stream.packets import GapMarker, PacketRun, Packets, PageChange
 from subtitles.stream.receiver import national_option
 from subtitles.stream.survey import Survey
 from .judged import ProgrammeCase
@@ -174,10 +174,10 @@ class OriginLines(unittest.TestCase):
                              (known, origin))
 
     def test_what_is_there(self) -> None:
-        runs = [Run(0, 2, 0, TICKS, "h", ""), Run(2, 1, None, 0, "m", ""),
-                Run(3, 1, None, 0, "", "")]
-        marks, change = [Mark(2, None, 0, 0)], Change(0, b"", 0)
-        rows: list[tuple[list[Run], list[Mark], str, list[Change], list[str]]] = [
+        runs = [PacketRun(0, 2, 0, TICKS, "h", ""), PacketRun(2, 1, None, 0, "m", ""),
+                PacketRun(3, 1, None, 0, "", "")]
+        marks, change = [GapMarker(2, None, 0, 0)], PageChange(0, b"", 0)
+        rows: list[tuple[list[PacketRun], list[GapMarker], str, list[PageChange], list[str]]] = [
                 (runs[:1], [], "", [change], []),
                 (runs[:1], [], "is cut", [change], ["one: is cut; only what is before it is used"]),
                 (runs[:2], marks, "", [change], ["1 gap marker skipped: check refuses them as 45"]),
@@ -190,7 +190,7 @@ class OriginLines(unittest.TestCase):
                                         "150"])]
         for several, some, damage, changes, printed in rows:
             lines, packets = list[str](), Packets(0, several)
-            packets.marks, packets.changes = some, changes
+            packets.gap_markers, packets.changes = some, changes
             packets.damage, packets.sent = damage, {"888": 9, "150": 1, "777": 2}
             self.assertEqual((report_sent_pages(packets, OriginSearch("a", "one"), lines), lines),
                              (bool(changes), printed), (several, some, damage))
@@ -252,8 +252,8 @@ def programme_with(*streams: tuple[int, int]) -> list[str]:
 def surveyed(lines: Sequence[str], is_whole: bool = True) -> Survey:
     survey = Survey()
     for line in lines:
-        survey.take(line)
-    survey.is_whole = is_whole
+        survey.read_line(line)
+    survey.is_complete = is_whole
     return survey
 
 
@@ -301,8 +301,9 @@ class FirstPictures(unittest.TestCase):
         for shift, (several, within, moved, words) in itertools.product((0, CLOCK - 3), rows):
             lines = [*programme_with((VIDEO, MPEG_2)), f"video {VIDEO} 0",
                      f"picture {VIDEO} {shift}"]
-            packets = Packets(TELETEXT, [Run(at, 1, (shift + TICKS * (7 + at) + after) % CLOCK, 0,
-                                             "h", "") for at, after in enumerate(several)])
+            packets = Packets(TELETEXT, [PacketRun(at, 1, (shift + TICKS * (7 + at) + after) %
+                                                   CLOCK, 0,
+                                                   "h", "") for at, after in enumerate(several)])
             request = request_for("a.stl", "a.ts", "--start", "00:00:00:02", "--within",
                                   str(within))
             if moved is None:

@@ -17,7 +17,7 @@ from subtitles.clock.origin import OriginEstimate, OriginSearch, estimate_origin
 from subtitles.clock.stretches import Stretch, Track, find_best_stretches, find_stretches
 from subtitles.common.command_line import Stop
 from subtitles.common.times import ALL_DAY, Between, CLOCK, TICKS, time_of
-from subtitles.stream.packets import Change
+from subtitles.stream.packets import PageChange
 from .bench import Case, example, example_bytes
 from .parts import request_for, survey_packets
 from .transmissions import (
@@ -302,7 +302,7 @@ class Tracks(unittest.TestCase):
 
     def base(self, changes: dict[int, bytes], within: int = 0) -> TimeBase:
         """A time base in which the page changes at some frames."""
-        return TimeBase(self.cues, [Change(TICKS * frame, letters, frame, ((20, letters),))
+        return TimeBase(self.cues, [PageChange(TICKS * frame, letters, frame, ((20, letters),))
                                     for frame, letters in sorted(changes.items())],
                         0, 1000 * TICKS, (0, 999), within)
 
@@ -324,7 +324,7 @@ class Tracks(unittest.TestCase):
                   for cue in cues}
         for within in (0, 1):
             sent = {**others, 51: b"0", 1051 + within: b"1"}
-            base = TimeBase(cues, [Change(TICKS * frame, letters, frame, ((20, letters),))
+            base = TimeBase(cues, [PageChange(TICKS * frame, letters, frame, ((20, letters),))
                                    for frame, letters in sorted(sent.items())],
                             0, 9000 * TICKS, (0, 9000), within)
             self.assertEqual((base.fits[0].start, base.fits[0].matches), (-51, 2), within)

@@ -12,8 +12,8 @@ from subtitles.clock.origin import (
 from subtitles.clock.stretches import find_airings, find_stretches, fit_parts, split_at_breaks
 from subtitles.common.command_line import Lateness
 from subtitles.common.times import CLOCK, FRAMES_A_SECOND, FRAMES_OF_A_DAY, TICKS
-from subtitles.stream.packets import Change, Packets, Run
-from subtitles.stream.ranges import Beginning, PageTexts, SentPacket, cut_of
+from subtitles.stream.packets import PacketRun, Packets, PageChange
+from subtitles.stream.ranges import PageTexts, RangeStart, SentPacket, find_range
 
 SEEDS = range(20)
 Sending = tuple[int, bytes]  # a PTS that doesn't wrap, and the text of the page
@@ -47,9 +47,9 @@ def packets_of(sendings: Sequence[Sending], every: int = 0, chance: random.Rando
             number = made.count
             does = "heo" + "b" * (not letters) if place == pts or chance is None else "ho" + \
                 "b" * (not letters)
-            made.runs.append(Run(number, 1, place % CLOCK, 0, does, ""))
+            made.runs.append(PacketRun(number, 1, place % CLOCK, 0, does, ""))
             if letters != shown:
-                made.changes.append(Change(place % CLOCK, letters, number, ((20, letters),)))
+                made.changes.append(PageChange(place % CLOCK, letters, number, ((20, letters),)))
             shown = letters
     return made
 
@@ -229,21 +229,22 @@ class Ranges(unittest.TestCase):
                 has_header = chance.random() < 0.7
                 before, is_blank = is_blank, chance.random() < 0.5 if has_header else is_blank
                 does = ("heo" if has_header else "o") + "b" * is_blank
-                made.runs.append(Run(number, 1, (origin + TICKS * frame) % CLOCK, 0, does, ""))
+                made.runs.append(PacketRun(number, 1, (origin + TICKS * frame) % CLOCK, 0, does,
+                                           ""))
                 if before != is_blank:
-                    made.changes.append(Change(made.runs[-1].pts or 0, b"", number,
-                                               () if is_blank else TEXT))
+                    made.changes.append(PageChange(made.runs[-1].pts or 0, b"", number,
+                                                   () if is_blank else TEXT))
             begin = chance.randrange(1100, 1250)
             end, every = begin + chance.randrange(150), chance.choice((None, 25, 100))
             with self.subTest(seed=seed):
-                self.assertEqual(cut_of(made, begin, end, origin, every).range,
+                self.assertEqual(find_range(made, begin, end, origin, every).range,
                                  plain_range(made, frames, begin, end, every))
 
     def test_joins_the_parts_of_a_page_transmission(self) -> None:
         for frame in (90, None):
             for within, wanted in ((0, 3), (1, 0)):
-                changes = [Change(TICKS * 100, b"", 3, TEXT)]
-                beginning = Beginning(100, within, PageTexts(
+                changes = [PageChange(TICKS * 100, b"", 3, TEXT)]
+                beginning = RangeStart(100, within, PageTexts(
                     Packets(0, changes=changes), 0, within, False))
                 for sent in (SentPacket(0, 90, "heo"), SentPacket(1, frame, "o"),
                              SentPacket(2, 90, "ob")):
@@ -254,7 +255,7 @@ class Ranges(unittest.TestCase):
 def plain_range(packets: Packets, frames: Sequence[int], begin: int, end: int,
           every: int | None) -> tuple[int, int] | None:
     """Return the range by the rule, sentence by sentence, for PES packets in order of frames."""
-    does = [run.does for run in packets.runs]
+    does = [run.flags for run in packets.runs]
     changed = {one.number for one in packets.changes}
     early = [at for at, frame in enumerate(frames) if max(begin - (every or 0), 0) <= frame < begin]
     own = [at for at, frame in enumerate(frames)

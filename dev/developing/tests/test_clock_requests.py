@@ -84,8 +84,8 @@ class Requests(Case):
     def test_reports_unclear_results_with_rows_of_a_closed_page_first(self) -> None:
         for sent, is_told in (([0] * 24, False), ([0, 0, 0, *[2] * 21], True)):
             packets = packets_of(self.transmissions(sent))
-            packets.strays.append((0, ()))
-            packets.runs[0] = packets.runs[0]._replace(does="hs")
+            packets.stray_rows.append((0, ()))
+            packets.runs[0] = packets.runs[0]._replace(flags="hs")
             found = estimate_origin(OriginSearch(self.stl, "one.pes", within=2), packets)
             self.assertEqual((found.lines[0], found.status) == (
                 "rows came while page 888 was not open, in 1 PES packet", 1), is_told, found)

@@ -19,16 +19,16 @@ from subtitles.clock.stretches import (
     limit_bases)
 from subtitles.common.command_line import Lateness
 from subtitles.common.times import CLOCK, EARLY, TICKS
-from subtitles.stream.packets import Change, Packets, Run
+from subtitles.stream.packets import PacketRun, Packets, PageChange
 from .test_clock_properties import packets_of
 
 EACH = 5000  # frames from one run of the programme to the next
 SHIFTS = (0, CLOCK - 2 * TICKS - 7)  # the first PTS: 0, or one after which PTS wrap
 
 
-def changes_at(several: Sequence[tuple[int, bytes]], shift: int = 0) -> list[Change]:
+def changes_at(several: Sequence[tuple[int, bytes]], shift: int = 0) -> list[PageChange]:
     """Return page changes, each with ticks after the first PTS and a text."""
-    return [Change((shift + ticks) % CLOCK, letters, at, ((20, letters),) if letters else ())
+    return [PageChange((shift + ticks) % CLOCK, letters, at, ((20, letters),) if letters else ())
             for at, (ticks, letters) in enumerate(several)]
 
 
@@ -78,11 +78,11 @@ class TimeBases(unittest.TestCase):
             ([(0, text), (2, ()), (8, text), (9, ()), (10, text)], [0, 1, 2]),
             ([(0, ()), (1, text), (2, ())], [0, 1, 2])]
         for some, wanted in rows:
-            changes = [Change(TICKS * frame, b"x" * bool(shown), at, shown)
+            changes = [PageChange(TICKS * frame, b"x" * bool(shown), at, shown)
                        for at, (frame, shown) in enumerate(some)]
             self.assertEqual([one.number for one in skip_repeats(changes, MOST_ERASED)], wanted,
                              some)
-        many = [Change(TICKS, b"x" * (at % 2), at, text if at == 25 else other * (at % 2))
+        many = [PageChange(TICKS, b"x" * (at % 2), at, text if at == 25 else other * (at % 2))
                 for at in range(1, 40)]
         many[0] = many[0]._replace(letters=b"x", rows=text)
         self.assertEqual((find_repeat(many, 0, 1), find_repeat(many[:1], 0, 1)), (24, None))
@@ -96,9 +96,9 @@ class TimeBases(unittest.TestCase):
     def test_selects_the_time_bases_with_the_most_changes(self) -> None:
         def bases(counts: Sequence[int], inside: tuple[int, int]) -> list[tuple[int, int, int]]:
             """Return the stretches of four PES packets with changes."""
-            packets = Packets(0, [Run(4 * at, 4, 10 ** 9 - at * 10 ** 6, TICKS, "h", "")
+            packets = Packets(0, [PacketRun(4 * at, 4, 10 ** 9 - at * 10 ** 6, TICKS, "h", "")
                                   for at in range(len(counts))])
-            packets.changes = [Change(0, b"", 4 * at + more) for at, count in enumerate(counts)
+            packets.changes = [PageChange(0, b"", 4 * at + more) for at, count in enumerate(counts)
                                for more in range(count)]
             return [(base.start, base.stop, len(some)) for base, some in select_time_bases(
                 packets, inside)]
@@ -117,13 +117,13 @@ class TimeBases(unittest.TestCase):
     def test_reaches_from_the_first_header_to_the_last(self) -> None:
         for kinds, wanted in (("hhh", (0, 2)), ("ohh", (1, 2)), ("hho", (0, 1)), ("oho", (1, 1)),
                               ("ooo", None), ("mhh", (1, 2)), ("hhm", (0, 1))):
-            packets = Packets(0, [Run(at, 1, None if kind == "m" else TICKS * at, 0, kind, "")
+            packets = Packets(0, [PacketRun(at, 1, None if kind == "m" else TICKS * at, 0, kind, "")
                                   for at, kind in enumerate(kinds)])
-            packets.changes = [Change(0, b"", 1)]
+            packets.changes = [PageChange(0, b"", 1)]
             self.assertEqual([base.sent for base in find_time_bases([], packets, 0)], [
                 (TICKS * wanted[0], TICKS * wanted[1])] if wanted else [], kinds)
-        long = Packets(0, [Run(0, 9, 5, TICKS, "h", "")])
-        long.changes = [Change(5, b"", 0)]
+        long = Packets(0, [PacketRun(0, 9, 5, TICKS, "h", "")])
+        long.changes = [PageChange(5, b"", 0)]
         self.assertEqual([(one.sent, one.packets, one.length)
                           for one in find_time_bases([], long, 0)],
                          [((5, 5 + 8 * TICKS), (0, 8), 8)])

@@ -21,7 +21,7 @@ from subtitles.judging.subtitles import AT_MIDNIGHT, advise_on_midnight, falls_a
 from subtitles.report.blocks import readable
 from subtitles.request.lines import request_of_line
 from subtitles.request.request import Unclear, add_options
-from subtitles.stream.receiver import pauses_in, timeline_near
+from subtitles.stream.receiver import decode_near, find_pauses
 from .bench import Case, example, example_bytes
 from .judged import judge_files
 from .streams import TELETEXT_PID, stream_of_pids
@@ -272,15 +272,15 @@ class Decisions(Case):
                 (NO_FRAME, [900], []), (10, [900], [Span(11, 899)]), (0, [4], [Span(1, 3)]),
                 (0, [3], []), (10, [900, 990], [
                     Span(11, 899), Span(901, 989)]), (NO_FRAME, [900, 990], [Span(901, 989)])):
-            self.must(f"{before} {frames}", [*pauses_in(before, frames)] == wanted)
+            self.must(f"{before} {frames}", [*find_pauses(before, frames)] == wanted)
 
     def test_looks_back_as_far_as_the_repeat_interval(self) -> None:
         packets = survey_packets(self, b"".join(make_pes_packet(TICKS * at, [HEADER, CLOSING])
                                                 for at in (0, 600, 1000)))
         for every, wanted in ((25, [1000]), (250, [1000]), (399, [1000]), (400, [600, 1000]),
                               (1000, [0, 600, 1000]), (3000, [0, 600, 1000])):
-            near = timeline_near(packets, PAGE, 0, 0, Span(1000, 1001), every)
-            self.must(f"{every}", [*near.sendings] == wanted, [*near.sendings])
+            near = decode_near(packets, PAGE, 0, 0, Span(1000, 1001), every)
+            self.must(f"{every}", [*near.header_frames] == wanted, [*near.header_frames])
 
     def test_escapes_characters_of_a_page(self) -> None:
         for byte, wanted in ((ord("<"), "&lt;"), (ord("&"), "&amp;"), (ord(">"), "&gt;"),

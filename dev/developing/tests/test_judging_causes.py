@@ -18,7 +18,7 @@ from subtitles.judging.causes import (
 from subtitles.judging.transmissions import ExpectedPages
 from subtitles.judging.verdict import measure_delay
 from subtitles.stream.packets import Packets
-from subtitles.stream.receiver import BLANK_PAGE, Meeting, Rows, Timeline
+from subtitles.stream.receiver import BLANK_PAGE, Rows, SpanIndex, Timeline
 from .. import DEV
 from .judged import JudgedPair, ProgrammeCase
 from .streams import Shape, make_multiplex, teletext_places
@@ -218,20 +218,20 @@ class RandomRow:
         chance, decoded = self.chance, empty(self.within)
         decoded.first = chance.choice((0, 0, self.programme.begins[0] - 20))
         for frame, text in self.sent:
-            decoded.change(frame, page_of(text))
+            decoded.note_page(frame, page_of(text))
             for at in (frame, frame + chance.choice((0, 0, 1, 4))) * (text != "-"):
-                decoded.turn(at)
+                decoded.note_opening(at)
         decoded.last = chance.choice((END, END, self.sent[-1][0] + 10))
         if chance.randrange(4) == 0:
             begin = chance.randrange(600)
-            decoded.doubts = [Span(begin, begin + chance.choice((5, 100)))]
+            decoded.uncertain_spans = [Span(begin, begin + chance.choice((5, 100)))]
         if chance.randrange(4) == 0:
             begin = chance.choice(self.programme.begins) - 5
             steady(decoded)
             decoded.pauses = [Span(begin, begin + chance.choice((4, 5, 6, 40)))]
         if chance.randrange(8) == 0:
             frame = self.programme.begins[-1] + 2
-            decoded.strays = [(Span(frame, frame), ((19, self.programme.pages[-1][18]),))]
+            decoded.stray_rows = [(Span(frame, frame), ((19, self.programme.pages[-1][18]),))]
         return decoded
 
     def row(self) -> str:
@@ -242,7 +242,7 @@ class RandomRow:
         reach = Span(begin - chance.choice((2, 3, 4, 300)), decoded.last + chance.choice((0, 30))) \
             if chance.randrange(2) else None
         decoded.first = chance.choice((decoded.first, begin, begin + 2))
-        decoded.lost = Meeting(lost)
+        decoded.lost = SpanIndex(lost)
         causes = Causes(self.programme, decoded, reach)
         wrong = {frame: None for frame in range(min(decoded.last, END))
                  if not causes.finder.is_expected_page(frame)}
@@ -369,15 +369,16 @@ class WorkedRows(unittest.TestCase):
                  enumerate(times, 1)], [page_of(one[-1]) for one in subtitles.split(";")])
             decoded, pages = empty(), dict[Rows, str]()
             for frame, _, name in (one.partition(":") for one in sent.split() if ":" in one):
-                decoded.change(int(frame), page_of(name))
+                decoded.note_page(int(frame), page_of(name))
                 pages[page_of(name)] = name
             decoded.first, decoded.last = 0, 999
-            decoded.doubts, decoded.pauses = (
+            decoded.uncertain_spans, decoded.pauses = (
                 [Span(*map(int, one[1:].split("-"))) for one in sent.split() if one[0] == mark]
                 for mark in "?!")
             steady(decoded)
-            decoded.strays = [(Span(int(one[1:]), int(one[1:])), ((19, programme.pages[0][18]),))
-                           for one in sent.split() if one[0] == "@"]
+            decoded.stray_rows = [(Span(int(one[1:]), int(one[1:])),
+                                   ((19, programme.pages[0][18]),))
+                                  for one in sent.split() if one[0] == "@"]
             causes = Causes(programme, decoded)
             faulty = [frame for frame in range(500) if not causes.finder.is_expected_page(frame)]
             causes.classify_all(fake_answer([(begin, next(last for last in range(begin, 501)
@@ -408,7 +409,7 @@ class WorkedRows(unittest.TestCase):
                                             [page_of("a")]), \
                 empty()
             for frame, name in ((held_from, "-"), (103, "a"), (155, "-")):
-                decoded.change(frame, page_of(name))
+                decoded.note_page(frame, page_of(name))
             decoded.first, decoded.last = 103, 140
             causes = Causes(programme, decoded, Span(first, last))
             causes.classify_all(fake_answer([], (63, 103), (74, 140)))

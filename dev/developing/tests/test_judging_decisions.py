@@ -182,7 +182,7 @@ class SubtitleFiles(Case):
     def test_warns_of_another_character_set(self) -> None:
         for region, option, more in itertools.product((None, 0, 1), (None, 0, 4), (0, 1)):
             sets = [(28, 0, region, option), *[(29, 4, 0, 1)] * more]
-            packets, request = Packets(0, sets=sets), request_for("one.stl", "one.ts")
+            packets, request = Packets(0, character_sets=sets), request_for("one.stl", "one.ts")
             reported = ["unreadable" if None in (region, option) else
                     f"{option:03b} of region {region:04b}"] * ((region, option) != (0, 0))
             reported += ["001 of region 0000"] * more
@@ -263,10 +263,10 @@ class DecodedPages(Case):
         decoded = self.decode(data)
         for frame, wanted in ((5, 5), (9, 9), (10, 20), (15, 20), (20, 20), (25, 25), (30, 40),
                               (39, 40), (40, 40), (99, 99)):
-            self.check(f"from {frame}", decoded.closed_from(frame), wanted)
+            self.check(f"from {frame}", decoded.find_closed_frame(frame), wanted)
         decoded = self.decode(data[:len(data) // 2 + 1])
         self.must("open and closed once",
-                  (decoded.closed_from(15), decoded.closed_from(20)) == (20, 20))
+                  (decoded.find_closed_frame(15), decoded.find_closed_frame(20)) == (20, 20))
 
     def test_shows_a_page_once_a_header_ends_it(self) -> None:
         old, new = row_packet(20, b"old"), row_packet(20, b"new")
@@ -293,10 +293,11 @@ class DecodedPages(Case):
         for numbers, wanted in of_doubts:
             decoded = self.decode(b"".join(broken[at] if at in numbers else one
                                       for at, one in enumerate(good)))
-            self.must(f"{numbers}", decoded.doubts == wanted, decoded.doubts)
+            self.must(f"{numbers}", decoded.uncertain_spans == wanted, decoded.uncertain_spans)
             for first, last in ((0, 15), (15, 25), (30, 30), (65, 66), (85, 90)):
                 is_seen = not any(one.first <= last and first <= one.last for one in wanted)
-                self.must(f"{numbers}: {first} to {last}", decoded.is_seen(first, last) == is_seen)
+                self.must(f"{numbers}: {first} to {last}", decoded.was_received(first, last) ==
+                          is_seen)
 
     def test_decodes_only_the_requested_range(self) -> None:
         data = b"".join(make_pes_packet(TICKS * 10 * at, [
@@ -318,17 +319,18 @@ class DecodedPages(Case):
         for changes, frames, pages in rows:
             decoded = Timeline(Packets(0), PAGE, 0)
             for frame, page in changes:
-                decoded.change(frame, page)
+                decoded.note_page(frame, page)
             self.must(f"{frames}", (list(decoded.frames), decoded.pages) == (frames, pages),
                       decoded.frames)
-            self.check(f"{frames}: when", {page: list(some) for page, some in decoded.when.items()},
+            self.check(f"{frames}: when", {page: list(some) for page,
+                                           some in decoded.page_frames.items()},
                        {
                 page: [frame for frame, one in zip(frames, pages) if one == page]
                 for page in pages})
             for begin, end in itertools.combinations(range(4, 14), 2):
                 numbers = [at for at, frame in enumerate(frames) if frame < end and
                            begin < [*frames, 99][at + 1]]
-                self.must(f"{begin} {end}", [*decoded.numbers(begin, end)] == numbers and
+                self.must(f"{begin} {end}", [*decoded.page_numbers(begin, end)] == numbers and
                           decoded.page_at(begin) == (BLANK_PAGE if begin < 5
                                                      else pages[numbers[0]]))
 
@@ -357,7 +359,7 @@ class DecodedPages(Case):
                       (len(decoded.pages), decoded.halt is not None) == (pages, is_lost),
                       (decoded.frames, decoded.halt))
             self.must(f"{frames}: seen",
-                      [decoded.is_seen(300, decoded.last + more) for more in (0, 1)]
+                      [decoded.was_received(300, decoded.last + more) for more in (0, 1)]
                       == [True, not is_lost])
 
 

@@ -22,8 +22,8 @@ from subtitles.judging.sentence import Facts, FaultCount, describe_causes, descr
 from subtitles.judging.transmissions import run_program
 from subtitles.request.commands import CLEAR, Listener, Progress, Speech
 from subtitles.request.request import Unclear
-from subtitles.stream.packets import Packets, Run
-from subtitles.stream.receiver import BLANK_PAGE, Meeting
+from subtitles.stream.packets import PacketRun, Packets
+from subtitles.stream.receiver import BLANK_PAGE, SpanIndex
 from .bench import Case
 from .judged import LineRecorder
 from .parts import make_answer, request_for, survey_packets, make_part, shell_script, decode_packets
@@ -126,12 +126,12 @@ class Descriptions(Case):
     def test_ignores_frames_with_losses(self) -> None:
         data = b"".join(make_pes_packet(TICKS * frame, [HEADER, CLOSING]) for frame in (0, 50, 100))
         decoded = decode_packets(self, data)
-        decoded.lost, decoded.doubts = Meeting([Span(10, 20)]), [Span(60, 70)]
+        decoded.lost, decoded.uncertain_spans = SpanIndex([Span(10, 20)]), [Span(60, 70)]
         for first, last, is_seen in ((0, 9, True), (0, 10, False), (20, 25, False), (21, 59, True),
                                      (5, 30, False), (70, 90, False), (71, 100, True)):
-            self.assertEqual(decoded.is_seen(first, last), is_seen, (first, last))
+            self.assertEqual(decoded.was_received(first, last), is_seen, (first, last))
         decoded.halt = 9
-        self.assertEqual([decoded.is_seen(80, last) for last in (100, 101)], [True, False])
+        self.assertEqual([decoded.was_received(80, last) for last in (100, 101)], [True, False])
 
     def test_finds_the_pes_packet_of_a_fault(self) -> None:
         data = b"".join(make_pes_packet(ticks, [HEADER, CLOSING])
@@ -166,8 +166,8 @@ class Descriptions(Case):
                   fault and len(find_fault_place(fault, decoded.packets, decoded).headers) == 1)
 
     def test_reports_why_the_teletext_ends(self) -> None:
-        packets = Packets(0x101, [Run(0, 5, 0, TICKS, "h", "")], refusal=31)
-        why = "PID 0x101 has something else than PES packets of private_stream_1 from PES packet " \
+        packets = Packets(0x101, [PacketRun(0, 5, 0, TICKS, "h", "")], refusal=31)
+        why = "PID 0x101 has data other than PES packets of private_stream_1 from PES packet " \
             "5 on: refused 31 Start pes 5"
         for last, words in ((4, why), (3, "")):
             part = make_part(0, 9, 0, packets=packets, pes=(0, last))

@@ -18,7 +18,7 @@ from subtitles.formats.layout import Layout, PLAIN, Refused, drawn, fault_in, la
 from subtitles.formats.stl import Subtitle
 from subtitles.formats.teletext import ENGLISH
 from subtitles.judging.pages import describe_row_difference
-from subtitles.stream.layout import sent_in
+from subtitles.stream.layout import find_sent_subtitles
 from .bench import BENCH, Case
 from .judged import JudgedPair, judge_files
 from .streams import Shape, make_multiplex, stream_bytes, with_loss
@@ -93,7 +93,7 @@ class DecodedPages(Case):
                                                             )], CLOSING])
                    for frame, number in (*pages, (200, None))]
             one = Subtitle(1, 0, begin, end, 18, 2, b"ab")
-            found = sent_in([one], decode_packets(self, b"".join(pes)), ENGLISH)
+            found = find_sent_subtitles([one], decode_packets(self, b"".join(pes)), ENGLISH)
             rows = [number for sent in found for number, cells in enumerate(sent.rows, 1)
                     if cells.strip()]
             self.must(f"{begin} {end} {pages}", rows == wanted, rows)

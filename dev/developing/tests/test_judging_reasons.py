@@ -17,9 +17,10 @@ from subtitles.judging.transmissions import (
     describe_effect, describe_header_faults, describe_missing_erase, describe_omitted_rows,
     find_omitted_rows, find_page_headers)
 from subtitles.recording.recording import pes_header_problem, read_pes_header
-from subtitles.stream.gaps import Place, places_of, what_of
-from subtitles.stream.packets import Clocked, Mark, Packets, Run, subcode_of, turns_of
-from subtitles.stream.receiver import BLANK_PAGE, Meeting, Rows, Timeline, TUNED
+from subtitles.stream.gaps import LossPlace, describe_loss, find_loss_places
+from subtitles.stream.packets import (
+    GapMarker, PCRStep, PacketRun, Packets, alternating_subcodes, subcode_of)
+from subtitles.stream.receiver import BLANK_PAGE, INITIAL_STATE, Rows, SpanIndex, Timeline
 from .bench import Case
 from .judged import JudgedPair, ProgrammeCase, judge_files
 from .streams import (
@@ -143,7 +144,7 @@ class Reasons(ProgrammeCase):
 
     def test_finds_sub_pages_that_alternate(self) -> None:
         def sent(*codes: str) -> Packets:
-            return Packets(0, [Run(at, int(word[0]), 0, 0, "h", "+".join(
+            return Packets(0, [PacketRun(at, int(word[0]), 0, 0, "h", "+".join(
                 f"88{one}80810" for one in word[1:])) for at, word in enumerate(codes)])
 
         for codes, wanted in ((("91",), []), (("11",) * 9, []), (("11", "12", "11", "12"), []),
@@ -152,10 +153,10 @@ class Reasons(ProgrammeCase):
                               (("312",), ["0001", "0002"]), (("11", "12", "13") * 3,
                                                              ["0001", "0002", "0003"]),
                               (("11", "12", "13", "14", "15", "16"), [])):
-            self.assertEqual(turns_of(sent(*codes)), wanted, codes)
+            self.assertEqual(alternating_subcodes(sent(*codes)), wanted, codes)
         once = sent(*("11", "12") * 3, *("11",) * 6)
         for inside, count in (((0, 5), 2), ((0, 11), 2), ((2, 11), 0), ((6, 11), 0)):
-            self.assertEqual(len(turns_of(once, inside)), count, inside)
+            self.assertEqual(len(alternating_subcodes(once, inside)), count, inside)
         self.assertEqual([*explain_mismatch(sent("11", "12"), PAGE)], [])
 
     def test_estimates_losses_by_the_pcr(self) -> None:
@@ -174,19 +175,21 @@ class Reasons(ProgrammeCase):
                                        line.endswith(f": {words}") for line in found.told),
                       found.said)
         far = 200_000
-        one = Packets(1, [Run(0, 4, 0, 10, "h", ""), Run(4, 1, None, 0, "m", ""),
-                          Run(5, 4, far, 10, "h", "")], marks=[Mark(4, 30, 3, 0)])
-        rows: list[tuple[list[Clocked], Place]] = [
-            ([], Place(30, far, 3, mark=4)),
-            ([Clocked(30, far, 99_000, 9, 9000, 9, "broken")], Place(30, far, 3, 0, 90_000, 4)),
-            ([Clocked(30, far, 299_000, 9, 9000, 9, "broken")], Place(30, far, 3, mark=4)),
-            ([Clocked(30, far, 99_000, 9, 9000, 9, "whole")], Place(30, far, 3, mark=4)),
-            ([Clocked(far + 10, far + 30, 99_000, 9, 9000, 9, "whole")],
-             Place(30, far, 3, mark=4))]
+        one = Packets(1, [PacketRun(0, 4, 0, 10, "h", ""), PacketRun(4, 1, None, 0, "m", ""),
+                          PacketRun(5, 4, far, 10, "h", "")], gap_markers=[GapMarker(4, 30, 3, 0)])
+        rows: list[tuple[list[PCRStep], LossPlace]] = [
+            ([], LossPlace(30, far, 3, gap_marker=4)),
+            ([PCRStep(30, far, 99_000, 9, 9000, 9, "broken")], LossPlace(30, far, 3, 0, 90_000, 4)),
+            ([PCRStep(30, far, 299_000, 9, 9000, 9, "broken")],
+             LossPlace(30, far, 3, gap_marker=4)),
+            ([PCRStep(30, far, 99_000, 9, 9000, 9, "whole")], LossPlace(30, far, 3, gap_marker=4)),
+            ([PCRStep(far + 10, far + 30, 99_000, 9, 9000, 9, "whole")],
+             LossPlace(30, far, 3, gap_marker=4))]
         for clocked, wanted in rows:
-            one.clocked = clocked
-            self.assertEqual(places_of(one), [wanted], clocked)
-        self.assertEqual(what_of(Place(1, 2, 3, 4, 9000)), "TS packets of 0.10 s are missing by "
+            one.pcr_steps = clocked
+            self.assertEqual(find_loss_places(one), [wanted], clocked)
+        self.assertEqual(describe_loss(LossPlace(1, 2, 3, 4, 9000)),
+                         "TS packets of 0.10 s are missing by "
                          "the PCR; the counter shows 3 of them, 4 TS packets scrambled")
 
 
@@ -218,16 +221,17 @@ def numbers(**places: int) -> bytes:
 class Headers(Case):
     def test_knows_the_previous_header_of_each_header(self) -> None:
         one, other = "88000810", "88100810"
-        received = TUNED._replace(is_heard=True, is_open=True, header=NUMBERS)
+        received = INITIAL_STATE._replace(is_received=True, is_open=True, header=NUMBERS)
         first, second = KEEPS, of_subcode(KEEPS, 1)
         for does, control, state, wanted in (
-                ("-", "", TUNED, []), ("h", one, TUNED, [(first, None, False)]),
+                ("-", "", INITIAL_STATE, []), ("h", one, INITIAL_STATE, [(first, None, False)]),
                 ("hec", "88080810", received, [(NUMBERS, NUMBERS, True)]),
                 ("cho", one, received, [(first, NUMBERS, False)]),
-                ("hh", f"{one}+{other}", TUNED, [(first, None, False), (second, first, True)]),
+                ("hh", f"{one}+{other}", INITIAL_STATE, [(first, None, False),
+                                                         (second, first, True)]),
                 ("hchc", f"{other}+{one}", received,
                  [(second, NUMBERS, True), (first, second, False)])):
-            run = Run(0, 1, 0, 0, does, control)
+            run = PacketRun(0, 1, 0, 0, does, control)
             found = [tuple(header) for header in find_page_headers(run, state)]
             self.must(f"{does} {control}", found == wanted, found)
 
@@ -368,7 +372,7 @@ class MissingRows(Case):
         for frame, wanted in ((0, ""), (25, "rows 20 and 22"), (50, "row 22")):
             self.must(f"{frame}", namer.list_omitted_rows(frame) == wanted,
                       namer.list_omitted_rows(frame))
-        namer.timeline.lost = Meeting([Span(50, 50)])
+        namer.timeline.lost = SpanIndex([Span(50, 50)])
         self.must("not received",
                   namer.list_omitted_rows(50) == "" and namer.list_omitted_rows(25) != "")
         several = (25, [KEEPING_HEADER]), (25, [FIRST, CLOSING])

@@ -73,7 +73,7 @@ class PartClocks(unittest.TestCase):
         self.assertEqual(sought.call_args.args, (OriginSearch(
             request.stl_path, "name", (1, 0x50), "german", 5, 3, 2, (2, 8), request.between,
             frozenset({4}), request.late, True), "packets"))
-        with mock.patch.object(timing, "cut_of") as cut:
+        with mock.patch.object(timing, "find_range") as cut:
             for packets, inside, begin, is_continued in (
                     (None, (2, 8), 3, False), ((4, 5), (4, 5), 3, False), (None, (2, 8), 3, True),
                     (None, (2, 8), 5, True)):  # the first subtitle is not that of the file
@@ -91,7 +91,7 @@ class PartClocks(unittest.TestCase):
         leads = {(9, video): several for video, several in known.items()}
         survey: Any = SimpleNamespace(leads=leads, programmes_of=lambda pid: [
             SimpleNamespace(kinds={pid: 6, 1: 2, 2: 2}), SimpleNamespace(kinds={pid: 6, 3: 27})])
-        with mock.patch.object(timing, "departures_of", lambda several: several):
+        with mock.patch.object(timing, "locate_departures", lambda several: several):
             for source, count in ((GIVEN, 2), (RECORDING, 2), (START, 3), (TCP, 3)):
                 found = find_desync(survey, 9, TimedPart(10, 100, Clock(0, source)), 0, 7)
                 self.assertEqual([one.part for one in found.faults], [7] * count, source)
@@ -105,7 +105,7 @@ class Notices(Case):
             jumps = [ClockJump(None, 90_000), *(ClockJump((origin + TICKS * frame) % CLOCK, ticks)
                                            for frame, ticks in (
                 (9, 1), (10, 90_000), (15, -90_000), (20, 8_640_000), (21, 5)))]
-            with mock.patch("subtitles.recording.notices.jumps_of", lambda packets: jumps):
+            with mock.patch("subtitles.recording.notices.find_clock_jumps", lambda packets: jumps):
                 found = [(one.kind, one.time, one.line.partition(" at ")[0])
                          for one in jump_notices(Packets(1), origin, 10, 20)]
             self.assertEqual(found, [

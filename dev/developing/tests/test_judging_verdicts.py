@@ -24,8 +24,8 @@ from subtitles.recording.notices import Notice
 from subtitles.request.commands import Names
 from subtitles.request.request import Request
 from subtitles.results.schema import Writing, trusted_of
-from subtitles.stream.gaps import Place
-from subtitles.stream.packets import Packets, Run
+from subtitles.stream.gaps import LossPlace
+from subtitles.stream.packets import PacketRun, Packets
 from .bench import Case
 from .parts import make_answer, request_for, survey_packets, make_part
 from .transmissions import CLOSING, HEADER, row_packet
@@ -44,11 +44,11 @@ def of_pair(*words: str) -> Request:
     return request_for("one.stl", "one.pes", "--origin", "0", *words)
 
 
-def loss_between(before: int | None, after: int | None, shift: int = 0, **more: Any) -> Place:
+def loss_between(before: int | None, after: int | None, shift: int = 0, **more: Any) -> LossPlace:
     """Return a loss between two frames."""
     first, last = (None if one is None else (shift + TICKS * one) % CLOCK
                    for one in (before, after))
-    return Place(first, last, **more)
+    return LossPlace(first, last, **more)
 
 
 class Verdicts(Case):
@@ -59,7 +59,7 @@ class Verdicts(Case):
 
     def test_chooses_the_last_line_and_the_leading_fault(self) -> None:
         left, never = NamedFault(PICTURES_LEFT, "away", "00:00:01:00"), NamedFault(NEVER_SENT, "")
-        lost = [Gap(None, None, "", Place(1, 2, missing=9), True)]
+        lost = [Gap(None, None, "", LossPlace(1, 2, missing=9), True)]
         strange = [Notice(kind, kind, None) for kind in ("pause", "page", "pause")]
         mild = self.write("mild", b"72 warning\nnever sent warning\n")
         self.write("house", b"--allow-lost\n--severity %s\n" % mild.encode())
@@ -142,7 +142,7 @@ class Verdicts(Case):
 
     def test_the_sentence_names_the_first_loss(self) -> None:
         verdict = verdict_of(self.three())
-        verdict.gaps = [Gap("1", "9", f"{at} lost", Place(1, 2, 3), one)
+        verdict.gaps = [Gap("1", "9", f"{at} lost", LossPlace(1, 2, 3), one)
                         for at, one in enumerate((False, True, False, True, True))]
         self.must("judged", verdict.sentence.startswith(
             "Not accepted: between 1 and 9: 1 lost, and in 2 more places;"), verdict.sentence)
@@ -157,7 +157,7 @@ class Verdicts(Case):
     def test_finds_the_losses_of_a_part(self) -> None:
         part = make_part(100, 199, 0, pes=(5, 9))
         marks = [mark for mark in range(12)
-                 if belongs_to_part(Place(None, None, 1, mark=mark), part)]
+                 if belongs_to_part(LossPlace(None, None, 1, gap_marker=mark), part)]
         self.must("marks", marks == [*range(5, 10)], marks)
         ends = (None, 0, 99, 100, 101, 198, 199, 200)
         for before, after in itertools.product(ends, repeat=2):
@@ -182,7 +182,7 @@ class Verdicts(Case):
 
     def test_finds_announced_jumps_of_each_part(self) -> None:
         recording: Any = SimpleNamespace(places=lambda jumps: [
-            Place(before, after, is_announced=True) for before, after in jumps])
+            LossPlace(before, after, is_announced=True) for before, after in jumps])
         for own in ((0,), (1,), (2,), (0, 2), (0, 1, 2), ()):
             parts = [make_part(100 * at, 100 * at + 99, 0, recording=recording, jumps=[
                 (TICKS * (100 * at + 50), TICKS * (100 * at + 60))] * (at in own))
@@ -198,7 +198,7 @@ class Verdicts(Case):
                              (2350, ("00:00:14:00", "00:00:14:01")),
                              (2500, ("00:01:40:00", "00:01:40:01"))):
             parts = [make_part(100, 199, 0), make_part(300, 399, TICKS * 2000, number=2)]
-            gap, = make_gaps([Place(TICKS * frame, TICKS * (frame + 1), 1)], parts)
+            gap, = make_gaps([LossPlace(TICKS * frame, TICKS * (frame + 1), 1)], parts)
             self.must(f"{frame}", (gap.after, gap.before) == times, gap)
 
     def test_formats_the_times_of_losses(self) -> None:
@@ -211,7 +211,7 @@ class Verdicts(Case):
             for origin in (0, CLOCK - 40 * TICKS):
                 first, second = (None if pts is None else (origin + pts) % CLOCK
                                  for pts in (before, after))
-                place, part = Place(first, second, 3, mark=0), make_part(0, 1, origin)
+                place, part = LossPlace(first, second, 3, gap_marker=0), make_part(0, 1, origin)
                 part = dataclasses.replace(part, pes=(0, 0))
                 found, = make_gaps([place], [part])
                 self.must(f"{words} {origin}",
@@ -220,9 +220,10 @@ class Verdicts(Case):
 
     def test_trusts_no_frame_of_a_loss(self) -> None:
         printed = ["trusted frames 00:00:04:00 00:00:07:24", "accepted 10 frames 2 transmissions"]
-        hole, other = (Place(TICKS * at - 5, TICKS * (at + 10) - 5, missing=9) for at in (151, 121))
-        mark, early = Place(TICKS * 170, TICKS * 180, 1, mark=7), ("--within", "1")
-        cases: list[tuple[list[Place], Sequence[str], list[tuple[int, int]]]] = [
+        hole, other = (LossPlace(TICKS * at - 5, TICKS * (at + 10) - 5, missing=9)
+                       for at in (151, 121))
+        mark, early = LossPlace(TICKS * 170, TICKS * 180, 1, gap_marker=7), ("--within", "1")
+        cases: list[tuple[list[LossPlace], Sequence[str], list[tuple[int, int]]]] = [
             ([], (), [(100, 199)]), ([mark], (), [(100, 199)]),
             ([hole], (), [(100, 149), (160, 199)]), ([hole], early, [(100, 150), (161, 199)]),
             ([mark, hole, other], (), [(100, 119), (130, 149), (160, 199)])]
@@ -288,7 +289,7 @@ class PartDecisions(Case):
             lines = [line if line[0].isalpha() else f"refused {line}" for line in some]
             faults = sum(line.startswith("refused ") for line in lines)
             printed = make_answer([*lines, *[f"{faults} faults"] * bool(faults)])
-            packets = Packets(0, [Run(0, count, 0, TICKS, "h", "")] * bool(count))
+            packets = Packets(0, [PacketRun(0, count, 0, TICKS, "h", "")] * bool(count))
             part = make_part(0, 9, 0, printed, packets=packets, pes=pes)
             self.must(f"{count} {pes} {lines}", part.is_read() == wanted)
 
@@ -299,9 +300,11 @@ class PartDecisions(Case):
             self.must(f"a hole from {first} to {last}", part.is_read() == (last < 900_049))
 
     def test_counts_the_headers_of_its_own_pes_packets(self) -> None:
-        runs = [Run(0, 2, 0, 9, "h", "88080812"), Run(2, 4, 20, 9, "h", "88080810"),
-                Run(6, 1, 60, 0, "hh", "88080818+88080810"), Run(7, 1, None, 0, "h", "88080814"),
-                Run(8, 1, 80, 0, "h", "8808081E", fault=38), Run(9, 1, 90, 0, "h", "8808081A")]
+        runs = [PacketRun(0, 2, 0, 9, "h", "88080812"), PacketRun(2, 4, 20, 9, "h", "88080810"),
+                PacketRun(6, 1, 60, 0, "hh", "88080818+88080810"),
+                PacketRun(7, 1, None, 0, "h", "88080814"),
+                PacketRun(8, 1, 80, 0, "h", "8808081E", fault=38),
+                PacketRun(9, 1, 90, 0, "h", "8808081A")]
         part = make_part(0, 9, 0, packets=Packets(0, runs), pes=(3, 8))
         english, german = (bytes([8, 8, 0, 8, 0, 8, 1, last]) for last in (0, 8))
         self.must("heard", part.count_headers() == {english: 4, german: 1}, part.count_headers())
@@ -328,7 +331,7 @@ class PartDecisions(Case):
         file.assert_called_once_with("", request.between, {4})
 
     def test_gives_losses_and_range_to_the_causes(self) -> None:
-        places = [Place(TICKS * at, TICKS * (at + 9), missing=9) for at in (120, 150)]
+        places = [LossPlace(TICKS * at, TICKS * (at + 9), missing=9) for at in (120, 150)]
         for refusal, is_stream in itertools.product((None, 31), (True, False)):
             recording: Any = SimpleNamespace(
                 is_stream=is_stream, packets=SimpleNamespace(refusal=refusal),

@@ -118,7 +118,7 @@ class Announcements(Case):
         """Return the advice if several programmes announce a page and one never sends it."""
         request = mock.Mock(page=PAGE, pes=pes)
         recording = mock.Mock(survey=read_survey(*lines), request=request, said=str)
-        recording.again = lambda *words: " ".join(words)
+        recording.suggest_call = lambda *words: " ".join(words)
         try:
             Recording.refuse_silent(recording, carriers)
         except Unclear as reason:
@@ -166,7 +166,7 @@ class Announcements(Case):
         for lines, words, is_refused in rows:
             survey, found = Survey(), ""
             for line in "; ".join([*lines, *clock]).split("; "):
-                survey.take(line)
+                survey.read_line(line)
             request = request_for("a.stl", "a.ts", *words)
             try:
                 if sent in lines:

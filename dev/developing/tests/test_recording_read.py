@@ -16,7 +16,7 @@ from subtitles.recording.recording import Recording, refuse_stream
 from subtitles.request.commands import Names
 from subtitles.request.request import Unclear
 from subtitles.stream.gaps import SECOND
-from subtitles.stream.packets import Mark, PES, Packets, Run
+from subtitles.stream.packets import GapMarker, PES, PacketRun, Packets
 from subtitles.stream.survey import Survey
 from .bench import Case
 from .parts import request_for, read_survey
@@ -33,8 +33,8 @@ def read_recording(survey: Survey, *words: str, name: str = "one.ts", kind: int 
     with mock.patch("os.stat", return_value=SimpleNamespace(st_mode=kind)):
         made: Any = Recording(request_for("a.stl", name, *words), mock.Mock(),
                               Names("one", folder, None), listener, [(100, 150)])
-    made.survey, made.again = survey, lambda *more: " ".join(more)
-    made.said, made.header_problem = str, lambda packets: ""
+    made.survey, made.suggest_call = survey, lambda *more: " ".join(more)
+    made.with_contents, made.header_problem = str, lambda packets: ""
     return made
 
 
@@ -133,9 +133,10 @@ class Messages(Case):
         for damage, refusal, skipped, marks, size in itertools.product(
                 (None, "is damaged"), (0, 31), (0, 40), range(3), (0, 188)):
             one = read_recording(read_survey(f"size {size}", f"over {skipped} 9"))
-            one.packets = Packets(ONE, [Run(0, 9, 0, TICKS, "-", "")] + [
-                Run(9 + at, 1, None, 0, "m", "") for at in range(marks)], damage=damage,
-                refusal=refusal, marks=[Mark(9 + at, 8 * TICKS, 1, 0) for at in range(marks)])
+            one.packets = Packets(ONE, [PacketRun(0, 9, 0, TICKS, "-", "")] + [
+                PacketRun(9 + at, 1, None, 0, "m", "") for at in range(marks)], damage=damage,
+                refusal=refusal, gap_markers=[GapMarker(9 + at, 8 * TICKS, 1, 0)
+                                              for at in range(marks)])
             one.print_losses()
             wanted = [["is damaged"] * bool(damage), [
                 *["refused 31 Start"] * bool(refusal),
@@ -148,7 +149,7 @@ class Messages(Case):
                 (False, True), (0, 31), (None, "is damaged"), (0, 188)):
             one = read_recording(read_survey(f"size {size}"))
             one.packets = Packets(ONE, is_cut=is_cut, refusal=refusal, damage=damage)
-            found = [notice.line.split(" ", 1)[1] for notice in one.strange()]
+            found = [notice.line.split(" ", 1)[1] for notice in one.find_notices()]
             ends = ["ends within"] * (is_cut and not refusal and size > 0) + ["is damaged"] * bool(
                 damage)
             self.check_lines(found, ends)

@@ -18,7 +18,7 @@ from subtitles.recording.notices import Notice
 from subtitles.report import page as report_page
 from subtitles.report.page import BETWEEN, DELAY
 from subtitles.request.commands import CommandWords
-from subtitles.stream.gaps import Place
+from subtitles.stream.gaps import LossPlace
 from subtitles.stream.packets import Packets, PES
 from subtitles.stream.receiver import BLANK_PAGE, Timeline
 from .bench import Case, example
@@ -57,8 +57,8 @@ class CompletePage(Case):
         verdict.request = request_for(example("story.stl"), "one.pes")
         verdict.notes, verdict.warnings = ["note <1>", "note 2"], [
             Notice("pause", "one &", None), Notice("page", "other", "00:00:03:04")]
-        verdict.gaps = [Gap(f"00:00:0{at}:00", None, f"{at} packets", Place(
-            TICKS * 80, TICKS * 81, at, mark=2 if at == 2 else None), True) for at in (1, 2, 3)]
+        verdict.gaps = [Gap(f"00:00:0{at}:00", None, f"{at} packets", LossPlace(
+            TICKS * 80, TICKS * 81, at, gap_marker=2 if at == 2 else None), True) for at in (1, 2, 3)]
         verdict.date = "now"
         return verdict
 

@@ -32,7 +32,7 @@ def timeline_of_pages(*changes: tuple[int, Rows]) -> Timeline:
     decoded = Timeline(Packets(PES), (0, 0x88), 0)
     decoded.first, decoded.last = 0, 1000
     for frame, rows in changes:
-        decoded.change(frame, rows)
+        decoded.note_page(frame, rows)
     return decoded
 
 

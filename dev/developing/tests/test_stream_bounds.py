@@ -12,13 +12,14 @@ from subtitles.clock.start import Clock, StartClock, TCP, find_frame_offset, ref
 from subtitles.common.times import CLOCK, EARLY, FRAMES_A_SECOND, NO_FRAME, Span, TICKS
 from subtitles.recording.recording import Recording
 from subtitles.request.request import Unclear
-from subtitles.stream.gaps import Place, SECOND, TOLD, first_lines, is_within, marks_told
-from subtitles.stream.pace import Lull, Pauses, USUAL_EVERY, idle_of
-from subtitles.stream.repeats import NEAR, repeats_in
-from subtitles.stream.packets import Clocked, Mark, Packets, Run, Texts
+from subtitles.stream.gaps import (
+    LossPlace, MOST_LISTED, SECOND, first_lines, gap_marker_lines, is_within)
+from subtitles.stream.pace import Pauses, Silence, USUAL_EVERY, select_idle_silences
+from subtitles.stream.repeats import NEAR, measure_repeats
+from subtitles.stream.packets import GapMarker, PCRStep, PacketRun, Packets, Texts
 from subtitles.stream.receiver import (
-    BLANK_PAGE, HIT, Meeting, OLD, OLD_PAGE, ReceivedPackets, Timeline, cleared,
-    timeline_near)
+    BLANK_PAGE, HIT, OLD, OLD_PAGE, ReceivedPackets, SpanIndex, Timeline, clear_unsent_cells,
+    decode_near)
 from .parts import request_for
 
 ORIGINS = 0, 7, CLOCK - 100 * SECOND - 5, CLOCK - 20 * SECOND, CLOCK - 5
@@ -31,7 +32,7 @@ def pts_at(seconds: float | None, origin: int = 0) -> int | None:
 
 def packets_at(times: Sequence[float | None], origin: int = 0, does: str = "he") -> Packets:
     """Return PES packets at some seconds; `None` for one without a PTS."""
-    return Packets(257, [Run(number, 1, pts_at(one, origin), 0, does, "")
+    return Packets(257, [PacketRun(number, 1, pts_at(one, origin), 0, does, "")
                          for number, one in enumerate(times)])
 
 
@@ -40,7 +41,7 @@ class Silences(unittest.TestCase):
         for origin, (before, after, ticks, wanted) in itertools.product(ORIGINS, (
                 (0, 2, 2 * SECOND, True), (0, 2, 2 * SECOND + 1, False), (0, 2, 1, True),
                 (None, 2, 9 * SECOND, True), (0, None, 9 * SECOND, True))):
-            place = Place(pts_at(before, origin), pts_at(after, origin))
+            place = LossPlace(pts_at(before, origin), pts_at(after, origin))
             self.assertEqual(is_within(ticks, place), wanted, (origin, before, after, ticks))
 
     def test_ignores_silences_in_which_nothing_was_expected(self) -> None:
@@ -58,18 +59,19 @@ class Silences(unittest.TestCase):
             ((940, 980), [(940, None)], True), ((939, 980), [(940, None)], False)]
         for (first, last), pauses, wanted in rows:
             for is_near in (False, True):
-                lull = Lull(first, last, is_near)
-                self.assertEqual(idle_of([lull], every, pauses), [lull] * (wanted or is_near),
-                                 (first, last, pauses))
+                lull = Silence(first, last, is_near)
+                self.assertEqual(select_idle_silences([lull], every, pauses),
+                                 [lull] * (wanted or is_near), (first, last, pauses))
         # In most pauses of that length; shorter ones don't count.
-        silence = Lull(begin + 400, end, False)
+        silence = Silence(begin + 400, end, False)
         of_others: list[tuple[list[int], bool]] = [
             ([], True), ([500], False), ([499], True), ([499, 499], True), ([500, 499], False),
             ([600, 700], False)]
         for others, wanted in of_others:
             pauses = [(begin, end), *((5000 * at, 5000 * at + length)
                                       for at, length in enumerate(others, 1))]
-            self.assertEqual(idle_of([silence], 50, pauses), [silence] * wanted, others)
+            self.assertEqual(select_idle_silences([silence], 50, pauses), [silence] * wanted,
+                             others)
 
     def test_finds_the_longest_time_without_a_header(self) -> None:
         steady = [*range(0, 100, 10)]
@@ -85,24 +87,25 @@ class Silences(unittest.TestCase):
         for origin, (frames, last, cues, wanted) in itertools.product(origins, rows):
             pts = [round(origin + TICKS * one) % CLOCK for one in frames]
             end = None if last is None else round(origin + TICKS * last) % CLOCK
-            found = repeats_in(pts, end, origin, [*zip(cues, cues[1:])])
+            found = measure_repeats(pts, end, origin, [*zip(cues, cues[1:])])
             self.assertEqual(found and (*found[:4],), wanted, (origin, frames, last, cues))
 
     def test_prints_twenty_losses_and_counts_the_others(self) -> None:
-        for count in (0, 1, TOLD - 1, TOLD, TOLD + 1, TOLD + 2):
+        for count in (0, 1, MOST_LISTED - 1, MOST_LISTED, MOST_LISTED + 1, MOST_LISTED + 2):
             lines = [f"{number}" for number in range(count)]
-            more = count - TOLD
+            more = count - MOST_LISTED
             reported = [f"and at {more} more place{'s' * (more > 1)}"] * (more > 0)
-            self.assertEqual(first_lines(lines), lines[:TOLD] + reported, count)
+            self.assertEqual(first_lines(lines), lines[:MOST_LISTED] + reported, count)
             pts = [SECOND + at * TICKS for at in range(2 * count + 1)]
-            packets = Packets(5, [Run(at, 1, None if at % 2 else one, 0, "", "")
+            packets = Packets(5, [PacketRun(at, 1, None if at % 2 else one, 0, "", "")
                                   for at, one in enumerate(pts)])
-            packets.marks = [Mark(at, pts[at - 1], 1, 0) for at in range(1, 2 * count, 2)]
-            packets.clocked = [Clocked(TICKS * 90, TICKS * 91, TICKS * 9, 9, 1, 9, "broken")]
-            found = marks_told(packets)
+            packets.gap_markers = [GapMarker(at, pts[at - 1], 1, 0)
+                                   for at in range(1, 2 * count, 2)]
+            packets.pcr_steps = [PCRStep(TICKS * 90, TICKS * 91, TICKS * 9, 9, 1, 9, "broken")]
+            found = gap_marker_lines(packets)
             others = [line for line in found if line.startswith("and at")]
             self.assertEqual((len(found), others), (
-                min(count, TOLD), [f"and at {more + 1} more places"] * (more > 0)), count)
+                min(count, MOST_LISTED), [f"and at {more + 1} more places"] * (more > 0)), count)
             times = f"PTS {SECOND} and {SECOND + 2 * TICKS} (00:00:00:00 and 00:00:00:02 after " \
                 "the first)"
             self.assertEqual(found[:1], [f"between {times}: 1 TS packet lost"][:count], count)
@@ -114,7 +117,7 @@ class FirstPictures(unittest.TestCase):
                 (None, None, None), (4, None, 4), (None, 7, 7), (4, 7, 7), (7, 4, 7))):
             clock, begun, wanted = ((None if one is None else (origin + one) % CLOCK)
                                     for one in (pcr, pts, last))
-            known: Any = SimpleNamespace(packets=Packets(5, begun=begun), survey=SimpleNamespace(
+            known: Any = SimpleNamespace(packets=Packets(5, last_pts=begun), survey=SimpleNamespace(
                 clock_of=lambda _: None if clock is None else (0, clock)))
             self.assertEqual(Recording.last(known), wanted, (origin, pts, pcr))
 
@@ -123,7 +126,8 @@ class FirstPictures(unittest.TestCase):
                 ([0, 0, 5], 0, 0), ([5, 5, 0], 5, 5), ([EARLY, 1800, 1800], 1800, EARLY),
                 ([EARLY + 1, 1800, 1800], 1800, 1800), ([-EARLY, 1800, 1800], 1800, TICKS - EARLY),
                 ([-EARLY - 1, 1800, 1800], 1800, 1800))):
-            packets = Packets(5, [Run(at, 1, (origin + TICKS * (at + 3) + one) % CLOCK, 0, "", "")
+            packets = Packets(5, [PacketRun(at, 1, (origin + TICKS * (at + 3) + one) % CLOCK, 0, "",
+                                            "")
                                   for at, one in enumerate(times)])
             found = [find_frame_offset(packets, origin, within) for within in (0, 1)]
             self.assertEqual(found, [exact, near], (origin, times))
@@ -154,8 +158,8 @@ class ReceivedFrames(unittest.TestCase):
     def test_finds_the_frames_around_a_pes_packet(self) -> None:
         order = Timeline(Packets(5), (0, 0x88), 0)
         for first, frames in self.RUNS:
-            run = Run(first, len(frames), TICKS * frames[0], TICKS, "h", "")
-            self.assertTrue(order.goes_on(run, frames), (first, frames))
+            run = PacketRun(first, len(frames), TICKS * frames[0], TICKS, "h", "")
+            self.assertTrue(order.add_run(run, frames), (first, frames))
         known = {first + at: frame for first, frames in self.RUNS
                  for at, frame in enumerate(frames)}
         for number in range(-1, 12):
@@ -164,7 +168,7 @@ class ReceivedFrames(unittest.TestCase):
             self.assertEqual((order.frame_before(number), order.frame_after(number)),
                              (before[-1] if before else None, after[0] if after else None), number)
         for frame in range(9, 32):
-            self.assertEqual([run.first for run in order.members(frame)],
+            self.assertEqual([run.first for run in order.runs_in_frame(frame)],
                              [number for number, one in known.items() if one == frame], frame)
         self.assertEqual((order.first, order.last, order.count), (10, 30, 8))
         self.assertEqual(ReceivedPackets().first, NO_FRAME)
@@ -174,23 +178,23 @@ class ReceivedFrames(unittest.TestCase):
             lost = [Span(3, 3)] * (gap % 2)
             order = ReceivedPackets(lost)
             for at, frame in enumerate(frames):
-                order.is_doubted = order.is_doubted or at == gap
-                order.goes_on(Run(at, 1, 0, 0, "h", ""), [frame])
+                order.is_uncertain = order.is_uncertain or at == gap
+                order.add_run(PacketRun(at, 1, 0, 0, "h", ""), [frame])
             falls = [at for at in range(1, 4) if frames[at] < frames[at - 1]]
             count = falls[0] if falls else 4
             doubts = [Span(frames[gap - 1] if gap else 0, frames[gap])] if gap < count else []
-            self.assertEqual((order.count, order.halt, order.doubts), (
+            self.assertEqual((order.count, order.halt, order.uncertain_spans), (
                 count, falls[0] if falls else None, doubts), (frames, gap))
             for first, last in itertools.combinations_with_replacement(range(5), 2):
                 is_seen = (not falls or last <= frames[count - 1]) and not any(
                     one.first <= last and first <= one.last for one in doubts + lost)
-                self.assertEqual(order.is_seen(first, last), is_seen, (frames, gap))
+                self.assertEqual(order.was_received(first, last), is_seen, (frames, gap))
 
     def test_finds_spans_that_meet(self) -> None:
         some = [Span(*one) for one in itertools.combinations_with_replacement(range(4), 2)]
         for several in ((), *itertools.permutations(some, 3)):
             for first, last in some:
-                self.assertEqual(Meeting(several).has(first, last), any(
+                self.assertEqual(SpanIndex(several).has(first, last), any(
                     one.first <= last and first <= one.last for one in several), (first, last))
 
     @staticmethod
@@ -200,10 +204,10 @@ class ReceivedFrames(unittest.TestCase):
         packets = Packets(5)
         for number, word in enumerate(filter(None, sent.split(" "))):
             frame, does, *reported = word.split(":")
-            packets.runs.append(Run(number, 1, round(TICKS * float(frame.rstrip("!"))), 0, does,
-                                    "0" * ("h" in does), fault=33 * ("!" in frame)))
-            packets.held += [(number, ((20, text.encode("latin-1").ljust(40)),))
-                             for text in reported]
+            packets.runs.append(PacketRun(number, 1, round(TICKS * float(frame.rstrip("!"))), 0,
+                                          does, "0" * ("h" in does), fault=33 * ("!" in frame)))
+            packets.decoded_rows += [(number, ((20, text.encode("latin-1").ljust(40)),))
+                                     for text in reported]
         return Timeline(packets, (0, 0x88), 0, **more)
 
     def test_decodes_the_transmitted_pages(self) -> None:
@@ -224,10 +228,10 @@ class ReceivedFrames(unittest.TestCase):
             decoded = self.timeline(sent)
             found = " ".join(f"{frame} {page[19].decode().strip()}"
                              for frame, page in zip(decoded.frames, decoded.pages))
-            self.assertEqual((found, [*decoded.turns], [*decoded.sendings]),
+            self.assertEqual((found, [*decoded.open_changes], [*decoded.header_frames]),
                              (pages, turns, sendings),
                              name)
-            self.assertEqual(decoded.closed_from(99), None if len(turns) % 2 else 99, name)
+            self.assertEqual(decoded.find_closed_frame(99), None if len(turns) % 2 else 99, name)
 
     def test_handles_steps_back_and_losses(self) -> None:
         for frame, halt in ((299, None), (300, 2), (310, 2)):
@@ -235,10 +239,12 @@ class ReceivedFrames(unittest.TestCase):
             self.assertEqual(decoded.halt, halt, frame)
         twice = "10:heo:a 10:c 11:c"
         decoded = self.timeline(twice)
-        self.assertEqual((decoded.halt, [run.first for run in decoded.members(10)]), (None, [0, 1]))
+        self.assertEqual((decoded.halt, [run.first for run in decoded.runs_in_frame(10)]),
+                         (None, [0, 1]))
         before, behind = "200:heos:a 205!:he 220:c ", "150:heos:b 160!:h 170:c 310:ho:c"
         alone, both = (self.timeline(sent, begin=300) for sent in (behind, before + behind))
-        for name in ("frames", "pages", "turns", "sendings", "erasings", "strays", "doubts",
+        for name in ("frames", "pages", "open_changes", "header_frames", "erasure_frames",
+                     "stray_rows", "uncertain_spans",
                      "pauses", "begins", "ends", "count", "first", "last", "states", "stored"):
             self.assertEqual(getattr(both, name), getattr(alone, name), name)
         decoded = self.timeline("200:he 310:he 200:he 400:he", begin=300)
@@ -247,45 +253,47 @@ class ReceivedFrames(unittest.TestCase):
                          [10, 0, 7])
         decoded = self.timeline(twice, lost=[Span(5, 6)])
         self.assertEqual([decoded.lost.has(*one) for one in ((6, 9), (7, 9))], [True, False])
-        runs = [Run(0, 3, 0, 5 * TICKS, "s", ""), Run(3, 1, 20 * TICKS, 0, "s", ""),
-                Run(4, 1, 30 * TICKS, 0, "s", "")]
+        runs = [PacketRun(0, 3, 0, 5 * TICKS, "s", ""), PacketRun(3, 1, 20 * TICKS, 0, "s", ""),
+                PacketRun(4, 1, 30 * TICKS, 0, "s", "")]
         texts = [((20, b"a"),), ((20, b"b"),)]
-        decoded = Timeline(Packets(5, runs, strays=[(0, texts[0]), (4, texts[1])]), (0, 0x88), 0)
-        self.assertEqual(decoded.strays, [(Span(0, 10), texts[0]), (Span(20, 20), texts[0]),
-                                       (Span(30, 30), texts[1])])
+        decoded = Timeline(Packets(5, runs, stray_rows=[(0, texts[0]), (4, texts[1])]), (0, 0x88),
+                           0)
+        self.assertEqual(decoded.stray_rows, [(Span(0, 10), texts[0]), (Span(20, 20), texts[0]),
+                                              (Span(30, 30), texts[1])])
         self.assertEqual([*decoded.ends], [10, 20, 30])
 
     def test_decodes_only_packets_near_the_subtitle(self) -> None:
-        runs = [Run(at, 1, TICKS * 10 * at, 0, "heo" if at != 75 else "-", "0" * (at != 75))
+        runs = [PacketRun(at, 1, TICKS * 10 * at, 0, "heo" if at != 75 else "-", "0" * (at != 75))
                 for at in range(300)]
-        packets = Packets(5, runs, held=[(at, ((20, b"%d" % at),)) for at in range(300)])
+        packets = Packets(5, runs, decoded_rows=[(at, ((20, b"%d" % at),)) for at in range(300)])
         for every, inside, first, last in ((25, None, 750, 1450), (400, None, 600, 1600),
                                            (25, (90, 110), 900, 1100)):
-            decoded = timeline_near(packets, (0, 0x88), 0, 0, Span(1000, 1200), every, inside,
-                                 [Span(5, 6)])
+            decoded = decode_near(packets, (0, 0x88), 0, 0, Span(1000, 1200), every, inside,
+                                  [Span(5, 6)])
             self.assertEqual((decoded.first, decoded.last, decoded.lost.has(6, 7)),
                              (first, last, True),
                              (every, inside, first))
-            self.assertEqual([decoded.stretch(at) for at in (0, len(decoded.frames) - 1)], [
+            self.assertEqual([decoded.page_span(at) for at in (0, len(decoded.frames) - 1)], [
                 Span(decoded.frames[0], decoded.frames[0] + 9), Span(last, last)],
-                (every, inside, first))
-        decoded = timeline_near(packets, (0, 0x88), EARLY, 1, Span(1000, 1200), 25)
+                             (every, inside, first))
+        decoded = decode_near(packets, (0, 0x88), EARLY, 1, Span(1000, 1200), 25)
         self.assertEqual((decoded.first, decoded.last), (750, 1450))
-        decoded = timeline_near(packets, (0, 0x88), 0, 0, Span(9000, 9100), 25)
+        decoded = decode_near(packets, (0, 0x88), 0, 0, Span(9000, 9100), 25)
         self.assertEqual((decoded.count, decoded.first), (0, NO_FRAME))
 
     def test_starts_a_range_with_the_last_printed_rows(self) -> None:
         for does, is_told in itertools.product(("he", "h"), (True, False)):
-            runs = [Run(at, 1, TICKS * at, 0, one, "0") for at, one in enumerate(
+            runs = [PacketRun(at, 1, TICKS * at, 0, one, "0") for at, one in enumerate(
                 (does, "h", "ho", "he"))]
             decoded: list[tuple[int, Texts]] = [(at, ((20, text),)) for at, text in enumerate(
                 (b"w", b"x", b"y", b"z"))]
-            packets = Packets(5, runs, held=decoded if is_told else decoded[:2] + decoded[3:])
+            packets = Packets(5, runs, decoded_rows=decoded if is_told else decoded[:2] +
+                              decoded[3:])
             rows = Timeline(packets, (0, 0x88), 0, 0, (2, 2)).states[-1].rows
             self.assertEqual((rows[0], rows[19]), ((BLANK_PAGE if "e" in does else OLD_PAGE)[0],
                                                    b"y" if is_told else b"x"), (does, is_told))
         for marks in ((), (OLD,), (HIT,), (HIT, OLD)):
-            self.assertEqual(cleared((b"a", bytes([*marks, 0x62]))), (
+            self.assertEqual(clear_unsent_cells((b"a", bytes([*marks, 0x62]))), (
                 b"a", b" " * len(marks) + b"b"), marks)
 
 

@@ -3,9 +3,9 @@ from __future__ import annotations
 
 
 from subtitles.recording.recording import unreadable_packets
-from subtitles.stream.gaps import why_refused
-from subtitles.stream.packets import Packets, Run
-from subtitles.stream.survey import Survey, names_of
+from subtitles.stream.gaps import explain_refusal
+from subtitles.stream.packets import PacketRun, Packets
+from subtitles.stream.survey import Survey, language_names
 from .bench import Case, example, example_bytes
 from .transmissions import packets
 
@@ -21,17 +21,17 @@ class ExtractMessages(Case):
                 (5, 3, 3, 0, 0, "PID 0x5 is scrambled, in all its 3 TS packets"),
                 (9, 1, 1, 0, 0, "PID 0x9 is scrambled, in all its 1 TS packet"),
                 (10, 9, 9, 0, 1, None),
-                (4, 9, 0, 31, 1, "PID 0x4 has something else than PES packets of private_stream_1 "
+                (4, 9, 0, 31, 1, "PID 0x4 has data other than PES packets of private_stream_1 "
                                  "from PES packet 1 on: refused 31 Start pes 1"),
-                (7, 9, 1, 32, 2, "PID 0x7 has something else than PES packets of 184 to 1656 bytes "
+                (7, 9, 1, 32, 2, "PID 0x7 has data other than PES packets of 184 to 1656 bytes "
                                  "from PES packet 2 on: refused 32 Length pes 2"),
                 (3, 0, 0, 0, 0, "PID 0x3 has no packets"), (8, 9, 0, 0, 1, None),
                 (2, 7, 0, 31, 0, "PID 0x2 has no PES packets of private_stream_1, as Teletext has"),
                 (1, 1, 0, 0, 0, "PID 0x1 has no complete PES packet in 1 TS packet")):
             one = Packets(pid, packets=packets, scrambled=scrambled, refusal=refusal)
-            one.runs += [Run(0, count, 0, 0, "", "")] * bool(count)
+            one.runs += [PacketRun(0, count, 0, 0, "", "")] * bool(count)
             known.by_pid[pid] = one
-            self.must(f"{pid:#x}", why_refused(one) == words, why_refused(one))
+            self.must(f"{pid:#x}", explain_refusal(one) == words, explain_refusal(one))
         silent = [one.pid for one in unreadable_packets(known)]
         self.must("silent", silent == [1, 2, 5, 6, 9], silent)
 
@@ -42,7 +42,7 @@ class ExtractMessages(Case):
                 ("21", "por"), ("25", "slk slo"), ("07", "dan"), ("1D", "nld dut"), ("20", "pol"),
                 ("1E", "nor nob nno"), ("22", "ron rum"), ("26", "slv"), ("29", "tur"),
                 ("7f", ""), ("00", ""), ("x", ""), ("", "")):
-            self.must(code, names_of(code) == wanted.split(), names_of(code))
+            self.must(code, language_names(code) == wanted.split(), language_names(code))
 
 
 class ConvertedStreams(Case):

@@ -8,8 +8,8 @@ from subtitles.formats.layout import (
     Layout, PLAIN, Refused, drawn, layout_of, layout_text, page_rows)
 from subtitles.formats.teletext import ENGLISH
 from subtitles.stream.layout import (
-    Choice, Evidence, MOST_ITEMS, Rest, Sent, choices_of, draws, is_found, items_in, pairs_of,
-    taken_from, with_items, without)
+    Evidence, ItemEvidence, LayoutChoice, MOST_ITEMS, SentSubtitle, add_items, choose_layouts,
+    draws_as_sent, find_questionable_items, is_found, list_items, pair_lines, remove_items)
 from .bench import Case
 from .test_stream_layouts import HOUSES, programme
 
@@ -97,9 +97,9 @@ def rows_of(text: bytes, justify: int, layout: Layout, row: int = 18) -> tuple[b
     return page_rows(lines)
 
 
-def sent_of(several: Sequence[SentText], layout: Layout = PLAIN) -> list[Sent]:
+def sent_of(several: Sequence[SentText], layout: Layout = PLAIN) -> list[SentSubtitle]:
     """Return the transmission of texts in a layout."""
-    return [Sent(one.text, 18, one.justify, rows_of(one.sent, one.justify, layout))
+    return [SentSubtitle(one.text, 18, one.justify, rows_of(one.sent, one.justify, layout))
             for one in several]
 
 
@@ -109,7 +109,7 @@ def plain(count: int) -> list[SentText]:
             for text in [SHORT_TEXTS[at % len(SHORT_TEXTS)]]]
 
 
-def moved(one: Sent, columns: int) -> Sent:
+def moved(one: SentSubtitle, columns: int) -> SentSubtitle:
     """Return a subtitle that was transmitted some columns farther left."""
     return one._replace(rows=tuple(row[columns:] + row[:columns] for row in one.rows))
 
@@ -118,17 +118,17 @@ class ItemDecisions(Case):
     def test_reads_and_writes_layout_items(self) -> None:
         for text, items in ITEMS:
             layout = meant(text)
-            reported = [(layout_text(with_items(PLAIN, [item], layout)),
-                     layout_text(without(layout, [item])))
-                    for item in items_in(layout)]
+            reported = [(layout_text(add_items(PLAIN, [item], layout)),
+                         layout_text(remove_items(layout, [item])))
+                        for item in list_items(layout)]
             self.must(text, reported == items, reported)
-            self.must(f"{text}, all", without(layout, items_in(layout)) == PLAIN
-                      and with_items(PLAIN, items_in(layout), layout) == layout)
+            self.must(f"{text}, all", remove_items(layout, list_items(layout)) == PLAIN
+                      and add_items(PLAIN, list_items(layout), layout) == layout)
 
     def test_knows_which_items_hide_something(self) -> None:
         for text, missing in TAKEN:
             layout = meant(text)
-            reported = layout_text(with_items(PLAIN, taken_from(layout), layout))
+            reported = layout_text(add_items(PLAIN, find_questionable_items(layout), layout))
             self.must(text, reported == missing, reported)
 
     def test_takes_an_item_that_nine_in_ten_subtitles_draw(self) -> None:
@@ -136,36 +136,37 @@ class ItemDecisions(Case):
                                            (0, 0, False),
                                        (19, 17, False), (19, 18, True), (100, 90, True),
                                        (100, 89, False)):
-            self.must(f"{decides} {reported}", Rest("", decides, reported).is_seen == is_seen)
+            self.must(f"{decides} {reported}", ItemEvidence("", decides, reported).has_evidence ==
+                      is_seen)
 
     def test_takes_an_item_that_is_clear(self) -> None:
         for found, count, is_clear in ((9, 9, False), (10, 9, True), (10, 8, False),
                                        (100, 90, True), (100, 89, False)):
-            self.must(f"{count} of {found}", Choice(PLAIN, count, found).is_clear == is_clear)
+            self.must(f"{count} of {found}", LayoutChoice(PLAIN, count, found).is_clear == is_clear)
 
 
 class ProposedItems(Case):
     def test_proposes_an_item_that_ten_subtitles_show(self) -> None:
         for row in ROWS:
             several = [row.one] * row.times + plain(100 - row.times)
-            closest, choice = choices_of(sent_of(several), ENGLISH)
+            closest, choice = choose_layouts(sent_of(several), ENGLISH)
             left = [(one.text, one.more) for one in choice.left]
             self.must(row.name, layout_text(choice.layout) == row.taken and choice.total == 100
-                      and choice.drawn == 100 - (row.times if row.left else 0)
+                      and choice.as_sent == 100 - (row.times if row.left else 0)
                       and left == ([(row.left, row.more)] if row.left else [])
-                      and closest.drawn == 100, (closest, choice))
+                      and closest.as_sent == 100, (closest, choice))
 
     def test_counts_what_each_omitted_item_would_draw(self) -> None:
         several = [COLOUR] * 5 + [SPACES] * 4 + plain(91)
-        choice = choices_of(sent_of(several), ENGLISH)[1]
+        choice = choose_layouts(sent_of(several), ENGLISH)[1]
         left = [(one.text, one.more) for one in choice.left]
         self.must("left", left == [("strip=03", 5), ("trim", 4), ("strip=03,trim", 9)], left)
 
     def test_finds_rows_two_columns_off(self) -> None:
         for count, taken in ((1, ""), (9, ""), (10, "right=2")):
             right = [moved(one, 2) for one in sent_of([SentText(b"Hi", b"Hi", 3)] * count)]
-            choice = choices_of([*sent_of(plain(100 - count)), *right], ENGLISH)[1]
-            self.must(f"{count}", layout_text(choice.layout) == taken and choice.drawn == 100 - (
+            choice = choose_layouts([*sent_of(plain(100 - count)), *right], ENGLISH)[1]
+            self.must(f"{count}", layout_text(choice.layout) == taken and choice.as_sent == 100 - (
                 count if not taken else 0), choice)
 
     def test_puts_codes_before_a_lines_own_colour(self) -> None:
@@ -173,9 +174,9 @@ class ProposedItems(Case):
                                       (30, "", 0)):
             sent = sent_of([SentText(b"\3Hi", b"\3Hi")] * count + plain(100 - count),
                            meant("before=*070B0B"))
-            closest, choice = choices_of(sent, ENGLISH)
+            closest, choice = choose_layouts(sent, ENGLISH)
             left = [(one.text, one.more) for one in choice.left]
-            self.must(f"{count}", closest.drawn == 100 and choice.drawn == drawn_so and
+            self.must(f"{count}", closest.as_sent == 100 and choice.as_sent == drawn_so and
                       layout_text(choice.layout) == text and choice.is_clear == bool(text) and
                       left == [("before=*070B0B", 100 - drawn_so)], choice)
 
@@ -185,35 +186,37 @@ class ProposedItems(Case):
             sent = [*sent_of([two] * 10, Layout(double=True)), *sent_of([two] * otherwise),
                     *sent_of(plain(100))]
             found = Evidence(sent, ENGLISH)
-            layout, missing = found.supported(Layout(double=True))
+            layout, missing = found.remove_unsupported(Layout(double=True))
             self.must(f"{otherwise}",
                       layout_text(layout) == taken and bool(missing) == (not taken) and
-                      found.rest(Layout(double=True), [("double", 0)]) ==
-                      Rest("double", 10 + otherwise, 10), (layout, missing))
+                      found.item_evidence(Layout(double=True), [("double", 0)]) ==
+                      ItemEvidence("double", 10 + otherwise, 10), (layout, missing))
 
     def test_drops_the_item_with_the_least_evidence_first(self) -> None:
         found = Evidence(sent_of([WHITE] * 3 + [SPACES] * 5 + plain(92)), ENGLISH)
-        missing = found.supported(meant("strip=07,trim"))[1]
+        missing = found.remove_unsupported(meant("strip=07,trim"))[1]
         self.must("first", missing == [{("strip", 7)}, {("trim", 0)}], missing)
         found = Evidence(sent_of([COLOUR] * 5 + [SPACES] + plain(20)), ENGLISH)
-        left = found.left_of(PLAIN, [frozenset({("strip", 3)}), frozenset({("trim", 0)})],
-                             meant("strip=03,trim"))
+        left = found.find_rejected_items(PLAIN, [frozenset({("strip", 3)}),
+                                                 frozenset({("trim", 0)})],
+                                         meant("strip=03,trim"))
         self.must("left", [(one.text, one.more) for one in left] == [
             ("strip=03", 5), ("trim", 1), ("strip=03,trim", 6)], left)
         layout = meant("before=0D*0B0B")
         found = Evidence(sent_of([SentText(b"\3Hi", b"\3Hi")] * 12 + plain(88), layout), ENGLISH)
-        reported = found.choice(layout).items
-        self.must("told", reported == (Rest("before=0D*0B0B", 12, 12),), reported)
+        reported = found.make_choice(layout).items
+        self.must("told", reported == (ItemEvidence("before=0D*0B0B", 12, 12),), reported)
 
     def test_finds_subtitles_by_their_characters(self) -> None:
         blank = (b" " * 40,) * 24
-        self.must("no letters", not is_found(Sent(b"", 20, 2, blank), ENGLISH))
-        self.must("drawn", draws(PLAIN, sent_of(plain(1))[0], ENGLISH) and not draws(
-            PLAIN, Sent(b"\x00Hi", 20, 2, blank), ENGLISH))
+        self.must("no letters", not is_found(SentSubtitle(b"", 20, 2, blank), ENGLISH))
+        self.must("drawn", draws_as_sent(PLAIN, sent_of(plain(1))[0], ENGLISH)
+                  and not draws_as_sent(
+            PLAIN, SentSubtitle(b"\x00Hi", 20, 2, blank), ENGLISH))
         for lines, shown, count in (
                 ([b"ab", b"c"], [b"ab", b"c"], 2), ([b"ab", b"", b"c"], [b"", b" ab", b"c"], 2),
                 ([b"ab", b"c"], [b"a", b"bc"], 0), ([b"ab", b"c"], [b"abc"], 0), ([b""], [b""], 0)):
-            pairs = pairs_of(7, lines, shown)
+            pairs = pair_lines(7, lines, shown)
             self.must(f"{lines} {shown}", len(pairs) == count and all(
                 lines[one.number] == one.cells and shown[one.row - 1] == one.sent and
                 one.place == 7 for one in pairs), pairs)
@@ -224,29 +227,31 @@ class ProposedItems(Case):
         for count in (1, 9, 10):
             sent = [*sent_of([two] * 90), *sent_of(plain(count), layout)]
             found = Evidence(sent, ENGLISH)
-            alone = [found.rest(layout, [item]).is_seen for item in items_in(layout)]
-            self.must(f"{count}", alone == [True, True] and found.supported(layout)[0] == (
-                layout if count == 10 else PLAIN), found.supported(layout))
+            alone = [found.item_evidence(layout, [item]).has_evidence
+                     for item in list_items(layout)]
+            self.must(f"{count}", alone == [True, True] and found.remove_unsupported(layout)[0] == (
+                layout if count == 10 else PLAIN), found.remove_unsupported(layout))
 
     def test_drops_a_hidden_item_and_counts_again(self) -> None:
         house = Layout(text=True, after=b"\x0a")
         sent = [*sent_of([*plain(99), COLOUR], house)]
-        choice = choices_of(sent, ENGLISH)[1]
+        choice = choose_layouts(sent, ENGLISH)[1]
         self.must("seen", layout_text(choice.layout) == "after=0A,text" or
                   layout_text(choice.layout) == "after=0A", choice)
         self.must("left", [one.text for one in choice.left] == ["strip=03"], choice)
         several = [SentText(b"\x0dHi", b"Hi")] * 20 + plain(80)
         found = Evidence(sent_of(several, Layout(before=b"\x0d\x0b\x0b")), ENGLISH)
         whole = Layout(before=b"\x0d\x0b\x0b", strip=b"\x0d")
-        self.must("brought", found.supported(whole) == (whole, []), found.supported(whole))
+        self.must("brought", found.remove_unsupported(whole) == (whole, []),
+                  found.remove_unsupported(whole))
 
     def test_tests_many_items_one_by_one(self) -> None:
         codes = bytes([0x00, 0x07, 0x09, 0x0A, 0x0C, *range(0x10, 0x1B)])
         layout = Layout(strip=codes)
-        self.must("many", len(items_in(layout)) > MOST_ITEMS)
+        self.must("many", len(list_items(layout)) > MOST_ITEMS)
         sent = sent_of([SentText(codes + b"Hi", b"Hi")] * 10)
-        taken, missing = Evidence(sent, ENGLISH).supported(layout)
-        self.must("few", len(items_in(taken)) <= MOST_ITEMS and len(missing) >= 4, taken)
+        taken, missing = Evidence(sent, ENGLISH).remove_unsupported(layout)
+        self.must("few", len(list_items(taken)) <= MOST_ITEMS and len(missing) >= 4, taken)
 
     def test_finds_each_layout_although_some_differ(self) -> None:
         for number, (has_codes, leaves_room, text) in enumerate(HOUSES):
@@ -256,9 +261,9 @@ class ProposedItems(Case):
             for at in some.sample(range(len(sent)), count):
                 rows = sent[at].rows
                 sent[at] = sent[at]._replace(rows=rows[at % 3 + 1:] + rows[:at % 3 + 1])
-            closest, choice = choices_of(sent, ENGLISH)
+            closest, choice = choose_layouts(sent, ENGLISH)
             is_few = count * 10 <= len(sent)
             found = choice if is_few else closest
-            self.must(f"{text}, {count}", found.drawn == len(sent) - count and
+            self.must(f"{text}, {count}", found.as_sent == len(sent) - count and
                       choice.is_clear == is_few and (is_few or choice == closest),
                       (closest, choice))

@@ -12,7 +12,8 @@ from subtitles.formats.layout import (
     simplicity)
 from subtitles.formats.listing import fault_of_line
 from subtitles.formats.teletext import BY_WORD, ENGLISH, Page
-from subtitles.stream.layout import Choice, Sent, choices_of, is_found, missed
+from subtitles.stream.layout import (
+    LayoutChoice, SentSubtitle, choose_layouts, count_misdrawn, is_found)
 from .. import DEV
 from ..every_place.on_air import Packet, read_rows, find_page_span
 from ..every_place.reading import decode_header, split_packets, read_packet
@@ -93,16 +94,16 @@ def line(some: random.Random, has_codes: bool) -> bytes:
 
 
 def programme(some: random.Random, has_codes: bool, leaves_room: bool, layout: Layout,
-              count: int = 120) -> list[Sent]:
+              count: int = 120) -> list[SentSubtitle]:
     """Return subtitles and their transmission in a layout."""
-    sent: list[Sent] = []
+    sent: list[SentSubtitle] = []
     while len(sent) < count:
         between = b"\x8a\x8a" if leaves_room else b"\x8a"
         text = between.join(line(some, has_codes) for _ in range(some.choice([1, 2, 2])))
         row, justify = some.choice([16, 18, 20]), some.choice([2, 2, 2, 1, 3, 0])
         lines = drawn(text, row, justify, layout, ENGLISH)
         if not isinstance(lines, Refused):
-            sent.append(Sent(text, row, justify, page_rows(lines)))
+            sent.append(SentSubtitle(text, row, justify, page_rows(lines)))
     return sent
 
 
@@ -140,8 +141,8 @@ class LayoutSearch(Case):
             layout = layout_of(text) if text else PLAIN
             assert layout is not None, text
             sent = programme(some, has_codes, leaves_room, layout)
-            found = choices_of(sent, ENGLISH)[1]
-            self.must(text, found.drawn == found.total == len(sent) and found.is_clear
+            found = choose_layouts(sent, ENGLISH)[1]
+            self.must(text, found.as_sent == found.total == len(sent) and found.is_clear
                       and simplicity(found.layout) <= simplicity(layout), found)
 
     def test_a_wrong_page_shows_no_layout(self) -> None:
@@ -150,9 +151,9 @@ class LayoutSearch(Case):
         wrong = sent[20]._replace(rows=tuple(row.replace(b"e", b"c") for row in sent[20].rows))
         moved = sent[30]._replace(rows=tuple(row[-3:] + row[:-3] for row in sent[30].rows))
         sent[20:21], sent[30:31] = [wrong], [moved]
-        found = choices_of(sent, ENGLISH)[1]
+        found = choose_layouts(sent, ENGLISH)[1]
         self.must("the house's", found.layout == Layout(text=True) and found.is_clear, found)
-        self.must("counted", (found.total - found.drawn) == 1
+        self.must("counted", (found.total - found.as_sent) == 1
                   and found.total == sum(is_found(one, ENGLISH) for one in sent), found)
 
     def test_finds_columns_although_one_subtitle_differs(self) -> None:
@@ -162,25 +163,27 @@ class LayoutSearch(Case):
                            for one in (house, other))
         for place in (0, len(sent) - 1):
             mixed = [*sent[:place], otherwise[place], *sent[place + 1:]]
-            found = choices_of(mixed, ENGLISH)[1]
+            found = choose_layouts(mixed, ENGLISH)[1]
             self.must(f"{place}", found[:3] == (house, len(sent) - 1, len(sent)), found)
 
     def test_finds_no_layout_without_evidence(self) -> None:
         some = random.Random(9)
         sent = programme(some, False, False, PLAIN)
         others = [one._replace(rows=other.rows) for one, other in zip(sent, sent[1:])]
-        self.must("another programme", not choices_of(others, ENGLISH)[1].is_clear)
-        self.must("nine", not choices_of(sent[:9], ENGLISH)[1].is_clear)
-        self.must("ten", choices_of(sent[:10], ENGLISH)[1] == Choice(PLAIN, 10, 10))
-        self.must("none", choices_of([], ENGLISH)[1] == Choice(PLAIN, 0, 0))
+        self.must("another programme", not choose_layouts(others, ENGLISH)[1].is_clear)
+        self.must("nine", not choose_layouts(sent[:9], ENGLISH)[1].is_clear)
+        self.must("ten", choose_layouts(sent[:10], ENGLISH)[1] == LayoutChoice(PLAIN, 10, 10))
+        self.must("none", choose_layouts([], ENGLISH)[1] == LayoutChoice(PLAIN, 0, 0))
         turns = [one for pair in zip(programme(some, False, False, PLAIN, 60),
                                      programme(some, False, False, Layout(row=-1), 60))
                  for one in pair]
-        found = choices_of(turns, ENGLISH)[0]
+        found = choose_layouts(turns, ENGLISH)[0]
         self.must("in turns", not found.is_clear and found.total == 120
-                  and found.drawn >= len(turns) - missed(PLAIN, turns, ENGLISH, len(turns)), found)
-        self.must("nine in ten", Choice(PLAIN, 90, 100).is_clear
-                  and not Choice(PLAIN, 89, 100).is_clear and not Choice(PLAIN, 9, 9).is_clear)
+                  and found.as_sent >= len(turns) - count_misdrawn(PLAIN, turns, ENGLISH,
+                                                                   len(turns)), found)
+        self.must("nine in ten", LayoutChoice(PLAIN, 90, 100).is_clear
+                  and not LayoutChoice(PLAIN, 89, 100).is_clear
+                  and not LayoutChoice(PLAIN, 9, 9).is_clear)
 
 
 class StoredRows(Case):

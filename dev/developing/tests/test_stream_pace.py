@@ -11,10 +11,10 @@ from typing import NamedTuple, Sequence
 from developing.pes import make_pes_packet
 from subtitles.common.times import CLOCK, TICKS
 from subtitles.stream.pace import (
-    BY_EVERY, FEW, IRREGULAR, Lull, PAUSED, Pauses, REGULAR, TOO_FEW, each_of, frame_rows, pace_of,
-    pauses_of, silences_in, unseen_from, usual_in)
+    BY_EVERY, FEW, IRREGULAR, PAUSED, Pauses, REGULAR, Silence, TOO_FEW, compute_pace,
+    count_ts_packets, find_hidden_loss, find_pauses, find_silences, find_usual_distance, frame_rows)
 from subtitles.stream.repeats import cue_frames
-from subtitles.stream.packets import Packets, Run
+from subtitles.stream.packets import PacketRun, Packets
 from .bench import Case
 from .judged import JudgedPair, ProgrammeCase, judge_files
 from .streams import Packet, Shape, TELETEXT_PID, make_multiplex, stream_bytes, delete_between
@@ -198,18 +198,18 @@ TABLE = [
 class PaceDecisions(Case):
     def test_measures_the_pace_of_each_row(self) -> None:
         for row in TABLE:
-            pace = pace_of(row.rows, row.each, row.every, row.pauses, row.is_stream)
-            self.must(row.name, (pace.kind, pace.frames, pace.closer) == (
+            pace = compute_pace(row.rows, row.each, row.every, row.pauses, row.is_stream)
+            self.must(row.name, (pace.kind, pace.frames, pace.hidden_places) == (
                 row.kind, row.frames, row.closer), pace)
-        self.must("words", pace_of([holed(LONG, (9, 20))], 2, 250)[:3] == (REGULAR, 1, 3) and
-                  pace_of([holed(LONG, (9, 300))], 1, 999, [(0, 9)])[:3] == (PAUSED, 301, 3) and
-                  pace_of([holed(LONG, (9, 200), (999, 90), (2999, 94))], 1, 250,
-                          [(999, 1090), (2999, 3094)])[:3] == (PAUSED, 95, 3))
+        self.must("words", compute_pace([holed(LONG, (9, 20))], 2, 250)[:3] == (REGULAR, 1, 3) and
+                  compute_pace([holed(LONG, (9, 300))], 1, 999, [(0, 9)])[:3] == (PAUSED, 301, 3)
+                  and compute_pace([holed(LONG, (9, 200), (999, 90), (2999, 94))], 1, 250,
+                               [(999, 1090), (2999, 3094)])[:3] == (PAUSED, 95, 3))
         closest: list[tuple[list[list[int]], int]] = [
             ([], 0), ([[7]], 0), ([[0, 2, 9]], 7), ([[0, 1, 3], [9, 13, 18]], 1),
             ([[0, 9, 17, 24, 30, 31]], 6)]
         for rows, apart in closest:
-            self.must(f"{rows}", pace_of(rows, 1, 250).apart == apart)
+            self.must(f"{rows}", compute_pace(rows, 1, 250).interval == apart)
 
     def test_finds_the_usual_interval(self) -> None:
         rows: list[tuple[dict[int, int], int | None]] = [
@@ -218,7 +218,8 @@ class PaceDecisions(Case):
             ({1: 1977, 2: 20, 9: 3}, None), ({1: 1980, 2: 17, 9: 3}, 1), ({1: 1996, 9: 4}, None),
             ({1: 1996, 2: 1, 9: 3}, 1), ({1: 1900, 3: 101, 4: 19}, 3)]
         for near, wanted in rows:
-            self.must(f"{near}", usual_in(collections.Counter(near), sum(near.values()), FEW)
+            self.must(f"{near}", find_usual_distance(collections.Counter(near), sum(near.values()),
+                                                     FEW)
                       == wanted)
 
     def test_finds_the_shortest_loss_that_no_counter_shows(self) -> None:
@@ -228,8 +229,8 @@ class PaceDecisions(Case):
             ([two], 2, 4), ([two], 9, 1), ([[5] * 400], 1, 0),
             ([[*range(0, 1000, 5)], [*range(9)]], 3, 6)]
         for frames, each, wanted in rows:
-            self.must(f"{frames} {each}", unseen_from(frames, each) == wanted,
-                      unseen_from(frames, each))
+            self.must(f"{frames} {each}", find_hidden_loss(frames, each) == wanted,
+                      find_hidden_loss(frames, each))
 
     def test_splits_the_frames_at_losses(self) -> None:
         origin = CLOCK - 5 * TICKS
@@ -243,12 +244,12 @@ class PaceDecisions(Case):
             ([(0, 2, 0.5, 1, 0)], 0, []), ([(0, 2, 0.5, 1, 0)], 1, [[0, 1]]),
             ([(0, 1, 0, 0, 0), (1, 1, 0.5, 0, 0), (2, 2, 1, 1, 0)], 0, [[0], [1, 2]])]
         for runs, within, wanted in rows:
-            packets = Packets(5, [Run(first, count, None if frame is None else int(
+            packets = Packets(5, [PacketRun(first, count, None if frame is None else int(
                 origin + frame * TICKS) % CLOCK, step * TICKS, "-", "", fault=fault)
-                for first, count, frame, step, fault in runs])
+                                  for first, count, frame, step, fault in runs])
             reported = [[*row] for row in frame_rows(packets, (0, 99), origin, within)]
             self.must(f"{runs}", reported == wanted, reported)
-        packets = Packets(5, [Run(0, 9, origin, TICKS, "-", "")])
+        packets = Packets(5, [PacketRun(0, 9, origin, TICKS, "-", "")])
         self.must("some", [[*row] for row in frame_rows(packets, (3, 5), origin, 0)] == [[3, 4, 5]])
 
     def test_counts_ts_packets_of_a_pes_packet(self) -> None:
@@ -257,25 +258,25 @@ class PaceDecisions(Case):
                 (151, None, 0, 2), (800, None, 3, 8), (100, None, 35, 9), (5000, None, 1, 9),
                 (0, 184 * 100, 3, 1), (0, 184 * 151, 0, 2), (0, 184 * 300, 3, 3), (0, 0, 7, 2),
                 (0, None, 0, 1)):
-            packets = Packets(5, [Run(0, 99, 0, TICKS, "-", "", 3 * (units > 3)),
-                                  Run(99, 1, 0, 0, "-", "", units)], packets=total)
-            self.must(f"{total} {size} {units}", each_of(packets, (0, 99), size) == wanted)
-            self.must("without the last", each_of(packets, (0, 98), size) <= max(
+            packets = Packets(5, [PacketRun(0, 99, 0, TICKS, "-", "", 3 * (units > 3)),
+                                  PacketRun(99, 1, 0, 0, "-", "", units)], packets=total)
+            self.must(f"{total} {size} {units}", count_ts_packets(packets, (0, 99), size) == wanted)
+            self.must("without the last", count_ts_packets(packets, (0, 98), size) <= max(
                 1, round((total if size is None else size // 184) / 100)))
-        self.must("no PES packet", each_of(Packets(5, packets=3), (0, 0), None) == 1)
+        self.must("no PES packet", count_ts_packets(Packets(5, packets=3), (0, 0), None) == 1)
 
     def test_finds_silences_between_frames(self) -> None:
         for apart, steps in itertools.product(itertools.product((1, 4, 5, 6), repeat=5), (1, 2, 4)):
             row = [*itertools.accumulate(apart, initial=7)]
             places = [at for at, frames in enumerate(apart) if frames >= 5]
-            self.assertEqual([*silences_in(row, 5, steps)], [Lull(row[at], row[at + 1], any(
+            self.assertEqual([*find_silences(row, 5, steps)], [Silence(row[at], row[at + 1], any(
                 0 < abs(at - other) < steps for other in places)) for at in places], (row, steps))
-        self.must("one a frame", not [*silences_in(range(9), 1, 3)])
+        self.must("one a frame", not [*find_silences(range(9), 1, 3)])
 
     def test_finds_the_pauses_between_subtitles(self) -> None:
         self.must("edges", cue_frames([(5, 9), (9, 30), (2, 5)]) == [2, 5, 9, 30])
-        self.must("none", not pauses_of([]))
-        self.must("two", pauses_of([(5, 9), (20, 30)]) ==
+        self.must("none", not find_pauses([]))
+        self.must("two", find_pauses([(5, 9), (20, 30)]) ==
                   [(None, 5), (9, 20), (30, None)])
 
 

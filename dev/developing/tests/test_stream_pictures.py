@@ -12,8 +12,8 @@ from subtitles.common.times import CLOCK, TICKS, pts_of, time_of
 from subtitles.formats.listing import PICTURES_LEFT
 from subtitles.judging.timing import NOT_CHECKED, find_departures, find_desync, find_late_jumps
 from subtitles.stream.pace import Pace, REGULAR
-from subtitles.stream.packets import Packets, Run, announced_jumps
-from subtitles.stream.pictures import Departure, VideoLead, departures_of
+from subtitles.stream.packets import PacketRun, Packets, find_announced_jumps
+from subtitles.stream.pictures import Departure, VideoLead, locate_departures
 from subtitles.stream.survey import Survey
 from .bench import Case
 from .judged import judge_files
@@ -45,7 +45,7 @@ def leads_of(leads: Sequence[float], steps: Mapping[int, float] = {}, first: int
 class PictureDepartures(Case):
     def ticks_of(self, leads: Sequence[VideoLead]) -> list[int | None] | None:
         """Return the ticks of each departure, or `None` if no step is usual."""
-        departures = departures_of(leads)
+        departures = locate_departures(leads)
         return None if departures is None else [one.ticks for one in departures]
 
     def test_finds_steps_of_the_pictures_against_the_teletext(self) -> None:
@@ -61,15 +61,15 @@ class PictureDepartures(Case):
 
     def test_finds_several_departures_in_order(self) -> None:
         leads = leads_of([6.0] * 20 + [3.0] * 20 + [6.0] * 20 + [6.0] * 20, {20: 3, 40: -3, 60: 9})
-        self.check("three steps", departures_of(leads), [
+        self.check("three steps", locate_departures(leads), [
             Departure(leads[20].pts, leads[19].pts, 3 * TICKS),
             Departure(leads[40].pts, leads[39].pts, -3 * TICKS)])
         for after, ticks in ((0.0, 6 * TICKS), (4.0, None)):
             near = leads_of([6.0] * 20 + [3.0] + [after] * 20, {20: 3, 21: 3})
-            self.check(f"two steps with one line between, then {after}", departures_of(near), [
+            self.check(f"two steps with one line between, then {after}", locate_departures(near), [
                 Departure(near[21].pts, near[19].pts, ticks)])
         for count in (0, 1):
-            self.check(f"{count} lines", departures_of(leads[:count]), [])
+            self.check(f"{count} lines", locate_departures(leads[:count]), [])
 
     def test_finds_departures_with_lost_pictures(self) -> None:
         for lost in (0, 1, 2, 5, 12):
@@ -103,11 +103,11 @@ class PictureDepartures(Case):
     def test_needs_a_usual_step(self) -> None:
         chance = random.Random(1)
         steps = {at: float(chance.randrange(-9, 9)) for at in range(40)}
-        self.check("at random", departures_of(leads_of([6.0] * 40, steps)), None)
+        self.check("at random", locate_departures(leads_of([6.0] * 40, steps)), None)
         for each in (1, 12.5, 50):  # pictures a second; most lines have the usual step
             steady = [lead._replace(number=round(each * at))
                       for at, lead in enumerate(leads_of([6.0] * 40))]
-            self.check(f"{each} a second", departures_of(steady), [])
+            self.check(f"{each} a second", locate_departures(steady), [])
 
 
 # Judged departures: what is early or late for viewers.
@@ -133,7 +133,7 @@ def survey_with(lines: Sequence[str] = ()) -> Survey:
                  f"stream {others} 2", f"programme 1 {VIDEO}", f"stream {PID} 6",
                  *(f"stream {video} 2" for video in (quiet, VIDEO)),
                  *lines_of([], video=quiet), *lines, *lines_of([(9, 1500)], video=others)]:
-        survey.take(line)
+        survey.read_line(line)
     return survey
 
 
@@ -231,9 +231,11 @@ class AnnouncedJumps(Case):
         frames = [0, 1, 2, 5, 6, 8, 9, 12]
         for origin, (usual, inside, wanted) in itertools.product((0, CLOCK - 5 * TICKS), rows):
             pts = [pts_of(frame, origin) for frame in frames]
-            packets = Packets(PID, [Run(at, 1, one, 0, "-", "") for at, one in enumerate(pts)],
-                              seams=[0, *(frames.index(frame) for frame in (2, 5, 5, 8)), 99])
-            self.check(f"{origin} {usual} {inside}", announced_jumps(packets, inside, usual), [
+            packets = Packets(PID, [PacketRun(at, 1, one, 0, "-", "") for at,
+                                    one in enumerate(pts)],
+                              counter_jumps=[0, *(frames.index(frame) for frame in (2, 5, 5, 8)),
+                                             99])
+            self.check(f"{origin} {usual} {inside}", find_announced_jumps(packets, inside, usual), [
                 (pts[frames.index(one)], pts[frames.index(other)]) for one, other in wanted])
 
     def test_counts_jumps_with_more_time_than_usual(self) -> None:
@@ -244,8 +246,9 @@ class AnnouncedJumps(Case):
             (4, [], 3)]
         for origin, (apart, late, others) in itertools.product(
                 (0, *(CLOCK - frame * TICKS for frame in range(14))), rows):
-            packets = Packets(PID, [Run(at, 1, pts_of(frame, origin), 0, "-", "")
-                                    for at, frame in enumerate(frames)], seams=[2, 3, 4, 5, 6])
+            packets = Packets(PID, [PacketRun(at, 1, pts_of(frame, origin), 0, "-", "")
+                                    for at, frame in enumerate(frames)],
+                              counter_jumps=[2, 3, 4, 5, 6])
             recording: Any = SimpleNamespace(is_stream=True, packets=packets)
             part: Any = SimpleNamespace(judged_recording=(recording, None), pes=(0, 7))
             reported = find_late_jumps(part, Pace(REGULAR, apart))

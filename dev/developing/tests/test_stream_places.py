@@ -18,9 +18,9 @@ from subtitles.request.request import request_of
 from subtitles.results.files import found, is_current
 from subtitles.results.schema import PROGRAM, REQUEST
 from subtitles.stream.gaps import (
-    ClockJump, MOST_LATE, Place, SECOND, jumps_of, late_of, marks_told, overlap, places_of,
-    reach_of, what_of)
-from subtitles.stream.packets import Clocked, Mark, Packets, Run
+    ClockJump, LossPlace, MOST_LATE, SECOND, describe_loss, find_clock_jumps, find_loss_places,
+    find_pts_delay, find_recorded_range, gap_marker_lines, overlap)
+from subtitles.stream.packets import GapMarker, PCRStep, PacketRun, Packets
 from subtitles.stream.survey import ProgramMap, Survey, survey
 from ..cited import find_long_readings
 from ..definitions import Library, count_lines_to_read
@@ -44,9 +44,11 @@ class LossPlaces(Case):
         for shift in range(9):
             pts = [TICKS * (at - shift) % CLOCK for at in range(9)]
             jump, other = (pts[3], pts[5]), (pts[7], pts[8])
-            clocked = Clocked(*jump, 9 * TICKS, 9, TICKS, 9, "broken")
-            mark, ends = Mark(4, pts[3], 2, 0), [Mark(0, None, 0, 0), Mark(8, pts[7], 0, 1)]
-            rows: list[tuple[list[Mark], list[Clocked], list[Jump], list[tuple[Around, bool]]]] = [
+            clocked = PCRStep(*jump, 9 * TICKS, 9, TICKS, 9, "broken")
+            mark, ends = GapMarker(4, pts[3], 2, 0), [GapMarker(0, None, 0, 0),
+                                                      GapMarker(8, pts[7], 0, 1)]
+            rows: list[tuple[list[GapMarker], list[PCRStep], list[Jump],
+                             list[tuple[Around, bool]]]] = [
                 ([], [], [], []), ([], [], [jump], [(jump, True)]),
                 ([], [], [jump, other], [(jump, True), (other, True)]),
                 ([], [clocked], [jump], [(jump, False)]),
@@ -54,19 +56,20 @@ class LossPlaces(Case):
                 ([mark], [], [jump, other], [(jump, False), (other, True)])]
             for marks, clocks, jumps, wanted in rows:
                 missing = {one.number for one in marks}
-                own = [Run(at, 1, None if at in missing else one, 0, "-", "",
-                           fault=45 * (at in missing))
+                own = [PacketRun(at, 1, None if at in missing else one, 0, "-", "",
+                                 fault=45 * (at in missing))
                        for at, one in enumerate(pts)]
-                packets = Packets(5, own, marks=marks, clocked=clocks)
+                packets = Packets(5, own, gap_markers=marks, pcr_steps=clocks)
                 reported = [((one.before, one.after), one.is_announced)
-                        for one in places_of(packets, jumps)]
+                        for one in find_loss_places(packets, jumps)]
                 self.must(f"{shift} {marks} {clocks} {jumps}", reported == wanted, reported)
-                where = [line.partition(" (")[0] for line in marks_told(packets)]
+                where = [line.partition(" (")[0] for line in gap_marker_lines(packets)]
                 self.must(f"{shift} {marks}: lines", where == [
                     f"between PTS {before} and {after}" if None not in (before, after) else
                     f"before PTS {after}" if before is None else f"after PTS {before}"
                     for (before, after), _ in wanted[:len(marks)]], where)
-        self.must("said", what_of(Place(1, 2, is_announced=True)) == "an unusually long interval "
+        self.must("said", describe_loss(LossPlace(1, 2, is_announced=True)) ==
+                  "an unusually long interval "
                   "with an announced jump of the counter")
 
     def test_merges_losses_between_the_same_pes_packets(self) -> None:
@@ -74,7 +77,7 @@ class LossPlaces(Case):
         pairs = [(first, last) for first, last in itertools.product(ends, ends)
                  if first is None or last is None or first < last]
         for origin, pair, other in itertools.product((0, CLOCK - 2 * TICKS), pairs, pairs):
-            places = [Place(begin, end) for begin, end in (
+            places = [LossPlace(begin, end) for begin, end in (
                 [None if at is None else (origin + TICKS * at) % CLOCK for at in one]
                 for one in (pair, other))]
             (first, last), (begin, end) = ((-9 if one[0] is None else one[0],
@@ -83,12 +86,13 @@ class LossPlaces(Case):
             self.assertEqual(overlap(*places), max(first, begin) < min(last, end), places)
 
     def test_takes_the_longer_of_two_losses(self) -> None:
-        runs = [Run(at, 1, None if at == 4 else at * TICKS, 0, "-", "") for at in range(9)]
+        runs = [PacketRun(at, 1, None if at == 4 else at * TICKS, 0, "-", "") for at in range(9)]
         for ticks in ((2, 3), (3, 2), (3, 3)):
-            clocks = [Clocked(3 * TICKS, 5 * TICKS, one * TICKS, 9, TICKS, 9, "broken")
+            clocks = [PCRStep(3 * TICKS, 5 * TICKS, one * TICKS, 9, TICKS, 9, "broken")
                       for one in ticks]
-            packets = Packets(5, runs, marks=[Mark(4, 3 * TICKS, 2, 0)], clocked=clocks)
-            reported = [one.missing for one in places_of(packets)]
+            packets = Packets(5, runs, gap_markers=[GapMarker(4, 3 * TICKS, 2, 0)],
+                              pcr_steps=clocks)
+            reported = [one.missing for one in find_loss_places(packets)]
             self.must(f"{ticks}", reported == [2 * TICKS], reported)
 
 
@@ -102,12 +106,12 @@ class LatePts(Case):
         for samples, late, ahead in rows:
             packets = Packets(5, samples=[(at * SECOND, one) for at, one in enumerate(samples)])
             known = Survey()
-            self.must(f"{samples}: no PCR", reach_of(known, packets) is None)
+            self.must(f"{samples}: no PCR", find_recorded_range(known, packets) is None)
             known.programmes = [ProgramMap(1, 0x200, {5: 6})]
-            self.must(f"{samples}", late_of(packets) == late)
+            self.must(f"{samples}", find_pts_delay(packets) == late)
             for first in (1000, CLOCK - 1, CLOCK - 8):
                 known.clocks[0x200] = first, 90_000
-                self.must(f"{samples}: reach", reach_of(known, packets) == (
+                self.must(f"{samples}: reach", find_recorded_range(known, packets) == (
                     (first + ahead) % CLOCK, 90_000 - late))
 
 
@@ -124,11 +128,11 @@ class StreamLosses(Case):
             BEGIN, BEGIN + 25 * COUNT, 25)], text=box_line(b"Number %d"), name="story.stl")
         return schedule_pes(self, stl, "--every", str(every))
 
-    def survey_losses(self, made: list[Packet]) -> tuple[list[Place], list[ClockJump]]:
+    def survey_losses(self, made: list[Packet]) -> tuple[list[LossPlace], list[ClockJump]]:
         """Return the losses of a multiplex, and its clock jumps."""
         path = self.write("heard.ts", stream_bytes(made))
         found = survey(self.bench.program, path, PAGE).by_pid[TELETEXT_PID]
-        return places_of(found), list(jumps_of(found))
+        return find_loss_places(found), list(find_clock_jumps(found))
 
     def test_finds_no_loss_in_complete_streams(self) -> None:
         pes = self.programme()

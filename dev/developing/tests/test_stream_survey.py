@@ -13,9 +13,10 @@ from developing.multiplex import (
 from developing.pes import make_packet, make_pes_packet, encode_pts
 from subtitles.common.command_line import Unanswered
 from subtitles.common.times import CLOCK, TICKS
-from subtitles.stream.packets import Change, Clocked, Mark, Packets, Run, Texts
+from subtitles.stream.packets import GapMarker, PCRStep, PacketRun, Packets, PageChange, Texts
 from subtitles.stream.pictures import VideoLead
-from subtitles.stream.survey import Announced, ProgramMap, Survey, VERSION, Video, runs_told, survey
+from subtitles.stream.survey import (
+    Announced, ProgramMap, Survey, VERSION, Video, survey, survey_runs)
 from .bench import Case
 from .streams import (
     AHEAD, AUDIO_PID, CLOSED_GROUP, MPEG_2, PMT_PID, PRIVATE, RANDOM_ACCESS, SLICES, TELETEXT_PID,
@@ -803,7 +804,7 @@ class SurveyAnswers(Case):
         rows: list[tuple[str, Callable[[Survey], object], object]] = [
             ("head 4740", lambda it: it.head, b"G@"), ("head ", lambda it: it.head, b""),
             ("size 0", lambda it: it.size, 0), ("size 204", lambda it: it.size, 204),
-            ("over 12 9", lambda it: (it.skipped, it.is_whole), (12, True)),
+            ("over 12 9", lambda it: (it.skipped, it.is_complete), (12, True)),
             ("teletext 5", lambda it: [*it.by_pid], [5]), ("later 1 2", vars, vars(Survey())),
             ("pcr 9 7; pcr 9 5; pcr 8 0", lambda it: it.clocks, {9: (7, 5), 8: (0, 0)}),
             ("programme 2 9; stream 5 6; stream 9 27; announce 5 888 656e67 2; "
@@ -829,36 +830,39 @@ class SurveyAnswers(Case):
                    ("; ".join(f"programme 1 {pid}" for pid in range(10, 20)),
                     [8] * 8 + [None] * 2))),
             ("pes 5 3 2 - 0 -/ 4 33; pes 5 5 9 0 -10 he/08080810+0 1 0", lambda it: on_5(it).runs,
-             [Run(3, 2, None, 0, "-", "", 4, 33), Run(5, 9, 0, -10, "he", "08080810+0", 1)]),
+             [PacketRun(3, 2, None, 0, "-", "", 4, 33), PacketRun(5, 9, 0, -10, "he", "08080810+0",
+                                                                  1)]),
             ("gap 5 0 1 2; pes 5 1 5 7 10 -/ 1 0; gap 5 6 3 0; gap 5 7 0 4; pes 5 8 1 9 0 -/ 1 0; "
-             "gap 5 9 1 0", lambda it: (on_5(it).marks, [run.first for run in on_5(it).runs]),
-             ([Mark(0, None, 1, 2), Mark(6, 47, 3, 0), Mark(7, 47, 0, 4), Mark(9, 9, 1, 0)],
+             "gap 5 9 1 0", lambda it: (on_5(it).gap_markers, [run.first for run in on_5(it).runs]),
+             ([GapMarker(0, None, 1, 2), GapMarker(6, 47, 3, 0), GapMarker(7, 47, 0, 4),
+               GapMarker(9, 9, 1, 0)],
               [0, 1, 6, 7, 8, 9])),
             ("clock 5 - 9 900 8 90 7 broken; clock 5 0 - -1 2 3 4 whole",
-             lambda it: on_5(it).clocked, [Clocked(None, 9, 900, 8, 90, 7, "broken"),
-                                           Clocked(0, None, -1, 2, 3, 4, "whole")]),
+             lambda it: on_5(it).pcr_steps, [PCRStep(None, 9, 900, 8, 90, 7, "broken"),
+                                             PCRStep(0, None, -1, 2, 3, 4, "whole")]),
             ("ahead 5 9 -7; ahead 5 0 3", lambda it: on_5(it).samples, [(9, -7), (0, 3)]),
-            ("set 5 28 0 1 -; set 5 29 4 - 7", lambda it: on_5(it).sets,
+            ("set 5 28 0 1 -; set 5 29 4 - 7", lambda it: on_5(it).character_sets,
              [(28, 0, 1, None), (29, 4, None, 7)]),
-            ("strays 5 3 20:41,21:4243; strays 5 9 -", lambda it: on_5(it).strays,
+            ("strays 5 3 20:41,21:4243; strays 5 9 -", lambda it: on_5(it).stray_rows,
              [(3, ((20, b"A"), (21, b"BC"))), (9, ())]),
             # A damaged space, and a row of spaces, change no text.
             ("pes 5 0 1 100 0 he/ 1 0; rows 5 0 20:2041a042; pes 5 1 3 200 50 o/ 1 0; "
              "rows 5 1 20:20412042,21:2020; rows 5 3 -; pes 5 4 1 9 0 o/ 1 0; rows 5 4 20:20412042"
              "; pes 5 5 1 10 0 o/ 1 0; rows 5 5 21:20412042",
-             lambda it: (on_5(it).held, on_5(it).changes),
+             lambda it: (on_5(it).decoded_rows, on_5(it).changes),
              ([(0, ((20, b" A\xa0B"),)), (1, ((20, b" A B"), (21, b"  "))), (3, ()),
                (4, ((20, b" A B"),)), (5, ((21, b" A B"),))],
-              [Change(100, b"AB", 0, ((20, b" A B"),)), Change(300, b"", 3),
-               Change(9, b"AB", 4, ((20, b" A B"),)), Change(10, b"AB", 5, ((21, b" A B"),))])),
+              [PageChange(100, b"AB", 0, ((20, b" A B"),)), PageChange(300, b"", 3),
+               PageChange(9, b"AB", 4, ((20, b" A B"),)),
+               PageChange(10, b"AB", 5, ((21, b" A B"),))])),
             ("damaged 5 3 start", lambda it: on_5(it).damage,
              "PES packet 3 does not begin with 00 00 01 BD"),
             ("damaged 5 0 cut", lambda it: on_5(it).damage, "PES packet 0 is cut"),
             *((f"end 5 7 8 30 4 {refusal} {cut} {begun}", lambda it: (
                 on_5(it).packets, on_5(it).scrambled, on_5(it).refusal, on_5(it).is_cut,
-                on_5(it).begun), (30, 4, refusal, bool(cut), pts))
+                on_5(it).last_pts), (30, 4, refusal, bool(cut), pts))
               for refusal, cut, begun, pts in ((31, 1, "77", 77), (0, 0, "-", None), (0, 0, 0, 0))),
-            ("seam 5 7; seam 5 9", lambda it: on_5(it).seams, [7, 9]),
+            ("seam 5 7; seam 5 9", lambda it: on_5(it).counter_jumps, [7, 9]),
             ("video 9 3; picture 9 0; picture 9 -; group 9 0 1 open", lambda it: it.videos,
              {9: Video(3, [0, None], form="open")}),
             ("pictures 9 1 2", lambda it: it.videos, {9: Video(0, [], 1, 2)}),
@@ -879,9 +883,9 @@ class SurveyAnswers(Case):
                 pid, number, pcr = (chance.randrange(most) for most in (12, 2, CLOCK))
                 if chance.random() < 0.2:
                     clocks[pid] = pcr * (chance.random() < 0.8)
-                    received.take(f"pcr {pid} {clocks[pid]}")
+                    received.read_line(f"pcr {pid} {clocks[pid]}")
                     continue
-                received.take(f"programme {number} {pid}")
+                received.read_line(f"programme {number} {pid}")
                 before = used.setdefault(number, [])
                 known = [one for one in [*dict.fromkeys(reversed(before))][:8] if one in clocks]
                 wanted = clocks.get(pid, clocks[known[0]] if known else None)
@@ -912,12 +916,12 @@ class SurveyAnswers(Case):
         rows = "rows 0 0 20:41", "rows 0 2 -", "rows 0 3 20:41"
         lines = [runs[0], rows[0], runs[1], runs[2], rows[1], runs[3], rows[2]]
         for count, wanted in enumerate([[], [((20, b"A"),)], [((20, b"A"),), None]]):
-            reported = [*runs_told(self.fake_survey(lines[:2 * count - (count == 2)]), "one.pes",
-                                   PAGE)]
+            reported = [*survey_runs(self.fake_survey(lines[:2 * count - (count == 2)]), "one.pes",
+                                     PAGE)]
             self.must(f"{count}", [texts for _, texts in reported] == wanted, reported)
-        reported = list[tuple[Run, Texts | None]]()
+        reported = list[tuple[PacketRun, Texts | None]]()
         with self.assertRaises(Unanswered):
-            for one in runs_told(self.fake_survey(lines, 3), "one.pes", PAGE):
+            for one in survey_runs(self.fake_survey(lines, 3), "one.pes", PAGE):
                 reported.append(one)
         self.must("all", [(run.first, texts) for run, texts in reported] == [
             (0, ((20, b"A"),)), (1, None), (2, ())], reported)

@@ -15,9 +15,11 @@ from subtitles.common.times import (
     CLOCK, EARLY, FRAMES_OF_A_DAY, NO_FRAME, Spans, TICKS, frame_at, frame_in, frames_at,
     joined_spans, pts_of, ticks_after, ticks_between, ticks_within, wrapped)
 from subtitles.stream.gaps import (
-    ClockJump, Place, SECOND, jumps_of, place_line, places_of, strange_of, what_of)
-from subtitles.stream.packets import Change, Clocked, Mark, Packets, Run, Texts, headers_in
-from subtitles.stream.ranges import cut_of, is_outside
+    ClockJump, LossPlace, SECOND, describe_loss, find_clock_jumps, find_loss_places,
+    find_pts_anomalies, loss_line)
+from subtitles.stream.packets import (
+    GapMarker, PCRStep, PacketRun, Packets, PageChange, Texts, parse_headers)
+from subtitles.stream.ranges import find_range, is_outside
 from subtitles.stream.survey import Survey
 from .parts import read_survey
 
@@ -25,14 +27,14 @@ from .parts import read_survey
 def packets_with(pts: Sequence[int | None], **more: Any) -> Packets:
     """Return PES packets with these PTS; `None` for a gap marker."""
     found = Packets(257, **more)
-    found.runs = [Run(number, 1, None if one is None else one % CLOCK, 0, "m" if one is None else
-                      "h", "") for number, one in enumerate(pts)]
+    found.runs = [PacketRun(number, 1, None if one is None else one % CLOCK, 0, "m" if one is None
+                            else "h", "") for number, one in enumerate(pts)]
     return found
 
 
-def clocked(before: int, ticks: int, counters: str, packets: int = 100) -> Clocked:
+def clocked(before: int, ticks: int, counters: str, packets: int = 100) -> PCRStep:
     """Return an unusual pair of PCRs, with 100 packets between them."""
-    return Clocked(before, before + 1, ticks, packets, SECOND // 10, 100, counters)
+    return PCRStep(before, before + 1, ticks, packets, SECOND // 10, 100, counters)
 
 
 def find_airings(numbers: set[int]) -> list[tuple[int, int]]:
@@ -125,15 +127,15 @@ class ClockTables(unittest.TestCase):
             packets, known = Packets(5), list[tuple[int, int | None, str]]()
             for _ in range(chance.randrange(7)):
                 pts = chance.choice((None, 0, CLOCK - 2 * TICKS, 5 * TICKS, 9 * TICKS))
-                run = Run(len(known), chance.randrange(1, 8), pts,
+                run = PacketRun(len(known), chance.randrange(1, 8), pts,
                           chance.choice((0, TICKS, -TICKS)), chance.choice(("h", "oh", "-")), "")
                 known += [(run.first + at, None if pts is None else (pts + run.step * at) % CLOCK,
-                           run.does) for at in range(run.length)]
+                           run.flags) for at in range(run.length)]
                 packets.runs.append(run)
                 self.assertEqual((run.last, packets.count), (known[-1][1], len(known)))
             first, last = chance.randrange(-1, 20), chance.randrange(-1, 40)
             inside = [one for one in known if first <= one[0] <= last]
-            self.assertEqual([one for run in packets.inside(first, last)
+            self.assertEqual([one for run in packets.runs_between(first, last)
                               for one in Packets(5, [run])], inside)
             self.assertEqual(list(packets), known)
             for does, some, several in (("", None, known), ("h", (first, last), inside)):
@@ -146,8 +148,8 @@ class ClockTables(unittest.TestCase):
             begins = [0] + [timed[at][0] for at in range(2, len(timed) - 1) if all(
                 ticks_between(new, old) > 0 for _, old in timed[at - 2:at]
                 for _, new in timed[at:at + 2])]
-            self.assertEqual([base.start for base in packets.bases()], begins)
-        self.assertEqual(headers_in("0808081f+10"), (bytes([0, 8, 0, 8, 0, 8, 1, 15]), b"\1\0"))
+            self.assertEqual([base.start for base in packets.time_bases()], begins)
+        self.assertEqual(parse_headers("0808081f+10"), (bytes([0, 8, 0, 8, 0, 8, 1, 15]), b"\1\0"))
 
     def test_begins_a_time_base_where_pts_go_back(self) -> None:
         second = 90_000
@@ -156,7 +158,7 @@ class ClockTables(unittest.TestCase):
                 ([-2, -1, 0, 1], [0]), ([1, 2, -second * 2, -second], [0, 2]),
                 ([9, 10, 5, 11], [0]), ([9, 10, 5, 6, 1, 2], [0, 2, 4]),
                 ([0, 1, CLOCK // 2 - 9, CLOCK // 2 - 8], [0])):
-            bases = packets_with(pts).bases()
+            bases = packets_with(pts).time_bases()
             self.assertEqual(bases, [range(*pair) for pair in zip(begins, [*begins[1:], len(pts)])],
                              pts)
 
@@ -164,12 +166,12 @@ class ClockTables(unittest.TestCase):
         edges = [ExpectedSubtitle(100 * at, 100 * at + 50, at, b"%d" % at) for at in range(400)]
         for count, wanted in ((MOST_BASES, MOST_BASES), (5000, MOST_BASES)):
             packets = packets_with([10 ** 9 - TICKS * at for at in range(count + 2)])
-            packets.changes = [Change(run.pts or 0, b"x", run.first) for run in packets.runs]
+            packets.changes = [PageChange(run.pts or 0, b"x", run.first) for run in packets.runs]
             bases = find_time_bases(edges, packets, 0)
             self.assertEqual((len(bases), find_stretches(bases)), (wanted, []), count)
         long = [*range(9000, 9400, 10), *range(5000, 0, -1)]
         packets = packets_with([TICKS * at for at in long])
-        packets.changes = [Change(run.pts or 0, b"x%d" % run.first, run.first)
+        packets.changes = [PageChange(run.pts or 0, b"x%d" % run.first, run.first)
                            for run in packets.runs]
         self.assertEqual(find_time_bases(edges, packets, 0)[0].packets, (0, 39))
 
@@ -212,18 +214,18 @@ class ClockTables(unittest.TestCase):
         for begin, (more, wanted) in itertools.product((61, -100), rows):
             ahead = [*enumerate([30_000, *[1000] * 8]), *enumerate(more, begin)]
             samples = [(SECOND * (at - 3) % CLOCK, one) for at, one in ahead]
-            found = list(strange_of(packets_with([], samples=samples)))
+            found = list(find_pts_anomalies(packets_with([], samples=samples)))
             self.assertEqual([(one.kind, one.number, one.worst) for one in found], wanted, more)
-            self.assertTrue(all(one.among == len(samples) and one.pts in dict(samples[9:])
+            self.assertTrue(all(one.total == len(samples) and one.pts in dict(samples[9:])
                                 for one in found), (begin, more))
         for alone, kind in ((-5, "behind"), (0, ""), (SECOND, ""), (SECOND + 1, "early")):
-            found = list(strange_of(packets_with([], samples=[(7, alone)])))
+            found = list(find_pts_anomalies(packets_with([], samples=[(7, alone)])))
             self.assertEqual([(one.kind, one.pts) for one in found], [(kind, 7)] * bool(kind),
                              (alone, kind))
 
     def test_lists_gap_markers_and_losses_once(self) -> None:
         hole, back = clocked(500, 99_000, "broken"), clocked(500, -99_000, "broken")
-        rows: list[tuple[list[int], list[Clocked], list[tuple[int, int]]]] = [
+        rows: list[tuple[list[int], list[PCRStep], list[tuple[int, int]]]] = [
                 ([], [hole], [(500, 90_000)]), ([], [back], []),
                 ([], [clocked(500, 9001, "broken")], [(500, 1)]),
                 ([], [clocked(500, 0, "broken")], []),
@@ -232,10 +234,10 @@ class ClockTables(unittest.TestCase):
                 ([1], [clocked(150, 99_000, "broken")], [(100, 0)]),
                 ([], [clocked(500, 99_000, "whole"), clocked(500, 99_000, "unknown")], [])]
         for marks, several, wanted in rows:
-            packets = packets_with([100, None, 200, 600], clocked=several, marks=[
-                Mark(number, 100, 3, 0) for number in marks])
-            self.assertEqual([(one.before, one.missing) for one in places_of(packets)], wanted,
-                             (marks, several))
+            packets = packets_with([100, None, 200, 600], pcr_steps=several, gap_markers=[
+                GapMarker(number, 100, 3, 0) for number in marks])
+            self.assertEqual([(one.before, one.missing) for one in find_loss_places(packets)],
+                             wanted, (marks, several))
 
     def test_cuts_the_range_of_each_row(self) -> None:
         """Table of ranges for frames 100 to 200.
@@ -343,12 +345,12 @@ class ClockTables(unittest.TestCase):
         for name, sent, request, wanted, has_end, is_over, read in rows:
             known = [one.split() for one in sent.split(", ") if one]
             made = Packets(257, [
-                Run(at, 1, None if one[0] == "m" else round(TICKS * float(one[0])), 0,
-                    "".join(one[1:]).strip("xy-"), "") for at, one in enumerate(known)],
-                changes=[Change(round(TICKS * float(one[0])), b"", at, text_of(at, one[-1]))
+                PacketRun(at, 1, None if one[0] == "m" else round(TICKS * float(one[0])), 0,
+                          "".join(one[1:]).strip("xy-"), "") for at, one in enumerate(known)],
+                changes=[PageChange(round(TICKS * float(one[0])), b"", at, text_of(at, one[-1]))
                          for at, one in enumerate(known) if one[-1][-1] in "xy"])
             begin, end, bound, within = (*request, None, 0)[:4] if len(request) < 4 else request
-            found = cut_of(made, begin or 0, end or 0, 0, bound, within or 0)
+            found = find_range(made, begin or 0, end or 0, 0, bound, within or 0)
             low, high = 100 - (bound or 0), 200 + (bound or 0)
             frames = [round(float(one[0].replace("m", "-1"))) for one in known]
             came = [frame for frame in frames if low <= frame <= high]
@@ -362,24 +364,25 @@ class ClockTables(unittest.TestCase):
                     came[0] if came else None, taken[0] if taken else None,
                     ends[-1] if ends else None))
                 words = f"{read} PES packet{'s' * (read != 1)}"
-                self.assertTrue(found.words().startswith(f"none of {words} is in" if wanted is None
+                self.assertTrue(found.describe().startswith(f"none of {words} is in" if wanted is
+                                                            None
                                 else f"{wanted[1] - wanted[0] + 1} of {words}, from 00:00:0"))
-        made = Packets(257, [Run(at, 1, TICKS * frame, 0, does, "") for at, (frame, does) in
+        made = Packets(257, [PacketRun(at, 1, TICKS * frame, 0, does, "") for at, (frame, does) in
                              enumerate(((75, "he"), (100, "he"), (200, "heb")))],
-                       changes=[Change(TICKS * 75, b"", 0, text_of(0, "hey"))])
+                       changes=[PageChange(TICKS * 75, b"", 0, text_of(0, "hey"))])
         for within, is_continued in itertools.product((0, 1), (False, True)):
-            found = cut_of(made, 100, 200, 0, 25, within, is_continued=is_continued)
+            found = find_range(made, 100, 200, 0, 25, within, is_continued=is_continued)
             self.assertEqual(found.range, (int(is_continued), 2), "the text was due before")
-        made = Packets(257, [Run(at, 1, TICKS * (100 + at), 0, "he", "") for at in range(9)])
-        found = cut_of(made, 100, 200, 0, 25, inside=(3, 5))
+        made = Packets(257, [PacketRun(at, 1, TICKS * (100 + at), 0, "he", "") for at in range(9)])
+        found = find_range(made, 100, 200, 0, 25, inside=(3, 5))
         self.assertEqual((found.range, found.came, found.read), ((3, 5), 103, 7))
         # At the ends of the day.
         for frames, begin, end, wanted in (([0, 5], 0, 9, (0, 1)), ([-50, -20, 0, 1], -50, -20,
                                                                     (0, 1))):
             first, last = (one % FRAMES_OF_A_DAY for one in (begin, end))
-            made = Packets(257, [Run(at, 1, TICKS * (first + one - begin), 0, "h-h-"[at], "")
+            made = Packets(257, [PacketRun(at, 1, TICKS * (first + one - begin), 0, "h-h-"[at], "")
                                  for at, one in enumerate(frames)])
-            found = cut_of(made, first, last, 0, 25)
+            found = find_range(made, first, last, 0, 25)
             self.assertEqual((found.range, found.came, found.has_end), (wanted, first, False),
                              (frames, begin, end))
 
@@ -389,7 +392,7 @@ class ClockTables(unittest.TestCase):
                 ([0, 50, None], (0, 2)), ([0, 50, 75, None], (0, 1)), ([None, 0, 50, 75], (1, 2)),
                 ([0, None, 50, 75], (0, 2))):
             pts = [None if one is None else TICKS * one for one in frames]
-            found = cut_of(packets_with(pts), 0, 50, 0, 25).range
+            found = find_range(packets_with(pts), 0, 50, 0, 25).range
             self.assertEqual(found, wanted, frames)
 
     def test_cuts_all_of_a_long_programme(self) -> None:
@@ -400,9 +403,10 @@ class ClockTables(unittest.TestCase):
             for length, origin in itertools.product((1, 10, 360), (0, CLOCK - TICKS * end // 2)):
                 count = (before + hours + after) * hour // step
                 made = Packets(257, [
-                    Run(at, length, (origin + TICKS * step * at) % CLOCK, TICKS * step, "heb", "")
+                    PacketRun(at, length, (origin + TICKS * step * at) % CLOCK, TICKS * step, "heb",
+                              "")
                     for at in range(0, count, length)])
-                found = cut_of(made, begin, end, origin, step).range
+                found = find_range(made, begin, end, origin, step).range
                 wanted = max(begin // step - 1, 0), min(end // step, count - 1)
                 self.assertEqual(found, wanted, (hours, before, after, length, origin))
 
@@ -410,19 +414,19 @@ class ClockTables(unittest.TestCase):
         for first, step, length, shift in itertools.product(
                 range(14), (-2, -1, 0, 1, 3), (1, 2, 5), (0, 5, 7, 9)):
             frames = [first + step * at for at in range(length)]
-            run = Run(0, length, TICKS * (first - shift) % CLOCK, TICKS * step, "-", "")
+            run = PacketRun(0, length, TICKS * (first - shift) % CLOCK, TICKS * step, "-", "")
             low, high = (TICKS * (frame - shift) % CLOCK for frame in (5, 8))
             is_near = any(4 <= frame <= 9 for frame in frames)
             self.assertFalse(is_near and is_outside(run, low, high), (frames, shift))
             self.assertTrue(step < 0 or frames[-1] >= 4 or is_outside(run, low, high), frames)
-        self.assertTrue(is_outside(Run(0, 9, None, 0, "m", ""), 0, 9))
+        self.assertTrue(is_outside(PacketRun(0, 9, None, 0, "m", ""), 0, 9))
 
     def test_extends_a_range_to_the_longer_limit(self) -> None:
         for (every, within), more in itertools.product(((25, 2), (25, 40), (2, 40)), (0, 1)):
             last = 100 + max(every, within) + more
-            made = Packets(257, [Run(at, 1, TICKS * frame, 0, "heo", "") for at, frame in
+            made = Packets(257, [PacketRun(at, 1, TICKS * frame, 0, "heo", "") for at, frame in
                                  enumerate((*range(80), last, last + 1, last + 2))])
-            found = cut_of(made, 0, 100, 0, every, within)
+            found = find_range(made, 0, 100, 0, every, within)
             self.assertEqual((found.range, found.has_end), ((0, 80 - more), not more),
                              (every, within, more))
 
@@ -433,27 +437,29 @@ class ClockTables(unittest.TestCase):
                             (clocked(5, 99_000, "whole", 109), [ClockJump(5, 90_000)]),
                             (clocked(5, 99_000, "whole", 110), []),
                             (clocked(5, -99_000, "whole"), [ClockJump(5, -108_000)])):
-            self.assertEqual(list(jumps_of(packets_with([], clocked=[one]))), wanted, one)
+            self.assertEqual(list(find_clock_jumps(packets_with([], pcr_steps=[one]))), wanted, one)
 
     def test_describes_losses(self) -> None:
         for place, words in (
-                (Place(1, 2), "a break in the stream"), (Place(1, 2, 1), "1 TS packet lost"),
-                (Place(1, 2, 2, 1), "2 TS packets lost, 1 TS packet scrambled"),
-                (Place(1, 2, missing=225_000), "TS packets of 2.50 s are missing by the PCR and "
+                (LossPlace(1, 2), "a break in the stream"),
+            (LossPlace(1, 2, 1), "1 TS packet lost"),
+                (LossPlace(1, 2, 2, 1), "2 TS packets lost, 1 TS packet scrambled"),
+                (LossPlace(1, 2, missing=225_000),
+                 "TS packets of 2.50 s are missing by the PCR and "
                  "the counters of other PIDs")):
-            self.assertEqual(what_of(place), words, place)
+            self.assertEqual(describe_loss(place), words, place)
         for place, words in (
-                (Place(3600, 7200, 1), "between PTS 3600 and 7200 (00:00:00:01 and 00:00:00:02 "
-                                       "after the first)"),
-                (Place(None, 7200, 1), "before PTS 7200 (00:00:00:02 after the first)"),
-                (Place(3600, None, 1), "after PTS 3600 (00:00:00:01 after the first)")):
-            self.assertEqual(place_line(place, 0), f"{words}: 1 TS packet lost", place)
+                (LossPlace(3600, 7200, 1), "between PTS 3600 and 7200 (00:00:00:01 and 00:00:00:02 "
+                 "after the first)"),
+                (LossPlace(None, 7200, 1), "before PTS 7200 (00:00:00:02 after the first)"),
+                (LossPlace(3600, None, 1), "after PTS 3600 (00:00:00:01 after the first)")):
+            self.assertEqual(loss_line(place, 0), f"{words}: 1 TS packet lost", place)
         words = f"between PTS {CLOCK - 3600} and 3600 (00:00:00:01 and 00:00:00:03 after the " \
             "first): "
         for first, last in ((CLOCK - 7200, 3600), (CLOCK - 7201, 3599)):
-            printed = place_line(Place(CLOCK - 3600, last, 1, 2), first)
+            printed = loss_line(LossPlace(CLOCK - 3600, last, 1, 2), first)
             self.assertEqual(printed, words.replace(" 3600", f" {last}") +
                              "1 TS packet lost, 2 TS packets scrambled", (first, last))
-        self.assertEqual(place_line(Place(None, 3600, 0), None),
+        self.assertEqual(loss_line(LossPlace(None, 3600, 0), None),
                          "before PTS 3600 (00:00:00:01 after the first): a break in the stream")
-        self.assertEqual(place_line(Place(None, None, 1), None), "1 TS packet lost")
+        self.assertEqual(loss_line(LossPlace(None, None, 1), None), "1 TS packet lost")

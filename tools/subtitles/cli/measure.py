@@ -30,11 +30,12 @@ from ..request.commands import CommandWords, Listener, Names, Progress, Speech
 from ..request.lines import pairs_at, profile_at
 from ..request.request import PID_CHOICE, Request, Unclear, request_with
 from ..stream.pace import BY_EVERY, IRREGULAR, Pace, PAUSED, TOO_FEW
-from ..stream.repeats import Repeats, UNUSUAL, repeats_in
+from ..stream.repeats import RARE, Repeats, measure_repeats
 from ..stream.layout import (
-    Choice, FEWEST, FLASH, MOST_MOVED, Sent, TENTHS, choices_of, draws, sent_in, taken_from)
+    FEWEST, FLASH, LayoutChoice, MOST_MOVED, SentSubtitle, TENTHS, choose_layouts, draws_as_sent,
+    find_questionable_items, find_sent_subtitles)
 from ..stream.packets import HEADER
-from ..stream.receiver import Timeline, timeline_near
+from ..stream.receiver import Timeline, decode_near
 from .single import now
 
 
@@ -62,7 +63,7 @@ class Sending(NamedTuple):
 
     stl: str
     subtitle: Subtitle
-    sent: Sent
+    sent: SentSubtitle
 
     @property
     def name(self) -> str:
@@ -83,7 +84,7 @@ def propose_every(several: Sequence[Repeats]) -> Finding:
     words = f"; {max(usual)} are usual" if usual else ""
     lines = [
         f"every: at most {counted(worst.longest, 'frame')} from one header of the page to the "
-        f"next, first from {time_of(worst.since)} on, in "
+        f"next, first from {time_of(worst.longest_start)} on, in "
         f"{counted(sum(repeats.headers for repeats in several), 'header')}{words}"]
     return Finding(f"--every {worst.longest}", lines + named_lines(
         "longer without a header, which --every then refuses", [
@@ -108,7 +109,8 @@ def propose_pace(paces: Sequence[Pace]) -> Finding:
                                       if its is None))
         return Finding("", [f"pace: none, since {why or 'there are no PES packets'}"])
     return Finding(f"--pace {max(known)}", [
-        f"pace: nearly always at most {counted(max(pace.apart for pace in paces), 'frame')} from "
+        f"pace: nearly always at most "
+        f"{counted(max(pace.interval for pace in paces), 'frame')} from "
         "one PES packet to the next"])
 
 
@@ -171,7 +173,7 @@ def remove_unusual(delays: collections.Counter[int]) -> collections.Counter[int]
     usual, rest = collections.Counter(delays), 0
     for delay in sorted(delays, reverse=True):
         rest += delays[delay]
-        if rest * UNUSUAL >= sum(delays.values()):
+        if rest * RARE >= sum(delays.values()):
             break
         del usual[delay]
     return usual
@@ -180,8 +182,8 @@ def remove_unusual(delays: collections.Counter[int]) -> collections.Counter[int]
 def find_text_begin(held: Timeline, subtitle: Subtitle, letters: bytes, earlier: int) -> int | None:
     """Return the first frame with the text of a subtitle, from `earlier` frames before its TCI on.
     """
-    numbers = held.numbers(max(subtitle.begin - earlier, 0), subtitle.end)
-    return next((held.stretch(number).first for number in numbers
+    numbers = held.page_numbers(max(subtitle.begin - earlier, 0), subtitle.end)
+    return next((held.page_span(number).first for number in numbers
                  if letters_on(held.pages[number]) == letters), None)
 
 
@@ -190,8 +192,8 @@ def find_text_end(held: Timeline, subtitle: Subtitle, letters: bytes, first: int
     """Return the last frame with the text of a subtitle, from `first` up to some frames after its
     TCO."""
     end = min(subtitle.end + MOST_WITHIN + 1, limit)
-    numbers = held.numbers(first, max(end, subtitle.end))
-    return max(held.stretch(number).last for number in numbers
+    numbers = held.page_numbers(first, max(end, subtitle.end))
+    return max(held.page_span(number).last for number in numbers
                if letters_on(held.pages[number]) == letters)
 
 
@@ -201,7 +203,7 @@ def propose_lateness(several: Sequence[Delays], without: Sequence[str],
     others. `off_frame` are the PTS that are off their frames, and all PTS: if many are off,
     --within is 1 at least."""
     off, count = off_frame
-    least = int(off * UNUSUAL >= count > 0)
+    least = int(off * RARE >= count > 0)
     lines = [f"within: {off} of {count} PTS are off their frames, which "
              f"{'--within 1 accepts' if least else '--within 0 refuses (61)'}"] * (off > 0)
     lines += [f"within, late: no clock was given for {name} (--origin or --start), so it is not "
@@ -254,7 +256,7 @@ def propose_keeping(headers: int, keeping: int, is_alone: bool) -> Finding:
     """Propose --keeping if many of the headers keep the page; `is_alone`: no header has another
     fault."""
     lines = [f"keeping: C4 (erase page) is clear in {keeping} of {counted(headers, 'header')}"]
-    is_habit = keeping > 0 and keeping * UNUSUAL >= headers
+    is_habit = keeping > 0 and keeping * RARE >= headers
     if keeping and not is_habit:
         lines.append("keeping: these are too few to be the site's habit: they are refused (67)")
     if is_habit and not is_alone:
@@ -279,7 +281,7 @@ SPACE_IN_BOX = re.compile(rb"^[\x00-\x1f]*\x0b[\x00-\x1f]* | [\x00-\x1f]*\x0a[\x
 def propose_layout(sendings: Sequence[Sending], option: NationalOption) -> Finding:
     """Propose the layout that draws nearly all subtitles as sent, with counterexamples; otherwise
     say why there is none, with the nearest."""
-    closest, choice = choices_of([sending.sent for sending in sendings], option)
+    closest, choice = choose_layouts([sending.sent for sending in sendings], option)
     if closest.total < FEWEST:
         return Finding("", [f"layout: {counted(closest.total, 'subtitle')} found with their text, "
                             f"but {FEWEST} are needed"])
@@ -288,23 +290,24 @@ def propose_layout(sendings: Sequence[Sending], option: NationalOption) -> Findi
         nearest = choice if closest.is_clear else closest
         return Finding("", [*explain_missing_layout(nearest, sendings, option),
                             *list_omitted_items(choice)])
-    rests = [f"{rest.text} is based on {rest.decides}, of which {rest.drawn} were sent so"
+    rests = [f"{rest.text} is based on {rest.redrawn}, of which {rest.as_sent} were sent so"
              for rest in choice.items]
     lines = ["; ".join([f"layout: {format_counts(choice)}", *rests])]
     return Finding(f"--layout {quoted(text)}" if text else "", [
         *lines, *list_counterexamples(choice, sendings, option), *list_omitted_items(choice)])
 
 
-def list_omitted_items(choice: Choice) -> list[str]:
+def list_omitted_items(choice: LayoutChoice) -> list[str]:
     """Return which items would draw more subtitles as sent but are not proposed, and why."""
     return [f"{left.text} would draw {left.more} more of {choice.total}: "
             f"{explain_omission(left.whole)}" for left in choice.left]
 
 
-def list_counterexamples(choice: Choice, sendings: Sequence[Sending], option: NationalOption) \
+def list_counterexamples(choice: LayoutChoice, sendings: Sequence[Sending],
+                         option: NationalOption) \
         -> Iterator[str]:
     """Yield the subtitles that a layout draws differently than they were sent."""
-    others = [one for one in sendings if not draws(choice.layout, one.sent, option)]
+    others = [one for one in sendings if not draws_as_sent(choice.layout, one.sent, option)]
     for sending in others[:NAMED]:
         yield f"against it: {sending.name}: sent {format_cells(sending.sent.rows)}; drawn " \
             f"{page_text(choice, sending.sent, option)}"
@@ -312,18 +315,19 @@ def list_counterexamples(choice: Choice, sendings: Sequence[Sending], option: Na
         yield f"against it: {len(others) - NAMED} more"
 
 
-def page_text(choice: Choice, sent: Sent, option: NationalOption) -> str:
+def page_text(choice: LayoutChoice, sent: SentSubtitle, option: NationalOption) -> str:
     """Return what a layout draws of a subtitle."""
     lines = drawn(sent.text, sent.row, sent.justify, choice.layout, option)
     return f"nothing: refused {lines.number}" if isinstance(lines, Refused) else \
         format_cells(page_rows(lines))
 
 
-def explain_missing_layout(nearest: Choice, sendings: Sequence[Sending], option: NationalOption) \
+def explain_missing_layout(nearest: LayoutChoice, sendings: Sequence[Sending],
+                           option: NationalOption) \
         -> Iterator[str]:
     """Yield why no layout is proposed: the nearest one, and what no layout can do."""
     others = [sending.sent for sending in sendings
-              if not draws(nearest.layout, sending.sent, option)]
+              if not draws_as_sent(nearest.layout, sending.sent, option)]
     text = layout_text(nearest.layout)
     yield f"layout: none is proposed. The nearest, {text or 'that without --layout'}, draws " \
         f"{format_counts(nearest)}; {TENTHS} in 10 are needed"
@@ -334,12 +338,12 @@ def explain_missing_layout(nearest: Choice, sendings: Sequence[Sending], option:
     yield from list_counterexamples(nearest, sendings, option)
 
 
-def is_spaced(sent: Sent, _: Choice, option: NationalOption) -> bool:
+def is_spaced(sent: SentSubtitle, _: LayoutChoice, option: NationalOption) -> bool:
     """Return whether a line has spaces at an end within its box."""
     return any(SPACE_IN_BOX.search(row.strip(b" ")) for row in sent.rows)
 
 
-def is_block(sample: Sent, nearest: Choice, option: NationalOption) -> bool:
+def is_block(sample: SentSubtitle, nearest: LayoutChoice, option: NationalOption) -> bool:
     """Return whether all lines begin in the same column, though the layout draws them in different
     ones."""
     lines = drawn(sample.text, sample.row, sample.justify, nearest.layout, option)
@@ -349,7 +353,7 @@ def is_block(sample: Sent, nearest: Choice, option: NationalOption) -> bool:
     return len(sent) > 1 and len({*sent}) == 1 < len({*due})
 
 
-KINDS: Sequence[tuple[str, Callable[[Sent, Choice, NationalOption], bool]]] = (
+KINDS: Sequence[tuple[str, Callable[[SentSubtitle, LayoutChoice, NationalOption], bool]]] = (
     ("a space is in the box", is_spaced), ("lines form a block, aligned left,", is_block))
 
 
@@ -358,13 +362,13 @@ def find_sendings(stl: str, subtitles: Iterable[Subtitle], held: Timeline, optio
     """Return the subtitles of a file whose text was decoded at their time, with the decoded page.
     """
     return [Sending(stl, subtitle, sent) for subtitle in subtitles
-            for sent in sent_in([subtitle], held, option)]
+            for sent in find_sent_subtitles([subtitle], held, option)]
 
 
 def explain_omission(text: str) -> str:
     """Return why a layout that draws more subtitles is not proposed."""
     layout = layout_of(text) or PLAIN
-    brought, taken = layout.before + layout.behind, taken_from(layout)
+    brought, taken = layout.before + layout.behind, find_questionable_items(layout)
     if FLASH in brought:
         return "all would flash"
     if ("before", 0) in taken:
@@ -375,9 +379,9 @@ def explain_omission(text: str) -> str:
         f"{FEWEST} subtitles have to show it, {TENTHS} in 10 of them as they were sent"
 
 
-def format_counts(choice: Choice) -> str:
+def format_counts(choice: LayoutChoice) -> str:
     """Return how many subtitles are drawn as they were sent."""
-    return f"{choice.drawn} of {counted(choice.total, 'subtitle')} as they were sent"
+    return f"{choice.as_sent} of {counted(choice.total, 'subtitle')} as they were sent"
 
 
 # The recordings, one after another.
@@ -520,7 +524,7 @@ def measure_pair(pair: PairJudge) -> Measured:
     word = min(sent_options) if len(sent_options) == 1 else request.option
     return Measured(
         *find_pid(pair),
-        [repeats for part in parts if (repeats := repeats_in(
+        [repeats for part in parts if (repeats := measure_repeats(
             part.list_pts(HEADER), part.list_pts()[-1], part.origin or 0, times))],
         [measure_pace(part, times)[0] for part in parts],
         [measure_delays(request.stl, *both, option) for both in sent],
@@ -545,8 +549,8 @@ def add_part_packets(programme: PartSearch, part: Part) -> Part:
 def decode_pages(part: Part) -> Timeline:
     """Return the pages decoded around the frames of a part."""
     recording, frames = part.judged_recording
-    return timeline_near(recording.packets, part.request.page, frames.origin, 1,
-                         Span(frames.begin, frames.end), part.request.every, frames.packets)
+    return decode_near(recording.packets, part.request.page, frames.origin, 1,
+                       Span(frames.begin, frames.end), part.request.every, frames.packets)
 
 
 def find_subtitles(part: Part, subtitles: Iterable[Subtitle]) -> list[Subtitle]:

@@ -14,7 +14,7 @@ from typing import Hashable, Iterable, Iterator, Mapping, NamedTuple, Sequence
 
 from ..common.command_line import Lateness
 from ..common.times import EARLY, TICKS, wrapped
-from ..stream.packets import Change, HEADER, Packets, Range, Texts
+from ..stream.packets import HEADER, Packets, PageChange, Range, Texts
 
 
 # A cue is a frame at which the expected page changes. By an origin, a cue matches a change of the
@@ -109,7 +109,7 @@ class TimeBase:
     """A part of a recording in which PTS rise: its page changes, by frames after its first header.
     """
 
-    def __init__(self, cues: Sequence[ExpectedCue], changes: Sequence[Change], first: int,
+    def __init__(self, cues: Sequence[ExpectedCue], changes: Sequence[PageChange], first: int,
                  last: int, packets: Range, within: int) -> None:
         self.cues, self.within, self.packets = cues, within, packets
         self.frames = [cue.frame for cue in cues]
@@ -129,7 +129,7 @@ class TimeBase:
             self.changes[frames] = MatchedChange(0, change.letters, ticks)
         self.length = self.split_distance(last)[0]
 
-    def changes_by_frame(self, changes: Sequence[Change]) -> Iterator[Change]:
+    def changes_by_frame(self, changes: Sequence[PageChange]) -> Iterator[PageChange]:
         """Yield the last change in each frame, if the page differs from the one before."""
         before: Texts | None = None
         for change in {self.split_distance(one.pts)[0]: one for one in changes}.values():
@@ -262,7 +262,7 @@ class TimeBase:
         return self.fit(fit.start - cue_offset.late) if cue_offset and cue_offset.is_begin else fit
 
 
-def skip_repeats(changes: Sequence[Change], most: int) -> Iterator[Change]:
+def skip_repeats(changes: Sequence[PageChange], most: int) -> Iterator[PageChange]:
     """Yield the page changes, except an erasure if the same text follows within `most` frames."""
     at = 0
     while at < len(changes):
@@ -273,7 +273,7 @@ def skip_repeats(changes: Sequence[Change], most: int) -> Iterator[Change]:
         at += 1
 
 
-def find_repeat(changes: Sequence[Change], at: int, most: int) -> int | None:
+def find_repeat(changes: Sequence[PageChange], at: int, most: int) -> int | None:
     """Return the index of the change that repeats a text within `most` frames after its erasure, or
     `None`."""
     text, after = changes[at], changes[at + 1:at + 26]
@@ -293,19 +293,19 @@ def find_time_bases(subtitles: Sequence[ExpectedSubtitle], packets: Packets, wit
     for base, changes in select_time_bases(packets, inside or (0, packets.count - 1)):
         first, end = (bisect.bisect_left(run_starts, at) for at in (base.start, base.stop))
         runs = [run for run in packets.runs[first:end] if run.pts is not None
-                and HEADER in run.does]
+                and HEADER in run.flags]
         if runs and runs[0].pts is not None and runs[-1].last is not None:
             bases.append(TimeBase(cues, changes, runs[0].pts, runs[-1].last,
                                   (base.start, base.stop - 1), within))
     return bases
 
 
-def select_time_bases(packets: Packets, inside: Range) -> list[tuple[range, Sequence[Change]]]:
+def select_time_bases(packets: Packets, inside: Range) -> list[tuple[range, Sequence[PageChange]]]:
     """Return the ranges of PES packets in which the page changes, each with its changes. If PTS go
     back too often, return those with the most changes."""
     numbers = [change.number for change in packets.changes]
     candidates = []
-    for base_numbers in packets.bases():
+    for base_numbers in packets.time_bases():
         base = range(max(base_numbers.start, inside[0]), min(base_numbers.stop, inside[1] + 1))
         first, end = (bisect.bisect_left(numbers, at) for at in (base.start, base.stop))
         if first < end:

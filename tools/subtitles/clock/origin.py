@@ -10,7 +10,7 @@ from ..common.times import (
     time_of)
 from ..formats.stl import letters_on_page, readable, stl_bytes, subtitle_times
 from ..formats.teletext import Page, page_name
-from ..stream.packets import Packets, Range, STRAY, subcode_words, turns_of
+from ..stream.packets import Packets, Range, STRAY, alternating_subcodes, subpage_text
 from .alignment import (
     Drift, EarlyCues, ExpectedSubtitle, MOST_BASES, MOST_CUE_OFFSET, OriginFit, TimeBase,
     find_drift, find_time_bases)
@@ -107,7 +107,7 @@ def estimate_origin(search: OriginSearch, packets: Packets) -> OriginEstimate:
     if not bases:
         origin.lines += [*explain_mismatch(packets, search.page), "no cue matches at any origin"]
         return origin
-    if (count := len(packets.bases())) > MOST_BASES:
+    if (count := len(packets.time_bases())) > MOST_BASES:
         origin.lines.append(f"PTS go back at {count - 1} places: only the {MOST_BASES} stretches "
                             "between them with the most page changes are searched")
     airings = find_airings(bases, search.origin is not None)
@@ -130,8 +130,8 @@ def estimate_origin(search: OriginSearch, packets: Packets) -> OriginEstimate:
 def report_sent_pages(packets: Packets, search: OriginSearch, lines: list[str]) -> bool:
     """Return whether the page was sent, and add lines about PES packets that are not used and about
     other pages."""
-    count, marks = packets.count, len(packets.marks)
-    timed = sum(run.length for run in packets.timed())
+    count, marks = packets.count, len(packets.gap_markers)
+    timed = sum(run.length for run in packets.runs_with_pts())
     if packets.damage:
         if not count:
             raise Stop(f"{search.name}: {packets.damage}")
@@ -249,12 +249,12 @@ def compare_with_known(origin: OriginEstimate, known: int | None, part: Estimate
 def explain_mismatch(packets: Packets, page: Page) -> Iterator[str]:
     """Yield reasons why cues may not match: rows while the page was not open, or sub-pages."""
     name = page_name(*page)
-    if packets.strays:
-        count = sum(run.length for run in packets.runs if STRAY in run.does)
+    if packets.stray_rows:
+        count = sum(run.length for run in packets.runs if STRAY in run.flags)
         yield f"rows came while page {name} was not open, in {counted(count, 'PES packet')}"
-    subcodes = turns_of(packets)
+    subcodes = alternating_subcodes(packets)
     if subcodes:
-        yield subcode_words(subcodes, name)
+        yield subpage_text(subcodes, name)
 
 
 def offset_text(ticks: int) -> str:
@@ -388,7 +388,7 @@ def find_packet_number(place: tuple[int, int], bases: Sequence[TimeBase], packet
     def is_reached(pts: int) -> bool:
         return ticks_within(base.first, length, pts) >= least
 
-    return next((number for run in packets.inside(*base.packets)
+    return next((number for run in packets.runs_between(*base.packets)
                  if run.last is not None and is_reached(run.last)
                  for number in range(run.first, run.end) if is_reached(run.pts_of(number) or 0)),
                 base.packets[1])

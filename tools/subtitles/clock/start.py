@@ -109,7 +109,7 @@ class FirstPicture(NamedTuple):
     pid: int
     kind: int
     pts: int
-    passed: int
+    skipped: int
     other: int | None = None
 
     @property
@@ -125,7 +125,7 @@ class FirstPicture(NamedTuple):
             f"; pictures of its group before it, from PTS {self.other} on ({frames}), can't be " \
             "decoded"
         return (f"the first picture has PTS {self.pts}, {NAMES[self.kind]} of "
-                f"{pid_name(self.pid)}; {counted(self.passed, 'PES packet')} of video before it "
+                f"{pid_name(self.pid)}; {counted(self.skipped, 'PES packet')} of video before it "
                 f"skipped{more}")
 
 
@@ -165,13 +165,13 @@ def find_first_picture(survey: Survey, teletext: int) -> FirstPicture:
     """
     pid, kind = find_video(survey, teletext)
     name, video = f"{NAMES[kind]} of {pid_name(pid)}", survey.videos.get(pid)
-    if video is None and not survey.is_whole:
+    if video is None and not survey.is_complete:
         raise NoFirstPicture(f"no PES packet of {name} had the random_access_indicator so far")
     if video is None:
         raise NoFirstPicture(f"{pid_name(pid)}, which the PMT names as {NAMES[kind]}, has no PES "
                              "packets of video that can be read")
     if not video.pictures:
-        raise NoFirstPicture(f"none of {counted(video.passed, 'PES packet')} of {name} has the "
+        raise NoFirstPicture(f"none of {counted(video.skipped, 'PES packet')} of {name} has the "
                              "random_access_indicator")
     if video.scrambled:
         raise NoFirstPicture(f"{name} is scrambled")
@@ -187,7 +187,7 @@ def find_first_picture(survey: Survey, teletext: int) -> FirstPicture:
                              "pictures are missing")
     least = min(pts, key=lambda each: ticks_between(pts[0], each))
     first, other = (least, pts[0]) if video.form in ("", CLOSED) else (pts[0], least)
-    return FirstPicture(pid, kind, first, video.passed, other if video.form and other != first
+    return FirstPicture(pid, kind, first, video.skipped, other if video.form and other != first
                         else None)
 
 

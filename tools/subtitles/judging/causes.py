@@ -11,7 +11,7 @@ from ..common.times import Span, time_of
 from ..formats.listing import BEGIN, CONTENT, END
 from ..formats.stl import Subtitle
 from ..formats.teletext import BY_WORD, page_name
-from ..stream.packets import HEADER, subcode_words, turns_of
+from ..stream.packets import HEADER, alternating_subcodes, subpage_text
 from ..stream.receiver import BLANK_PAGE, HIT, LEAST, Rows, Timeline
 from .check import CheckOutput
 from .pages import (
@@ -127,7 +127,7 @@ class CauseFinder(PageTransmissions):
     def classify_delay(self, place: int, came: int) -> Cause:
         """Return the cause of a subtitle whose page came late or early, at frame `came`."""
         subtitle = self.subtitles[place]
-        if came > subtitle.begin and not self.timeline.is_seen(subtitle.begin, came):
+        if came > subtitle.begin and not self.timeline.was_received(subtitle.begin, came):
             return self.make_unknown_cause(place, subtitle.begin, came,
                                            self.describe_unreceived(subtitle.begin, came))
         name, frames = (LATE, came - subtitle.begin) if came > subtitle.begin else (
@@ -166,13 +166,13 @@ class CauseFinder(PageTransmissions):
         other = self.find_other_during(place)
         if other is not None:
             return self.make_other_text_cause(place, other, window.last)
-        if not self.timeline.is_seen(subtitle.begin, subtitle.end - 1):
+        if not self.timeline.was_received(subtitle.begin, subtitle.end - 1):
             reason = self.describe_unreceived(subtitle.begin, subtitle.end - 1)
             return self.make_unknown_cause(place, subtitle.begin, window.last, reason)
         if self.came_while_closed(place):
             return self.make_unknown_cause(place, subtitle.begin, window.last,
                                            self.describe_closed_page())
-        for number in self.timeline.numbers(subtitle.begin, subtitle.end):
+        for number in self.timeline.page_numbers(subtitle.begin, subtitle.end):
             page = self.timeline.pages[number]
             if page != BLANK_PAGE and self.belongs_to_subtitle(number, place) and \
                     is_partial_page(page, self.pages[place]):
@@ -189,7 +189,7 @@ class CauseFinder(PageTransmissions):
         subtitle, page = self.subtitles[place], self.pages[place]
         return any(span.first < subtitle.end and subtitle.begin <= span.last and any(
             content == page[row - 1] for row, content in texts)
-            for span, texts in self.timeline.strays)
+            for span, texts in self.timeline.stray_rows)
 
     def describe_closed_page(self) -> str:
         """Return that rows came while the page was not open."""
@@ -235,10 +235,10 @@ class CauseFinder(PageTransmissions):
             return self.make_unknown_cause(place, subtitle.begin, subtitle.end,
                                            "it is also sent at another time")
         number = self.timeline.number_at(faulty.after_end.first)
-        until = self.timeline.stretch(number).last
+        until = self.timeline.page_span(number).last
         if self.timeline.frames[number] >= subtitle.end:
             return self.classify_after_end(place, number, faulty.after_end.first)
-        if not self.timeline.is_seen(subtitle.end, until):
+        if not self.timeline.was_received(subtitle.end, until):
             return self.make_unknown_cause(place, subtitle.end, subtitle.end,
                                            self.describe_unreceived(subtitle.end, until))
         return Cause(place, NOT_ERASED, None, self.timeline.pages[number], None,
@@ -247,9 +247,9 @@ class CauseFinder(PageTransmissions):
     def describe_hidden_fault(self, frame: int) -> str:
         """Describe why `check` reports a wrong page at a frame at whose end the expected page is
         decoded."""
-        if len(self.timeline.members(frame)) > 1:
+        if len(self.timeline.runs_in_frame(frame)) > 1:
             return COMPLETED_LATER
-        if not self.timeline.is_seen(frame, frame):
+        if not self.timeline.was_received(frame, frame):
             return NOT_READABLE
         return EVEN_PARITY if HIT in b"".join(self.timeline.state_at(frame).rows) else ""
 
@@ -257,15 +257,15 @@ class CauseFinder(PageTransmissions):
         """Describe which rows of the expected page a repeat left out, if these explain the fault at
         a frame: everything sent in this frame can be read, and without --within the frame has only
         one PES packet."""
-        is_one = self.timeline.within or len(self.timeline.members(frame)) == 1
+        is_one = self.timeline.within or len(self.timeline.runs_in_frame(frame)) == 1
         return find_omitted_rows(self.timeline, self.expected.page_at(frame), frame, self.output) \
-            if is_one and self.timeline.is_seen(frame, frame) else ""
+            if is_one and self.timeline.was_received(frame, frame) else ""
 
     @functools.cached_property
     def subcode_text(self) -> str:
         """Describe the sub-pages that alternate, if any."""
-        subcodes = turns_of(self.timeline.packets, self.timeline.inside)
-        return subcode_words(subcodes, page_name(*self.timeline.page)) if subcodes else ""
+        subcodes = alternating_subcodes(self.timeline.packets, self.timeline.inside)
+        return subpage_text(subcodes, page_name(*self.timeline.page)) if subcodes else ""
 
     def classify_after_end(self, place: int, number: int, frame: int) -> Cause:
         """Return the cause of a page sent after the TCO of a subtitle.
@@ -280,7 +280,7 @@ class CauseFinder(PageTransmissions):
         late = self.timeline.frames[number] - subtitle.end
         if is_other and is_last and late <= self.timeline.within:
             return self.make_unknown_cause(place, frame, subtitle.end, NEXT_PROGRAMME)
-        if is_other and not is_ours and self.timeline.is_seen(subtitle.end, frame):
+        if is_other and not is_ours and self.timeline.was_received(subtitle.end, frame):
             return Cause(place, TEXT_IN_PAUSE, None, page, None, f"at {time_of(frame)}",
                          subtitle.end)
         return self.make_unknown_cause(place, frame, subtitle.end,
@@ -289,7 +289,7 @@ class CauseFinder(PageTransmissions):
     def describe_removal(self, place: int, number: int) -> str:
         """Describe how long after the TCO a page stayed, or which next subtitle has the same page.
         """
-        until, end = self.timeline.stretch(number).last, self.subtitles[place].end
+        until, end = self.timeline.page_span(number).last, self.subtitles[place].end
         following = self.subtitles[place + 1:place + 2]
         if following and following[0].begin <= until and \
                 self.pages[place + 1] == self.timeline.pages[number]:
@@ -304,7 +304,7 @@ class CauseFinder(PageTransmissions):
         subtitle, number = self.subtitles[place], self.timeline.number_at(span.first)
         page = self.timeline.pages[number]
         other = self.expected.find_subtitle(page, span.first)
-        if not self.timeline.is_seen(span.first, span.last):
+        if not self.timeline.was_received(span.first, span.last):
             return self.make_unknown_cause(place, span.first, subtitle.end,
                                            self.describe_unreceived(span.first, span.last))
         if other is not None and other != place:
@@ -325,7 +325,7 @@ class CauseFinder(PageTransmissions):
         """Return whether a header without rows erased the page; the next page must have a header of
         its own."""
         begins = self.timeline.frames[number:number + 2]
-        return all(any(HEADER in run.does for run in self.timeline.members(frame))
+        return all(any(HEADER in run.flags for run in self.timeline.runs_in_frame(frame))
                    for frame in begins)
 
     def describe_unreceived(self, first: int, last: int) -> str:
@@ -422,7 +422,7 @@ class Causes:
                 or self.timeline.first != frame or self.timeline.page_at(frame) != page:
             return
         first, second = self.expected.subtitles[:2]
-        until = self.timeline.stretch(self.timeline.number_at(frame)).last
+        until = self.timeline.page_span(self.timeline.number_at(frame)).last
         late = following.frames or 0
         if late == frame - first.begin:
             self.by_end_fault[BEGIN] = 0

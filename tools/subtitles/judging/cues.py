@@ -68,11 +68,11 @@ def find_decoded_times(cue: Cue, place: int, expected: ExpectedPages, timeline: 
     number = find_page_number(cue, expected, timeline, delay)
     if number is None:
         return cue
-    subtitle, page, (first, last) = cue.subtitle, timeline.pages[number], timeline.stretch(number)
+    subtitle, page, (first, last) = cue.subtitle, timeline.pages[number], timeline.page_span(number)
     while last + 1 < subtitle.end and number + 1 < len(timeline.pages) and is_variant(
             timeline.pages[number + 1], page, expected):
         number += 1
-        last = timeline.stretch(number).last
+        last = timeline.page_span(number).last
     before, after = expected.subtitles[place - 1:place], expected.subtitles[place + 1:place + 2]
     begin: int | None = first
     if place and before[0].end == subtitle.begin and expected.pages[place - 1] == page:
@@ -83,7 +83,8 @@ def find_decoded_times(cue: Cue, place: int, expected: ExpectedPages, timeline: 
     end: int | None = last + 1
     if after and after[0].begin == subtitle.end and expected.pages[place + 1] == page:
         end = min(last + 1, subtitle.end)
-    elif number + 1 == len(timeline.pages) or last + 1 != subtitle.end and not timeline.is_seen(
+    elif number + 1 == len(timeline.pages) or \
+            last + 1 != subtitle.end and not timeline.was_received(
             min(subtitle.end, last + 1), max(subtitle.end, last + 1)):
         end = None  # the page was still there when the recording ended, or packets are lost
     return cue._replace(decoded=page, begin=begin, end=end)
@@ -102,11 +103,11 @@ def find_page_number(cue: Cue, expected: ExpectedPages, timeline: Timeline,
         return number
     sent = cause.sent_page if cause and cause.name in REPLACING_CAUSES else None
     if sent is not None and sent != BLANK_PAGE:
-        frames = [frame for frame in timeline.when.get(sent, ()) if frame < end
-                  and timeline.stretch(timeline.number_at(frame)).last >= begin]
+        frames = [frame for frame in timeline.page_frames.get(sent, ()) if frame < end
+                  and timeline.page_span(timeline.number_at(frame)).last >= begin]
         if frames:
             return timeline.number_at(min(frames, key=lambda frame: abs(frame - begin)))
-    return next((number for number in timeline.numbers(begin, end)
+    return next((number for number in timeline.page_numbers(begin, end)
                  if is_variant(timeline.pages[number], cue.expected, expected)), None) \
         if cause else None
 
@@ -259,7 +260,7 @@ def find_recording_start(part: Part) -> int | None:
         return None
     clock = part.recording.survey.clock_of(part.packets.pid) if part.recording.is_stream else None
     last, elapsed = clock[0] if clock else None, 0
-    for run in part.packets.inside(0, part.pes[0]):
+    for run in part.packets.runs_between(0, part.pes[0]):
         if run.pts is not None and run.last is not None:
             step = 0 if last is None else ticks_between(last, run.pts)
             elapsed += (step if 0 <= step < LONGEST_STEP else 0) + ticks_between(run.pts, run.last)
@@ -280,7 +281,7 @@ def find_text_spans(timeline: Timeline) -> Iterator[Span]:
     """Yield the frames during which a receiver had a page with text."""
     for number, page in enumerate(timeline.pages):
         if page != BLANK_PAGE:
-            yield timeline.stretch(number)
+            yield timeline.page_span(number)
 
 
 # The subtitles of a part for results

@@ -15,10 +15,10 @@ from ..formats.listing import (
 from ..formats.stl import NamedSubtitle, NEW_LINE, SubtitleFile, subtitle_name
 from ..formats.teletext import BY_WORD, character_of, letter_at, letters
 from ..request.request import Request
-from ..stream.gaps import why_refused
+from ..stream.gaps import explain_refusal
 from ..stream.pace import frame_rows
 from ..stream.repeats import cue_frames, longest_gap, repeat_distance
-from ..stream.packets import HEADER, Packets, Run
+from ..stream.packets import HEADER, PacketRun, Packets
 from ..stream.receiver import HIT, OLD, Rows, Timeline
 from .causes import CauseDescriber
 from .check import FaultEnd
@@ -52,7 +52,7 @@ def find_fault_place(fault: FaultLine, packets: Packets, timeline: Timeline | No
         return FaultPlace(fault.pes, packets.pts_at(fault.pes), None)
     if fault.frame is None or timeline is None:
         return NO_PLACE
-    members = timeline.members(fault.frame)
+    members = timeline.runs_in_frame(fault.frame)
     if not members:
         return FaultPlace(None, None, timeline.state_at(fault.frame).rows)
     # Reported before others of the frame, which are 62.
@@ -68,7 +68,7 @@ def find_fault_place(fault: FaultLine, packets: Packets, timeline: Timeline | No
                       if fault.number == CONTROL else ())
 
 
-def find_pes_packet(members: Sequence[Run], packet: int) -> Run:
+def find_pes_packet(members: Sequence[PacketRun], packet: int) -> PacketRun:
     """Return the PES packet of a frame that has a Teletext packet; the packet numbers run on
     through all PES packets of the frame."""
     ends = itertools.accumulate(run.units for run in members)
@@ -186,7 +186,7 @@ def describe_pid_end(part: Part) -> str:
     """Describe why the PID has no Teletext after the last judged PES packet; an empty text if it
     does."""
     is_last = part.pes is not None and part.pes[1] == part.packets.count - 1
-    return (why_refused(part.packets) or "") if is_last and part.packets.refusal else ""
+    return (explain_refusal(part.packets) or "") if is_last and part.packets.refusal else ""
 
 
 def describe_unrecorded(fault: FaultLine, part: Part) -> str:

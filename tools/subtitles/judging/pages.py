@@ -11,7 +11,7 @@ from ..formats.listing import NamedFault, NOT_SHOWN
 from ..formats.stl import Subtitle, SubtitleFile
 from ..formats.teletext import BY_WORD, NationalOption, letters
 from ..recording.notices import Notice
-from ..stream.layout import sent_in
+from ..stream.layout import find_sent_subtitles
 from ..stream.receiver import Rows, Timeline
 
 
@@ -188,7 +188,7 @@ def describe_drawing_differences(subtitles: Sequence[Subtitle], pages: Sequence[
     """Describe how many subtitles were sent with the right characters but drawn differently, and
     the difference of the first."""
     differing = [(subtitle, page, sent.rows) for subtitle, page in zip(subtitles, pages)
-                 for sent in sent_in([subtitle], held, option) if sent.rows != page]
+                 for sent in find_sent_subtitles([subtitle], held, option) if sent.rows != page]
     if not differing:
         return ""
     subtitle, page, rows = differing[0]

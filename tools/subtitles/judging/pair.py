@@ -448,7 +448,7 @@ class PairJudge:
     def add_recording_warnings(self, recording: Recording, origin: int, part: TimedPart) -> None:
         """Add warnings about the recording and the PID."""
         warnings, packets, survey = list[Notice](), recording.packets, recording.survey
-        warnings += recording.strange()
+        warnings += recording.find_notices()
         if recording.is_stream:
             warnings += [*notices.timing_notices(packets, origin),
                          *notices.jump_notices(packets, origin, part.begin, part.end),

@@ -18,9 +18,9 @@ from ..formats.teletext import BY_BITS, RESERVED
 from ..recording.recording import Recording
 from ..request.commands import Listener, MOST_LINES, Names
 from ..request.request import Request, Unclear
-from ..stream.gaps import Place
-from ..stream.packets import NO_RANGE, Packets, PES, PTSPair, Range, headers_in
-from ..stream.receiver import Timeline, national_option, timeline_near
+from ..stream.gaps import LossPlace
+from ..stream.packets import NO_RANGE, PES, PTSPair, Packets, Range, parse_headers
+from ..stream.receiver import Timeline, decode_near, national_option
 from .causes import CauseDescriber, Causes
 from .check import CheckOutput
 from .sentence import WorstFault, find_worst_fault
@@ -164,7 +164,7 @@ class Part:
         count = min(self.pes[1] + 1, self.packets.count) - self.pes[0]
         return count > self.check_output.skipped_packets.total()
 
-    def find_loss_places(self) -> list[Place]:
+    def find_loss_places(self) -> list[LossPlace]:
         """Return the places of the part's recording where packets are missing."""
         return self.recording.places(self.jumps) if self.recording else []
 
@@ -174,7 +174,7 @@ class Part:
         only the PCR shows these losses."""
         if self.alignment is None:
             return []
-        places = [place for place in self.find_loss_places() if place.mark is None
+        places = [place for place in self.find_loss_places() if place.gap_marker is None
                   and belongs_to_part(place, self)]
         return [*find_lost_spans(places, self.alignment.origin, self.request.within, False)]
 
@@ -183,23 +183,23 @@ class Part:
         """Return the clean frames, except frames with lost packets."""
         return self.check_output.trusted_frames.without(self.unmarked_losses)
 
-    def list_pts(self, does: str = "") -> array.array[int]:
+    def list_pts(self, flags: str = "") -> array.array[int]:
         """Return the PTS of the part's PES packets, or only of packets with some of the flags
-        `does`."""
-        return array.array("q", self.packets.pts(self.pes, does) if self.pes else ())
+        `flags`."""
+        return array.array("q", self.packets.pts(self.pes, flags) if self.pes else ())
 
     def find_options(self) -> set[str]:
         """Return the national options in the headers of the page."""
-        bits = {national_option(header) for run in self.packets.inside(*self.pes or NO_RANGE)
-                for header in headers_in(run.control)}
+        bits = {national_option(header) for run in self.packets.runs_between(*self.pes or NO_RANGE)
+                for header in parse_headers(run.control)}
         return {BY_BITS[one].word for one in bits if one != RESERVED}
 
     def count_headers(self) -> collections.Counter[bytes]:
         """Count each header of the page that `check` reads."""
         counts: collections.Counter[bytes] = collections.Counter()
-        for run in self.packets.inside(*self.pes or NO_RANGE):
+        for run in self.packets.runs_between(*self.pes or NO_RANGE):
             if run.pts is not None and not run.fault:
-                for header in headers_in(run.control):
+                for header in parse_headers(run.control):
                     counts[header] += run.length
         return counts
 
@@ -214,13 +214,13 @@ class Part:
         return (time_of(alignment.begin), time_of(alignment.end)) if alignment else (None, None)
 
 
-def belongs_to_part(place: Place, part: Part) -> bool:
+def belongs_to_part(place: LossPlace, part: Part) -> bool:
     """Return whether packets missing at a place belong to a part: the gap marker is among the
     part's PES packets, or if there is no gap marker, frames of the part may lack packets."""
     if part.alignment is None:
         return False
-    if place.mark is not None and part.pes is not None:
-        return part.pes[0] <= place.mark <= part.pes[1]
+    if place.gap_marker is not None and part.pes is not None:
+        return part.pes[0] <= place.gap_marker <= part.pes[1]
     begin, end = part.alignment[:2]
     first, length = pts_of(begin, part.alignment.origin), TICKS * (end - begin)
     is_before = place.after is not None and ticks_within(first, length, place.after) <= 0
@@ -260,12 +260,12 @@ def find_part_causes(part: Part) -> Causes | None:
     """Return the causes of faults in a part that was judged, or `None` if there are no causes."""
     request, (recording, alignment) = part.request, part.judged_recording
     lost = part.find_loss_places() if recording.is_stream else []
-    held = timeline_near(part.packets, request.page, alignment.origin, request.within,
-                         Span(alignment.begin, alignment.end), request.every, alignment.packets,
-                         find_lost_spans(lost, alignment.origin, request.within))
+    held = decode_near(part.packets, request.page, alignment.origin, request.within,
+                       Span(alignment.begin, alignment.end), request.every, alignment.packets,
+                       find_lost_spans(lost, alignment.origin, request.within))
     causes = Causes(part.expected_pages(), held,
-                    find_recorded_span(None if recording.packets.refusal else recording.reach(),
-                                       alignment))
+                    find_recorded_span(None if recording.packets.refusal
+                                       else recording.recorded_range(), alignment))
     causes.classify_all(part.check_output)
     return causes if causes.by_index else None
 
@@ -279,7 +279,8 @@ def find_recorded_span(pts: tuple[int, int] | None, alignment: TimedPart) -> Spa
     return Span(alignment.begin - -first // TICKS, alignment.begin + last // TICKS)
 
 
-def find_lost_spans(places: Sequence[Place], origin: int, within: int, is_with_next: bool = True) \
+def find_lost_spans(places: Sequence[LossPlace], origin: int, within: int,
+                    is_with_next: bool = True) \
         -> Iterator[Span]:
     """Return the frames that may lack packets at some places, with or without the frame of the next
     PES packet."""

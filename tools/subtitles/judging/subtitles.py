@@ -15,7 +15,7 @@ from ..formats.stl import NamedSubtitle, Subtitle, SubtitleFile, subtitle_name, 
 from ..formats.teletext import (
     BY_WORD, NationalOption, OPTIONS, Page, character_of, has_characters, letter_at, options_with)
 from ..request.commands import MOST_LINES
-from ..stream.packets import Packets, PES, Run
+from ..stream.packets import PES, PacketRun, Packets
 from ..stream.receiver import BLANK_PAGE, Rows, Timeline
 from .sentence import FAULT_CLAUSES
 from .transmissions import ExpectedPages
@@ -259,8 +259,8 @@ def add_transmission(packets: Packets, frame: int, rows: Rows, page: Page, optio
     """Add a PES packet that sends a page at a frame."""
     number = packets.count
     header = (page[1] & 15, page[1] >> 4, 0, 8, 0, 8, 1, BY_WORD[option].bits << 1)
-    packets.runs.append(Run(number, 1, TICKS * frame, 0,
-                            ERASE_FLAGS if rows == BLANK_PAGE else PAGE_FLAGS,
-                            "".join(f"{one:X}" for one in header)))
-    packets.held.append((number, tuple((row, cells) for row, cells in enumerate(rows, 1)
-                                       if cells != BLANK_PAGE[0])))
+    packets.runs.append(PacketRun(number, 1, TICKS * frame, 0,
+                                  ERASE_FLAGS if rows == BLANK_PAGE else PAGE_FLAGS,
+                                  "".join(f"{one:X}" for one in header)))
+    packets.decoded_rows.append((number, tuple((row, cells) for row, cells in enumerate(rows, 1)
+                                               if cells != BLANK_PAGE[0])))

@@ -20,11 +20,11 @@ from ..request.commands import Listener
 from ..request.request import (
     NONE, ORIGIN_CHOICE, PACE_CHOICE, PES_CHOICE, Request, Selection, Unclear)
 from ..stream.pace import (
-    BY_EVERY, IRREGULAR, Pace, PAUSED, REGULAR, TOO_FEW, each_of, frame_rows, pace_of, pauses_of,
-    unseen_from)
-from ..stream.packets import NO_RANGE, PTSPair, Range, announced_jumps
-from ..stream.ranges import Cut, cut_of
-from ..stream.pictures import Departure, departures_of
+    BY_EVERY, IRREGULAR, PAUSED, Pace, REGULAR, TOO_FEW, compute_pace, count_ts_packets,
+    find_hidden_loss, find_pauses, frame_rows)
+from ..stream.packets import NO_RANGE, PTSPair, Range, find_announced_jumps
+from ..stream.ranges import PacketRange, find_range
+from ..stream.pictures import Departure, locate_departures
 from ..stream.survey import Survey
 from .part import Part
 
@@ -193,27 +193,27 @@ def make_unclear_origin(origin: OriginEstimate, again: Iterable[str]) -> Unclear
 def suggest_options(recording: Recording, origin: OriginEstimate) -> Iterator[str]:
     """Yield commands that the operator may type if the origin is not clear."""
     if origin.airings:
-        yield recording.again("--pes", "I-J")
+        yield recording.suggest_call("--pes", "I-J")
     elif origin.breaks is None:
-        yield recording.again("--origin", "T")
+        yield recording.suggest_call("--origin", "T")
         yield from recording.other_pages([recording.packets])
 
 
 # The PES packets of a part
 
 def cut_packets(search: PartSearch, recording: Recording, alignment: TimedPart,
-                within: int) -> Cut:
+                within: int) -> PacketRange:
     """Find the PES packets of the time of the subtitles, allowing some frames of delay."""
-    return cut_of(recording.packets, alignment.begin, alignment.end, alignment.origin,
-                  search.request.every, within, alignment.packets or search.allowed_packets,
-                  search.is_continued and alignment.begin == search.full_range.begin)
+    return find_range(recording.packets, alignment.begin, alignment.end, alignment.origin,
+                      search.request.every, within, alignment.packets or search.allowed_packets,
+                      search.is_continued and alignment.begin == search.full_range.begin)
 
 
 def find_part_packets(search: PartSearch, part: Part, listener: Listener) -> Range:
     """Find the range of the PES packets of a part, and report the range."""
     recording, alignment = part.judged_recording
     cut = cut_packets(search, recording, alignment, search.request.within)
-    damage, line = recording.packets.damage, f"range: {cut.words()}"
+    damage, line = recording.packets.damage, f"range: {cut.describe()}"
     if cut.range is None:
         listener.said(line)
     else:
@@ -224,7 +224,7 @@ def find_part_packets(search: PartSearch, part: Part, listener: Listener) -> Ran
         listener.said(f"range: {recording.shown}: {damage}; it was read up to there")
     if cut.range is None:
         raise Unclear("the recording has nothing of the page at the time of the subtitles",
-                      recording.again("--origin", "T"),
+                      recording.suggest_call("--origin", "T"),
                       *recording.other_pages([recording.packets]))
     return cut.range
 
@@ -263,9 +263,9 @@ def measure_pace(part: Part, times: Sequence[tuple[int, int]]) -> tuple[Pace, in
     request, (recording, alignment), pes = part.request, part.judged_recording, part.pes or NO_RANGE
     size = None if recording.is_stream else os.path.getsize(recording.path)
     rows = frame_rows(recording.packets, pes, alignment.origin, request.within)
-    each = each_of(recording.packets, pes, size)
-    return pace_of(rows, each, request.every, pauses_of(times), recording.is_stream), \
-        unseen_from(rows, each)
+    each = count_ts_packets(recording.packets, pes, size)
+    return compute_pace(rows, each, request.every, find_pauses(times), recording.is_stream), \
+        find_hidden_loss(rows, each)
 
 
 def find_late_jumps(part: Part, pace: Pace) -> tuple[list[PTSPair], int]:
@@ -274,8 +274,8 @@ def find_late_jumps(part: Part, pace: Pace) -> tuple[list[PTSPair], int]:
     (recording, _), inside = part.judged_recording, part.pes or NO_RANGE
     if not recording.is_stream:
         return [], 0
-    jumps = announced_jumps(recording.packets, inside, min(pace.apart, NEXT_FRAME))
-    late = [pair for pair in jumps if ticks_between(*pair) > pace.apart * TICKS]
+    jumps = find_announced_jumps(recording.packets, inside, min(pace.interval, NEXT_FRAME))
+    late = [pair for pair in jumps if ticks_between(*pair) > pace.interval * TICKS]
     return late, len(jumps) - len(late)
 
 
@@ -290,31 +290,32 @@ def make_pace_selection(pace: Pace, is_stream: bool, part: int) -> Selection:
     """Return the pace as a choice of qc, with the number of places where the pace would show a
     loss."""
     return Selection(PACE_CHOICE, str(pace.frames), describe_pace(pace, is_stream),
-                     pace.among - pace.closer, pace.among, part)
+                     pace.total - pace.hidden_places, pace.total, part)
 
 
 def describe_pace(pace: Pace, is_stream: bool) -> str:
     """Describe how regular the PES packets are, and the pace chosen from that."""
     more = ", in which three may come" if pace.is_dense else \
-        f", at least {pace.lost} after a loss of 16 TS packets" if is_stream else ""
-    return f"pace: at most {counted(pace.apart, 'frame')} from one PES packet to the next" \
+        f", at least {pace.loss_interval} after a loss of 16 TS packets" if is_stream else ""
+    return f"pace: at most {counted(pace.interval, 'frame')} from one PES packet to the next" \
         f"{more}: --pace {pace.frames}"
 
 
 def describe_unchecked_losses(pace: Pace, unseen: int | None, recording: Recording) -> str:
     """Describe which losses nothing shows; an empty text if --every or the pace shows all losses.
     """
-    if pace.kind == BY_EVERY or pace.kind == REGULAR and not pace.closer:
+    if pace.kind == BY_EVERY or pace.kind == REGULAR and not pace.hidden_places:
         return ""
     if without := describe_missing_pcr(recording):
         return without
     if pace.kind == REGULAR:
-        what = f"losses of up to {(pace.lost - 1) / FRAMES_A_SECOND:.2f} s on this PID alone" \
+        seconds = (pace.loss_interval - 1) / FRAMES_A_SECOND
+        what = f"losses of up to {seconds:.2f} s on this PID alone" \
             if recording.is_stream else "a missing PES packet"
-        return f"{UNCHECKED} {what} at {counted(pace.closer, 'place')} where PES packets are " \
-            "closer together"
+        return f"{UNCHECKED} {what} at {counted(pace.hidden_places, 'place')} where PES packets " \
+            "are closer together"
     why = {IRREGULAR: "come at irregular intervals",
-           PAUSED: f"pause for up to {counted(pace.apart, 'frame')}",
+           PAUSED: f"pause for up to {counted(pace.interval, 'frame')}",
            TOO_FEW: "are too few to measure their interval"}[pace.kind]
     if not recording.is_stream:
         return f"{UNCHECKED} missing PES packets: those of this file {why}"
@@ -352,7 +353,7 @@ def find_desync(survey: Survey, pid: int, alignment: TimedPart, within: int, num
     faults, notes = list[NamedFault](), list[str]()
     for (own, video), leads in survey.leads.items():
         if own == pid and video in kinds:
-            departures = departures_of(leads)
+            departures = locate_departures(leads)
             inside = find_departures(departures or [], alignment)
             away = [departure for departure in inside if departure.ticks]
             faults += make_desync_faults(away, alignment, within, number)
@@ -369,7 +370,8 @@ def find_departures(several: Sequence[Departure], alignment: TimedPart) -> list[
     is_of_picture = alignment.clock.source in (START, TCP)
     found = []
     for departure in several:
-        at, since = (ticks_within(first, length, pts) for pts in (departure.pts, departure.since))
+        at, since = (ticks_within(first, length, pts)
+                     for pts in (departure.pts, departure.earlier_pts))
         if since < length and (at >= 0 or is_of_picture):
             is_inside = at < length and (since >= 0 or is_of_picture)
             found.append(departure if is_inside else departure._replace(ticks=None))

@@ -16,9 +16,9 @@ from ..formats.teletext import (
     BY_BITS, BY_WORD, ERASE, INHIBIT, NEWSFLASH, Page, RESERVED, SUBTITLE, SUPPRESS, has_bit,
     page_name)
 from ..request.request import Request, Unclear, Unsaid
-from ..stream.packets import CLOSED, HEADER, Packets, PES, Run, headers_in, subcode_of
-from ..stream.receiver import BLANK_PAGE, LEAST, Rows, State, Timeline, national_option
-from ..stream.survey import runs_told
+from ..stream.packets import CLOSED, HEADER, PES, PacketRun, Packets, parse_headers, subcode_of
+from ..stream.receiver import BLANK_PAGE, LEAST, ReceiverState, Rows, Timeline, national_option
+from ..stream.survey import survey_runs
 from .check import CheckOutput
 from .pages import is_partial_page, join_page_text
 
@@ -54,13 +54,13 @@ class PageHeader(NamedTuple):
     is_open: bool = False
 
 
-def find_page_headers(run: Run, state: State) -> list[PageHeader]:
+def find_page_headers(run: PacketRun, state: ReceiverState) -> list[PageHeader]:
     """Return the headers of the page in a PES packet; `state` is the decoder's state before this
     packet."""
     heard: list[PageHeader] = []
     before, is_open = state.header, state.is_open
-    headers = iter(headers_in(run.control))
-    for letter in run.does:
+    headers = iter(parse_headers(run.control))
+    for letter in run.flags:
         if letter == HEADER:
             header = PageHeader(next(headers), before, is_open)
             heard.append(header)
@@ -155,18 +155,18 @@ def find_omitted_rows(timeline: Timeline, expected: Rows, frame: int,
     if a row changed after the page was last erased.
     """
     header = timeline.state_at(frame).header
-    at = bisect.bisect_right(timeline.sendings, frame) - 1
+    at = bisect.bisect_right(timeline.header_frames, frame) - 1
     if header is None or not keeps_page(header) or at < 0 or timeline.page_at(frame) != expected:
         return ""
-    erased = timeline.erasings[bisect.bisect_right(timeline.erasings, frame) - 1] \
-        if timeline.erasings and timeline.erasings[0] <= frame else 0
+    erased = timeline.erasure_frames[bisect.bisect_right(timeline.erasure_frames, frame) - 1] \
+        if timeline.erasure_frames and timeline.erasure_frames[0] <= frame else 0
     changed = output.fault_spans.get(CHANGED) if output else None
     if changed and any(changed.between(erased, frame + 1)):
         return ""
-    sent = timeline.sendings[at]
+    sent = timeline.header_frames[at]
     runs = [run for one in range(sent, min(frame, sent + timeline.within) + 1)
-            for run in timeline.members(one)]
-    came = sum(run.units - run.does.count(HEADER) - run.does.count(CLOSED) for run in runs)
+            for run in timeline.runs_in_frame(one)]
+    came = sum(run.units - run.flags.count(HEADER) - run.flags.count(CLOSED) for run in runs)
     return describe_omitted_rows([number for number,
                                   cells in enumerate(expected, 1) if cells.strip(b" ")],
                                  output.find_fault_row(frame) if output else None, came)
@@ -269,8 +269,8 @@ def schedule_pages(program: str, stl: str, subtitles: list[Subtitle], page: Page
                     "--every", LONGEST_INTERVAL, *between.words(), *layout_arguments, "--", stl,
                     path)
         timeline = Timeline(Packets(PES), page, 0)
-        for run, texts in runs_told(program, path, page):
-            timeline.hear_run(run, texts)
+        for run, texts in survey_runs(program, path, page):
+            timeline.receive_run(run, texts)
     return ExpectedPages(subtitles, [timeline.page_at(subtitle.begin) for subtitle in subtitles],
                          timeline)
 
@@ -297,7 +297,7 @@ class PageTransmissions:
         changes."""
         begins = {first, *self.expected.edges(first, last)}
         begins.update(self.timeline.frames[number]
-                      for number in self.timeline.numbers(first, last + 1)
+                      for number in self.timeline.page_numbers(first, last + 1)
                       if self.timeline.frames[number] > first)
         rising = sorted(begins)
         return [Span(begin, end - 1) for begin, end in zip(rising, [*rising[1:], last + 1])]
@@ -373,7 +373,7 @@ class PageTransmissions:
         """Return all frames in the search window at which the page of a subtitle came for this
         subtitle."""
         page, window = self.pages[place], self.search_window(place)
-        frames = self.timeline.when.get(page)
+        frames = self.timeline.page_frames.get(page)
         if not frames or page == BLANK_PAGE:
             return []
         first, end = (bisect.bisect_left(frames, frame)
@@ -404,7 +404,7 @@ class PageTransmissions:
         subtitle = self.subtitles[place]
         end = subtitle.end if came is None or came <= subtitle.begin else min(came, subtitle.end)
         least = subtitle.begin if place == 0 and came is not None else 0
-        numbers = [number for number in self.timeline.numbers(subtitle.begin, end)
+        numbers = [number for number in self.timeline.page_numbers(subtitle.begin, end)
                    if self.belongs_to_subtitle(number, place)
                    and self.is_unknown_page(number, place)
                    and self.timeline.frames[number] >= least]
@@ -427,7 +427,7 @@ class PageTransmissions:
 
     def count_frames(self, number: int, begin: int, end: int) -> int:
         """Count the frames between two frames in which a page is decoded."""
-        stretch = self.timeline.stretch(number)
+        stretch = self.timeline.page_span(number)
         return min(stretch.last + 1, end) - max(stretch.first, begin)
 
     def find_other_at_cue(self, place: int) -> int | None:
@@ -435,7 +435,7 @@ class PageTransmissions:
         delay, unless both subtitles are moved by as many frames."""
         subtitle = self.subtitles[place]
         limit = min(subtitle.begin + self.timeline.within + 1, subtitle.end)
-        for number in self.timeline.numbers(subtitle.begin, limit):
+        for number in self.timeline.page_numbers(subtitle.begin, limit):
             frame = self.timeline.frames[number]
             other = self.expected.find_subtitle(self.timeline.pages[number], frame)
             if frame >= subtitle.begin and other is not None and other != place and \
@@ -447,7 +447,7 @@ class PageTransmissions:
         """Return another subtitle whose page came in the time of a subtitle, but not at its own
         time."""
         subtitle = self.subtitles[place]
-        for number in self.timeline.numbers(subtitle.begin, subtitle.end):
+        for number in self.timeline.page_numbers(subtitle.begin, subtitle.end):
             frame = self.timeline.frames[number]
             other = self.expected.find_subtitle(self.timeline.pages[number], frame)
             if frame >= subtitle.begin and other not in (None, place) and \

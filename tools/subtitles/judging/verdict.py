@@ -14,7 +14,7 @@ from ..formats.stl import Subtitle
 from ..recording.recording import Recording
 from ..recording.notices import Notice
 from ..request.request import Request, Selection
-from ..stream.gaps import Place, what_of
+from ..stream.gaps import LossPlace, describe_loss
 from ..stream.receiver import Rows, Timeline
 from .part import Part, belongs_to_part
 from .sentence import Facts, FaultCount, Rank, WorstFault, find_worst_named_fault, write_sentence
@@ -66,12 +66,12 @@ def measure_delay(subtitle: Subtitle, page: Rows, timeline: Timeline,
     """
     if timeline.first > subtitle.begin:
         return None
-    for number in timeline.numbers(subtitle.begin, subtitle.end):
+    for number in timeline.page_numbers(subtitle.begin, subtitle.end):
         if timeline.pages[number] != page:
             continue
-        stretch = timeline.stretch(number)
+        stretch = timeline.page_span(number)
         first = max(stretch.first, subtitle.begin)
-        frame = timeline.closed_from(first) if is_complete else first
+        frame = timeline.find_closed_frame(first) if is_complete else first
         if frame is not None and frame <= min(stretch.last, subtitle.end - 1):
             return frame - subtitle.begin
     return None
@@ -119,7 +119,7 @@ class Gap:
     after: str | None
     before: str | None
     description: str
-    place: Place
+    place: LossPlace
     is_judged: bool
 
     def format_line(self) -> str:
@@ -227,7 +227,7 @@ class Verdict:
         is_later = bool(self.estimated_clock_note) and self.has_clock
         kinds = [*(warned.kind for warned in self.warnings), *[ESTIMATED] * is_later]
         return Grounds([part.summarize_check() for part in self.parts], self.severity,
-                       [gap.is_judged and gap.place.mark is None for gap in self.gaps], kinds,
+                       [gap.is_judged and gap.place.gap_marker is None for gap in self.gaps], kinds,
                        self.request.is_strict, [self.unjudged.reason] if self.unjudged else [],
                        self.failed_outputs, [fault.name for fault in self.named_faults],
                        self.has_clock, self.request.is_relative_allowed)
@@ -429,7 +429,7 @@ def find_gaps(recording: Recording, parts: Sequence[Part]) -> list[Gap]:
     return make_gaps(recording.places([jump for part in parts for jump in part.jumps]), parts)
 
 
-def make_gaps(places: Sequence[Place], parts: Sequence[Part]) -> list[Gap]:
+def make_gaps(places: Sequence[LossPlace], parts: Sequence[Part]) -> list[Gap]:
     """Return gaps at these places, with times by the clock of the first part that contains the
     place, or else of the first part."""
     gaps = []
@@ -438,5 +438,5 @@ def make_gaps(places: Sequence[Place], parts: Sequence[Part]) -> list[Gap]:
         origin = (own or parts)[0].origin or 0
         after, before = (None if pts is None else time_in(pts, origin)
                          for pts in (place.before, place.after))
-        gaps.append(Gap(after, before, what_of(place), place, bool(own)))
+        gaps.append(Gap(after, before, describe_loss(place), place, bool(own)))
     return gaps

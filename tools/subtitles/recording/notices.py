@@ -16,11 +16,13 @@ from ..formats.listing import NEVER_SENT, NamedFault
 from ..formats.stl import SubtitleFile
 from ..formats.teletext import BY_WORD, OTHER_REGIONS, Page, as_sent, of_track, page_name
 from ..request.request import LC, Request, Unclear
-from ..stream.gaps import SAID, SECOND, jumps_of, strange_of, why_refused
+from ..stream.gaps import (
+    ANOMALY_TEXTS, SECOND, explain_refusal, find_clock_jumps, find_pts_anomalies)
 from ..stream.repeats import cue_frames, repeat_distance
 from ..stream.packets import HEADER, PES, Packets
 from ..stream.receiver import FEW, PAUSE
-from ..stream.survey import ANY, Announced, KINDS, ProgramMap, SUBTITLE_KINDS, Survey, names_of
+from ..stream.survey import (
+    ANY, Announced, KINDS, ProgramMap, SUBTITLE_KINDS, Survey, language_names)
 
 
 # Anomalies of a recording that break no rule of `check`: warnings, which don't change the status.
@@ -42,17 +44,18 @@ class Notice(NamedTuple):
 
 def timing_notices(packets: Packets, origin: int) -> Iterator[Notice]:
     """Yield warnings about PTS that do not agree with the PCR."""
-    for strange in strange_of(packets):
+    for strange in find_pts_anomalies(packets):
         time = time_in(strange.pts, origin)
         where = f"from {time} on" if time else f"from PTS {strange.pts} on"
-        yield Notice(f"pts_{strange.kind}", f"{where} PTS of the Teletext {SAID[strange.kind]}, "
+        yield Notice(f"pts_{strange.kind}",
+                     f"{where} PTS of the Teletext {ANOMALY_TEXTS[strange.kind]}, "
                      f"by up to {abs(strange.worst) / SECOND:.2f} s, in {strange.number} of "
-                     f"{strange.among} samples", time)
+                     f"{strange.total} samples", time)
 
 
 def jump_notices(packets: Packets, origin: int, first: int, last: int) -> Iterator[Notice]:
     """Yield warnings about jumps of the clock without a missing packet, between two frames."""
-    for jump in jumps_of(packets):
+    for jump in find_clock_jumps(packets):
         frame = FRAMES_OF_A_DAY if jump.before is None else frame_in(jump.before, origin)
         if first <= frame <= last:
             way = "by" if jump.ticks > 0 else "back by"
@@ -70,7 +73,7 @@ def duration_text(ticks: int) -> str:
 
 
 def pmt_notices(survey: Survey, pid: int, request: Request) -> Iterator[Notice]:
-    """Yield warnings about a PMT that announces something else than the requested page."""
+    """Yield warnings about a PMT that does not announce the requested page."""
     programmes = survey.programmes_of(pid)
     if not programmes:
         return
@@ -94,12 +97,12 @@ def page_notices(own: list[Announced], request: Request) -> Iterator[Notice]:
                                            for announced in own))
         yield Notice("type", f"the PMT announces page {name} as {kinds}, not as subtitles")
     code = language_code(request.stl_path)
-    wanted = {*names_of(code)}
+    wanted = {*language_names(code)}
     languages = dict.fromkeys(announced.language.lower() for announced in own)
     if wanted and not (wanted | ANY) & languages.keys():
         yield Notice("language", f"the PMT announces page {name} in "
                      f"{' and '.join(map(shown, languages))}, but the language of the subtitle "
-                     f"file is {' or '.join(names_of(code))} (LC {code})")
+                     f"file is {' or '.join(language_names(code))} (LC {code})")
     yield from option_notices([*languages], request)
 
 
@@ -121,7 +124,7 @@ def option_notices(languages: list[str], request: Request) -> Iterator[Notice]:
 def character_set_notices(packets: Packets, request: Request) -> Iterator[Notice]:
     """Yield warnings about packets that name another character set than that of the national
     option."""
-    for number, designation, region, option in packets.sets:
+    for number, designation, region, option in packets.character_sets:
         if region is None or option is None:
             named = "an unreadable character set"
         elif region or option != as_sent(BY_WORD[request.option]):
@@ -273,7 +276,7 @@ def has_unreadable(survey: Survey, pids: Collection[int]) -> bool:
     """Return whether one of some PIDs has TS packets but no readable PES packet, as if scrambled.
     """
     packets = [survey.by_pid[pid] for pid in pids if pid in survey.by_pid]
-    return any(not one.count and one.packets and why_refused(one) for one in packets)
+    return any(not one.count and one.packets and explain_refusal(one) for one in packets)
 
 
 def never_sent_text(survey: Survey, page: Page, pids: Collection[int],
@@ -326,10 +329,11 @@ def refuse_dead_source(request: Request, survey: Survey, packets: Packets,
         return pts is not None and (origin is None or ticks_within(
             pts_of(begin, origin), TICKS * (end - begin), pts) < TICKS * (end - begin))
 
-    rows = [packets.pts_at(number) for number, texts in [*packets.held, *packets.strays] if texts]
+    rows = [packets.pts_at(number) for number, texts in [*packets.decoded_rows, *packets.stray_rows]
+            if texts]
     if any(map(is_before_end, rows)):
         return
-    headers = sum(map(is_before_end, packets.pts(does=HEADER)))
+    headers = sum(map(is_before_end, packets.pts(flags=HEADER)))
     what = f"{headers:,} header{'s' * (headers != 1)}, no row" if headers else \
         f"{sum(map(is_before_end, packets.pts())):,} PES packets, no header"
     if origin is not None and rows and rows[0] is not None:
@@ -340,14 +344,14 @@ def refuse_dead_source(request: Request, survey: Survey, packets: Packets,
 
 def is_all_read(packets: Packets) -> bool:
     """Return whether no PES packet is missing or refused."""
-    return not packets.marks and not packets.damage and not packets.refusal and \
+    return not packets.gap_markers and not packets.damage and not packets.refusal and \
         all(run.pts is not None and not run.fault for run in packets.runs)
 
 
 def time_of_recording(survey: Survey, packets: Packets) -> tuple[int, int] | None:
     """Return the first and the last PCR, or without these the first and the last PTS."""
     clock = survey.clock_of(packets.pid) if packets.pid != PES else None
-    if clock or not packets.runs or len(packets.bases()) > 1:
+    if clock or not packets.runs or len(packets.time_bases()) > 1:
         return clock
     first, last = packets.runs[0].pts, packets.runs[-1].last
     return None if first is None or last is None else (first, last)

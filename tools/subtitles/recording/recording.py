@@ -17,7 +17,8 @@ from ..common.times import ticks_between
 from ..formats.teletext import START
 from ..request.commands import CommandWords, KEPT, KEPT_STREAM, Listener, Names, Speech, again
 from ..request.request import PID_CHOICE, Request, Selection, Unclear
-from ..stream.gaps import Place, marks_told, places_of, reach_of, why_refused
+from ..stream.gaps import (
+    LossPlace, explain_refusal, find_loss_places, find_recorded_range, gap_marker_lines)
 from ..stream.packets import HEADER, PES, PTSPair, Packets
 from ..stream.survey import Survey, survey
 from .notices import Notice, find_announcements, refuse_unsent, silent_pids
@@ -160,9 +161,9 @@ class Recording:
                 refuse_unsent(self.request, self.survey, self.times)
             if packets.count:
                 return packets
-            why = "; ".join([f"{self.name}: {why_refused(packets)}", *filter(None, [
+            why = "; ".join([f"{self.name}: {explain_refusal(packets)}", *filter(None, [
                 self.header_problem(packets)])])
-            raise Unclear(self.said(why), *self.other_pids())
+            raise Unclear(self.with_contents(why), *self.other_pids())
         pids = [by_pid[pid] for pid in sorted(by_pid) if by_pid[pid].has_page]
         self.refuse_silent({one.pid for one in pids})
         if len(pids) == 1:
@@ -172,9 +173,9 @@ class Recording:
             refuse_unsent(self.request, self.survey, self.times)
             why = "; ".join([f"{self.name} has no header of page {page}",
                              *self.unreadable_reasons()])
-            raise Unclear(self.said(why), *self.other_pages(by_pid.values()))
-        raise Unclear(self.said(f"page {page} is sent on {len(pids)} PIDs of {self.name}"),
-                      *(self.again("--pid", f"0x{one.pid:X}") for one in pids))
+            raise Unclear(self.with_contents(why), *self.other_pages(by_pid.values()))
+        raise Unclear(self.with_contents(f"page {page} is sent on {len(pids)} PIDs of {self.name}"),
+                      *(self.suggest_call("--pid", f"0x{one.pid:X}") for one in pids))
 
     def refuse_silent(self, carriers: Collection[int]) -> None:
         """Raise `Unclear` if several programmes announce the page but some never send it: only the
@@ -182,15 +183,15 @@ class Recording:
         announced = [*find_announcements(self.survey.programmes, self.request.page)]
         silent = silent_pids(announced, carriers)
         if silent and self.request.pes is None:
-            raise Unclear(self.said(
+            raise Unclear(self.with_contents(
                 f"page {self.request.page_name} is announced by several programmes of {self.name}, "
                 f"but sent only on {' and '.join(map(pid_name, sorted(carriers)))}, not on "
                 f"{' and '.join(map(pid_name, sorted(silent)))}"),
-                *(self.again("--pid", f"0x{pid:X}") for pid in sorted({*carriers} | silent)))
+                *(self.suggest_call("--pid", f"0x{pid:X}") for pid in sorted({*carriers} | silent)))
 
     def print_choice(self, packets: Packets, why: str) -> None:
         """Report which PID was chosen, with the evidence."""
-        begun = sum(run.length for run in packets.timed() if HEADER in run.does)
+        begun = sum(run.length for run in packets.runs_with_pts() if HEADER in run.flags)
         line = f"{pid_name(packets.pid)}: page {self.request.page_name} has a header in {begun} " \
             f"of {counted(packets.count, 'PES packet')}, {why}"
         self.listener.chosen(Selection(PID_CHOICE, f"0x{packets.pid:X}", line, begun,
@@ -199,7 +200,7 @@ class Recording:
     def unreadable_reasons(self) -> list[str]:
         """Return why PIDs that should carry Teletext can't be read, as scrambled ones."""
         return [words for packets in unreadable_packets(self.survey)
-                for words in (why_refused(packets), self.header_problem(packets)) if words]
+                for words in (explain_refusal(packets), self.header_problem(packets)) if words]
 
     def header_problem(self, packets: Packets) -> str:
         """Return what is wrong with the PES header of a PID."""
@@ -216,13 +217,13 @@ class Recording:
             self.listener.said(f"{self.name}: {packets.damage}; it was read up to there")
         if not self.is_stream:
             return
-        why = why_refused(packets)
+        why = explain_refusal(packets)
         if why:
             self.listener.said(why)
         if self.survey.skipped:
             self.listener.said(f"{counted(self.survey.skipped, 'byte')} outside of TS packets "
                                "skipped")
-        for line in marks_told(packets):
+        for line in gap_marker_lines(packets):
             self.listener.said(line)
 
     # What it is.
@@ -269,23 +270,23 @@ class Recording:
             done.check_returncode()
         yield from pieces_of(own)
 
-    def places(self, jumps: Iterable[PTSPair] = ()) -> list[Place]:
+    def places(self, jumps: Iterable[PTSPair] = ()) -> list[LossPlace]:
         """Return the places where packets are missing, including those that announced jumps of the
         counter hide."""
-        return places_of(self.packets, jumps)
+        return find_loss_places(self.packets, jumps)
 
-    def reach(self) -> tuple[int, int] | None:
+    def recorded_range(self) -> tuple[int, int] | None:
         """Return the PTS between which the PCR shows that everything was recorded."""
-        return reach_of(self.survey, self.packets)
+        return find_recorded_range(self.survey, self.packets)
 
     def last(self) -> int | None:
         """Return the last PTS, or the last PCR if it is later."""
-        clock, pts = self.survey.clock_of(self.packets.pid), self.packets.begun
+        clock, pts = self.survey.clock_of(self.packets.pid), self.packets.last_pts
         known = [one for one in (pts, clock and clock[1]) if one is not None]
         return max(known, default=None, key=functools.partial(ticks_between, known[0])) \
             if known else None
 
-    def strange(self) -> list[Notice]:
+    def find_notices(self) -> list[Notice]:
         """Return notices if it ends too early."""
         notices = list[Notice]()
         is_open = self.packets.is_cut and not self.packets.refusal
@@ -303,7 +304,7 @@ class Recording:
         """Return the calls with other PIDs to type instead."""
         known = [f"0x{pid:X}" for pid, packets in sorted(self.survey.by_pid.items())
                  if self.request.page_name in packets.sent]
-        return [self.again("--pid", word)
+        return [self.suggest_call("--pid", word)
                 for word in known or ["PID"] * bool(self.survey.by_pid)]
 
     def has_picture(self) -> bool:
@@ -312,9 +313,9 @@ class Recording:
 
     def no_picture_error(self, reason: NoFirstPicture) -> Unclear:
         return Unclear(f"{self.name}: no first picture for --start: {reason}",
-                       self.again("--origin", "T"))
+                       self.suggest_call("--origin", "T"))
 
-    def again(self, *more: str) -> str:
+    def suggest_call(self, *more: str) -> str:
         return again(self.request, self.typed, *more)
 
     def other_pages(self, several: Iterable[Packets]) -> Iterator[str]:
@@ -323,9 +324,9 @@ class Recording:
         for one in several:
             counts.update(one.sent)
         del counts[self.request.page_name]
-        return (self.again("--page", name) for name, _ in counts.most_common(MOST_PAGES))
+        return (self.suggest_call("--page", name) for name, _ in counts.most_common(MOST_PAGES))
 
-    def said(self, reason: str) -> str:
+    def with_contents(self, reason: str) -> str:
         """Return a reason, followed by what the recording has."""
         if self.request.pid is not None:
             self.survey = survey(self.typed.program_path, self.path, self.request.page)

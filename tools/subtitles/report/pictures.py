@@ -11,7 +11,7 @@ from typing import Any, Callable, Iterable, Iterator, NamedTuple, TypeVar
 from ..common.command_line import counted
 from ..common.markup import Markup, NO_MARKUP, joined, markup
 from ..formats.teletext import NEWSFLASH, SUBTITLE, has_bit, letters
-from ..stream.receiver import BLANK_PAGE, HIT, OLD, Rows, State, national_option
+from ..stream.receiver import BLANK_PAGE, HIT, OLD, ReceiverState, Rows, national_option
 
 
 # A page as Teletext level 1 draws it (EN 300 706, 12.2), as SVG with its text in it.
@@ -225,9 +225,9 @@ def differences(due: Rows, held: Rows) -> list[Place]:
 NO_TEXT = "no text"
 
 
-def picture_pair(time: str, expected: Rows, header: bytes, state: State | None) -> Markup:
+def picture_pair(time: str, expected: Rows, header: bytes, state: ReceiverState | None) -> Markup:
     """Draw the expected page and the decoded one at the end of a frame."""
-    decoded = state.rows if state and state.is_heard else None
+    decoded = state.rows if state and state.is_received else None
     cut = rows_to_draw([expected, decoded] if decoded else [expected])
     left = figure(f"Expected at {time}", NO_TEXT * (expected == BLANK_PAGE),
                   picture(expected, header, cut))

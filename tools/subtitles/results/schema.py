@@ -172,7 +172,7 @@ LOSS = Record(
            lambda gap: gap.place.before),
     Member("to_pts", Maybe(PTS), "The PTS of the next one.", lambda gap: gap.place.after),
     Member("gap_marker", Maybe(COUNT), "The number of the gap marker (45) among the PES packets; "
-           "null: only the PCR shows the loss.", lambda gap: gap.place.mark),
+           "null: only the PCR shows the loss.", lambda gap: gap.place.gap_marker),
     Member("lost_ts_packets", COUNT, "By their counters, which do not show multiples of 16.",
            lambda gap: gap.place.lost),
     Member("scrambled_ts_packets", COUNT, "Scrambled TS packets.",

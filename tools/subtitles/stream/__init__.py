@@ -3,10 +3,10 @@
 packets        PES packets of a Teletext PID, and announced jumps of its counter
 pictures       pictures that drift from Teletext
 survey         the output of `subttx survey`: maps, pictures, languages
-gaps           places with missing packets, and how late PTS are
+gaps           places with missing packets, and PTS that do not agree with the PCR
 repeats        how often a page is repeated
-pace           the distances of PES packets, and the pace that shows any loss
-ranges         the PES packets of some frames
+pace           the intervals of PES packets, and the interval that shows any loss
+ranges         find the PES packets of a range of frames
 receiver       the page that a receiver has decoded at the end of each frame
 layout         find the layout that draws subtitles as they were sent
 """

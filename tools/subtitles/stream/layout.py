@@ -15,19 +15,19 @@ from ..formats.teletext import COMMON, NationalOption
 from .receiver import Rows, Timeline
 
 
-# A layout changes only rows, columns and codes, so a subtitle is *found* if a page was sent that
-# has the characters of its text in order. Each item of a layout decides the cells of a line, its
-# row, or its column. So search for each of these separately, and in the end draw the subtitles.
+# A layout changes only rows, columns and codes, so a subtitle is *found* if a page with its
+# characters in order was sent. Each item of a layout decides the cells of a line, its row or its
+# column. So find the items of each kind separately, and draw the subtitles to check the result.
 
-REFUSED = {code for code in CODES if code not in COMMON}  # unless they are left out
+REFUSED = {code for code in CODES if code not in COMMON}  # unless the layout strips them
 BOX_CODES, LINE_CODES = b"\x0a\x0b", b"\x0a\x0b\x0d"
-FEWEST, TENTHS = 10, 9  # subtitles at least; 9 of 10 must be drawn as sent
-MOST_STRIPPED = 5  # codes at the ends of lines of which to try each choice
-MOST_KEPT = 6  # ways to draw a line, best first, to keep
+FEWEST, TENTHS = 10, 9  # fewest subtitles, and how many of ten must be drawn as sent
+MOST_STRIPPED = 5  # most codes at the ends of lines to combine in all ways
+MOST_KEPT = 6  # most candidates to keep
 Element = TypeVar("Element")
 
 
-class Sent(NamedTuple):
+class SentSubtitle(NamedTuple):
     """A subtitle and the page sent at its frames: its text in the file, the row of its first line
     (VP), its justification code (JC), and rows 1 to 24."""
 
@@ -38,8 +38,8 @@ class Sent(NamedTuple):
 
 
 class SentLine(NamedTuple):
-    """A line with characters: the subtitle's position, the line's number, its cells with all codes,
-    and the row of the page that was sent, with its cells."""
+    """A line with characters: the position of its subtitle, its number, its cells with all codes,
+    and the sent row, by its number and its cells."""
 
     place: int
     number: int
@@ -48,14 +48,14 @@ class SentLine(NamedTuple):
     sent: bytes
 
 
-def is_found(sent: Sent, option: NationalOption) -> bool:
-    """Return whether a subtitle has characters, and they were sent."""
+def is_found(sent: SentSubtitle, option: NationalOption) -> bool:
+    """Return whether a subtitle has characters and these were sent."""
     letters = letters_of_text(sent.text, option)
     return bool(letters) and letters_on(sent.rows) == letters
 
 
-def pairs_of(place: int, lines: Sequence[bytes], rows: Sequence[bytes]) -> list[SentLine]:
-    """Return the lines with characters of a found subtitle, or none if the page has others."""
+def pair_lines(place: int, lines: Sequence[bytes], rows: Sequence[bytes]) -> list[SentLine]:
+    """Return the lines of a subtitle with their sent rows, or none if the characters differ."""
     said = [(number, line) for number, line in enumerate(lines) if letter_cells(line)]
     shown = [(number, row) for number, row in enumerate(rows, 1) if letter_cells(row)]
     if [letter_cells(line) for _, line in said] != [letter_cells(row) for _, row in shown]:
@@ -64,9 +64,9 @@ def pairs_of(place: int, lines: Sequence[bytes], rows: Sequence[bytes]) -> list[
             for (number, line), (row, sent) in zip(said, shown)]
 
 
-def strips(pairs: Sequence[SentLine]) -> Iterator[bytes]:
-    """Yield the codes that a layout may leave out of texts: those that a page can't have, those
-    missing between characters, and of those at the ends of lines each choice, or the usual ones."""
+def codes_to_strip(pairs: Sequence[SentLine]) -> Iterator[bytes]:
+    """Yield sets of codes that a layout may strip: codes that a page can't have, codes missing
+    between characters, and combinations of the codes at the ends of lines."""
     lacks, has, ends = set[int](), set[int](), set[int]()
     for cells, sent in {(pair.cells, pair.sent) for pair in pairs}:
         said, shown = Counter(inner(cells)), Counter(inner(sent))
@@ -87,14 +87,15 @@ def strips(pairs: Sequence[SentLine]) -> Iterator[bytes]:
 
 
 def most(counts: Counter[Element], size: int) -> list[Element]:
-    """Return those that were counted most often."""
+    """Return the elements with the highest counts."""
     return [one for one, _ in counts.most_common(size)]
 
 
-def befores(lines: Counter[tuple[bytes, bytes]], trim: bool) -> list[tuple[bool, bytes, bytes]]:
-    """Return what most lines begin with: `white`, and the codes before and after a line's own
+def find_beginnings(lines: Counter[tuple[bytes, bytes]],
+                    trim: bool) -> list[tuple[bool, bytes, bytes]]:
+    """Return the beginnings of most lines: `white`, and the codes before and after a line's own
     leading codes."""
-    seen = Counter[tuple[bytes, bytes]]()  # a line's leading codes, and those sent
+    seen = Counter[tuple[bytes, bytes]]()  # leading codes of lines, and of sent rows
     for (cells, sent), count in lines.items():
         shown = sent.lstrip(b" ")
         cells = cells.strip(b" ") if trim else cells
@@ -115,8 +116,8 @@ def befores(lines: Counter[tuple[bytes, bytes]], trim: bool) -> list[tuple[bool,
     return most(votes, MOST_KEPT)
 
 
-def afters(lines: Counter[tuple[bytes, bytes]]) -> list[bytes]:
-    """Return what most lines end with."""
+def find_ends(lines: Counter[tuple[bytes, bytes]]) -> list[bytes]:
+    """Return the codes at the ends of most lines."""
     votes = Counter[bytes]()
     for (cells, sent), count in lines.items():
         own, shown = (one.rstrip(b" ")[::-1] for one in (cells, sent))
@@ -129,16 +130,16 @@ def afters(lines: Counter[tuple[bytes, bytes]]) -> list[bytes]:
             if len(one) <= MOST_AFTER and all(code in DRAWN_CODES for code in one)]
 
 
-def ways_to_prepare(pairs: Sequence[SentLine]) -> list[Layout]:
-    """Return layouts by the lines that they draw as they were sent, most first."""
+def find_line_layouts(pairs: Sequence[SentLine]) -> list[Layout]:
+    """Return layouts of the cells of lines, by the number of lines drawn as sent, most first."""
     scores = Counter[Layout]()
-    for strip, trim in itertools.product(strips(pairs), (False, True)):
+    for strip, trim in itertools.product(codes_to_strip(pairs), (False, True)):
         all_lines = Counter((stripped(pair.cells, strip), pair.sent) for pair in pairs)
         lines = Counter({line: count for line, count in all_lines.items()
                          if START_BOX not in line[0]})
         beginnings = [(False, PLAIN.before, PLAIN.behind)]
-        beginnings = [*befores(lines, trim), *beginnings] if lines else beginnings
-        ends = {PLAIN.after, *afters(lines)}
+        beginnings = [*find_beginnings(lines, trim), *beginnings] if lines else beginnings
+        ends = {PLAIN.after, *find_ends(lines)}
         for (white, before, behind), after, fit in itertools.product(
                 beginnings, ends, (False, True)):
             layout = Layout(strip, before, behind, after, fit, white, trim)
@@ -160,9 +161,10 @@ def as_bits(places: Iterable[int]) -> int:
     return bits
 
 
-def placed(layout: Layout, pairs: Sequence[SentLine], all_lines: Sequence[Sequence[bytes]],
-           subtitles: Sequence[Sent]) -> Iterator[tuple[Layout, int]]:
-    """Yield layouts with the rows of lines, each with the subtitles whose rows are right."""
+def find_row_layouts(layout: Layout, pairs: Sequence[SentLine],
+                     all_lines: Sequence[Sequence[bytes]],
+                     subtitles: Sequence[SentSubtitle]) -> Iterator[tuple[Layout, int]]:
+    """Yield layouts of the rows of lines, each with the subtitles whose rows are wrong."""
     lines = [[prepared(stripped(line, layout.strip), layout) for line in one] for one in all_lines]
     for double, pack, last in itertools.product((False, True), repeat=3):
         shape = layout._replace(double=double, pack=pack, last=last)
@@ -176,9 +178,9 @@ def placed(layout: Layout, pairs: Sequence[SentLine], all_lines: Sequence[Sequen
                 yield shape._replace(row=shift), wrong
 
 
-def justified(layout: Layout, pairs: Sequence[SentLine], subtitles: Sequence[Sent]
+def find_column_layouts(layout: Layout, pairs: Sequence[SentLine], subtitles: Sequence[SentSubtitle]
               ) -> Iterator[tuple[Layout, int]]:
-    """Yield layouts with the columns of lines, each with the subtitles that have a wrong line."""
+    """Yield layouts of the columns of lines, each with the subtitles that have a wrong line."""
     wrong, kinds = set[int](), dict[tuple[bytes, int, int], set[int]]()
     for pair in pairs:
         cells = prepared(stripped(pair.cells, layout.strip), layout)
@@ -204,121 +206,121 @@ def justified(layout: Layout, pairs: Sequence[SentLine], subtitles: Sequence[Sen
                 yield candidate, as_bits(wrong | others)
 
 
-def draws(layout: Layout, sent: Sent, option: NationalOption) -> bool:
+def draws_as_sent(layout: Layout, sent: SentSubtitle, option: NationalOption) -> bool:
     """Return whether a layout draws a subtitle as it was sent."""
     lines = drawn(sent.text, sent.row, sent.justify, layout, option)
     return not isinstance(lines, Refused) and page_rows(lines) == sent.rows
 
 
-def missed(layout: Layout, subtitles: Sequence[Sent], option: NationalOption, most: int) -> int:
-    """Return how many subtitles a layout draws otherwise, counting no further than `most`."""
-    others = (sent for sent in subtitles if not draws(layout, sent, option))
+def count_misdrawn(layout: Layout, subtitles: Sequence[SentSubtitle], option: NationalOption,
+                   most: int) -> int:
+    """Count the subtitles that a layout does not draw as sent, up to one more than `most`."""
+    others = (sent for sent in subtitles if not draws_as_sent(layout, sent, option))
     return sum(1 for _ in itertools.islice(others, most + 1))
 
 
-def simplest(layout: Layout, subtitles: Sequence[Sent], option: NationalOption) -> Layout:
-    """Return a layout that draws as many, without each item that changes nothing."""
-    most = missed(layout, subtitles, option, len(subtitles))
+def simplify(layout: Layout, subtitles: Sequence[SentSubtitle], option: NationalOption) -> Layout:
+    """Remove each item of a layout without which no more subtitles are wrong."""
+    most = count_misdrawn(layout, subtitles, option, len(subtitles))
     for names in (("strip",), ("before", "behind"), ("behind",), ("after",), *(
             (name,) for name in Layout._fields[4:])):
         less = layout._replace(**{name: getattr(PLAIN, name) for name in names})
         if less != layout and simplicity(less) < simplicity(layout):
-            others = missed(less, subtitles, option, most)
+            others = count_misdrawn(less, subtitles, option, most)
             if others <= most:
                 layout, most = less, others
     return layout
 
 
-def candidates(subtitles: Sequence[Sent], option: NationalOption) -> list[Layout]:
-    """Return layouts of which one draws most of the found subtitles as they were sent; one of them
-    has no items."""
+def find_candidates(subtitles: Sequence[SentSubtitle], option: NationalOption) -> list[Layout]:
+    """Return the layouts that draw most of the found subtitles as sent, and the plain layout."""
     all_lines = [raw_lines(sent.text, option) for sent in subtitles]
     pairs = [pair for place, sent in enumerate(subtitles)
-             for pair in pairs_of(place, all_lines[place], sent.rows)]
+             for pair in pair_lines(place, all_lines[place], sent.rows)]
     if not pairs:
         return [PLAIN]
     unknown = as_bits(range(len(subtitles))) ^ as_bits({pair.place for pair in pairs})
     counts = Counter[Layout]()
-    for cells in ways_to_prepare(pairs):
-        rows = list(placed(cells, pairs, all_lines, subtitles))
-        for column, wrong in justified(cells, pairs, subtitles):
+    for cells in find_line_layouts(pairs):
+        rows = list(find_row_layouts(cells, pairs, all_lines, subtitles))
+        for column, wrong in find_column_layouts(cells, pairs, subtitles):
             for row, others in rows:
                 layout = column._replace(double=row.double, pack=row.pack, last=row.last,
                                          row=row.row)
                 counts[layout] = len(subtitles) - bin(wrong | others | unknown).count("1")
     best = max(counts.values())
     near = sorted((one for one in counts if counts[one] == best), key=simplicity)
-    return [PLAIN, *(simplest(one, subtitles, option) for one in near[:MOST_KEPT])]
+    return [PLAIN, *(simplify(one, subtitles, option) for one in near[:MOST_KEPT])]
 
 
 # The items of a layout for which there is evidence
 #
-# The layout that draws most subtitles may also draw a wrong page, by an item for that page alone.
-# So an item needs evidence: subtitles that the layout draws otherwise without it. Items can undo
-# each other, as `last` and `row=1` do for a text of two lines, so each group of items needs
-# evidence too. Items that remove something visible from a page need the operator's decision.
+# The layout that draws most subtitles as sent may draw a wrong page too, by an item for this page
+# alone. So each item needs evidence: subtitles that the layout draws differently without it. Items
+# can cancel each other, as `last` and `row=1` do for a text of two lines, so each group of items
+# needs evidence too. An item that removes something visible needs the operator's decision.
 
-STAR = "*"  # an item: codes come after a line's own
+STAR = "*"  # item: codes come after the leading codes of a line
 SINGLE = ("after", "fit", "white", "trim", "text", "up", "left", "right", "free", "double", "pack",
           "last", "row")
-MOST_ITEMS = 12  # items of which to try all groups
+MOST_ITEMS = 12  # most items of which to try all groups
 # Visible codes of a text: colours other than white, flash, backgrounds.
-SEEN_CODES = (*range(0x01, 0x07), 0x08, 0x1C, 0x1D)
-BROUGHT = (DOUBLE, START_BOX)  # those that `before` may restore
-# After a line's own codes these replace its colour, its flash or its double height.
+VISIBLE_CODES = (*range(0x01, 0x07), 0x08, 0x1C, 0x1D)
+RESTORED = (DOUBLE, START_BOX)  # codes that `before` may restore
+# Codes that replace the colour, flash or double height of a line if they come after its own codes.
 OVERRULING = (*COLOURS, 0x09, 0x0C)
 FLASH = 0x08
-BOXES_SHOWN = 2  # start boxes before a line: after one alone libzvbi shows nothing
-MOST_MOVED = 2  # rows by which a broadcaster may move all lines
-LayoutItem = tuple[str, int]  # its name, and of `strip` the code
+BOXES_SHOWN = 2  # start boxes before a line that libzvbi needs to show it
+MOST_MOVED = 2  # most rows by which a broadcaster moves all lines
+LayoutItem = tuple[str, int]  # name of an item, and the code for `strip`
 Group = frozenset[LayoutItem]
-Page = Optional[Rows]  # as a layout draws a text, if it can
+Page = Optional[Rows]  # the page that a layout draws, if it can
 
 
-class Rest(NamedTuple):
-    """Items of a layout, as a TEXT, and the subtitles drawn otherwise without them: how many, and
-    how many of these were sent as drawn."""
+class ItemEvidence(NamedTuple):
+    """The evidence for items of a layout: their TEXT, the number of subtitles that are drawn
+    differently without them, and how many of these were sent as drawn with them."""
 
     text: str
-    decides: int
-    drawn: int
+    redrawn: int
+    as_sent: int
 
     @property
-    def is_seen(self) -> bool:
-        """Return whether that is enough evidence."""
-        return self.decides >= FEWEST and self.drawn * 10 >= self.decides * TENTHS
+    def has_evidence(self) -> bool:
+        """Return whether the evidence is enough."""
+        return self.redrawn >= FEWEST and self.as_sent * 10 >= self.redrawn * TENTHS
 
 
-class Left(NamedTuple):
-    """Items that are not accepted, as a TEXT; how many more subtitles they would draw as sent, and
-    the whole TEXT with them."""
+class RejectedItems(NamedTuple):
+    """Items that are not accepted: their TEXT, the number of further subtitles that they would draw
+    as sent, and the TEXT of the layout with them."""
 
     text: str
     more: int
     whole: str
 
 
-class Choice(NamedTuple):
-    """A layout, how many of the found subtitles it draws as they were sent, the evidence for its
-    items, and other items that would draw more."""
+class LayoutChoice(NamedTuple):
+    """A layout, the number of found subtitles that it draws as sent, the evidence for its items,
+    and rejected items that would draw more."""
 
     layout: Layout
-    drawn: int
+    as_sent: int
     total: int
-    items: tuple[Rest, ...] = ()
-    left: tuple[Left, ...] = ()
+    items: tuple[ItemEvidence, ...] = ()
+    left: tuple[RejectedItems, ...] = ()
 
     @property
     def is_clear(self) -> bool:
-        """Return whether it can be taken for the broadcaster's layout."""
-        return self.total >= FEWEST and self.drawn * 10 >= self.total * TENTHS
+        """Return whether this is probably the broadcaster's layout."""
+        return self.total >= FEWEST and self.as_sent * 10 >= self.total * TENTHS
 
 
 # ---- items, one by one
 
-def items_in(layout: Layout) -> list[LayoutItem]:
-    """Return the items of a layout: each code left out is one, and so is the place of codes after a
-    line's own."""
+def list_items(layout: Layout) -> list[LayoutItem]:
+    """List the items of a layout. Each stripped code is an item, and so is the place of codes after
+    a line's leading codes."""
     items = [("strip", code) for code in layout.strip]
     if (layout.before, layout.behind) != (PLAIN.before, PLAIN.behind):
         items.append(("before", 0))
@@ -327,8 +329,8 @@ def items_in(layout: Layout) -> list[LayoutItem]:
     return items + [(name, 0) for name in SINGLE if getattr(layout, name) != getattr(PLAIN, name)]
 
 
-def without(layout: Layout, group: Iterable[LayoutItem]) -> Layout:
-    """Return a layout without some items."""
+def remove_items(layout: Layout, group: Iterable[LayoutItem]) -> Layout:
+    """Return a layout without a group of items."""
     gone = {*group}
     layout = layout._replace(strip=bytes(
         code for code in layout.strip if ("strip", code) not in gone))
@@ -339,8 +341,8 @@ def without(layout: Layout, group: Iterable[LayoutItem]) -> Layout:
     return layout._replace(**{name: getattr(PLAIN, name) for name in SINGLE if (name, 0) in gone})
 
 
-def with_items(layout: Layout, group: Iterable[LayoutItem], other: Layout) -> Layout:
-    """Return a layout with some items of another one."""
+def add_items(layout: Layout, group: Iterable[LayoutItem], other: Layout) -> Layout:
+    """Return a layout with a group of items of another layout."""
     codes = {code for name, code in group if name == "strip"}
     layout = layout._replace(strip=bytes(sorted({*layout.strip, *codes})))
     names = {name for name, _ in group}
@@ -351,14 +353,13 @@ def with_items(layout: Layout, group: Iterable[LayoutItem], other: Layout) -> La
 
 def items_text(group: Iterable[LayoutItem], layout: Layout) -> str:
     """Return items of a layout as a TEXT."""
-    return layout_text(with_items(PLAIN, group, layout))
+    return layout_text(add_items(PLAIN, group, layout))
 
 
-def taken_from(layout: Layout) -> Group:
-    """Return the items of a layout that no broadcaster uses, or that remove something visible from
-    a page."""
+def find_questionable_items(layout: Layout) -> Group:
+    """Return the items of a layout that are unlikely, or that remove something visible."""
     brought = layout.before + layout.behind
-    gone = {*SEEN_CODES, *({*BROUGHT} - {*brought})}
+    gone = {*VISIBLE_CODES, *({*RESTORED} - {*brought})}
     taken: set[LayoutItem] = {("strip", code) for code in layout.strip if code in gone}
     if {*OVERRULING} & {*layout.behind}:
         taken.add((STAR, 0))
@@ -372,117 +373,124 @@ def taken_from(layout: Layout) -> Group:
 # ---- evidence
 
 class Evidence:
-    """Found subtitles, and how layouts draw them."""
+    """The found subtitles, and the pages that layouts draw for them."""
 
-    def __init__(self, subtitles: Sequence[Sent], option: NationalOption) -> None:
+    def __init__(self, subtitles: Sequence[SentSubtitle], option: NationalOption) -> None:
         self.subtitles, self.option = subtitles, option
-        self.known: dict[Layout, list[Page]] = {}  # of layouts that are looked at as a whole
+        self.known: dict[Layout, list[Page]] = {}
 
-    def page(self, sent: Sent, layout: Layout) -> Page:
-        """Return how a layout draws a subtitle, or `None` if it can't."""
+    def page(self, sent: SentSubtitle, layout: Layout) -> Page:
+        """Return the page that a layout draws for a subtitle, or `None` if it can't."""
         lines = drawn(sent.text, sent.row, sent.justify, layout, self.option)
         return None if isinstance(lines, Refused) else page_rows(lines)
 
     def pages(self, layout: Layout) -> list[Page]:
-        """Return how a layout draws each subtitle."""
+        """Return the page that a layout draws for each subtitle."""
         if layout not in self.known:
             self.known[layout] = [self.page(sent, layout) for sent in self.subtitles]
         return self.known[layout]
 
     def count(self, layout: Layout) -> int:
-        """Return how many subtitles a layout draws as they were sent."""
+        """Count the subtitles that a layout draws as sent."""
         return sum(page == sent.rows for page, sent in zip(self.pages(layout), self.subtitles))
 
-    def rest(self, layout: Layout, group: Iterable[LayoutItem], is_enough: bool = False) -> Rest:
-        """Return the evidence for some items; `is_enough`: stop when they are certainly seen."""
-        less, text = without(layout, group), items_text(group, layout)
+    def item_evidence(self, layout: Layout, group: Iterable[LayoutItem],
+                      is_enough: bool = False) -> ItemEvidence:
+        """Return the evidence for a group of items; `is_enough`: stop as soon as it is enough."""
+        less, text = remove_items(layout, group), items_text(group, layout)
         right = [page == one.rows for page, one in zip(self.pages(layout), self.subtitles)]
         decides = as_sent = 0
         for is_right in (False, True):
             for page, sent, was_right in zip(self.pages(layout), self.subtitles, right):
                 if was_right == is_right and self.page(sent, less) != page:
                     decides, as_sent = decides + 1, as_sent + is_right
-                    if is_enough and is_right and Rest(text, decides, as_sent).is_seen:
-                        return Rest(text, decides, as_sent)
-        return Rest(text, decides, as_sent)
+                    if is_enough and is_right and ItemEvidence(text, decides, as_sent).has_evidence:
+                        return ItemEvidence(text, decides, as_sent)
+        return ItemEvidence(text, decides, as_sent)
 
-    def unseen(self, layout: Layout) -> Group | None:
-        """Return the items without evidence that change fewest subtitles, or `None` if every group
-        has evidence. If there are too many groups to try, remove one item."""
-        items = items_in(layout)
+    def find_unsupported(self, layout: Layout) -> Group | None:
+        """Return the group of items without evidence that changes the fewest subtitles; `None` if
+        every group has evidence. With too many groups to try, return a single item."""
+        items = list_items(layout)
         is_few = len(items) <= MOST_ITEMS
         sizes = range(1, len(items) + 1) if is_few else (1,)
-        rests = [(self.rest(layout, group, is_few), group) for size in sizes
+        rests = [(self.item_evidence(layout, group, is_few), group) for size in sizes
                  for group in itertools.combinations(items, size)]
-        failing = [(rest.decides, len(group), group) for rest, group in rests
-                   if not (rest.is_seen and is_few)]
+        failing = [(rest.redrawn, len(group), group) for rest, group in rests
+                   if not (rest.has_evidence and is_few)]
         return frozenset(min(failing)[-1]) if failing else None
 
-    def supported(self, layout: Layout) -> tuple[Layout, list[Group]]:
-        """Return a layout without items that lack evidence or need a decision, and these items."""
+    def remove_unsupported(self, layout: Layout) -> tuple[Layout, list[Group]]:
+        """Remove items that lack evidence or need a decision; return the layout and these items."""
         gone: list[Group] = []
-        while group := taken_from(layout) or self.unseen(layout):
-            layout = without(layout, group)
+        while group := find_questionable_items(layout) or self.find_unsupported(layout):
+            layout = remove_items(layout, group)
             gone.append(group)
         return layout, gone
 
-    def choice(self, layout: Layout, left: Sequence[Left] = ()) -> Choice:
-        """Return a layout with its evidence; of two items with one TEXT, that of the weaker."""
-        items: dict[str, Rest] = {}
-        for item in items_in(layout):
-            rest = self.rest(layout, [item])
-            items[rest.text] = min(rest, items.get(rest.text, rest), key=lambda one: one.decides)
-        return Choice(layout, self.count(layout), len(self.subtitles), (*items.values(),), (*left,))
+    def make_choice(self, layout: Layout, left: Sequence[RejectedItems] = ()) -> LayoutChoice:
+        """Return a layout with the evidence for its items; of two with the same TEXT the weaker."""
+        items: dict[str, ItemEvidence] = {}
+        for item in list_items(layout):
+            rest = self.item_evidence(layout, [item])
+            items[rest.text] = min(rest, items.get(rest.text, rest), key=lambda one: one.redrawn)
+        return LayoutChoice(layout, self.count(layout), len(self.subtitles), (*items.values(),),
+                            (*left,))
 
-    def left_of(self, layout: Layout, gone: Sequence[Group], whole: Layout) -> list[Left]:
-        """Return the items of another layout that would draw more, and all of these if they draw
-        most together."""
-        count, left = self.count(layout), list[Left]()
+    def find_rejected_items(self, layout: Layout, gone: Sequence[Group],
+                            whole: Layout) -> list[RejectedItems]:
+        """Return the items of another layout that would draw more subtitles as sent; also all of
+        them together if this draws the most."""
+        count, left = self.count(layout), list[RejectedItems]()
         for group in gone:
-            other, text = with_items(layout, group, whole), items_text(group, whole)
+            other, text = add_items(layout, group, whole), items_text(group, whole)
             more = self.count(other) - count
             if more > 0 and all(one.text != text for one in left):
-                left.append(Left(text, more, layout_text(other)))
+                left.append(RejectedItems(text, more, layout_text(other)))
         together = self.count(whole) - count
         if together > max((one.more for one in left), default=0):
             items = [item for group in gone for item in group]
-            left.append(Left(items_text(items, whole), together, layout_text(whole)))
+            left.append(RejectedItems(items_text(items, whole), together, layout_text(whole)))
         return left
 
 
-def choices_of(sent: Sequence[Sent], option: NationalOption) -> tuple[Choice, Choice]:
-    """Return the layout that draws most of the found subtitles, and the one of its items with
-    evidence, which alone can be recommended."""
+def choose_layouts(sent: Sequence[SentSubtitle],
+                   option: NationalOption) -> tuple[LayoutChoice, LayoutChoice]:
+    """Return the layout that draws most of the found subtitles as sent, and the layout with only
+    the supported items, which can be recommended."""
     subtitles = [one for one in sent if is_found(one, option)]
     evidence = Evidence(subtitles, option)
-    best = candidates(subtitles, option)
-    closest = evidence.choice(min(best, key=lambda one: (-evidence.count(one), simplicity(one))))
+    best = find_candidates(subtitles, option)
+    closest = evidence.make_choice(min(best, key=lambda one: (-evidence.count(one),
+                                                              simplicity(one))))
     if not closest.is_clear:
         return closest, closest
-    layout = min((evidence.supported(one)[0] for one in best),
+    layout = min((evidence.remove_unsupported(one)[0] for one in best),
                  key=lambda one: (-evidence.count(one), simplicity(one)))
-    gone = evidence.supported(closest.layout)[1]
-    return closest, evidence.choice(layout, evidence.left_of(layout, gone, closest.layout))
+    gone = evidence.remove_unsupported(closest.layout)[1]
+    return closest, evidence.make_choice(
+        layout, evidence.find_rejected_items(layout, gone, closest.layout))
 
 
 # Subtitles that were sent with their characters
 
-def sent_in(subtitles: Iterable[Subtitle], held: Timeline, option: NationalOption) -> list[Sent]:
-    """Return the subtitles at whose frames a page with their characters was decoded, each with the
+def find_sent_subtitles(subtitles: Iterable[Subtitle], held: Timeline,
+                        option: NationalOption) -> list[SentSubtitle]:
+    """Return the subtitles during which a page with their characters was decoded, each with the
     page that lasted longest."""
     drawings = []
     for subtitle in subtitles:
         letters = letters_of_text(subtitle.text, option)
-        pages = [(-held_for(held, number, subtitle), number)
-                 for number in held.numbers(subtitle.begin, subtitle.end)
+        pages = [(-count_shared_frames(held, number, subtitle), number)
+                 for number in held.page_numbers(subtitle.begin, subtitle.end)
                  if letters and letters_on(held.pages[number]) == letters]
         if pages:
-            drawings.append(Sent(subtitle.text, subtitle.row, subtitle.justify,
-                                 held.pages[min(pages)[1]]))
+            drawings.append(SentSubtitle(subtitle.text, subtitle.row, subtitle.justify,
+                                         held.pages[min(pages)[1]]))
     return drawings
 
 
-def held_for(held: Timeline, number: int, subtitle: Subtitle) -> int:
-    """Return for how many frames of a subtitle a page is decoded."""
-    span = held.stretch(number)
+def count_shared_frames(held: Timeline, number: int, subtitle: Subtitle) -> int:
+    """Count the frames of a subtitle in which a page is decoded."""
+    span = held.page_span(number)
     return min(span.last + 1, subtitle.end) - max(span.first, subtitle.begin)

@@ -9,18 +9,18 @@ from ..common.times import TICKS, ticks_between, wrapped
 
 
 # Once a second `survey` prints the lead of Teletext: its PTS minus the decoding time of the last
-# picture, with the number of that picture. If decoding times advance by more or less than the
+# picture, with the number of that picture. If a step of the decoding times does not agree with the
 # number of pictures, and the lead changes by as much, pictures drift: viewers see later subtitles
-# early or late. If the lead stays, pictures were lost, or both clocks were set again. If it changes
-# without such a step, the multiplexer changes its delay.
+# early or late. If the lead stays the same, pictures were lost, or both clocks were set again. If
+# the lead changes without a step, the multiplexer changes its delay.
 #
-# A multiplexer sends Teletext now before a picture, now after it. So compare the means of leads
-# around a step, to a multiple of their standard error; if there are many, also minimum and maximum.
+# A multiplexer sends Teletext before or after a picture. So compare the mean leads before and after
+# a step with their standard error, and the extremes if there are enough leads.
 
-LOOKED_AT = (10, 30)  # lines on either side of a step; 30 only if 10 do not decide
-FEW = 5  # of fewer lines, use the spread of the whole part
-MANY = 20  # with so many lines on either side compare minimum and maximum too
-SURE = 2.5  # standard errors of a difference of means
+SAMPLE_SIZES = (10, 30)  # leads on either side of a step; 30 only if 10 do not decide
+FEW = 5  # with fewer leads use the variance of the whole part
+MANY = 20  # with at least so many leads on either side compare the extremes too
+SURE = 2.5  # standard errors of the difference of means that decide
 
 
 class VideoLead(NamedTuple):
@@ -33,17 +33,17 @@ class VideoLead(NamedTuple):
 
 
 class Departure(NamedTuple):
-    """A place where pictures drift from Teletext, between the PES packets with PTS `since` and
-    `pts`: later subtitles are some ticks early, or late if negative. `None`: unclear."""
+    """A place where pictures drift from Teletext, between the PES packets with PTS `earlier_pts`
+    and `pts`: later subtitles are early by `ticks`; negative: late; `None`: unclear."""
 
     pts: int
-    since: int
+    earlier_pts: int
     ticks: int | None
 
 
-def departures_of(leads: Sequence[VideoLead]) -> list[Departure] | None:
-    """Return where pictures drift from Teletext, or may, to a second; `None` if their decoding
-    times have no usual step."""
+def locate_departures(leads: Sequence[VideoLead]) -> list[Departure] | None:
+    """Return the places where pictures drift or may drift from Teletext; `None` if decoding times
+    have no usual step."""
     steps = steps_of(leads)
     ends = [at for at, step in enumerate(steps, 1) if abs(step) * 4 >= TICKS]
     if len(ends) * 2 > len(leads):
@@ -58,9 +58,9 @@ def departures_of(leads: Sequence[VideoLead]) -> list[Departure] | None:
         if len(row) == 1 and end != ends[-1]:
             between += row
             continue
-        left = left_by(before, row, ticks, typical)
+        left = measure_departure(before, row, ticks, typical)
         if left == 0 and is_outside(between, before):
-            left = None  # they left and came back, or one time is damaged
+            left = None  # a short drift, or a damaged time
         if left != 0:
             at = end - len(between)
             departures.append(Departure(leads[end].pts, leads[at - 1].pts, left))
@@ -69,8 +69,7 @@ def departures_of(leads: Sequence[VideoLead]) -> list[Departure] | None:
 
 
 def steps_of(leads: Sequence[VideoLead]) -> list[int]:
-    """Return from line to line by how many ticks decoding times advance more than usual for the
-    number of pictures."""
+    """Return the steps of decoding times, in ticks more than usual for the number of pictures."""
     times = [wrapped(lead.pts - lead.ticks) for lead in leads]
     gone = [(ticks_between(first, second), after.number - before.number)
             for first, second, before, after in zip(times, times[1:], leads, leads[1:])]
@@ -79,19 +78,20 @@ def steps_of(leads: Sequence[VideoLead]) -> list[int]:
 
 
 def is_outside(between: Iterable[int], before: Sequence[int]) -> bool:
-    """Return whether a lead is half a frame or more from all those before."""
+    """Return whether a lead is half a frame or more from all leads before it."""
     half = TICKS // 2
     return any(lead <= min(before) - half or lead >= max(before) + half for lead in between)
 
 
-def left_by(before: Sequence[int], after: Sequence[int], step: int, typical: float) -> int | None:
-    """Return by how many ticks pictures drift at a step of their clock, from the leads around it.
+def measure_departure(before: Sequence[int], after: Sequence[int], step: int,
+                      typical: float) -> int | None:
+    """Return the ticks by which pictures drift at a step of their clock, from the leads around it.
 
-    That is 0, the step, or the change of the leads if pictures were lost there too; `None` if it is
+    The result is 0, the step, or the change of the leads if pictures were lost too; `None` if it is
     unclear.
     """
     limit, half = min(abs(step) or TICKS, TICKS) / 2, TICKS // 2
-    for most in LOOKED_AT:
+    for most in SAMPLE_SIZES:
         old, new = before[-most:], after[:most]
         moved = statistics.fmean(new) - statistics.fmean(old)
         error = SURE * math.sqrt(sum(max(

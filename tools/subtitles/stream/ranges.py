@@ -1,4 +1,4 @@
-"""Find the PES packets of some frames."""
+"""Find the PES packets of a range of frames."""
 from __future__ import annotations
 
 import bisect
@@ -7,11 +7,11 @@ from typing import Iterator, NamedTuple
 
 from ..common.command_line import counted
 from ..common.times import FRAMES_OF_A_DAY, TICKS, frame_in, pts_of, time_of, wrapped
-from .packets import BLANK, CLOSED, Change, HEADER, OPEN, Packets, Range, Run
+from .packets import BLANK, CLOSED, HEADER, OPEN, PacketRun, Packets, PageChange, Range
 
 
-SKIPPED = 1 << 31  # ticks: a longer run may wrap around the clock
-AFTER = 2  # consecutive PES packets after the last frame that end reading
+SKIPPED = 1 << 31  # most ticks of a run that can be skipped; longer ones may wrap around the clock
+AFTER = 2  # consecutive PES packets after the last frame that end the search
 
 
 class SentPacket(NamedTuple):
@@ -19,15 +19,15 @@ class SentPacket(NamedTuple):
 
     number: int
     frame: int | None
-    does: str
+    flags: str
 
 
-class Cut(NamedTuple):
-    """The PES packets of some frames.
+class PacketRange(NamedTuple):
+    """The PES packets of a range of frames.
 
-    `range` is `None` if there are none; `read` counts those read; `first` and `last` are frames,
-    and `came` the frame of the first one in the time. `has_end`: the last page transmission has
-    come. `is_over`: no later packet can belong to it.
+    `range` has their numbers, or is `None`; `read` counts the PES packets read. `first` and `last`
+    are frames, and `came` is the frame of the first PES packet, even without the page. `has_end`:
+    the last page transmission has come. `is_over`: no later PES packet can be in the range.
     """
 
     range: Range | None
@@ -38,7 +38,7 @@ class Cut(NamedTuple):
     has_end: bool = False
     is_over: bool = False
 
-    def words(self) -> str:
+    def describe(self) -> str:
         count = counted(self.read, "PES packet")
         if self.range is None or self.first is None or self.last is None:
             return f"none of {count} is in these frames with a header of the page, or after one"
@@ -46,24 +46,23 @@ class Cut(NamedTuple):
         return f"{kept} of {count}, from {time_of(self.first)} to {time_of(self.last)}"
 
 
-def cut_of(packets: Packets, begin: int, end: int, origin: int, every: int | None = None,
-           within: int = 0, inside: Range | None = None, is_continued: bool = False) -> Cut:
-    """Return the PES packets from frame `begin` to `end`, consecutive, from the first header of the
-    page up to the last one before a later frame.
+def find_range(packets: Packets, begin: int, end: int, origin: int, every: int | None = None,
+           within: int = 0, inside: Range | None = None, is_continued: bool = False) -> PacketRange:
+    """Find the PES packets from frame `begin` to `end`, beginning with a page header.
 
-    With `every` they begin with the last page transmission that leaves the page blank, at most so
-    many frames before `begin`; they end with the first one at `end` or up to so many frames later.
-    With `within` they end with the first one from `end` on after which the page is blank and
-    closed, or that comes so much later. Only numbers `inside` count. `is_continued`: the text of
-    the first frame is expected before it, too.
+    With `every`, begin with the last page transmission that leaves the page blank, at most `every`
+    frames before `begin`, and end with the first page transmission at `end` or up to `every` frames
+    later. With `within`, end with the first PES packet from `end` on that leaves the page blank and
+    closed, or that comes `within` frames later. Use only the PES packets `inside`. `is_continued`:
+    the text of the first frame is expected before it, too.
     """
     low = max(begin - (every or 0), 0)
     high = end if every is None else min(end + max(every, within), FRAMES_OF_A_DAY - 1)
-    beginning = Beginning(begin, within, PageTexts(packets, origin, within, is_continued))
-    ending = Ending(low, high, end, within, every is not None)
+    beginning = RangeStart(begin, within, PageTexts(packets, origin, within, is_continued))
+    ending = RangeEnd(low, high, end, within, every is not None)
     first = came = None
     read, is_over = 0, False
-    for sent in sent_from(packets, low, high, origin, within):
+    for sent in packets_from(packets, low, high, origin, within):
         read = sent.number + 1
         if inside and sent.number > inside[1]:
             break
@@ -80,87 +79,90 @@ def cut_of(packets: Packets, begin: int, end: int, origin: int, every: int | Non
             break
     read = read or packets.count
     if first is None:
-        return Cut(None, read, came=came, is_over=is_over)
+        return PacketRange(None, read, came=came, is_over=is_over)
     begun = frame_in(next(packets.pts((first, ending.number))), origin, within)
-    return Cut((first, ending.number), read, begun, ending.last, came, ending.has_end, is_over)
+    return PacketRange((first, ending.number), read, begun, ending.last, came, ending.has_end,
+                       is_over)
 
 
 class PageTexts:
-    """The texts of the page, to distinguish a repeat from another text: rows may come up to
-    `within` frames after the header that erases the page. If `is_continued`, no transmission counts
-    as a repeat."""
+    """The texts of the page, to distinguish a repeat from a new text. Rows may come up to `within`
+    frames after the header that erases the page. If `is_continued`, no transmission is a repeat."""
 
     def __init__(self, packets: Packets, origin: int, within: int, is_continued: bool) -> None:
         self.changes, self.origin = packets.changes, origin
         self.numbers = [change.number for change in packets.changes]
         self.within, self.is_continued = within, is_continued
 
-    def changes_in(self, sent: SentPacket) -> list[Change]:
-        """Return the changes by a page transmission with this header."""
-        def is_of_it(change: Change) -> bool:
+    def find_changes(self, sent: SentPacket) -> list[PageChange]:
+        """Return the changes by the page transmission that begins with a header."""
+        def is_of_it(change: PageChange) -> bool:
             frame = frame_in(change.pts, self.origin, self.within)
             return sent.frame is not None and sent.frame <= frame <= sent.frame + self.within
 
         at = bisect.bisect_left(self.numbers, sent.number)
         return [*itertools.takewhile(is_of_it, itertools.islice(self.changes, at, None))]
 
-    def is_back(self, sent: SentPacket) -> bool:
+    def is_repeat(self, sent: SentPacket) -> bool:
         """Return whether a page transmission erases the text before it and sends it again."""
         at = bisect.bisect_left(self.numbers, sent.number)
         rows = self.changes[at - 1].rows if at else ()
         return bool(rows) and not self.is_continued and any(
-            change.rows == rows for change in self.changes_in(sent))
+            change.rows == rows for change in self.find_changes(sent))
 
     def is_replaced(self, sent: SentPacket) -> bool:
         """Return whether a page transmission replaces the text before its header."""
-        return self.is_continued or bool(self.changes_in(sent)) and not self.is_back(sent)
+        return self.is_continued or bool(self.find_changes(sent)) and not self.is_repeat(sent)
 
 
-class Beginning:
-    """Find the PES packet with which a range begins: the first of the last page transmission before
-    the first frame that leaves the page blank, or else the first header from that frame on. If
-    pages may be late, all PES packets of a frame are one transmission."""
+class RangeStart:
+    """Find the first PES packet of a range: the begin of the last page transmission before the
+    first frame that leaves the page blank, or else the first header from that frame on. If pages
+    may be late, all PES packets of a frame are one transmission."""
 
     def __init__(self, begin: int, within: int, texts: PageTexts) -> None:
         self.begin, self.within, self.texts = begin, within, texts
-        self.sending: list[SentPacket] = []  # the current transmission
-        self.blank: int | None = None  # start of the last earlier one that leaves the page blank
-        self.header: int | None = None  # the last header before it
+        self.transmission: list[SentPacket] = []  # the current transmission
+        self.blank: int | None = None  # first PES packet of the last one that leaves the page blank
+        self.header: int | None = None  # PES packet of the last header
         self.is_blank = True
 
     def take(self, sent: SentPacket) -> None:
-        """Read a PES packet before the range begins."""
-        if not (self.within and self.sending and sent.frame in (self.sending[0].frame, None)):
-            self.blank, self.sending = self.last_blank(), []
-        self.sending.append(sent)
-        if HEADER in sent.does:
+        """Read a PES packet before the range."""
+        if not (self.within and self.transmission and sent.frame in (self.transmission[0].frame,
+                                                                     None)):
+            self.blank, self.transmission = self.last_blank(), []
+        self.transmission.append(sent)
+        if HEADER in sent.flags:
             self.header = sent.number
         if sent.frame is not None:
-            self.is_blank = BLANK in sent.does
+            self.is_blank = BLANK in sent.flags
 
     def last_blank(self) -> int | None:
-        """Return the first PES packet of the last transmission that leaves the page blank."""
-        header = next((sent for sent in self.sending if HEADER in sent.does), None)
-        leaves_blank = header and BLANK in self.sending[-1].does and not self.texts.is_back(header)
-        return self.sending[0].number if leaves_blank else self.blank
+        """Return the first PES packet of the last page transmission that leaves the page blank."""
+        header = next((sent for sent in self.transmission if HEADER in sent.flags), None)
+        leaves_blank = header and BLANK in self.transmission[-1].flags and \
+            not self.texts.is_repeat(header)
+        return self.transmission[0].number if leaves_blank else self.blank
 
     def find(self, sent: SentPacket) -> int | None:
-        """Return the number with which the range begins, if this PES packet shows it."""
+        """Return the first number of the range, or `None` if this PES packet does not decide it."""
         if sent.frame is None or sent.frame < self.begin:
             return None
         is_shown, is_replaced = not self.is_blank, self.texts.is_replaced(sent)
         blank = None if is_shown and is_replaced and sent.frame == self.begin else self.last_blank()
-        if blank is not None or HEADER not in sent.does:
+        if blank is not None or HEADER not in sent.flags:
             return blank
-        # For a repeat of a text from before the first frame `check` needs the header before.
+        # If the text of an earlier frame is repeated, `check` needs the header before it.
         is_repeat = is_shown and not is_replaced and sent.frame <= self.begin + self.within
         return self.header if is_repeat and self.header is not None else sent.number
 
 
-class Ending:
-    """Find the PES packet with which a range ends, between the frames `low` and `high`: a header at
-    `end` or later, and all of its frame. If pages may be late, the first PES packet from `end` on
-    that leaves the page blank, and closed if it was closed before, or that comes so late."""
+class RangeEnd:
+    """Find the last PES packet of a range, between the frames `low` and `high`: the last one in the
+    frame of the first header from `end` on. If pages may be late, the first PES packet from `end`
+    on that leaves the page blank, and closed if it was closed before, or that comes `within` frames
+    later."""
 
     def __init__(self, low: int, high: int, end: int, within: int, is_bound: bool) -> None:
         self.low, self.high, self.end, self.within = low, high, end, within
@@ -170,10 +172,10 @@ class Ending:
         self.closed = -1  # the last PES packet that closed the page
 
     def take(self, sent: SentPacket, first: int | None) -> bool:
-        """Read one more PES packet; `first` is the begin of the range, if known. Return whether no
-        later one can be in the range. A single one after it may have a wrong PTS."""
+        """Read a PES packet; `first` is the first number of the range, if known. Return whether no
+        later PES packet can be in the range; a single later one may have a wrong PTS."""
         frame = sent.frame
-        if CLOSED in sent.does:
+        if CLOSED in sent.flags:
             self.closed = sent.number
         if frame is not None:
             if self.may_be_late and self.has_end and frame > self.last:
@@ -186,32 +188,32 @@ class Ending:
             if frame is not None and self.low <= frame <= self.high:
                 self.last = frame
                 if not self.has_end and frame >= self.end:
-                    self.has_end = self.ends(sent, frame, first)
+                    self.has_end = self.is_last(sent, frame, first)
                     self.high = frame if self.has_end and not self.within else self.high
         return False
 
-    def ends(self, sent: SentPacket, frame: int, first: int) -> bool:
-        """Return whether the range ends with a PES packet at the last TCO or later."""
+    def is_last(self, sent: SentPacket, frame: int, first: int) -> bool:
+        """Return whether a PES packet at the last TCO or later is the last of the range."""
         if not self.within:
-            return HEADER in sent.does
-        is_page_over = BLANK in sent.does and not (OPEN in sent.does and self.closed >= first)
+            return HEADER in sent.flags
+        is_page_over = BLANK in sent.flags and not (OPEN in sent.flags and self.closed >= first)
         return is_page_over or frame >= self.end + self.within
 
 
-def sent_from(packets: Packets, low: int, high: int, origin: int, within: int) \
+def packets_from(packets: Packets, low: int, high: int, origin: int, within: int) \
         -> Iterator[SentPacket]:
-    """Yield the PES packets from the first run that may be in some frames."""
+    """Yield the PES packets from the first run on that may lie between two frames."""
     first, last = pts_of(low, origin), pts_of(high, origin)
     for run in itertools.dropwhile(lambda run: is_outside(run, first, last), packets.runs):
         for number in range(run.first, run.end):
             pts = run.pts_of(number)
             frame = None if pts is None else frame_in(pts, origin, within)
-            yield SentPacket(number, frame, run.does)
+            yield SentPacket(number, frame, run.flags)
 
 
-def is_outside(run: Run, low: int, high: int) -> bool:
-    """Return whether all of a run is a frame or more before `low`, or after `high`, which may be a
-    day later: only within half of the clock is it certain which of two PTS is later."""
+def is_outside(run: PacketRun, low: int, high: int) -> bool:
+    """Return whether a run lies a frame or more before `low` or after `high`. These may be a day
+    apart, while the order of two PTS is certain only within half of the clock."""
     first, last = run.pts, run.last
     if first is None or last is None or not 0 <= run.step * run.length < SKIPPED:
         return first is None

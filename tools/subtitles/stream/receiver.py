@@ -10,12 +10,12 @@ from typing import Iterable, Iterator, NamedTuple, Sequence
 from ..common.times import FRAMES_OF_A_DAY, NO_FRAME, Span, count_until, frames_at, rising_rows
 from ..formats.teletext import Page
 from .packets import (
-    CLOSED, ERASE, HEADER, NO_RANGE, OPEN, Packets, Range, Run, STRAY, Texts, headers_in)
-from .ranges import cut_of
+    CLOSED, ERASE, HEADER, NO_RANGE, OPEN, PacketRun, Packets, Range, STRAY, Texts, parse_headers)
+from .ranges import find_range
 
 
-# A cell is its 7-bit code. Bit 8 is set in cells of the old page, 3F, which nobody sent since the
-# receiver was tuned in, and in spaces whose byte had even parity.
+# A cell has a 7-bit code. Bit 8 is set in cells that were not received since the receiver was tuned
+# in (3F), and in spaces whose byte had even parity.
 
 OLD, HIT = 0xBF, 0xA0
 
@@ -25,30 +25,30 @@ BLANK_PAGE: Rows = (b" " * 40,) * 24
 OLD_PAGE: Rows = (bytes([OLD]) * 40,) * 24
 
 
-class State(NamedTuple):
-    """What a receiver has decoded: the eight numbers of the page's last header, or `None`; its
-    rows; and on its screen the rows and the header of the last complete page."""
+class ReceiverState(NamedTuple):
+    """The state of a receiver: the eight numbers of the page's last header, or `None`; the rows;
+    and the rows and the header of the last complete page, which is on the screen."""
 
-    is_heard: bool
+    is_received: bool
     is_open: bool
     header: bytes | None
     rows: Rows
     screen: tuple[Rows, bytes] | None
 
 
-TUNED = State(False, False, None, OLD_PAGE, None)
+INITIAL_STATE = ReceiverState(False, False, None, OLD_PAGE, None)
 
 
 def national_option(header: bytes) -> int:
-    """Return C12, C13 and C14 as a number: 0 is English, 4 German."""
+    """Return C12, C13 and C14 of a header as a number: 0 is English, 4 German."""
     return header[7] >> 1
 
 
 CLEARED = bytes(0x20 if code in (OLD, HIT) else code for code in range(256))
 
 
-def cleared(rows: Rows) -> Rows:
-    """Return a page with spaces for cells that nobody sent, or with even parity."""
+def clear_unsent_cells(rows: Rows) -> Rows:
+    """Return a page with spaces in place of cells that were not received or had even parity."""
     cells = b"".join(rows)
     if OLD not in cells and HIT not in cells:
         return rows
@@ -57,12 +57,12 @@ def cleared(rows: Rows) -> Rows:
 
 # Received PES packets by frame
 
-PAUSE = 2  # consecutive frames without a PES packet: more are a pause
-FEW = 20  # PES packets at least for each pause, if they are steady
+PAUSE = 2  # most frames without a PES packet that are not a pause
+FEW = 20  # fewest PES packets for each pause if they come steadily
 
 
-class Meeting:
-    """Spans that may overlap, sorted to find overlaps with other spans."""
+class SpanIndex:
+    """An index of spans, to find overlaps with other spans."""
 
     def __init__(self, spans: Iterable[Span]) -> None:
         rising = sorted(spans)
@@ -71,48 +71,48 @@ class Meeting:
         self.reach = [*itertools.accumulate(lasts, lambda one, other: max(one, other))]
 
     def has(self, first: int, last: int) -> bool:
-        """Return whether any of them overlaps the frames from `first` to `last`."""
+        """Return whether a span overlaps the frames from `first` to `last`."""
         at = bisect.bisect_right(self.begins, last)
         return at > 0 and self.reach[at - 1] >= first
 
 
 class ReceivedPackets:
-    """The PES packets that were received, run by run.
+    """The received PES packets, in runs.
 
-    `begins` and `ends` are the first and last frame of each run, `first` and `last` those of all;
-    `uneven` has all frames of a run, by position, if they are not consecutive. `doubts` are frames
-    in which something may be missing: from the PES packet before one that was not received, or a
-    gap marker, to the next; `lost` are others. `halt` is the first PES packet whose frame goes
-    back: nothing is received from there on.
+    `begins` and `ends` are the first and last frame of each run; `first` and `last` are those of
+    all runs. `uneven_frames` has the frames of a run, by its position, if they are not consecutive.
+    `uncertain_spans` are the frames around PES packets that were not received and around gap
+    markers; `lost` has frames with other losses. `halt` is the first PES packet whose frame goes
+    back; nothing is received from there on.
     """
 
     def __init__(self, lost: Iterable[Span] = ()) -> None:
-        self.lost = Meeting(lost)  # frames with losses from any source
-        self.forget()
+        self.lost = SpanIndex(lost)  # frames with losses from any source
+        self.clear()
 
-    def forget(self) -> None:
+    def clear(self) -> None:
         """Clear everything."""
-        self.heard, self.uneven = list[Run](), dict[int, Sequence[int]]()
+        self.received_runs, self.uneven_frames = list[PacketRun](), dict[int, Sequence[int]]()
         self.begins, self.ends = array.array("i"), array.array("i")
         self.count = 0  # received PES packets
         self.first = self.last = NO_FRAME
         self.halt: int | None = None
-        self.is_doubted = False
-        self.doubts, self.pauses = list[Span](), list[Span]()  # pauses: without a PES packet
+        self.is_uncertain = False
+        self.uncertain_spans, self.pauses = list[Span](), list[Span]()
 
-    def goes_on(self, run: Run, frames: Sequence[int]) -> bool:
-        """Add PES packets with rising frames; return whether they come after the last."""
+    def add_run(self, run: PacketRun, frames: Sequence[int]) -> bool:
+        """Add PES packets with rising frames; return whether they come after earlier ones."""
         if self.halt is None and frames[0] < self.last:
             self.halt = run.first
         if self.halt is not None:
             return False
-        if self.is_doubted:
-            self.doubts.append(Span(max(self.last, 0), frames[0]))
-            self.is_doubted = False
-        self.pauses += pauses_in(self.last, frames)
+        if self.is_uncertain:
+            self.uncertain_spans.append(Span(max(self.last, 0), frames[0]))
+            self.is_uncertain = False
+        self.pauses += find_pauses(self.last, frames)
         if not isinstance(frames, range):
-            self.uneven[len(self.heard)] = frames
-        self.heard.append(run)
+            self.uneven_frames[len(self.received_runs)] = frames
+        self.received_runs.append(run)
         self.begins.append(frames[0])
         self.ends.append(frames[-1])
         self.count += len(frames)
@@ -120,51 +120,52 @@ class ReceivedPackets:
         self.last = frames[-1]
         return True
 
-    def frames_heard(self, at: int) -> Sequence[int]:
+    def run_frames(self, at: int) -> Sequence[int]:
         """Return the frames of a run, by its position."""
-        return self.uneven.get(at, range(self.begins[at], self.ends[at] + 1))
+        return self.uneven_frames.get(at, range(self.begins[at], self.ends[at] + 1))
 
     def pause_at(self, frame: int) -> Span | None:
-        """Return the pause around a frame, if PES packets come in nearly every frame."""
+        """Return the pause around a frame, or `None` if there is none or pauses are common."""
         at = count_until(self.pauses, lambda span: span.first > frame) - 1
         is_steady = len(self.pauses) * FEW <= self.count
         return self.pauses[at] if is_steady and at >= 0 and self.pauses[at].last >= frame else None
 
     @functools.cached_property
-    def doubted(self) -> Meeting:
-        """Return the doubts; only after all packets were added."""
-        return Meeting(self.doubts)
+    def uncertain_index(self) -> SpanIndex:
+        """Return an index of the uncertain spans; call it only after all packets were added."""
+        return SpanIndex(self.uncertain_spans)
 
-    def is_seen(self, first: int, last: int) -> bool:
-        """Return whether everything sent in some frames was received."""
+    def was_received(self, first: int, last: int) -> bool:
+        """Return whether all PES packets of a span of frames were received."""
         is_known = self.halt is None or last <= self.last
-        return is_known and not self.doubted.has(first, last) and not self.lost.has(first, last)
+        return is_known and not (
+            self.uncertain_index.has(first, last) or self.lost.has(first, last))
 
-    def members(self, frame: int) -> list[Run]:
+    def runs_in_frame(self, frame: int) -> list[PacketRun]:
         """Return the PES packets of a frame, each as a run."""
         first, end = bisect.bisect_left(self.ends, frame), bisect.bisect_right(self.begins, frame)
-        return [self.heard[at].part(self.heard[at].first + place, 1) for at in range(first, end)
-                for frames in [self.frames_heard(at)] for place in range(
+        return [self.received_runs[at].part(self.received_runs[at].first + place, 1)
+                for at in range(first, end) for frames in [self.run_frames(at)] for place in range(
                     bisect.bisect_left(frames, frame), bisect.bisect_right(frames, frame))]
 
     def frame_before(self, number: int) -> int | None:
         """Return the last frame received before a PES packet, or `None`."""
-        at = count_until(self.heard, lambda run: run.first >= number) - 1
+        at = count_until(self.received_runs, lambda run: run.first >= number) - 1
         if at < 0:
             return None
-        run = self.heard[at]
-        return self.frames_heard(at)[min(number - run.first, run.length) - 1]
+        run = self.received_runs[at]
+        return self.run_frames(at)[min(number - run.first, run.length) - 1]
 
     def frame_after(self, number: int) -> int | None:
         """Return the next frame received after a PES packet, or `None`."""
-        at = count_until(self.heard, lambda run: run.end - 1 > number)
-        if at == len(self.heard):
+        at = count_until(self.received_runs, lambda run: run.end - 1 > number)
+        if at == len(self.received_runs):
             return None
-        return self.frames_heard(at)[max(number + 1 - self.heard[at].first, 0)]
+        return self.run_frames(at)[max(number + 1 - self.received_runs[at].first, 0)]
 
 
-def pauses_in(before: int, frames: Sequence[int]) -> Iterator[Span]:
-    """Yield the pauses, without PES packets, before each of some frames."""
+def find_pauses(before: int, frames: Sequence[int]) -> Iterator[Span]:
+    """Yield the pauses between frames with PES packets; `before` is the last frame before them."""
     frames = frames[:1] if isinstance(frames, range) else frames
     for first, second in zip([before if before != NO_FRAME else frames[0], *frames], frames):
         if second - first - 1 > PAUSE:
@@ -173,20 +174,20 @@ def pauses_in(before: int, frames: Sequence[int]) -> Iterator[Span]:
 
 # The pages decoded at the ends of frames, for causes, delays, faults and reports
 #
-# The receiver is tuned in before the first PES packet. It receives none that `check` can't read or
-# that has no frame, and nothing from the first one on whose frame goes back.
+# The receiver is tuned in before the first PES packet. It ignores PES packets that `check` can't
+# read or that have no frame, and all PES packets from the first one whose frame goes back.
 
-LEAST = 250  # frames to search around the expected ones
+LEAST = 250  # fewest frames to decode before and after a span
 
 
 class Timeline(ReceivedPackets):
     """The pages that a receiver decodes.
 
-    Each of `pages` is decoded from the end of the frame in `frames` on. `states` are everything
-    decoded, at first and after the PES packets with numbers `behind` at the frames `stored`. The
-    page opens or closes at the ends of the frames `turns`; `sendings` have a header of the page,
-    `erasings` one that erases it. If PES packets go back before the frame `begin`, everything
-    before is forgotten. The first one came at `came`, if known.
+    Each of `pages` is decoded from the end of the frame in `frames` on. `states` are the states at
+    first and after the PES packets `state_packets`, in the frames `state_frames`. The page opens or
+    closes at the ends of the frames `open_changes`. The frames `header_frames` have a page header,
+    `erasure_frames` one that erases the page. If frames go back before frame `begin`, everything
+    before is cleared. `came` is the frame of the first PES packet, if known.
     """
 
     def __init__(self, packets: Packets, page: Page, origin: int, within: int = 0,
@@ -195,101 +196,103 @@ class Timeline(ReceivedPackets):
         self.packets, self.page, self.origin, self.within = packets, page, origin, within
         self.inside = (0, packets.count - 1) if inside is None else inside
         self.begin, self.came = begin, came
-        self.told: Rows = OLD_PAGE  # the rows printed last, for the whole recording
-        self.is_erased = False  # at any time so far
+        self.printed_rows: Rows = OLD_PAGE  # the last rows that `survey` printed
+        self.is_erased = False  # whether the page was ever erased
         super().__init__(lost)
-        self.hear_all(dict(packets.held), dict(packets.strays))
+        self.receive_all(dict(packets.decoded_rows), dict(packets.stray_rows))
 
-    def forget(self) -> None:
+    def clear(self) -> None:
         """Clear everything."""
-        super().forget()
+        super().clear()
         self.frames, self.pages = array.array("i"), list[Rows]()
-        self.states, self.stored, self.behind = [TUNED], array.array("i"), array.array("q")
-        self.turns, self.sendings, self.erasings = (array.array("i") for _ in range(3))
-        self.strays: list[tuple[Span, Texts]] = []  # rows for which the page was not open
-        self.is_behind = False
+        self.states = [INITIAL_STATE]
+        self.state_frames, self.state_packets = array.array("i"), array.array("q")
+        self.open_changes, self.header_frames, self.erasure_frames = (array.array("i") for _
+                                                                      in range(3))
+        self.stray_rows: list[tuple[Span, Texts]] = []  # rows for which the page was not open
+        self.is_outdated = False
 
     # Receiving
 
-    def hear_all(self, held: dict[int, Texts], strays: dict[int, Texts]) -> None:
+    def receive_all(self, held: dict[int, Texts], strays: dict[int, Texts]) -> None:
         """Receive all PES packets, with the rows decoded after each."""
         first, last = self.inside
-        self.is_erased = any(ERASE in run.does for run in self.packets.inside(0, first - 1))
-        earlier = [texts for number, texts in self.packets.held if number < first]
+        self.is_erased = any(ERASE in run.flags for run in self.packets.runs_between(0, first - 1))
+        earlier = [texts for number, texts in self.packets.decoded_rows if number < first]
         if earlier:
-            self.told = held_rows(earlier[-1], self.is_erased)
+            self.printed_rows = full_page(earlier[-1], self.is_erased)
         stray: Texts = ()
-        for run in self.packets.inside(first, last):
+        for run in self.packets.runs_between(first, last):
             stray = strays.get(run.first, stray)
-            self.hear_run(run, held.get(run.first), stray)
+            self.receive_run(run, held.get(run.first), stray)
 
-    def hear_run(self, run: Run, texts: Texts | None, stray: Texts = ()) -> None:
-        """Receive a run, with the rows printed after its first packet. Rows printed after a packet
-        that is not received need not be decoded."""
+    def receive_run(self, run: PacketRun, texts: Texts | None, stray: Texts = ()) -> None:
+        """Receive a run, with the rows that `survey` printed after its first PES packet. If that
+        packet is not received, these rows may not be decoded."""
         is_told = texts is not None
-        self.is_erased = self.is_erased or ERASE in run.does
+        self.is_erased = self.is_erased or ERASE in run.flags
         if texts is not None:
-            self.told = held_rows(texts, self.is_erased)
-        all_frames = frames_at(() if run.fault else run.each_pts(), self.origin, self.within)
+            self.printed_rows = full_page(texts, self.is_erased)
+        all_frames = frames_at(() if run.fault else run.list_pts(), self.origin, self.within)
         for place, frames in rising_rows(all_frames) or [(0, [NO_FRAME])]:
             if frames[0] != NO_FRAME:
-                self.hear(run.part(run.first + place, len(frames)), frames, is_told, stray)
+                self.receive(run.part(run.first + place, len(frames)), frames, is_told, stray)
             else:
-                self.is_doubted = True
-                self.is_behind = self.is_behind or is_told or is_of_page(run)
+                self.is_uncertain = True
+                self.is_outdated = self.is_outdated or is_told or is_of_page(run)
 
-    def hear(self, run: Run, frames: Sequence[int], is_told: bool, stray: Texts) -> None:
+    def receive(self, run: PacketRun, frames: Sequence[int], is_told: bool, stray: Texts) -> None:
         """Receive PES packets with rising frames."""
         if self.halt is None and frames[0] < self.last < self.begin:
-            self.forget()
+            self.clear()
         is_first = self.first == NO_FRAME
-        if not self.goes_on(run, frames):
+        if not self.add_run(run, frames):
             return
         if is_first and self.came != NO_FRAME:
             self.first = self.came
-        for letter, sent in ((HEADER, self.sendings), (ERASE, self.erasings)):
-            if letter in run.does:
+        for letter, sent in ((HEADER, self.header_frames), (ERASE, self.erasure_frames)):
+            if letter in run.flags:
                 sent.extend(frame for frame in dict.fromkeys(frames)
                             if not sent or frame > sent[-1])
-        if STRAY in run.does:
-            self.strays.append((Span(frames[0], frames[-1]), stray))
-        if (self.states[-1].is_heard or HEADER in run.does) and (is_of_page(run) or is_told):
-            self.take(run, frames[0], is_told)
+        if STRAY in run.flags:
+            self.stray_rows.append((Span(frames[0], frames[-1]), stray))
+        if (self.states[-1].is_received or HEADER in run.flags) and (is_of_page(run) or is_told):
+            self.update_state(run, frames[0], is_told)
 
-    def take(self, run: Run, frame: int, is_told: bool) -> None:
-        """Update the state by a run."""
+    def update_state(self, run: PacketRun, frame: int, is_told: bool) -> None:
+        """Update the state after a run."""
         before = self.states[-1]
-        self.is_behind = self.is_behind and not (ERASE in run.does or is_told)
-        rows = before.rows if self.is_behind else self.told
+        self.is_outdated = self.is_outdated and not (ERASE in run.flags or is_told)
+        rows = before.rows if self.is_outdated else self.printed_rows
         header, screen, held = before.header, before.screen, before.rows
-        headers = iter(headers_in(run.control))
-        for at, letter in enumerate(run.does):
+        headers = iter(parse_headers(run.control))
+        for at, letter in enumerate(run.flags):
             if letter == HEADER:
                 header = next(headers, b"")
             elif letter == ERASE:
                 held = BLANK_PAGE
             elif letter == CLOSED and header:
-                screen = rows if at > run.does.rfind(HEADER) else held, header
-        after = State(True, OPEN in run.does, header, rows, screen)
+                screen = rows if at > run.flags.rfind(HEADER) else held, header
+        after = ReceiverState(True, OPEN in run.flags, header, rows, screen)
         if after == before:
             return
         self.states.append(after)
-        self.stored.append(frame)
-        self.behind.append(run.first)
-        if after.is_open != len(self.turns) % 2:
-            self.turn(frame)
+        self.state_frames.append(frame)
+        self.state_packets.append(run.first)
+        if after.is_open != len(self.open_changes) % 2:
+            self.note_opening(frame)
         if rows != before.rows:
-            self.change(frame, cleared(rows))
+            self.note_page(frame, clear_unsent_cells(rows))
 
-    def turn(self, frame: int) -> None:
-        """Note that the page opens or closes at the end of a frame."""
-        if self.turns and self.turns[-1] == frame:
-            self.turns.pop()
+    def note_opening(self, frame: int) -> None:
+        """Record that the page opens or closes at the end of a frame."""
+        if self.open_changes and self.open_changes[-1] == frame:
+            self.open_changes.pop()
         else:
-            self.turns.append(frame)
+            self.open_changes.append(frame)
 
-    def change(self, frame: int, page: Rows) -> None:
-        """Note that another page is decoded from a frame on, unless it is the same."""
+    def note_page(self, frame: int, page: Rows) -> None:
+        """Record the page that is decoded from a frame on, if it differs from the one before."""
         if self.frames and self.frames[-1] == frame:
             self.frames.pop()
             self.pages.pop()
@@ -300,8 +303,8 @@ class Timeline(ReceivedPackets):
     # Looking up
 
     @functools.cached_property
-    def when(self) -> dict[Rows, array.array[int]]:
-        """Return the frames at which each page came; only after all packets were received."""
+    def page_frames(self) -> dict[Rows, array.array[int]]:
+        """Return the frames at which each page came; call it only after the last packet."""
         when: dict[Rows, array.array[int]] = {}
         for frame, page in zip(self.frames, self.pages):
             when.setdefault(page, array.array("i")).append(frame)
@@ -317,53 +320,53 @@ class Timeline(ReceivedPackets):
         blank: Rows = BLANK_PAGE
         return self.pages[number] if number >= 0 else blank
 
-    def state_at(self, frame: int) -> State:
-        """Return everything decoded at the end of a frame."""
-        return self.states[bisect.bisect_right(self.stored, frame)]
+    def state_at(self, frame: int) -> ReceiverState:
+        """Return the receiver's state at the end of a frame."""
+        return self.states[bisect.bisect_right(self.state_frames, frame)]
 
-    def state_after(self, number: int) -> State:
-        """Return everything decoded after a PES packet."""
-        return self.states[bisect.bisect_right(self.behind, number)]
+    def state_after(self, number: int) -> ReceiverState:
+        """Return the receiver's state after a PES packet."""
+        return self.states[bisect.bisect_right(self.state_packets, number)]
 
-    def numbers(self, begin: int, end: int) -> Iterator[int]:
+    def page_numbers(self, begin: int, end: int) -> Iterator[int]:
         """Yield the numbers of the pages from frame `begin` up to `end`, exclusive."""
         number = max(self.number_at(begin), 0)
         while number < len(self.frames) and self.frames[number] < end:
             yield number
             number += 1
 
-    def stretch(self, number: int) -> Span:
+    def page_span(self, number: int) -> Span:
         """Return the frames of a page."""
         is_last = number + 1 == len(self.frames)
         return Span(self.frames[number], self.last if is_last else self.frames[number + 1] - 1)
 
-    def closed_from(self, frame: int) -> int | None:
+    def find_closed_frame(self, frame: int) -> int | None:
         """Return the first frame from `frame` on at whose end the page is closed, or `None`."""
-        at = bisect.bisect_right(self.turns, frame)
+        at = bisect.bisect_right(self.open_changes, frame)
         if at % 2 == 0:
             return frame
-        return self.turns[at] if at < len(self.turns) else None
+        return self.open_changes[at] if at < len(self.open_changes) else None
 
 
-def is_of_page(run: Run) -> bool:
+def is_of_page(run: PacketRun) -> bool:
     """Return whether a run has a header of the page, or one that closes it."""
-    return HEADER in run.does or CLOSED in run.does
+    return HEADER in run.flags or CLOSED in run.flags
 
 
-def timeline_near(packets: Packets, page: Page, origin: int, within: int, span: Span, every: int,
-                  inside: Range | None = None, lost: Iterable[Span] = ()) -> Timeline:
-    """Return what is decoded around some frames: 250 frames, or the repeat bound if longer, before
-    and after them; `lost` are frames with losses."""
+def decode_near(packets: Packets, page: Page, origin: int, within: int, span: Span, every: int,
+                inside: Range | None = None, lost: Iterable[Span] = ()) -> Timeline:
+    """Decode the pages of a span, with 250 frames (or the repeat bound, if longer) before and after
+    it; `lost` are frames with losses."""
     more = max(LEAST, every)
-    cut = cut_of(packets, max(span.first - more, 0), min(span.last + more, FRAMES_OF_A_DAY - 1),
-                 origin, None, within, inside)
+    cut = find_range(packets, max(span.first - more, 0), min(span.last + more, FRAMES_OF_A_DAY - 1),
+                     origin, None, within, inside)
     return Timeline(packets, page, origin, within, cut.range or NO_RANGE, span.first,
                     NO_FRAME if cut.came is None else cut.came, lost=lost)
 
 
-def held_rows(texts: Texts, is_erased: bool) -> Rows:
-    """Return a page with the rows `texts`; other rows are blank, or not yet sent unless
-    `is_erased`."""
+def full_page(texts: Texts, is_erased: bool) -> Rows:
+    """Return a page with the rows `texts`. Other rows are blank if `is_erased`, or else not yet
+    received."""
     blank: Rows = BLANK_PAGE if is_erased else OLD_PAGE
     if not texts:
         return blank
