@@ -245,7 +245,8 @@ class ReceivedFrames(unittest.TestCase):
         alone, both = (self.timeline(sent, begin=300) for sent in (behind, before + behind))
         for name in ("frames", "pages", "open_changes", "header_frames", "erasure_frames",
                      "stray_rows", "uncertain_spans",
-                     "pauses", "begins", "ends", "count", "first", "last", "states", "stored"):
+                     "pauses", "begins", "ends", "count", "first", "last", "states",
+                     "state_frames"):
             self.assertEqual(getattr(both, name), getattr(alone, name), name)
         decoded = self.timeline("200:he 310:he 200:he 400:he", begin=300)
         self.assertEqual((decoded.halt, decoded.last), (2, 310))
