@@ -20,6 +20,7 @@ from subtitles.clock.start import (
     Clock, ESTIMATED_LATER_NOTE, ESTIMATED_NOTE, GIVEN, RECORDING, TimedPart)
 from subtitles.common.command_line import Stop, Unanswered
 from subtitles.common.markup import HEAD
+from subtitles.formats.listing import NamedFault
 from subtitles.judging.check import CheckOutput
 from subtitles.judging.part import Part
 from subtitles.judging.status import Severity
@@ -417,14 +418,20 @@ class Pages(Case):
         self.must("box", box.startswith('<div class="verdict refused">') and verdict.sentence in
                   box and box.count("3 TS packets lost") == 1 and "strange" in box, box)
         for verdict.gaps, count in ((verdict.gaps, 1), (verdict.gaps[:1], 0)):
-            found = [*report_page.not_checked(verdict)]
-            self.must("outside", "".join(found).count("3 TS packets lost, outside") == count, found)
+            listed = "".join(report_page.not_checked(verdict))
+            self.must("outside", listed.count("3 TS packets lost, outside") == count, listed)
         scope = markup_text(report_page.scope_section(verdict))
         self.must("scope", "00:00:00:00 to 00:00:05:24, " in scope, scope)
         verdict.request = request_for("piped.stl", "one.pes")  # a pipe is stored under another name
         verdict.request.kept_stl = example("story.stl")
         self.must("a pipe", "Programme" in scope and "piped.stl" in
                   markup_text(report_page.scope_section(verdict)), scope)
+        verdict.parts = [make_part(0, 9, 7, packets=mock.MagicMock(count=9), pes=(2, 4))]
+        listed = "".join(report_page.not_checked(verdict))
+        self.must("packets", "6 PES packets of 9, before" in listed, listed)
+        verdict.named_faults = [NamedFault("never sent", "a"), NamedFault("not shown", "b")]
+        verdict.severity.by_fault = {"not shown": "warning"}
+        self.must("waived", [*report_page.waived_faults(verdict)] == ["not shown: b"])
 
     def test_has_unique_anchors_for_all_parts(self) -> None:
         page = markup_text(report_page.report_page(self.several(), CommandWords(
@@ -480,5 +487,5 @@ class Pages(Case):
         six = collection.pair_row(self.folder, one("f", "refused", 1, "refused 72", 9, 6)).source
         self.must("all causes", six.count("&times;") == 6 and "&hellip;" not in six, six)
         self.must("name", "d&lt;" in lines["d<"] and 'class="not-judged"' in lines["b"])
-        found = [collection.worst_fault(one("g", "relative", 3, "72 a", count)) for count in (0, 1)]
-        self.must("relative", found == ["no clock was given", "72 a"], found)
+        worst = [collection.worst_fault(one("g", "relative", 3, "72 a", count)) for count in (0, 1)]
+        self.must("relative", worst == ["no clock was given", "72 a"], worst)
