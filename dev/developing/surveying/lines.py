@@ -65,7 +65,7 @@ class Stream:
         self.sections = {0: Sections()}
         self.printed: dict[tuple[bytes, int], bytes] = {}  # sections of PMTs
         # For each PID, PCR_PID and stream_type in the last PMT that names the PID.
-        self.named: dict[int, tuple[int, int]] = defaultdict(lambda: (NO_PCR, 0))
+        self.pmt_entries: dict[int, tuple[int, int]] = defaultdict(lambda: (NO_PCR, 0))
         self.clocks: dict[int, Clock] = {}
         self.teletext: dict[int, Teletext] = {}
         self.video: dict[int, Video] = {}
@@ -138,7 +138,7 @@ class Stream:
         if is_video(data):
             self.others.add(packet.pid)
             if len(self.video) < MOST:
-                self.video[packet.pid] = Video(packet.pid, self.say, self.named)
+                self.video[packet.pid] = Video(packet.pid, self.say, self.pmt_entries)
         elif not data.startswith(START):
             self.others.add(packet.pid)
         elif len(data) > 9 and len(data) > 9 + data[8]:
@@ -165,7 +165,7 @@ class Stream:
             self.clocks.setdefault(programme.clock, Clock(programme.clock, self.say))
         for stream in programme.streams:
             self.say(f"stream {stream.pid} {stream.kind}")
-            self.named[stream.pid] = programme.clock, stream.kind
+            self.pmt_entries[stream.pid] = programme.clock, stream.kind
             for page in stream.announced:
                 self.say(f"announce {stream.pid} {page}")
             if stream.announced and self.asked is None:
@@ -178,15 +178,16 @@ class Stream:
             return
         jump = clock.take(packet.pcr, self.place)
         for pid, teletext in self.teletext.items():
-            if self.named[pid][0] == clock.pid:
+            if self.pmt_entries[pid][0] == clock.pid:
                 teletext.note_pcr(jump)
 
     def compare(self, teletext: Teletext, pts: int) -> None:
         """Compare a PTS with the programme's pictures and PCR."""
-        pcr, _ = self.named[teletext.pid]
+        pcr, _ = self.pmt_entries[teletext.pid]
         if pcr == NO_PCR:
             return
-        video = next((one for pid, one in self.video.items() if self.named[pid][0] == pcr), None)
+        pids = [pid for pid in self.video if self.pmt_entries[pid][0] == pcr]
+        video = self.video[pids[0]] if pids else None
         if video and video.decoding is not None and (video, video.number) != teletext.picture:
             if video != teletext.picture[0]:
                 teletext.leads = Seconds()

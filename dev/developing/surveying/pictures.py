@@ -47,8 +47,8 @@ def form_of(kind: int, data: bytes) -> str | None:
 class Video:
     """A PID with video."""
 
-    def __init__(self, pid: int, say: Say, named: dict[int, tuple[int, int]]) -> None:
-        self.pid, self.say, self.named = pid, say, named  # PCR_PID and stream_type of each PID
+    def __init__(self, pid: int, say: Say, pmt_entries: dict[int, tuple[int, int]]) -> None:
+        self.pid, self.say, self.pmt_entries = pid, say, pmt_entries
         self.stretch = Stretch(None)
         self.header: bytes | None = None  # of a picture with unknown times
         self.is_flagged = False  # a random_access_indicator came for the next picture
@@ -135,7 +135,7 @@ class Video:
         if is_first:
             self.say(f"video {self.pid} {self.passed}")
             self.has_begun, self.flagged = True, pts
-            self.kind = self.named[self.pid][1]
+            self.kind = self.pmt_entries[self.pid][1]
             self.form = form_of(self.kind, b"")  # known before any byte if H.264
         self.passed += not self.has_begun
         if decoding is not None:

@@ -14,7 +14,7 @@ from developing.pes import (
     encode_pts, encode_triplet, make_packet as teletext_packet, make_pes_packet)
 from subtitles.common.times import CLOCK, wrapped
 from subtitles.formats.teletext import START, Page, page_name
-from .tables import checked
+from .tables import cached_crc
 
 FULL = PACKET - 4
 BEGINS, RANDOM_ACCESS, PCR_FLAG = 0x40, 0x40, 0x10
@@ -31,7 +31,7 @@ class Multiplex:
         self.chance = chance
         self.units: list[Unit] = []
         self.counters: dict[int, int] = {}
-        self.losses: list[int] = []  # places of units
+        self.losses: list[int] = []  # places of lost units
 
     def send(self, pid: int, payload: bytes, begins: bool = False, flags: int = 0,
              pcr: int | None = None) -> None:
@@ -66,7 +66,7 @@ class Multiplex:
             made = struct.pack(">BHHBBB", table, 0xB000 | len(body) + 9, number,
                                0xC0 | version << 1 | is_current, section, section) + body
             starts.append(len(data))
-            data += made + checked(made).to_bytes(4, "big")
+            data += made + cached_crc(made).to_bytes(4, "big")
         while data:
             pointer = bytes([start for start in starts if 0 <= start < FULL - 1][:1])
             size = FULL - len(pointer)
@@ -176,8 +176,8 @@ def picture_pes(chance: Random, kind: int, pts: int, dts: int, is_first: bool, i
         changed[place] = chance.choice(values)
         head = bytes(changed)
     codes = [code for code in BEFORE_PICTURE[kind] if is_first and chance.random() < 0.8]
-    second = BEFORE_PICTURE[kind] if chance.random() < 0.3 else []
-    for code in [*codes, chance.choice(OF_PICTURE[kind]), *second]:
+    next_codes = BEFORE_PICTURE[kind] if chance.random() < 0.3 else []
+    for code in [*codes, chance.choice(OF_PICTURE[kind]), *next_codes]:
         head += b"\0" * chance.choice([2, 2, 3]) + bytes([1, code]) \
             + chance.randbytes(chance.choice([4, 8, 60, 200]))
     return head
@@ -215,7 +215,7 @@ class Programme:
         self.change_pmt()
 
     def splice(self) -> None:
-        """Jump with the counters too, sometimes announced, and lose TS packets."""
+        """Change counters, sometimes with an announcement, and lose TS packets."""
         chance, mux = self.chance, self.mux
         for pid in [self.clock, *[pid for _, pid, _ in self.streams]]:
             if chance.random() < 0.3:
@@ -345,13 +345,14 @@ def announce_jump(chance: Random, units: list[Unit]) -> None:
     pid = pid_of(units[at])
     announcing = bytearray(make_packet_without_payload(chance, pid, True))
     if units[at].packet[3] & 0x20 and units[at].packet[4] and chance.random() < 0.5:
-        announcing = bytearray(units[at].packet)  # again, but announced
+        announcing = bytearray(units[at].packet)  # the same TS packet with the announcement
         announcing[5] |= 0x80
     if chance.random() < 0.3:
         place, bit = chance.choice([(1, 0x80), (3, 0x40), (3, 0x10), (5, 0x80)])
         announcing[place] ^= bit
-    one, made = units[at], Unit(bytes(announcing), 0)
-    units[at:at + 1] = chance.choice([[made], [made, one], [made, made], [one, made, one]])
+    unit, announcement = units[at], Unit(bytes(announcing), 0)
+    units[at:at + 1] = chance.choice([
+        [announcement], [announcement, unit], [announcement] * 2, [unit, announcement, unit]])
     for place in range(at + 1, len(units)):
         data = units[place].packet
         if is_packet(units[place]) and pid_of(units[place]) == pid:
@@ -402,7 +403,7 @@ def random_recording(seed: int) -> Recording:
     for _ in range(4 if chance.random() < 0.08 else 0):  # null packets
         many = (NULL + bytes(size - PACKET)) * 1700
         units.insert(chance.randrange(len(units) + 1), Unit(many + NULL))
-    if chance.random() < 0.05:  # as many breaks as are kept, or one more
+    if chance.random() < 0.05:  # breaks, as many as `survey` keeps or one more
         units += [Unit(bytes([SYNC, 0x1F, 0xF0, 0x10 + 8 * (at % 2)]).ljust(PACKET, b"\xff"))
                   for at in range(chance.choice([256, 257]))]
     data = join_units(chance, units, size)

@@ -11,7 +11,7 @@ from .packets import Packet
 PAT, PMT = 0, 2  # table_id
 CURRENT = 1  # current_next_indicator
 ANNOUNCING = 0x56, 0x46  # Teletext descriptor, VBI Teletext descriptor
-checked = lru_cache(256)(compute_crc)
+cached_crc = lru_cache(256)(compute_crc)
 
 
 class Stream(NamedTuple):
@@ -58,7 +58,7 @@ class Sections:
             if len(self.part) < 3 or len(self.part) < length:
                 return
             section, self.part = self.part[:length], self.part[length:]
-            if length >= 12 and section[5] & CURRENT and checked(section) == 0:
+            if length >= 12 and section[5] & CURRENT and cached_crc(section) == 0:
                 yield section
 
 

@@ -132,7 +132,7 @@ class Teletext:
         self.lines = PesLines(pid, page, say)
         self.packets = self.scrambled = 0
         self.refusal = 0
-        self.refused: Stretch | None = None  # after the refused TS packet
+        self.refused_stretch: Stretch | None = None  # after the refused TS packet
         # The content of good packets, from a start, a break or a seam on.
         self.stretch = Stretch(None)
         self.part = b""
@@ -161,7 +161,7 @@ class Teletext:
             self.scrambled_there += packet.is_scrambled
         elif not packet.has_payload:
             stretch.has_jump |= packet.announces_jump
-        elif (self.refused or stretch).is_repeat(packet):
+        elif (self.refused_stretch or stretch).is_repeat(packet):
             stretch.has_repeat = True
         else:
             self.take_good(packet, stretch)
@@ -196,7 +196,7 @@ class Teletext:
             self.has_gap |= payload != b""
         elif length in (START, LENGTH):
             self.mark()
-            self.refusal, self.refused = length or 0, Stretch(self.stretch.before)
+            self.refusal, self.refused_stretch = length or 0, Stretch(self.stretch.before)
         elif length is not None and len(self.part) >= length:
             self.is_given = self.is_complete = True
             self.mark()
