@@ -22,13 +22,13 @@ DOCUMENTS = {"docs/HEADLINE.md": "", "docs/ASSURANCE.md": "", "docs/CLAUSES.md":
 # A row of the table of lines to be read: the promise, its name, and the counts.
 ROW = re.compile(r"^\| (.*) \| `(\S+)` \| (\d+) \| (\d+) \|$", re.M)
 # The most lines that may have to be read for these promises.
-MOST_LINES = {"run_in_memory.headline": 450, "run_in_memory.acceptance": 800}
+MAX_LINES = {"run_in_memory.headline": 450, "run_in_memory.acceptance": 800}
 # The number of lines to be read in README.
 IN_README = {"run_in_memory.headline": re.compile(r"\[(\d+)\s+lines\]")}
 NUMBERS = re.compile(r"^## The proof in numbers$.*?(?=^## )", re.M | re.S)
 NUMBER = re.compile(r"^\| (.*) \| ([\d,]+) \|$", re.M)  # a row: what is counted, and the number
 PARTS = ("src", "specs", "must-fail", "release-edits")  # folders of a crate whose words count
-LEFT_OUT = ("out", ".git", "__pycache__")
+WRITTEN_BY_GATE = ("out", ".git", "__pycache__")
 TOOLS = ("tools", "dev")
 MADE = ("out/", "dist/")  # written by the gate and by dev/release
 BLOCK = re.compile(r"^```.*?^```$", re.M | re.S)
@@ -45,7 +45,7 @@ class SourceNames:
         self.words: set[str] = set()
         self.paths: set[str] = set()
         for place, folders, names in os.walk(top):
-            folders[:] = [name for name in folders if name not in LEFT_OUT]
+            folders[:] = [name for name in folders if name not in WRITTEN_BY_GATE]
             for name in [*folders, *names]:
                 self.add_path(top, os.path.relpath(os.path.join(place, name), top))
 
@@ -114,7 +114,7 @@ def correct_count_rows(top: str) -> Iterator[tuple[str, str]]:
     with open(os.path.join(top, "docs", "ASSURANCE.md"), encoding="utf-8") as file:
         rows, library = list(ROW.finditer(file.read())), Library(top)
     for row in rows:
-        found = count_lines_to_read(*library.reading_list(row[2]))
+        found = count_lines_to_read(*library.list_reading(row[2]))
         yield row[0], f"| {row[1]} | `{row[2]}` | {found[0]} | {found[1]} |"
 
 
@@ -124,14 +124,14 @@ def correct_readme_counts(top: str) -> Iterator[tuple[str, str]]:
     for name, form in IN_README.items():
         shown = form.search(text)
         yield (f"README: {name} {shown[1] if shown else 'is missing'}",
-               f"README: {name} {count_lines_to_read(*library.reading_list(name))[1]}")
+               f"README: {name} {count_lines_to_read(*library.list_reading(name))[1]}")
 
 
 def find_long_readings(top: str, most_lines: Mapping[str, int]) -> Iterator[Optional[str]]:
     """Yield for each promise `None`, or a message if too many lines have to be read."""
     library = Library(top)
     for name, most in most_lines.items():
-        lines = count_lines_to_read(*library.reading_list(name))[1]
+        lines = count_lines_to_read(*library.list_reading(name))[1]
         yield f"{name} needs {lines} lines to be read, at most {most} are allowed" \
             if lines > most else None
 

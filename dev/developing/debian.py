@@ -15,7 +15,7 @@ from subtitles.common.program import PAGES, copy, documents, install, link, writ
 NAME = "subttx"
 MACHINE = "amd64"
 DEPENDS = "libc6 (>= 2.34), python3 (>= 3.9)"
-NOBODY = "subttx <subttx@example.com>"  # if the environment names no maintainer
+DEFAULT_MAINTAINER = "subttx <subttx@example.com>"  # if the environment names no maintainer
 SUMMARY = "checks Teletext subtitles before they go on air"
 DESCRIPTION = """\
  Give it an EBU STL file and a recording of the DVB Teletext that your playout
@@ -44,7 +44,7 @@ def find_maintainer() -> str:
     address = os.environ.get("DEBEMAIL", "")
     if "<" in address:
         return address
-    return f"{os.environ.get('DEBFULLNAME') or NAME} <{address}>" if address else NOBODY
+    return f"{os.environ.get('DEBFULLNAME') or NAME} <{address}>" if address else DEFAULT_MAINTAINER
 
 
 def write_gzip(path: str, data: bytes) -> None:

@@ -251,7 +251,7 @@ class Library:
                 return path, text.count("\n", 0, found.start()) + 1
         raise Stop(f"{outside.crate} declares no {outside.name}")
 
-    def dependencies(self, name: str) -> dict[Meaning, list[Meaning]]:
+    def find_dependencies(self, name: str) -> dict[Meaning, list[Meaning]]:
         """Return all that a name depends on, each with what it names."""
         used: dict[Meaning, list[Meaning]] = {}
         left = collections.deque(self.find_roots(name))
@@ -263,12 +263,12 @@ class Library:
                 left += used[meaning]
         return used
 
-    def highest_first(self, name: str) -> list[Definition]:
+    def sort_highest_first(self, name: str) -> list[Definition]:
         """Return the definitions that a name depends on, each before those that it names.
 
         The highest crate comes first.
         """
-        used, seen, last_first = self.dependencies(name), set[Meaning](), list[Definition]()
+        used, seen, last_first = self.find_dependencies(name), set[Meaning](), list[Definition]()
 
         def visit(meaning: Meaning) -> None:
             if isinstance(meaning, Definition) and meaning not in seen:
@@ -284,10 +284,10 @@ class Library:
                  crate in enumerate(lines)}
         return sorted(reversed(last_first), key=lambda definition: ranks[definition.file.crate])
 
-    def reading_list(self, name: str) -> tuple[list[Definition], list[ExternalName]]:
+    def list_reading(self, name: str) -> tuple[list[Definition], list[ExternalName]]:
         """Return the definitions that a name depends on, lowest first, and what is outside, sorted.
         """
-        used = self.dependencies(name)
+        used = self.find_dependencies(name)
         needs = {definition: {meaning for meaning in names if isinstance(meaning, Definition)}
                  for definition, names in used.items() if isinstance(definition, Definition)}
         outside = sorted(meaning for meaning in used if isinstance(meaning, ExternalName))

@@ -109,7 +109,7 @@ class UseGraph:
                 function.add(body)
             self.add_lemmas(body, text)
             for prefix, name in set(CALL.findall(text[end:])):
-                for callee in self.callees(function, prefix, name):
+                for callee in self.find_callees(function, prefix, name):
                     body.add(callee)
 
     def add_lemmas(self, node: Node, text: str) -> None:
@@ -120,7 +120,7 @@ class UseGraph:
                 crate = node.file.crate if crate == "crate" else crate
                 node.add(self.resolve(".".join(["Rattle", crate, *inner[:-1]]), inner[-1]))
 
-    def callees(self, caller: Node, prefix: str, name: str) -> list[Node]:
+    def find_callees(self, caller: Node, prefix: str, name: str) -> list[Node]:
         """Return the functions that a call in a body may mean, by the prefix of its name."""
         crate, text = caller.file.crate, caller.file.text
         found = [function for lower in [crate, *self.below[crate]]
@@ -165,7 +165,7 @@ class UseGraph:
         return [node for node in self.nodes if node.kind != "clause" and node not in done
                 and node.file.crate == (crate or node.file.crate)]
 
-    def promised_definitions(self) -> list[Node]:
+    def list_promised_definitions(self) -> list[Node]:
         """Return the definitions that a reader of the public clauses and of the laws meets."""
         found: dict[Node, None] = {}
         left = [node for node in self.nodes if node.kind == "clause"
@@ -177,7 +177,7 @@ class UseGraph:
                     left.append(node)
         return list(found)
 
-    def unknown_head_names(self) -> dict[Source, list[str]]:
+    def find_unknown_head_names(self) -> dict[Source, list[str]]:
         """Return, for each file of proofs/, the names in its first comment that nothing has."""
         names = {part for node in [*self.nodes, *self.functions]  # a clause also without function
                  for part in (node.name, node.name.partition(".")[2])}
@@ -200,7 +200,7 @@ class UseGraph:
                 left += user.used_by
         return list(found)
 
-    def find(self, name: str) -> list[Node]:
+    def find_nodes(self, name: str) -> list[Node]:
         """Return the nodes of a name, which may be CRATE/NAME; clauses only for FUNCTION.CLAUSE."""
         crate, slash, last = name.rpartition("/")
         return [node for node in [*self.nodes, *self.functions]

@@ -58,12 +58,12 @@ class Multiplex:
         self.size = self.count = self.counter = 0
         self.base: int | None = None
 
-    def put(self, data: bytes, pts: int) -> None:
+    def add_pes_packet(self, data: bytes, pts: int) -> None:
         """Add a PES packet, after the tables and the clock up to it."""
         parts, counter = self.parts, self.counter
         parts.append(self.tables[self.count & 15])
         self.count += 1
-        self.clock(pts)
+        self.add_clock(pts)
         for at in range(0, len(data), FULL):
             parts.append(self.heads[counter] if at else self.first_heads[counter])
             parts.append(data[at:at + FULL])
@@ -71,7 +71,7 @@ class Multiplex:
         self.counter = counter
         self.size += len(data) + 2 * PACKET
 
-    def clock(self, pts: int) -> None:
+    def add_clock(self, pts: int) -> None:
         """Add a PCR each tenth of a second, up to a tenth of a second before the PTS."""
         end = wrapped(pts - TENTH)
         if self.base is None or wrapped(end - self.base) > LONG:
@@ -83,7 +83,7 @@ class Multiplex:
             self.size += PACKET
         self.base = end
 
-    def taken(self) -> bytes:
+    def take_packets(self) -> bytes:
         """Return the packets since the last call."""
         data = b"".join(self.parts)
         self.parts, self.size = [], 0

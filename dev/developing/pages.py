@@ -36,12 +36,12 @@ MADE = re.compile(r'^((?:\.\\"|#|<!--) made: (\w+)(?: -->)?\n)(.*?)'
                   r'^((?:\.\\"|#|<!--) end(?: -->)?\n)', re.M | re.S)
 COMMAND = re.compile(r"^  ([a-z]+) ([A-Z]\S*(?: (?:[A-Z]\S*|--\w+))*) +(?=[a-z])", re.M)
 ROW = re.compile(r"^\| `(--[\w-]+)(?: (\S+))?` \| (`.*?`) \| (.*) \| (.*) \|$", re.M)
-ENTRY = re.compile(r"^  ((?:--?[\w-]+)(?: .*?)??)(?:, (--?[\w-]+)(?: .*?)??)?(?:  +|\n +)(\S.*)$",
-                   re.M)
+ENTRY_LINE = re.compile(
+    r"^  ((?:--?[\w-]+)(?: .*?)??)(?:, (--?[\w-]+)(?: .*?)??)?(?:  +|\n +)(\S.*)$", re.M)
 FILES = re.compile(r"FILE|DIR|FOLDER|LIST|STL|PES|OUT|IN|PROGRAM|FEED|TS|WORD")  # in file values
 LINK = re.compile(r"\[([^]]*)\]\([^)]*\)")
 WIDTH = 100
-MORE = "All of it: "  # begins a help text's reference to its page
+PAGE_REFERENCE = "All of it: "  # begins a help text's reference to its page
 
 
 class Command(NamedTuple):
@@ -62,7 +62,7 @@ class Option(NamedTuple):
     means: str
     default: str
 
-    def choices(self) -> list[str]:
+    def list_choices(self) -> list[str]:
         """Return the values that the option accepts, if the table lists them."""
         values = [word for word in re.findall(r"`([a-z0-9]+)`", self.means)
                   if word not in self.commands]
@@ -101,7 +101,7 @@ def run_help(tool: str, *command: str) -> str:
 def parse_entries(text: str) -> list[tuple[str, str, str]]:
     """Parse the options of a help text: name, value, meaning."""
     found = []
-    for entry in ENTRY.finditer(text):
+    for entry in ENTRY_LINE.finditer(text):
         name, _, value = (entry[1] or "").partition(" ")
         found.append((entry[2] or name, value, entry[3]))
     return found
@@ -183,7 +183,7 @@ def make_tool_parts(text: str, name: str = "qc") -> dict[str, str]:
     calls = [part for part in paragraphs if part.startswith("    ")]
     status = [part for part in paragraphs[1:] if part.startswith("Status ")]
     others = [part for part in paragraphs[1:]
-              if part not in (*calls, *status) and not part.startswith(MORE)]
+              if part not in (*calls, *status) and not part.startswith(PAGE_REFERENCE)]
     lines = re.sub(r"\n {8,}", " ", "\n".join(calls)).split("\n")
     synopses = (escape_roff(line.strip().partition(" ")[2]) for line in lines)
     return {"synopsis": "".join(f".SY subttx\\-{name}\n{line}\n.YS\n" for line in synopses),
@@ -192,7 +192,7 @@ def make_tool_parts(text: str, name: str = "qc") -> dict[str, str]:
             "status": "".join(fill_paragraph(part) + "\n" for part in status)}
 
 
-def make_air_parts(text: str, helps: dict[str, str]) -> dict[str, str]:
+def make_air_parts(text: str, help_texts: dict[str, str]) -> dict[str, str]:
     """Return the parts of air's page, from its help text and those of its commands.
 
     The options that it shares with qc are in qc's page.
@@ -201,7 +201,7 @@ def make_air_parts(text: str, helps: dict[str, str]) -> dict[str, str]:
     commands = {command: "".join(format_option(name, value, to_sentence(means))
                                  for name, value, means in parse_entries(help)
                                  if name not in others)
-                for command, help in helps.items()}
+                for command, help in help_texts.items()}
     return {**{name: part for name, part in make_tool_parts(text, "air").items()
                if name != "options"},
             **commands}
@@ -297,17 +297,17 @@ def describe_member(member: Member) -> str:
     return " ".join(text for text in (of_shape, member.meaning) if text)
 
 
-def make_completion_parts(usage: str, table: str, helps: list[str]) -> dict[str, str]:
+def make_completion_parts(usage: str, table: str, help_texts: list[str]) -> dict[str, str]:
     """Return the parts of the completion."""
     program_commands, table_options = parse_commands(usage), parse_options(table)
-    choices = {option.name: " ".join(option.choices()) for option in table_options
-               if option.choices()}
+    choices = {option.name: " ".join(option.list_choices()) for option in table_options
+               if option.list_choices()}
     values = "".join(f"        {name}) _subttx_words '{words}' \"$2\" ;;\n"
                      for name, words in choices.items())
     named = {option.name for option in table_options if option.value}
-    named |= {name for text in helps for name, value, _ in parse_entries(text)
+    named |= {name for text in help_texts for name, value, _ in parse_entries(text)
               if value and not value.startswith("{") and not FILES.search(value)}
-    flags = {name for text in helps for name, value, _ in parse_entries(text) if not value}
+    flags = {name for text in help_texts for name, value, _ in parse_entries(text) if not value}
     pattern = "        " + " | ".join(sorted(named - choices.keys() - flags)) + ")\n"
     while (long := [line for line in pattern.split("\n") if len(line) > WIDTH - 2]):
         at = long[0].rindex(" | ", 0, WIDTH - 3) + 3
@@ -365,13 +365,14 @@ def make_pages() -> dict[str, str]:
         return read(os.path.join(TOP, name)) or ""
 
     usage, table = text("subttx").partition("usage: ")[2].partition("\nEND\n")[0], text(TABLE)
-    helps = {tool: run_help(tool) for tool in TOOLS}
+    help_texts = {tool: run_help(tool) for tool in TOOLS}
     of_commands = {command: run_help("air", command) for command in ("record", "judge")}
-    parts = {PROGRAM_PAGE: make_program_parts(usage, table), QC_PAGE: make_tool_parts(helps["qc"]),
-             AIR_PAGE: make_air_parts(helps["air"], of_commands),
+    parts = {PROGRAM_PAGE: make_program_parts(usage, table),
+             QC_PAGE: make_tool_parts(help_texts["qc"]),
+             AIR_PAGE: make_air_parts(help_texts["air"], of_commands),
              QC_CHAPTER: make_chapter_parts(table), RESULTS_CHAPTER: make_results_parts(),
              COMPLETION: make_completion_parts(usage, table,
-                                               [*helps.values(), *of_commands.values()])}
+                                               [*help_texts.values(), *of_commands.values()])}
     numbers = text(NUMBERS)
     for row, counted in correct_number_rows(TOP):
         numbers = numbers.replace(row, counted)

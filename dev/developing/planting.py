@@ -27,11 +27,11 @@ from .bugs import list_nested_codes
 from .edits import replace_files
 from .tests import bench, runner
 
-COPIED = ("tools", "dev")
+COPIED_FOLDERS = ("tools", "dev")
 TOO_LONG = "too long"  # a test did not end in its time
 CALLS = "SUBTTX_CALLS"  # environment variable: file for the names of called functions
 # Code of each traced process: write the name of each function when it is first called.
-WATCH = """
+TRACE_CODE = """
 import os, sys, threading
 path, known = os.environ["SUBTTX_CALLS"], set()
 def seen(frame, event, arg):
@@ -134,12 +134,12 @@ class LoadedCopy:
             counts = StopAtFailure(False)
             with contextlib.redirect_stdout(io.StringIO()), \
                     contextlib.redirect_stderr(sys.__stderr__):  # forked processes too
-                unittest.TestSuite(self.named(name)).run(counts)
+                unittest.TestSuite(self.select_tests(name)).run(counts)
             if counts.failed:
                 return {"passed": passed, "failed": name, "by": counts.by}
         return {"passed": len(names), "failed": "", "by": ""}
 
-    def named(self, name: str) -> list[unittest.TestCase]:
+    def select_tests(self, name: str) -> list[unittest.TestCase]:
         """Return the tests of a unit, or those whose names contain `name`."""
         found = self.units.get(name) or [test for unit in self.units.values() for test in unit
                                          if name in runner.name_of(test)]
@@ -165,7 +165,7 @@ class LoadedCopy:
         folder = os.path.join(self.top, "watch")
         os.makedirs(folder, exist_ok=True)
         with open(os.path.join(folder, "sitecustomize.py"), "w", encoding="utf-8") as file:
-            file.write(WATCH)
+            file.write(TRACE_CODE)
         calls = os.path.join(folder, "calls")
         with open(calls, "w", encoding="utf-8"):
             pass
@@ -173,7 +173,7 @@ class LoadedCopy:
 
         def watching() -> Answer:
             os.environ.update({CALLS: calls, "PYTHONPATH": folder})
-            exec(WATCH, {})  # other processes of the test load it as sitecustomize
+            exec(TRACE_CODE, {})  # other processes of the test load it as sitecustomize
             return self.run([name])
 
         begun = time.monotonic()
@@ -199,15 +199,15 @@ def run_forked(serve: Callable[[], Answer], seconds: float) -> Answer:
         finally:
             os._exit(0)
     os.close(writing)
-    told = b""
+    output = b""
     if select.select([reading], [], [], seconds)[0]:
-        told = os.read(reading, 65536)
+        output = os.read(reading, 65536)
     for kill in (os.killpg, os.kill):  # it may not have its own group yet
         with contextlib.suppress(OSError):
             kill(child, signal.SIGKILL)
     os.waitpid(child, 0)
     os.close(reading)
-    return dict(json.loads(told)) if told else {"passed": 0, "failed": TOO_LONG, "by": "time"}
+    return dict(json.loads(output)) if output else {"passed": 0, "failed": TOO_LONG, "by": "time"}
 
 
 class Worker:
@@ -217,7 +217,7 @@ class Worker:
         os.chmod(folder, 0o755)  # some tests run as another user
         for name in os.listdir(TOP):
             source, target = os.path.join(TOP, name), os.path.join(folder, name)
-            if name in COPIED:
+            if name in COPIED_FOLDERS:
                 shutil.copytree(source, target, ignore=shutil.ignore_patterns("__pycache__"))
             elif name != ".git":
                 os.symlink(source, target)
@@ -225,9 +225,9 @@ class Worker:
             [sys.executable, "-m", __name__, folder, program], stdin=subprocess.PIPE,
             cwd=os.path.join(folder, "dev"), stdout=subprocess.PIPE, text=True,
             start_new_session=True)
-        self.names = self.ask({})["names"]
+        self.names = self.run_task({})["names"]
 
-    def ask(self, task: Answer) -> Answer:
+    def run_task(self, task: Answer) -> Answer:
         """Return the answer to a task."""
         assert self.running.stdin and self.running.stdout
         print(json.dumps(task), file=self.running.stdin, flush=True)

@@ -21,8 +21,9 @@ from subtitles.common.command_line import Stop
 from subtitles.common.program import TOP, copy, read, write
 
 OUT, DIST = os.path.join(TOP, "out"), os.path.join(TOP, "dist")
-NOTES = os.path.join(OUT, "lines")
-RAW = os.path.join(TOP, "crates", "subttx", "out", "subttx")  # where rt leaves the program
+LINES_FILE = os.path.join(OUT, "lines")
+BUILT_PROGRAM = os.path.join(TOP, "crates", "subttx", "out",
+                             "subttx")  # where rt leaves the program
 
 Crates = dict[str, tuple[str, str]]
 
@@ -105,16 +106,16 @@ def parse_log(log: str) -> dict[str, str]:
 
 def store_lines(lines: dict[str, str], sums: dict[str, str]) -> None:
     """Store the prover's lines in out/lines; `sums` are the checksums of the proved sources."""
-    version, notes = read_toolchain_version(), parse_proved(read(NOTES))
+    version, notes = read_toolchain_version(), parse_proved(read(LINES_FILE))
     crates = notes.crates if notes.toolchain == version else {}
     crates |= {name: (sums[name], line) for name, line in lines.items() if name in sums}
-    write(NOTES, format_proved(Proved(None, None, version, crates)))
+    write(LINES_FILE, format_proved(Proved(None, None, version, crates)))
 
 
 def list_known_lines(version: str | None) -> dict[tuple[str, str], str]:
     """Return the lines of this toolchain's prover, here or in dist/, by crate and checksum."""
     found: dict[tuple[str, str], str] = {}
-    for proved in (read_proved(DIST), parse_proved(read(NOTES))):
+    for proved in (read_proved(DIST), parse_proved(read(LINES_FILE))):
         if proved.toolchain == version:
             found |= {(name, digest): line for name, (digest, line) in proved.crates.items()}
     return found
@@ -128,7 +129,7 @@ def add_known_lines(proved: Proved) -> Proved:
                                    if (name, digest) in known})
 
 
-def keep_built_program(of_sources: str, program: str = RAW) -> None:
+def keep_built_program(of_sources: str, program: str = BUILT_PROGRAM) -> None:
     """Copy the program that rt has proved and built to out/, with a file PROVED."""
     proved = add_known_lines(Proved(of_sources, compute_digest(program), read_toolchain_version(),
                                     {}))

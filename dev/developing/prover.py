@@ -37,39 +37,43 @@ class Prover:
         self.kit = os.path.dirname(self.programs)
         self.lines, self.made = lines, made
 
-    def of_kit(self, *names: str) -> str:
+    def get_toolchain_path(self, *names: str) -> str:
         return os.path.join(self.kit, *names)
 
-    def library(self, name: str) -> str:
+    def get_library_path(self, name: str) -> str:
         """Return the path of the library of a crate, of this repository or of the toolchain."""
-        folder = self.made if name in self.lines else self.of_kit("rlibs")
+        folder = self.made if name in self.lines else self.get_toolchain_path("rlibs")
         return os.path.join(folder, f"{name}.rlib")
 
-    def output(self, crate: str) -> str:
+    def get_output_path(self, crate: str) -> str:
         """Return the path of the library of a crate, or of the program's object file."""
-        return os.path.join(self.made, "subttx.o") if crate == PROGRAM else self.library(crate)
+        return (os.path.join(self.made, "subttx.o") if crate == PROGRAM
+                else self.get_library_path(crate))
 
-    def prove_command(self, crate: str, jobs: int) -> list[str]:
+    def make_prove_command(self, crate: str, jobs: int) -> list[str]:
         """Return the command that proves a crate and writes its library, in the crate's folder."""
         root = "src/main.rt" if crate == PROGRAM else "src/lib.rt"
         words = [os.path.join(self.programs, "rattle"), "build", "--crate-name", crate, root]
         for name in ["std", *self.lines[crate]]:
-            words += ["--extern", f"{name}={self.library(name)}"]
-        for folder in (self.of_kit("rlibs"), self.made):
+            words += ["--extern", f"{name}={self.get_library_path(name)}"]
+        for folder in (self.get_toolchain_path("rlibs"), self.made):
             words += ["-L", f"dependency={folder}"]
-        words += ["--antt-project", self.of_kit("rattle", "logic", "antt-project.json")]
-        words += ["--logic-built", self.of_kit("logic_built"), "--jobs", str(jobs)]
+        words += ["--antt-project", self.get_toolchain_path("rattle", "logic", "antt-project.json")]
+        words += ["--logic-built", self.get_toolchain_path("logic_built"), "--jobs", str(jobs)]
         words += ["--empty-contracts"]
         # No crate of this repository has C code of its own.
         words += ["--links", f"{crate}="]
-        words += ["--toolchain", self.of_kit("toolchain")] if crate == PROGRAM else ["--statements"]
-        return [*words, "-o", self.output(crate)]
+        words += (["--toolchain", self.get_toolchain_path("toolchain")] if crate == PROGRAM
+                  else ["--statements"])
+        return [*words, "-o", self.get_output_path(crate)]
 
-    def link_command(self, program: str) -> list[str]:
+    def make_link_command(self, program: str) -> list[str]:
         """Return the command that links the program."""
         words = [os.path.join(self.programs, "rattle-link"), "--target", TARGET]
-        words += ["--toolchain", self.of_kit("toolchain"), "-o", program, self.output(PROGRAM)]
-        return [*words, *(self.of_kit("c", name) for name in ("libos_c.a", "liblibc_c.a"))]
+        words += ["--toolchain", self.get_toolchain_path("toolchain"), "-o", program,
+                  self.get_output_path(PROGRAM)]
+        return [*words, *(self.get_toolchain_path("c", name)
+                          for name in ("libos_c.a", "liblibc_c.a"))]
 
 
 def parse_prover_line(output: str) -> str | None:
@@ -89,27 +93,27 @@ class BuildRecord:
     def __init__(self, prover: Prover, sums: dict[str, str]) -> None:
         self.prover, self.sums, self.toolchain = prover, sums, read_toolchain_version()
 
-    def note_of(self, crate: str) -> str:
+    def get_note_path(self, crate: str) -> str:
         return os.path.join(self.prover.made, f"{crate}.of")
 
-    def sum_of(self, crate: str) -> str:
+    def compute_sum(self, crate: str) -> str:
         """Return the checksum of the toolchain and the sources of a crate and its crates below."""
         names = [*list_dependencies(crate, self.prover.lines), crate]
         text = "\n".join([self.toolchain, *(self.sums[name] for name in names)])
         return hashlib.sha256(text.encode()).hexdigest()
 
-    def line_of(self, crate: str) -> str | None:
+    def find_line(self, crate: str) -> str | None:
         """Return the prover's line of a crate if exactly these sources were proved here."""
-        digest, _, line = (read(self.note_of(crate)) or "").partition("\n")
-        is_there = os.path.exists(self.prover.output(crate))
-        return line.strip() if is_there and digest == self.sum_of(crate) else None
+        digest, _, line = (read(self.get_note_path(crate)) or "").partition("\n")
+        is_there = os.path.exists(self.prover.get_output_path(crate))
+        return line.strip() if is_there and digest == self.compute_sum(crate) else None
 
     def forget(self, crate: str) -> None:
         with contextlib.suppress(FileNotFoundError):
-            os.remove(self.note_of(crate))
+            os.remove(self.get_note_path(crate))
 
     def keep(self, crate: str, line: str) -> None:
-        write(self.note_of(crate), f"{self.sum_of(crate)}\n{line}\n")
+        write(self.get_note_path(crate), f"{self.compute_sum(crate)}\n{line}\n")
 
 
 def compute_remaining_work(lines: Lines, sizes: dict[str, int]) -> dict[str, int]:

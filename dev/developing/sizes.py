@@ -58,6 +58,6 @@ def add_sizes(sizes: dict[str, collections.Counter[str]]) -> collections.Counter
 def count_promised_definitions(graph: UseGraph) -> collections.Counter[str]:
     """Count the lines of each crate's definitions that public contracts and laws depend on."""
     lines: collections.Counter[str] = collections.Counter()
-    for definition in graph.promised_definitions():
+    for definition in graph.list_promised_definitions():
         lines[definition.file.crate] += definition.lines
     return lines

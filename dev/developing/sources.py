@@ -46,10 +46,10 @@ class Node:
             self.uses[other] = None
             other.used_by[self] = None
 
-    def place(self) -> str:
+    def format_place(self) -> str:
         return f"{os.path.relpath(self.file.path, self.file.top)}:{self.line}"
 
-    def title(self) -> str:
+    def format_title(self) -> str:
         return f"{self.file.crate}/" + (f"{self.owner}::" if self.owner else "") + self.name
 
 

@@ -14,19 +14,19 @@ from subtitles.formats.stl import GSI, TTI
 NO_MEMORY = re.compile(rb"fault (91 Memory|58 Memory block \d+)\n")
 ANOTHER_USER = 65534
 SECONDS = 2  # processor time of a run
-LONGEST = 600  # seconds of a run on a busy machine
-LONG_LOG = 1 << 20  # bytes of strace's log: a longer run does not end
-ENDED = "\\0ended\\0"  # for printf, after the output of a run, which has no zero byte
-AT_ONCE = 16  # runs of one shell
+MAX_SECONDS = 600  # seconds of a run on a busy machine
+MAX_LOG_BYTES = 1 << 20  # bytes of strace's log: a longer run does not end
+END_FORMAT = "\\0ended\\0"  # for printf, after the output of a run, which has no zero byte
+RUNS_PER_SHELL = 16  # runs of one shell
 
 CALL = re.compile(r"^\d+ +(\w+)\((.*)\) += (-?\w+)(.*)$")
 CALLS = "trace=openat,read,write,fsync,close,statx,mmap,brk,rt_sigaction"
 STRACE = ["strace", "-f", "--seccomp-bpf", "-y", "-s", "0", "-e", CALLS]
 # Lines of standard error from the shell that starts a run, and from strace.
-OTHERS = re.compile(r"(sh|strace): ")
+SHELL_MESSAGES = re.compile(r"(sh|strace): ")
 # Printed faults that standard error explains, and how the explanation begins.
-EXPLAINED = [(re.compile(rb"^fault \d+ (Open|Read|Write)\b", re.MULTILINE), "subttx: "),
-             (re.compile(rb"^usage 0 Words$", re.MULTILINE), "error: ")]
+EXPLANATIONS = [(re.compile(rb"^fault \d+ (Open|Read|Write)\b", re.MULTILINE), "subttx: "),
+                (re.compile(rb"^usage 0 Words$", re.MULTILINE), "error: ")]
 UNREAD = "subttx: cannot read the command line: "  # if memory runs out
 # Faults that `check --all` reports for each PES packet of an input but the last.
 FAULTS_PER_PACKET = {"long.pes": 0, "even.pes": 2, "unread.pes": 1}
@@ -112,7 +112,7 @@ class Command(NamedTuple):
     printed: bytes
     written: bytes | None
 
-    def writing(self, path: str) -> Command:
+    def with_output(self, path: str) -> Command:
         """Return the same command with another output."""
         return self._replace(program_args=[*self.program_args[:2], path], out=path)
 
@@ -172,7 +172,7 @@ def parse_calls(log: bytes) -> list[Call]:
     """Return the system calls in a log of strace."""
     found: list[Call] = []
     numbers: dict[str, int] = {}
-    for line in log[:LONG_LOG].decode("utf-8", "replace").splitlines():
+    for line in log[:MAX_LOG_BYTES].decode("utf-8", "replace").splitlines():
         match = CALL.match(line)
         if not match:
             continue
@@ -197,7 +197,7 @@ class Setup(NamedTuple):
 def split_output(printed: bytes, errors: bytes, count: int) -> list[tuple[int, bytes, bytes]]:
     """Return the status of each run of a shell, negative for a signal, its output and its errors.
     """
-    end = ENDED.replace("\\0", "\0").encode()
+    end = END_FORMAT.replace("\\0", "\0").encode()
     texts, error_text = printed.split(end), errors.split(end)
     if (len(texts), len(error_text)) != (2 * count + 1, count + 1):
         raise ValueError("the shell ended before its runs")
@@ -213,7 +213,8 @@ def collect_run(place: str, command: Command, before: dict[str, bytes | None], s
     after, error_text = read_files(place, command), errors.decode("utf-8", "replace")
     names = sorted(before.keys() | after.keys())
     return RunResult(status, printed, written, calls,
-                     "\n".join(line for line in error_text.splitlines() if not OTHERS.match(line)),
+                     "\n".join(line for line in error_text.splitlines()
+                               if not SHELL_MESSAGES.match(line)),
                      tuple(name for name in names if before.get(name) != after.get(name)))
 
 
@@ -244,7 +245,7 @@ class Trial:
         with open(os.path.join(self.folder, name), "wb") as file:
             file.write(data)
 
-    def library(self, name: str, source: bytes) -> str | None:
+    def build_library(self, name: str, source: bytes) -> str | None:
         """Build a library to load before the C library; return `None` without a C compiler."""
         if not shutil.which("cc"):
             self.skipped.append(f"{name}: there is no C compiler (cc)")
@@ -256,11 +257,12 @@ class Trial:
                        check=True)
         return f"{path}.so"
 
-    def command(self, name: str, program_args: list[str]) -> Command:
+    def make_command(self, name: str, program_args: list[str]) -> Command:
         """Return a command with its result if nothing fails."""
         out = program_args[2] if program_args[0] in ("normal", "schedule", "extract") else None
-        ran = self.run(Command(name, program_args, out, 0, b"", None))
-        return Command(name, program_args, out, ran.status, ran.printed or b"", ran.written)
+        run_result = self.run(Command(name, program_args, out, 0, b"", None))
+        return Command(name, program_args, out, run_result.status, run_result.printed or b"",
+                       run_result.written)
 
     def run(self, command: Command, before: Sequence[str] = (), setup: str = "",
             prepare: Callable[[str], object] | None = None,
@@ -275,7 +277,7 @@ class Trial:
             line = ["sh", "-c", script, "sh", *before, self.program, *command.program_args]
             try:
                 done = subprocess.run(line, stdout=stdout, stderr=subprocess.PIPE, cwd=place,
-                                      stdin=subprocess.DEVNULL, timeout=LONGEST, check=False,
+                                      stdin=subprocess.DEVNULL, timeout=MAX_SECONDS, check=False,
                                       **more)
             except (OSError, subprocess.SubprocessError) as error:
                 return RunResult(str(error), b"", None, [])
@@ -288,12 +290,12 @@ class Trial:
         script = f"ulimit -c 0; ulimit -t {SECONDS}\n" + "".join(
             f"(cd {shlex.quote(place)} && {{ {setup.setup} exec "
             f"{shlex.join([*setup.before, self.program, *command.program_args])}; }})\n"
-            f"printf '{ENDED}%d{ENDED}' $?; printf '{ENDED}' >&2\n"
+            f"printf '{END_FORMAT}%d{END_FORMAT}' $?; printf '{END_FORMAT}' >&2\n"
             for place, setup in zip(places, setups))
         try:
             done = subprocess.run(["sh", "-c", script], stdout=subprocess.PIPE,
                                   stderr=subprocess.PIPE, stdin=subprocess.DEVNULL,
-                                  timeout=LONGEST, check=False)
+                                  timeout=MAX_SECONDS, check=False)
             return [collect_run(place, command, {}, *ended) for place, ended in zip(
                 places, split_output(done.stdout, done.stderr, len(setups)))]
         except (OSError, ValueError, subprocess.SubprocessError) as error:
@@ -302,45 +304,45 @@ class Trial:
             for place in places:
                 shutil.rmtree(place)
 
-    def traced(self, command: Command, injections: Sequence[str]) -> list[RunResult]:
+    def run_traced(self, command: Command, injections: Sequence[str]) -> list[RunResult]:
         """Run a command under strace with each injection."""
         return self.run_each(command, [
             Setup("", [*STRACE, "-o", "calls", *(["-e", injection] if injection else [])])
             for injection in injections])
 
-    def own_calls(self, command: Command) -> list[Call]:
+    def list_own_calls(self, command: Command) -> list[Call]:
         """Return the system calls of the program itself, without those of the loader."""
-        calls = self.traced(command, [""])[0].calls
+        calls = self.run_traced(command, [""])[0].calls
         start = next(at for at, call in enumerate(calls) if call.name == "rt_sigaction")
         return calls[start + 1:]
 
 
-def find_faults(ran: RunResult, status: int | str, printed: bytes,
+def find_faults(run_result: RunResult, status: int | str, printed: bytes,
                 written: bytes | None) -> list[str]:
     """Return the differences of a run from the expected status, output and file."""
     faults = []
-    if ran.status != status:
-        faults.append(f"status {ran.status}, expected {status}")
-    if ran.printed is not None and ran.printed != printed:
-        faults.append(f"printed {shown(ran.printed)}, expected {shown(printed)}")
-    if ran.written != written:
-        faults.append(f"wrote {size(ran.written)}, expected {size(written)}")
-    if ran.changed:
-        faults.append(f"changed {', '.join(ran.changed)}")
-    return faults + find_explanation_faults(ran, printed)
+    if run_result.status != status:
+        faults.append(f"status {run_result.status}, expected {status}")
+    if run_result.printed is not None and run_result.printed != printed:
+        faults.append(f"printed {shown(run_result.printed)}, expected {shown(printed)}")
+    if run_result.written != written:
+        faults.append(f"wrote {size(run_result.written)}, expected {size(written)}")
+    if run_result.changed:
+        faults.append(f"changed {', '.join(run_result.changed)}")
+    return faults + find_explanation_faults(run_result, printed)
 
 
-def find_explanation_faults(ran: RunResult, printed: bytes) -> list[str]:
+def find_explanation_faults(run_result: RunResult, printed: bytes) -> list[str]:
     """Return the faults of standard error.
 
     It must explain each fault of a file and of the arguments, and be empty for status 0 and 1.
     """
-    if ran.status in (0, 1) and ran.error_text:
-        return [f"unexpected standard error: {ran.error_text!r}"]
-    begins = [begin for sign, begin in EXPLAINED if sign.search(printed)]
-    return [f"standard error has no line {begin!r}, but {ran.error_text!r}" for begin in begins
-            if ran.status == 2 and not any(line.startswith(begin)
-                                           for line in ran.error_text.splitlines())]
+    if run_result.status in (0, 1) and run_result.error_text:
+        return [f"unexpected standard error: {run_result.error_text!r}"]
+    begins = [begin for sign, begin in EXPLANATIONS if sign.search(printed)]
+    return [f"standard error has no line {begin!r}, but {run_result.error_text!r}"
+            for begin in begins if run_result.status == 2 and not any(line.startswith(begin)
+                                                  for line in run_result.error_text.splitlines())]
 
 
 def shown(text: bytes) -> str:
@@ -351,26 +353,27 @@ def size(data: bytes | None) -> str:
     return "no file" if data is None else f"these {len(data)} bytes"
 
 
-def compare_with_normal_run(command: Command, ran: RunResult) -> list[str]:
+def compare_with_normal_run(command: Command, run_result: RunResult) -> list[str]:
     """Compare a run with the one in which nothing fails."""
-    return find_faults(ran, command.status, command.printed, command.written)
+    return find_faults(run_result, command.status, command.printed, command.written)
 
 
-def check_memory_failure(command: Command, ran: RunResult) -> list[str]:
+def check_memory_failure(command: Command, run_result: RunResult) -> list[str]:
     """Return faults unless a run is as if nothing fails, or reports that memory ran out.
 
     Without memory wrong arguments may not be explained, or only in part.
     """
-    found = NO_MEMORY.search(ran.printed or b"")
-    if not found or ran.printed is None:
-        if command.status == 2 and (not ran.error_text or ran.error_text.startswith(UNREAD)):
-            ran = ran._replace(error_text="error: ")
-        return compare_with_normal_run(command, ran)
-    before = ran.printed[:found.start()]
-    faults = find_faults(ran, 2, before + found[0], ran.written)
+    found = NO_MEMORY.search(run_result.printed or b"")
+    if not found or run_result.printed is None:
+        if command.status == 2 and (not run_result.error_text
+                                    or run_result.error_text.startswith(UNREAD)):
+            run_result = run_result._replace(error_text="error: ")
+        return compare_with_normal_run(command, run_result)
+    before = run_result.printed[:found.start()]
+    faults = find_faults(run_result, 2, before + found[0], run_result.written)
     if not command.printed.startswith(before):
         faults.append("the output before is not a prefix of the complete output")
-    if not (command.written or b"").startswith(ran.written or b""):
+    if not (command.written or b"").startswith(run_result.written or b""):
         faults.append("the file is not a prefix of the complete file")
     return faults
 
@@ -426,7 +429,7 @@ def count_bytes_before(calls: list[Call], call: Call) -> int:
                if (other.name, other.on, other.file) == (call.name, call.on, call.file))
 
 
-def is_second_look(calls: list[Call], call: Call) -> bool:
+def is_output_check(calls: list[Call], call: Call) -> bool:
     """Return whether a call comes after the output was stored: it, and its folder, are opened
     again."""
     return call.name != "write" and any(
@@ -438,40 +441,41 @@ def is_explanation(call: Call) -> bool:
     return call.name == "write" and call.on == "2"
 
 
-def judge(trial: Trial, command: Command, ran: RunResult) -> list[str]:
+def judge(trial: Trial, command: Command, run_result: RunResult) -> list[str]:
     """Return the faults of a run under strace, by the calls that were made to fail in it.
 
     A failed write to standard error changes nothing else.
     """
-    injected = [call for call in ran.calls if call.is_injected]
+    injected = [call for call in run_result.calls if call.is_injected]
     if not injected:
-        return ["no call failed"] + compare_with_normal_run(command, ran)
+        return ["no call failed"] + compare_with_normal_run(command, run_result)
     if any(is_explanation(call) for call in injected):
-        ran = ran._replace(error_text="error: \nsubttx: ")
+        run_result = run_result._replace(error_text="error: \nsubttx: ")
     failed = {(call.name, call.on): call for call in reversed(injected)
               if not is_explanation(call)}
     if not failed:
-        return compare_with_normal_run(command, ran)
+        return compare_with_normal_run(command, run_result)
     first = next(iter(call for call in injected if not is_explanation(call)))
     text, written = command.printed, command.written
-    if is_second_look(ran.calls, first):
+    if is_output_check(run_result.calls, first):
         text = expect_write_fault(command)
     elif first.name in ("openat", "statx"):
         text, written = b"fault 90 Open\n", None
     elif first.name == "read":
-        text = expect_read_fault(trial, command, first.file, count_bytes_before(ran.calls, first))
+        text = expect_read_fault(trial, command, first.file,
+                                 count_bytes_before(run_result.calls, first))
         written = b"" if command.out else None
     elif first.name == "fsync":
         text = expect_write_fault(command)
     elif first.on != "1":
         text = expect_write_fault(command)
-        written = (command.written or b"")[:count_bytes_before(ran.calls, first)]
+        written = (command.written or b"")[:count_bytes_before(run_result.calls, first)]
     at_output = failed.get(("write", "1"))
     if at_output:
-        text = text[:count_bytes_before(ran.calls, at_output)]
-    faults = find_faults(ran, 2, text, written)
+        text = text[:count_bytes_before(run_result.calls, at_output)]
+    faults = find_faults(run_result, 2, text, written)
     for (name, on), call in failed.items():
-        after = [other for other in ran.calls[ran.calls.index(call) + 1:]
+        after = [other for other in run_result.calls[run_result.calls.index(call) + 1:]
                  if other.name == name and not is_explanation(other)]
         if name in ("read", "write") and any(on in (other.on, "1") for other in after):
             faults.append(f"a {name} after the one that failed")

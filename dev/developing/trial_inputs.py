@@ -75,7 +75,7 @@ def prepare(trial: Trial) -> None:
     blocks[-5] = blocks[-5][:4] + b"\1" + blocks[-5][5:]  # a cumulative subtitle
     trial.add_input("bad.stl", gsi + b"".join(blocks))
     for name, status, program_args in COMMANDS:
-        command = trial.commands[name] = trial.command(name, program_args)
+        command = trial.commands[name] = trial.make_command(name, program_args)
         if command.status != status:
             sys.exit(f"faults: {name} ends with {command.status} though nothing fails: "
                      f"{command.printed!r}")

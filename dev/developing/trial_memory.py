@@ -15,19 +15,19 @@ from subtitles.formats.stl import TTI
 
 from .stl import box_line, make_gsi_block, make_tti_block
 from .trial import (
-    AT_ONCE, Case, Command, Found, REFUSER, RunResult, Setup, Trial, check_memory_failure,
+    RUNS_PER_SHELL, Case, Command, Found, REFUSER, RunResult, Setup, Trial, check_memory_failure,
     compare_with_normal_run)
 from .trial_inputs import HEADER
 
 KIBIBYTES = [96 * 1024, 64 * 1024, 32 * 1024, 16 * 1024, *range(8192, 1024, -48)]
-ENOUGH = 8192  # KiB: the program must start with this much
-STACK = 64  # KiB: each command takes less than 48
-STACK_OF_SURVEY = 160  # KiB: survey takes between 144 and 152
-MANY = 99_999  # subtitles of one block each: the most that a file may have
-BESIDE_TEXTS = 10_000_000  # bytes for them, without their texts
-TOO_LITTLE = 1_000_000  # bytes: not enough for them
+START_MEMORY = 8192  # KiB: the program must start with this much
+STACK_SIZE = 64  # KiB: each command takes less than 48
+SURVEY_STACK_SIZE = 160  # KiB: survey takes between 144 and 152
+MAX_SUBTITLES = 99_999  # subtitles of one block each: the most that a file may have
+MEMORY_BESIDE_TEXTS = 10_000_000  # bytes for them, without their texts
+TOO_LITTLE_MEMORY = 1_000_000  # bytes: not enough for them
 # Commands whose requests for memory are refused, one after the other, with files of examples/.
-REFUSED = [line.split() for line in f"""
+REFUSED_REQUESTS = [line.split() for line in f"""
 packet {HEADER}
 packets hello.pes
 show story.stl
@@ -41,7 +41,7 @@ check low.stl story.pes --all
 listen hello-25.pes --at 10:00:00:10 --flip 1:21:1,1:22:1 --lose 7,9
 check hello.stl""".strip().split("\n")]
 # More commands for a small stack.
-STACKED = [line.split() for line in """
+STACK_COMMANDS = [line.split() for line in """
 help
 survey hello.pes
 survey recording.ts
@@ -58,20 +58,21 @@ def run_parallel(trial: Trial, command: Command, numbers: Iterable[int], setup: 
                  ) -> Iterator[tuple[int, RunResult]]:
     """Run a command with each number, AT_ONCE at a time."""
     waiting = iter(numbers)
-    while some := list(itertools.islice(waiting, AT_ONCE)):
+    while some := list(itertools.islice(waiting, RUNS_PER_SHELL)):
         yield from zip(some, trial.run_each(command, [Setup(setup(one)) for one in some]))
 
 
 def run_with_less_memory(trial: Trial) -> Iterator[Case]:
     def shrink(command: Command) -> list[Found]:
         found: list[Found] = []
-        for size, ran in run_parallel(trial, command, KIBIBYTES, lambda size: f"ulimit -v {size};"):
+        for size, run_result in run_parallel(trial, command, KIBIBYTES,
+                                             lambda size: f"ulimit -v {size};"):
             name = f"{command.name} in {size} KiB"
             # With less the loader ends it, with 127 or a signal, before its first own call.
-            if ran.status in (127, -9, -11) and not ran.printed:
-                found.append((name, ran, [] if size < ENOUGH else ["not started"]))
+            if run_result.status in (127, -9, -11) and not run_result.printed:
+                found.append((name, run_result, [] if size < START_MEMORY else ["not started"]))
                 break
-            found.append((name, ran, check_memory_failure(command, ran)))
+            found.append((name, run_result, check_memory_failure(command, run_result)))
         return found
 
     return (partial(shrink, command) for command in trial.commands.values())
@@ -84,65 +85,68 @@ def resolve_examples(program_args: list[str]) -> list[str]:
 
 
 def run_with_small_stack(trial: Trial) -> Iterator[Case]:
-    others = (trial.command(" ".join(program_args), resolve_examples(program_args))
-              for program_args in STACKED)
+    others = (trial.make_command(" ".join(program_args), resolve_examples(program_args))
+              for program_args in STACK_COMMANDS)
     for command in [*trial.commands.values(), *others]:
         def run(command: Command = command) -> list[Found]:
-            size = STACK_OF_SURVEY if command.program_args[0] == "survey" else STACK
+            size = SURVEY_STACK_SIZE if command.program_args[0] == "survey" else STACK_SIZE
             # The environment is on the stack too.
-            ran = trial.run(command, before=["env", "-i"], setup=f"ulimit -s {size};")
-            return [(f"{command.name} in a stack of {size} KiB", ran,
-                     compare_with_normal_run(command, ran))]
+            run_result = trial.run(command, before=["env", "-i"], setup=f"ulimit -s {size};")
+            return [(f"{command.name} in a stack of {size} KiB", run_result,
+                     compare_with_normal_run(command, run_result))]
         yield run
 
 
 def run_with_refused_memory(trial: Trial) -> Iterator[Case]:
-    library = trial.library("refused memory", REFUSER)
+    library = trial.build_library("refused memory", REFUSER)
     if not library:
         return
 
     def refused(number: int, program_args: list[str]) -> list[Found]:
         name, mark = " ".join(program_args)[:60], os.path.join(trial.folder, f"refused-{number}")
-        command = trial.command(name, resolve_examples(program_args))
+        command = trial.make_command(name, resolve_examples(program_args))
         found: list[Found] = []
-        for call, ran in run_parallel(
+        for call, run_result in run_parallel(
                 trial, command, itertools.count(1), lambda call: f"export LD_PRELOAD={library} "
                 f"REFUSE_AT={call} REFUSED={mark}-{call};"):
             if not os.path.exists(f"{mark}-{call}"):
                 break
-            found.append((f"{name}: call {call}", ran, check_memory_failure(command, ran)))
-        faults = (compare_with_normal_run(command, ran) if found
+            found.append((f"{name}: call {call}", run_result,
+                          check_memory_failure(command, run_result)))
+        faults = (compare_with_normal_run(command, run_result) if found
                   else ["no memory call was seen: is the program linked to libc?"])
-        return [*found, (f"{name}: no more calls", ran, faults)]
+        return [*found, (f"{name}: no more calls", run_result, faults)]
 
-    for number, program_args in enumerate(REFUSED):
+    for number, program_args in enumerate(REFUSED_REQUESTS):
         yield partial(refused, number, program_args)
 
 
 def run_with_many_subtitles(trial: Trial) -> Iterator[Case]:
     """Check a file with the most subtitles that are allowed: it takes little memory beyond their
     texts."""
-    texts = [box_line(b"Subtitle %05d" % number) for number in range(MANY)]
+    texts = [box_line(b"Subtitle %05d" % number) for number in range(MAX_SUBTITLES)]
     blocks = [make_tti_block(number & 0xFFFF, 20 * number, 20 * number + 20, 22, 2, text)
               for number, text in enumerate(texts)]
-    trial.add_input("many.stl", make_gsi_block(b"Many", len(blocks), MANY) + b"".join(blocks))
-    assert len(trial.inputs["many.stl"]) == 1024 + MANY * TTI
-    schedule = trial.command("schedule", ["schedule", "../many.stl", "out.pes", "--every", "25"])
+    trial.add_input("many.stl", make_gsi_block(b"Many", len(blocks), MAX_SUBTITLES) +
+                    b"".join(blocks))
+    assert len(trial.inputs["many.stl"]) == 1024 + MAX_SUBTITLES * TTI
+    schedule = trial.make_command("schedule", ["schedule", "../many.stl", "out.pes", "--every",
+                                               "25"])
     trial.add_input("many.pes", schedule.written or b"")
     files = ["../many.stl", "../many.pes", "--every", "25"]
-    commands = [schedule, trial.command("check", ["check", *files]),
-                trial.command("check --all", ["check", *files, "--all"])]
-    most = BESIDE_TEXTS + sum(map(len, texts))
+    commands = [schedule, trial.make_command("check", ["check", *files]),
+                trial.make_command("check --all", ["check", *files, "--all"])]
+    most = MEMORY_BESIDE_TEXTS + sum(map(len, texts))
     for command in commands:
         def run(command: Command = command) -> list[Found]:
-            ran, short = (trial.run(command, setup=f"ulimit -d {size // 1024};")
-                          for size in (most, TOO_LITTLE))
+            run_result, short = (trial.run(command, setup=f"ulimit -d {size // 1024};")
+                          for size in (most, TOO_LITTLE_MEMORY))
             kept = check_memory_failure(command, short)
             if short.status != 2:
                 kept.append("the limit has no effect: they fit all the same")
             accepted = [] if command.status == 0 else [f"status {command.status} without a limit"]
-            name = f"{command.name} of {MANY} subtitles"
-            return [(f"{name} in {most} bytes", ran,
-                     accepted + compare_with_normal_run(command, ran)),
-                    (f"{name} in {TOO_LITTLE} bytes", short, kept)]
+            name = f"{command.name} of {MAX_SUBTITLES} subtitles"
+            return [(f"{name} in {most} bytes", run_result,
+                     accepted + compare_with_normal_run(command, run_result)),
+                    (f"{name} in {TOO_LITTLE_MEMORY} bytes", short, kept)]
         yield run

@@ -4,7 +4,7 @@ dev/check-every-place.
 For `check --all`:
 
 reading            parse subtitle files, PES packets and Teletext packets, and find their faults
-words              parse the options of `check`, and find their faults
+arguments          parse the options of `check`, and find their faults
 national           national options: bits of a header, and the bytes of each character
 rows               the page that a subtitle draws
 due                faults of a subtitle file, and the expected pages

@@ -84,14 +84,14 @@ class RepeatSettings(NamedTuple):
     has_new_subcodes: bool
 
 
-def change_header(rng: Random, teletext: list[bytes], subcode: int, keeps: bool) -> None:
+def change_header(rng: Random, teletext: list[bytes], subcode: int, keeps_page: bool) -> None:
     """Give the first header this subcode, and C4 clear if it keeps the page; rarely C6 clear too.
     """
     head = bytearray(teletext[0])
     head[SUBCODE] = CODE_WORDS[subcode]
-    if keeps:
+    if keeps_page:
         head[S2_C4] = CODE_WORDS[(NUMBER[head[S2_C4]] or 0) & 7]
-    if keeps and rng.random() < 0.02:
+    if keeps_page and rng.random() < 0.02:
         head[S4_C6] = CODE_WORDS[(NUMBER[head[S4_C6]] or 0) & 7]
     teletext[0] = bytes(head)
 
@@ -135,10 +135,10 @@ def keep_pages(rng: Random, pes: bytes) -> bytes:
                 or rng.random() < repeats.error_probability / 4):
             subcode = rng.randrange(4)
         if teletext:
-            keeps = rng.random() < (repeats.repeat_probability if is_repeat
-                                    else repeats.change_probability)
-            change_header(rng, teletext, subcode, keeps)
-            if keeps and len(teletext) > 1 and rng.random() < repeats.error_probability:
+            keeps_page = rng.random() < (repeats.repeat_probability if is_repeat
+                                         else repeats.change_probability)
+            change_header(rng, teletext, subcode, keeps_page)
+            if keeps_page and len(teletext) > 1 and rng.random() < repeats.error_probability:
                 change_page_body(rng, teletext)
         packets.append(make_pes_packet(decode_pts(packet), teletext) if len(teletext) < MAX_PACKETS
                        else bytes(packet))

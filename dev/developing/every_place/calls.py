@@ -73,8 +73,8 @@ def extract_items(data: bytes, options: Options, is_failing: bool) -> Answer:
     assert options.pid is not None
     found = read_stream(data, options.pid, options.size)
     count = len(found.pieces)
-    if found.broken is not None:
-        line = format_refused(found.broken, f"pes {count}")
+    if found.end_fault is not None:
+        line = format_refused(found.end_fault, f"pes {count}")
     elif is_failing:
         line = f"fault 41 Read pes {count}"
     else:

@@ -35,7 +35,7 @@ def check_multiplex_law(seed: int) -> str | None:
     packets, pid, size = make_random_packets(rng), choose_pid(rng), rng.choice(SIZES)
     units = multiplex(rng, packets, pid, rng.random() < 0.5)
     found = read_stream(join_units(rng, units, size), pid, size)
-    return None if found.pieces == packets and not any(found.marks) and found.broken is None \
+    return None if found.pieces == packets and not any(found.marks) and found.end_fault is None \
         else f"{len(packets)} PES packets were sent, {len(found.pieces)} pieces came back"
 
 
@@ -68,8 +68,8 @@ def check_loss_law(seed: int) -> str | None:
     sent = multiplex(rng, packets, pid, False)
     units = lose_units(rng, sent)
     found = read_stream(join_units(rng, units, size), pid, size)
-    if found.broken is not None:
-        return f"{found.broken} is told"
+    if found.end_fault is not None:
+        return f"{found.end_fault} is told"
     return find_packet_fault(packets, units, sent, found.pieces, found.marks)
 
 
@@ -108,7 +108,7 @@ def check_prefix_law(seed: int) -> str | None:
     data = make_random_stream(rng, packets, pid, size)
     whole, part = (read_stream(one, pid, size) for one in
                    (data, data[:rng.randrange(len(data) + 1)]))
-    if part.broken is not None:
+    if part.end_fault is not None:
         return None if part == whole else "what follows changes what has ended"
     is_prefix = whole.pieces[:len(part.pieces)] == part.pieces \
         and whole.marks[:len(part.marks)] == part.marks

@@ -14,7 +14,7 @@ from .on_air import Packet, erases_page, decode, find_packet_faults, get_page
 from .reading import CUT, decode_header, split_packets, read_packet
 from .recordings import Range, read_stream, select_range
 from .told import format_ended, format_refused
-from .trust import Course, FrameEnd, Event, SentPacket, list_lines
+from .trust import EventLog, FrameEnd, Event, SentPacket, list_lines
 from .arguments import Options
 
 
@@ -24,7 +24,7 @@ class Transmission:
 
     def __init__(self, due: ExpectedPages, options: Options, first: int) -> None:
         self.due, self.options, self.first = due, options, first
-        self.course, self.ends = Course(), FrameEnds(due, options)
+        self.event_log, self.ends = EventLog(), FrameEnds(due, options)
         self.frames: list[int] = []  # of readable PES packets
         self.packets: list[Packet] = []
         self.headers: list[int] = []  # the frames with a header of the page
@@ -46,11 +46,11 @@ class Transmission:
     def add_event(self, event: Event) -> None:
         """Add an event, after the end of skipped items."""
         self.end_skipped()
-        self.course.events.append(event)
+        self.event_log.events.append(event)
 
     def skip(self, pes: int, number: int) -> None:
         """Skip an unreadable item; report the first of a run with the same fault."""
-        self.course.skipped.append(pes)
+        self.event_log.skipped.append(pes)
         if self.skipped and (self.skipped[0], self.skipped[2]) == (number, pes - 1):
             self.skipped = number, self.skipped[1], pes
         else:
@@ -61,8 +61,8 @@ class Transmission:
         """Report the end of a run of skipped items with more than one."""
         if self.skipped and self.skipped[1] < self.skipped[2]:
             number, _, last = self.skipped
-            self.course.events.append(Event(format_ended(number, self.describe_place(last)), number,
-                                            last))
+            self.event_log.events.append(Event(format_ended(number, self.describe_place(last)),
+                                               number, last))
         self.skipped = None
 
     def receive(self, pes: int, frame: int, teletext: list[bytes]) -> None:
@@ -74,8 +74,8 @@ class Transmission:
         has_header = self.receive_packets(pes, frame, teletext)
         self.frames.append(frame)
         self.sending = pes
-        if self.course.is_rising:
-            self.course.sent.append(SentPacket(pes, frame, has_header))
+        if self.event_log.has_rising_frames:
+            self.event_log.sent.append(SentPacket(pes, frame, has_header))
         if self.options.within == 0:
             self.end_current_frame()
 
@@ -88,7 +88,7 @@ class Transmission:
                 self.report_fault(63, f"frame {time_of(frame)}", pes)
             return
         if frame <= self.frames[-1]:
-            self.course.is_rising = False
+            self.event_log.has_rising_frames = False
             self.report_fault(62, self.describe_place(pes), pes)
         self.end_frames(pes, range(max(self.frames) + 1, frame))
 
@@ -122,23 +122,23 @@ class Transmission:
         for frame in frames:
             for number, line in ends.at(frame, decoded, self.headers, self.frames):
                 self.add_event(Event(line, number, pes, frame, True))
-            if self.course.is_rising:
-                self.course.ends.append(
-                    FrameEnd(frame, bool(ends.active), ends.unfinished_since, ends.is_late))
+            if self.event_log.has_rising_frames:
+                self.event_log.ends.append(
+                    FrameEnd(frame, bool(ends.active), ends.incomplete_since, ends.is_late))
 
-    def end_file(self, broken: int | None, pes: int) -> None:
-        """End the file after `pes` items; `broken` is the fault of the bytes after them."""
+    def end_file(self, end_fault: int | None, pes: int) -> None:
+        """End the file after `pes` items; `end_fault` is the fault of the bytes after them."""
         self.end_current_frame()
         self.end_skipped()
         for number, line in self.ends.list_final_lines():
             self.add_event(Event(line, number, None))
         end = self.due.last()
-        if broken is not None:
-            self.course.is_left = True
-            self.report_fault(broken, self.describe_place(pes), None)
+        if end_fault is not None:
+            self.event_log.has_trailing_bytes = True
+            self.report_fault(end_fault, self.describe_place(pes), None)
         elif pes == 0:
             self.report_fault(60, "", None)
-        elif self.frames and (self.ends.unfinished_since is not None and not self.ends.is_late
+        elif self.frames and (self.ends.incomplete_since is not None and not self.ends.is_late
                               or end is not None and end > self.frames[-1]):
             self.report_fault(74, f"frame {time_of(self.frames[-1])}", None)
 
@@ -148,14 +148,15 @@ class Transmission:
         return f"accepted {count} frames {len(self.headers)} transmissions"
 
 
-def find_failure_line(read: Range, count: int, broken: int | None, is_failing: bool) -> str | None:
+def find_failure_line(selection: Range, count: int, end_fault: int | None,
+                      is_failing: bool) -> str | None:
     """Return the line of a failing source, `None` if the failure is not reached.
 
-    The source fails where its bytes end, after `count` items; `broken` is the fault of the bytes
+    The source fails where its bytes end, after `count` items; `end_fault` is the fault of the bytes
     after them.
     """
-    is_so = is_failing and read.is_end and broken in (None, CUT)
-    return f"fault 41 Read pes {read.first + count}" if is_so else None
+    is_so = is_failing and selection.is_end and end_fault in (None, CUT)
+    return f"fault 41 Read pes {selection.first + count}" if is_so else None
 
 
 def select_data(data: bytes, options: Options) -> Range:
@@ -170,11 +171,11 @@ def check_all(stl: bytes, pes: bytes, options: Options, is_failing: bool = False
     A PES file, or a transport stream, may fail where its bytes end.
     """
     subtitles = judge_subtitles(stl, options)
-    told = subtitles.lines
+    subtitle_lines = subtitles.lines
     if subtitles.records is None:
-        return [*told, f"{len(told)} faults"]
+        return [*subtitle_lines, f"{len(subtitle_lines)} faults"]
     read = select_data(pes, options)
-    pieces, broken = split_packets(read.data)
+    pieces, end_fault = split_packets(read.data)
     due = ExpectedPages(subtitles.records, subtitles.has_fault_before, options)
     transmission = Transmission(due, options, read.first)
     for number, piece in enumerate(pieces):
@@ -184,10 +185,10 @@ def check_all(stl: bytes, pes: bytes, options: Options, is_failing: bool = False
         else:
             transmission.receive(number, *sending)
     # After a failure of the source nothing more is reported, and nothing ends.
-    course, is_refused = transmission.course, bool(told)
-    if failure := find_failure_line(read, len(pieces), broken, is_failing):
-        return [*told, *list_lines(course, True, is_refused), failure]
-    transmission.end_file(broken, len(pieces))
-    lines = [*told, *list_lines(course, False, is_refused)]
+    event_log, is_refused = transmission.event_log, bool(subtitle_lines)
+    if failure := find_failure_line(read, len(pieces), end_fault, is_failing):
+        return [*subtitle_lines, *list_lines(event_log, True, is_refused), failure]
+    transmission.end_file(end_fault, len(pieces))
+    lines = [*subtitle_lines, *list_lines(event_log, False, is_refused)]
     count = sum(line.startswith("refused") for line in lines)
     return [*lines, f"{count} faults"] if count else [transmission.format_accepted()]

@@ -40,7 +40,7 @@ def is_order_fault(line: str) -> bool:
 
 def judge_subtitles(data: bytes, options: Options) -> Subtitles:
     """Return the faults of a file, and the records that can be checked in spite of them."""
-    told: list[str] = []
+    lines: list[str] = []
     groups: list[Record | None] = []  # requested subtitles, `None` for one with a fault
     faults: dict[int, list[str]] = {}  # of records, by their index in `groups`
     before: Record | None = None
@@ -48,25 +48,25 @@ def judge_subtitles(data: bytes, options: Options) -> Subtitles:
         read_subtitles(data, options.is_open, options.from_frame, options.to_frame))
     for one in found:
         if isinstance(one, StlFault):
-            told.append(format_refused(one.number, f"block {one.block}"))
+            lines.append(format_refused(one.number, f"block {one.block}"))
             groups.append(None)
         elif isinstance(one, Record):
             faults[len(groups)] = list(record_faults(one, before, options))
-            told += faults[len(groups)]
+            lines += faults[len(groups)]
             groups.append(one)
             before = one
     places = list(faults)
-    judged = [place for place, after in zip(places, [*places[1:], None])
+    judged_positions = [place for place, after in zip(places, [*places[1:], None])
               if not faults[place] and not (after and any(map(is_order_fault, faults[after])))]
-    records = [record for place in judged if (record := groups[place])]
+    records = [record for place in judged_positions if (record := groups[place])]
     has_fault_before = [second - first > 1 for first,
-                        second in zip([-1, *judged], [*judged, len(groups)])]
+                        second in zip([-1, *judged_positions], [*judged_positions, len(groups)])]
     is_known = not any(isinstance(one, StlFault) and one.number not in FIRST_BLOCK_FAULTS
                        for one in found)
-    in_order = all(one.tci >= earlier.tco for at, one in enumerate(records)
-                   for earlier in records[:at])
-    is_read = not told or is_known and bool(records) and in_order
-    return Subtitles(told, records if is_read else None, has_fault_before)
+    are_in_order = all(one.tci >= earlier.tco for at, one in enumerate(records)
+                       for earlier in records[:at])
+    is_read = not lines or is_known and bool(records) and are_in_order
+    return Subtitles(lines, records if is_read else None, has_fault_before)
 
 
 class ExpectedPages:

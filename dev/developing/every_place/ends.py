@@ -21,7 +21,7 @@ class FrameEnds:
         self.first = self.frame = 0  # the first frame, and the previous one
         self.active: dict[int, int] = {}  # the cell of each active fault (72 alone has one)
         # First of the frames in a row, up to now, at whose ends the page was not complete.
-        self.unfinished_since: int | None = None
+        self.incomplete_since: int | None = None
         self.is_late = False  # at the last end
 
     def find_active_faults(self, frame: int, decoded: Decoded, headers: list[int], sent: list[int]
@@ -32,20 +32,20 @@ class FrameEnds:
         """
         options = self.options
         is_open = options.is_complete and decoded.is_open
-        differs = None if self.due.is_undecided(frame) else \
+        different_cell = None if self.due.is_undecided(frame) else \
             decoded.find_first_difference(self.due.at(frame))
-        is_finished = differs is None and not is_open
+        is_finished = different_cell is None and not is_open
         if is_finished:
-            self.unfinished_since = None
-        elif self.unfinished_since is None:
-            self.unfinished_since = frame
+            self.incomplete_since = None
+        elif self.incomplete_since is None:
+            self.incomplete_since = frame
         self.is_late = self.is_overdue(frame)
-        cell = differs if self.is_late else None
+        cell = different_cell if self.is_late else None
         cell = self.find_unexpected_cell(decoded.page, frame) if cell is None else cell
-        is_window = frame >= self.first + options.every - 1
+        is_repeat_overdue = frame >= self.first + options.every - 1
         found = {
             72: cell is not None,
-            73: is_window and not any(frame < one + options.every for one in headers),
+            73: is_repeat_overdue and not any(frame < one + options.every for one in headers),
             77: self.is_late and is_open,
             78: any(map(self.due.is_undecided, self.list_allowed_frames(frame))),
             79: options.pace and not any(frame < one + options.pace for one in sent)}
@@ -61,7 +61,7 @@ class FrameEnds:
 
         It is late after `within` frames, or if a subtitle ends that was never complete.
         """
-        start, within = self.unfinished_since, self.options.within
+        start, within = self.incomplete_since, self.options.within
         return start is not None and (within == 0 or frame >= start + within or any(
             begin >= start or begin < self.first == start
             for begin in self.due.list_starts(frame + 1)))
@@ -75,11 +75,11 @@ class FrameEnds:
         frames = self.list_allowed_frames(frame)
         if any(map(self.due.is_undecided, frames)):
             return None
-        dues = [self.due.at(one) for one in frames]
-        if page in dues:
+        expected_pages = [self.due.at(one) for one in frames]
+        if page in expected_pages:
             return None
         return next((at for at, code in enumerate(page)
-                     if code != SPACE and all(due[at] != code for due in dues)), None)
+                     if code != SPACE and all(due[at] != code for due in expected_pages)), None)
 
     def at(self, frame: int, decoded: Decoded, headers: list[int], sent: list[int]
            ) -> Iterator[tuple[int, str]]:

@@ -18,11 +18,12 @@ from .arguments import Options, parse_arguments
 NOT_RECEIVED = 0x3F  # code of each cell before the first page
 
 
-def find_end_fault(read: Range, count: int, broken: int | None, is_failing: bool) -> str | None:
+def find_end_fault(selection: Range, count: int, end_fault: int | None,
+                   is_failing: bool) -> str | None:
     """Return the line of the fault after so many items; `None` if there is none."""
-    failure = find_failure_line(read, count, broken, is_failing)
-    return failure or (None if broken is None
-                       else format_refused(broken, f"pes {read.first + count}"))
+    failure = find_failure_line(selection, count, end_fault, is_failing)
+    return failure or (None if end_fault is None
+                       else format_refused(end_fault, f"pes {selection.first + count}"))
 
 
 # `packets`
@@ -38,16 +39,16 @@ def list_unit_lines(piece: bytes) -> Iterator[str]:
 
 def list_packets_lines(data: bytes, options: Options, is_failing: bool) -> Iterator[str]:
     """Yield the lines of `packets`, which stops at the first fault."""
-    read = select_data(data, options)
-    pieces, broken = split_packets(read.data)
-    for pes, piece in enumerate(pieces, read.first):
+    selection = select_data(data, options)
+    pieces, end_fault = split_packets(selection.data)
+    for pes, piece in enumerate(pieces, selection.first):
         number = find_head_fault(piece) or read_units(piece)[1]
         if number:
             yield format_refused(number, f"pes {pes}")
             return
         yield f"pes {pes} pts {decode_pts(piece)}"
         yield from list_unit_lines(piece)
-    yield find_end_fault(read, len(pieces), broken, is_failing) or f"{len(pieces)} pes"
+    yield find_end_fault(selection, len(pieces), end_fault, is_failing) or f"{len(pieces)} pes"
 
 
 # `listen`
@@ -137,12 +138,12 @@ class Receiver:
 def list_receiver_lines(data: bytes, options: Options, arguments: list[str],
                         is_failing: bool) -> list[str]:
     """Return the lines of `listen`, about a receiver or the first fault."""
-    heard, read = parse_listen_options(arguments), select_data(data, options)
+    heard, selection = parse_listen_options(arguments), select_data(data, options)
     receiver = Receiver(options, heard.receiver)
-    pieces, broken = split_packets(read.data)
+    pieces, end_fault = split_packets(selection.data)
     before = -1  # the frame of the PES packet before
     number = place = 0  # of the next Teletext packet, and that of the next one in its frame
-    for pes, piece in enumerate(pieces, read.first):
+    for pes, piece in enumerate(pieces, selection.first):
         sending = read_packet(piece, options.origin, options.within)
         if isinstance(sending, int):
             return [format_refused(sending, f"pes {pes}")]
@@ -160,5 +161,5 @@ def list_receiver_lines(data: bytes, options: Options, arguments: list[str],
             elif number >= heard.skip:
                 receiver.receive(heard.flip_bits(number, packet))
             number, place = number + 1, place + 1
-    fault = find_end_fault(read, len(pieces), broken, is_failing)
+    fault = find_end_fault(selection, len(pieces), end_fault, is_failing)
     return [fault] if fault else list(receiver.list_lines(heard.is_complete))

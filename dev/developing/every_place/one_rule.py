@@ -79,9 +79,9 @@ NONE, BLANK, HI = make_programme(), make_programme(b""), make_programme(b"Hi")
 HI_OF_9, HI_LATER = make_programme(b"Hi", 0, 9), make_programme(b"Hi", 2, 9)
 
 
-def make_case(name: str, number: int, packets: str, tried: bytes = b"",
+def make_case(name: str, number: int, packets: str, tested_packet: bytes = b"",
               arguments: str = "--every 1", stl: bytes = NONE) -> OneRule:
-    meaning = {"h": HEADER, "r": ROW_22, "c": CLOSING, "*": tried, "s": make_row_1(0x20)}
+    meaning = {"h": HEADER, "r": ROW_22, "c": CLOSING, "*": tested_packet, "s": make_row_1(0x20)}
     return OneRule(name, number, stl, b"".join(parse_transmission(packets, meaning)), arguments)
 
 

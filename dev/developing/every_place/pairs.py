@@ -234,7 +234,7 @@ def add_refused_subtitles(broadcaster_rng: Random, stl: bytes, arguments: list[s
 
 
 def make_random_pair(seed: int, schedule: Schedule, is_refused: bool = False,
-                     is_keeping: bool = False) -> Pair:
+                     keeps_pages: bool = False) -> Pair:
     """Return a random pair; on request with refused subtitles, or headers that keep the page.
 
     `schedule` returns the transmission of a subtitle file.
@@ -254,7 +254,7 @@ def make_random_pair(seed: int, schedule: Schedule, is_refused: bool = False,
     if not pes:  # these options send nothing
         draw_page = part = []
         pes = schedule(stl, [*list_arguments(arguments), *flags, *mode])
-    if keeps := is_keeping or broadcaster_rng.random() < 0.2:
+    if keeps := keeps_pages or broadcaster_rng.random() < 0.2:
         pes = keep_pages(broadcaster_rng, pes)
         flags += ["--keeping"] if broadcaster_rng.random() < 0.9 else []
     is_late = rng.random() < (0.9 if within else 0.1)

@@ -85,14 +85,14 @@ def make_accepted_pair(rng: Random, schedule: Schedule) -> Pair:
     return Pair(stl, schedule(stl, list_arguments(arguments)), list_arguments(arguments))
 
 
-def make_random_calls(seed: int, schedule: Schedule, is_keeping: bool = False) -> list[Call]:
+def make_random_calls(seed: int, schedule: Schedule, keeps_pages: bool = False) -> list[Call]:
     """Return random calls on a stream with a random transmission; on request headers keep the page.
 
     `schedule` returns the transmission of a subtitle file.
     """
     rng = Random(f"recording {seed}")
-    pair = make_accepted_pair(rng, schedule) if rng.random() < 0.6 and not is_keeping else \
-        make_random_pair(seed, schedule, False, is_keeping)
+    pair = make_accepted_pair(rng, schedule) if rng.random() < 0.6 and not keeps_pages else \
+        make_random_pair(seed, schedule, False, keeps_pages)
     packets = split_packets(pair.pes)[0][:MAX_PACKETS]
     pid, size = rng.choice([0x101, 0x1001, rng.randrange(0x1FFF)]), rng.choice(SIZES)
     stream = make_random_stream(rng, packets, pid, size)

@@ -87,7 +87,7 @@ class GoodPacket(NamedTuple):
 
     packet: TransportPacket
     is_break: bool
-    is_seam: bool
+    is_announced_jump: bool
 
 
 class Stretch:
@@ -157,11 +157,11 @@ class Part:
             self.head += payload if len(self.head) < HEAD else b""
 
 
-def cut_parts(good_list: list[GoodPacket]) -> list[Part]:
+def cut_parts(good_packets: list[GoodPacket]) -> list[Part]:
     """Cut intact packets at each start of a PES packet, each break and each seam."""
     parts: list[list[GoodPacket]] = []
-    for one in good_list:
-        if not parts or one.packet.begins or one.is_break or one.is_seam:
+    for one in good_packets:
+        if not parts or one.packet.begins or one.is_break or one.is_announced_jump:
             parts.append([])
         parts[-1].append(one)
     return [Part(packets) for packets in parts]
@@ -172,13 +172,13 @@ def cut_parts(good_list: list[GoodPacket]) -> list[Part]:
 class StreamContent(NamedTuple):
     """The PES packets and gap markers of a stream, and which are markers.
 
-    `rest` and `broken` are the part with another start or length, and its fault.
+    `rest` and `end_fault` are the part with another start or length, and its fault.
     """
 
     pieces: list[bytes]
     marks: list[bool]
     rest: bytes
-    broken: int | None
+    end_fault: int | None
 
     @property
     def data(self) -> bytes:
@@ -187,8 +187,8 @@ class StreamContent(NamedTuple):
 
 def read_stream(data: bytes, pid: int, size: int) -> StreamContent:
     """Return the PES packets of a PID, with a gap marker after each one that a gap follows."""
-    good_list, is_wrong_last = find_good_packets(data, pid, size)
-    parts = cut_parts(good_list)
+    good_packets, is_wrong_last = find_good_packets(data, pid, size)
+    parts = cut_parts(good_packets)
     pieces: list[bytes] = []
     marks: list[bool] = []
     has_gap = False

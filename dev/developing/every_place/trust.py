@@ -1,6 +1,6 @@
 """Find the frames that can be trusted in spite of faults, and where the list says so.
 
-A `Course` collects events and PES packets; runs of clean frames are looked up when it is complete.
+An `EventLog` collects events and PES packets; runs of clean frames are found when it is complete.
 """
 from __future__ import annotations
 
@@ -19,14 +19,14 @@ class Event(NamedTuple):
     """A line of the list, with its fault and its frame, if it has one.
 
     `pes` is the PES packet at which it is reported, even if it is about the end of a frame before;
-    `None` after the last frame. `is_end` is whether it is reported at the end of its frame.
+    `None` after the last frame. `is_frame_end` is whether it is reported at the end of its frame.
     """
 
     line: str
     number: int
     pes: int | None
     frame: int | None = None
-    is_end: bool = False
+    is_frame_end: bool = False
 
 
 class SentPacket(NamedTuple):
@@ -43,7 +43,7 @@ class FrameEnd(NamedTuple):
 
     frame: int
     has_active: bool
-    unfinished_since: int | None
+    incomplete_since: int | None
     is_late: bool
 
 
@@ -55,20 +55,21 @@ class CleanRun(NamedTuple):
 
 
 @dataclass
-class Course:
+class EventLog:
     """The events of a transmission, and its PES packets.
 
     `sent` and `ends` are the PES packets and the ends of frames before the first PES packet whose
-    frame does not rise; `is_rising` is whether there is none. `skipped` are the skipped items.
-    `is_left` is whether bytes are left after the items.
+    frame does not rise; `has_rising_frames` is whether there is none. `skipped` are the unreadable
+    items.
+    `has_trailing_bytes` is whether bytes are left after the items.
     """
 
     events: list[Event] = field(default_factory=list)
     sent: list[SentPacket] = field(default_factory=list)
     ends: list[FrameEnd] = field(default_factory=list)
     skipped: list[int] = field(default_factory=list)
-    is_rising: bool = True
-    is_left: bool = False
+    has_rising_frames: bool = True
+    has_trailing_bytes: bool = False
 
 
 class TrustedFrames:
@@ -77,19 +78,19 @@ class TrustedFrames:
     `is_refused` is whether the subtitle file has faults.
     """
 
-    def __init__(self, course: Course, is_refused: bool) -> None:
+    def __init__(self, event_log: EventLog, is_refused: bool) -> None:
         self.is_refused = is_refused
-        self.events, self.sent = course.events, course.sent
+        self.events, self.sent = event_log.events, event_log.sent
         self.first, self.last = self.sent[0].frame, self.sent[-1].frame
-        self.ends = {item.frame: item for item in course.ends}
+        self.ends = {item.frame: item for item in event_log.ends}
         pes = {item.pes for item in self.sent}
         self.unclean = {item.frame for item in self.events
                         if item.pes in pes and item.number in PACKET_FAULTS}
-        self.unclean |= {item.frame for item in course.ends if item.has_active}
+        self.unclean |= {item.frame for item in event_log.ends if item.has_active}
         # Unread data after a PES packet may belong to its frame, or to a later one.
-        if not course.is_rising or course.is_left:
+        if not event_log.has_rising_frames or event_log.has_trailing_bytes:
             self.unclean.add(self.last)
-        for piece in course.skipped:
+        for piece in event_log.skipped:
             before = [item.frame for item in self.sent if item.pes < piece]
             after = [item.frame for item in self.sent if item.pes > piece]
             if before:
@@ -118,7 +119,7 @@ class TrustedFrames:
                     yield at, found
 
     def is_complete_at(self, frame: int) -> bool:
-        return frame in self.ends and self.ends[frame].unfinished_since is None
+        return frame in self.ends and self.ends[frame].incomplete_since is None
 
     def find_report_place(self, last: int) -> int:
         """Return the index of the event before which trust up to a frame is reported.
@@ -130,7 +131,8 @@ class TrustedFrames:
         for at, event in enumerate(self.events):
             is_passed = event.number in SKIPPED and event.pes is not None
             if event.number == ORDER or event.pes is None \
-                    or event.frame == after and (event.is_end or event.number in PACKET_FAULTS) \
+                    or event.frame == after and (event.is_frame_end or event.number
+                                                 in PACKET_FAULTS) \
                     or is_passed and pes and event.pes > pes[0]:
                 return at
         return len(self.events)
@@ -145,26 +147,26 @@ class TrustedFrames:
         end: FrameEnd | None = None
         if event is None or event.pes is None:
             end = self.ends.get(self.last)
-        elif event.is_end and event.frame is not None and self.ends[event.frame].is_late:
+        elif event.is_frame_end and event.frame is not None and self.ends[event.frame].is_late:
             end = self.ends[event.frame]
         last_end = self.ends.get(last)
-        if self.is_refused and last_end is not None and last_end.unfinished_since is not None:
+        if self.is_refused and last_end is not None and last_end.incomplete_since is not None:
             end = last_end
-        return last if end is None or end.unfinished_since is None else end.unfinished_since - 1
+        return last if end is None or end.incomplete_since is None else end.incomplete_since - 1
 
 
-def list_lines(course: Course, has_failed: bool, is_refused: bool) -> Iterator[str]:
+def list_lines(event_log: EventLog, has_failed: bool, is_refused: bool) -> Iterator[str]:
     """Yield the lines of a course, with those about trusted frames if there is any fault.
 
     If the source failed, the end of the last run is unknown.
     """
     before: dict[int, list[str]] = {}
-    if (course.events or is_refused) and course.sent:
-        for at, run in TrustedFrames(course, is_refused).find_trusted_frames():
+    if (event_log.events or is_refused) and event_log.sent:
+        for at, run in TrustedFrames(event_log, is_refused).find_trusted_frames():
             line = f"trusted frames {time_of(run.first)} {time_of(run.last)}"
             before.setdefault(at, []).append(line)
-    for at, event in enumerate(course.events):
+    for at, event in enumerate(event_log.events):
         yield from before.get(at, [])
         yield event.line
     if not has_failed:
-        yield from before.get(len(course.events), [])
+        yield from before.get(len(event_log.events), [])

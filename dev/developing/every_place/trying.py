@@ -82,7 +82,7 @@ class Trial:
 
         Calls with a failing file are skipped if no file can be made to fail.
         """
-        told = []
+        messages = []
         for call, expected in add_first_fault_call(*known):
             if call.is_failing and not self.can_fail:
                 continue
@@ -91,10 +91,10 @@ class Trial:
             what = " ".join([call.command, call.arguments, *(["failing"] if call.is_failing
                                                              else [])])
             if (status, own.lines) != (wanted, expected.lines):
-                told.append(f"{what}: status {status}, expected {wanted}; "
-                            f"{find_first_difference(own.lines, expected.lines)}")
+                messages.append(f"{what}: status {status}, expected {wanted}; "
+                                f"{find_first_difference(own.lines, expected.lines)}")
             if own.written != expected.written:
                 sizes = [None if data is None else len(data)
                          for data in (own.written, expected.written)]
-                told.append(f"{what}: wrote {sizes[0]} bytes, expected these {sizes[1]}")
-        return told
+                messages.append(f"{what}: wrote {sizes[0]} bytes, expected these {sizes[1]}")
+        return messages

@@ -172,14 +172,14 @@ class Teletext:
         good, before = stretch.make_good_packet(packet), stretch.before
         self.stretch, self.is_wrong_last = Stretch(packet), False
         self.has_gap |= good.is_break
-        self.has_seam |= good.is_seam
+        self.has_seam |= good.is_announced_jump
         is_announced = stretch.has_jump or packet.announces_jump
         lost = (packet.counter - before.counter - 1) % 16 if before and not is_announced else 0
         self.lost += lost
         self.header = b"" if packet.begins else None if lost or is_announced else self.header
         if self.header is not None:
             self.header += packet.payload
-        if packet.begins or good.is_break or good.is_seam or not before:
+        if packet.begins or good.is_break or good.is_announced_jump or not before:
             self.has_gap |= self.part != b"" and not self.is_given
             self.is_behind_gap = not self.refusal and self.lines.count > 0 \
                 and (self.has_gap or self.lines.ends_with_gap)

@@ -433,8 +433,8 @@ class PrintedClocks(unittest.TestCase):
         for shift in SHIFTS:
             multiplex, pcr = Multiplex(0x101, b"eng", (0, 0x88)), list[int]()
             for pts in (0, 5 * TENTH, 5 * TENTH + 7, 5 * TENTH + 130 * 10 * TENTH):
-                multiplex.put(b"", shift_pts(pts, shift))
-            data = multiplex.taken()
+                multiplex.add_pes_packet(b"", shift_pts(pts, shift))
+            data = multiplex.take_packets()
             for at in range(0, len(data), 188):
                 if data[at + 3] & 0x20:
                     pcr.append(int.from_bytes(data[at + 6:at + 12], "big") >> 15)

@@ -163,7 +163,7 @@ class GeneratedParts(unittest.TestCase):
         self.assertEqual([(one.name, one.value, one.commands) for one in found],
                          [("--page", "P", ["check", "listen"]), ("--all", "", ["check"]),
                           ("--at", "TIME", ["listen"]), ("--kind", "K", ["listen"])])
-        self.assertEqual([one.choices() for one in found], [[], [], [], ["a", "b", "c"]])
+        self.assertEqual([one.list_choices() for one in found], [[], [], [], ["a", "b", "c"]])
 
     def test_reads_a_help(self) -> None:
         self.assertEqual(pages.parse_entries(HELP), [

@@ -324,9 +324,9 @@ class ReadingLists(Case):
                 "high/count.other": "low.size high.size high.IsSize",
                 "law": "low.size high.size high.IsSize",
                 "count": "low.size low.pair high.size high.total high.IsSize"}.items():
-            found = " ".join(f"{one.file.crate}.{one.name}" for one in them.reading_list(name)[0])
+            found = " ".join(f"{one.file.crate}.{one.name}" for one in them.list_reading(name)[0])
             self.must(name, found == want, found)
-        total = count_lines_to_read(*them.reading_list("total"))
+        total = count_lines_to_read(*them.list_reading("total"))
         self.must("counts, with no comment", total == (3, 6, 2), total)
 
     def test_lists_users_before_what_they_use(self) -> None:
@@ -334,7 +334,8 @@ class ReadingLists(Case):
         for name, want in {
                 "total": "high.total low.pair low.size", "law": "high.IsSize high.size low.size",
                 "count": "high.total high.IsSize high.size low.pair low.size"}.items():
-            found = " ".join(f"{one.file.crate}.{one.name}" for one in them.highest_first(name))
+            found = " ".join(f"{one.file.crate}.{one.name}"
+                             for one in them.sort_highest_first(name))
             self.must(name, found == want, found)
 
     def test_limits_the_lines_to_read(self) -> None:
@@ -348,7 +349,7 @@ class ReadingLists(Case):
         for name, why in (("size", "high/Things.size"), ("none", "no definition"),
                           ("count.none", "clause")):
             try:
-                reported = str(them.reading_list(name))
+                reported = str(them.list_reading(name))
             except Stop as reason:
                 reported = str(reason)
             self.must(name, why in reported, reported)
