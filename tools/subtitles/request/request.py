@@ -160,7 +160,7 @@ def range_text(pes: tuple[int, int]) -> str:
 
 PROFILE = Record("profile", "", Member("name", Text()), Member("sha256", SUM))
 
-IN_PART = "null: found by qc; the part has the one that was used."  # of a request's key
+IN_PART = "null if qc found the value, which is then in the part."  # of a request's key
 
 OPTIONS: tuple[Option, ...] = (
     Option("--page", "P", "judge page P", MEASURED_PAIRS, "888", field="page", default=(0, 0x88),

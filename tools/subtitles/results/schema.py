@@ -33,19 +33,21 @@ WORD = named("word", OneOf(*STATUSES))
 
 FILE_AT_START = Record(
     "file_at_start", "",
-    Member("size", COUNT, "In bytes."),
-    Member("modified", Text(r"[0-9-]{10,20}T[0-9:]{8}[.][0-9]{9}Z"), "Its last change, in UTC."))
+    Member("size", COUNT, "The size in bytes."),
+    Member("modified", Text(r"[0-9-]{10,20}T[0-9:]{8}[.][0-9]{9}Z"),
+           "The time of the last change, in UTC."))
 
 FILE = Record(
     "file", "",
-    Member("name", Maybe(Text()), "As typed; null: PES packets that were not kept."),
-    Member("size", COUNT, "In bytes."),
+    Member("name", Maybe(Text()), "The name as typed; null for PES packets that "
+           "were not kept."),
+    Member("size", COUNT, "The size in bytes."),
     Member("sha256", SUM))
 
 SUBTITLE = Record(
     "subtitle", "",
-    Member("position", COUNT, "Its position in the file, or in that of the part, from 1; of a "
-           "comment or user data that of the previous subtitle."),
+    Member("position", COUNT, "The position in the subtitle file, or in the part, from 1. A "
+           "comment or user data has the position of the previous subtitle."),
     Member("number", Integer(0, 65535), "SN."),
     Member("begin", CODE_TIME, "TCI."),
     Member("end", CODE_TIME, "TCO."))
@@ -53,61 +55,65 @@ SUBTITLE = Record(
 CAUSE_NAME = named("cause_name", OneOf(*CAUSE_NAMES))
 CAUSE_MEMBERS = (
     Member("subtitle", SUBTITLE),
-    Member("name", CAUSE_NAME, "Its name."),
+    Member("name", CAUSE_NAME, "The name of the cause."),
     Member("frames", Maybe(Integer(1, FRAMES_OF_A_DAY)),
-           "How many frames late or early, if it is."),
-    Member("expected_text", Text(), "The subtitle's text, its rows joined by a slash."),
+           "The number of frames by which the subtitle is late or early."),
+    Member("expected_text", Text(), "The subtitle's text, with a slash between rows."),
     Member("decoded_text", Maybe(Text()), "The received text."),
     Member("other_number", Maybe(Integer(0, 65535)),
            "The number (SN) of the subtitle with the received text."),
     Member("other_position", Maybe(Integer(1, MOST_NUMBER)),
            "That subtitle's position in the file, from 1."),
     Member("line", Text(), "The cause as printed."))
-CAUSE = Record("cause", "Why a subtitle's content is not as expected. All its 72 faults share "
-               "it, also before its TCI and after its TCO.", *CAUSE_MEMBERS)
+CAUSE = Record("cause", "A cause says why the content of a subtitle differs from the expected "
+               "content. All faults 72 of a subtitle have the same cause.", *CAUSE_MEMBERS)
 LISTED_CAUSE = Record("listed_cause", "",
                       Member("part", PART), *CAUSE_MEMBERS)
 
 CELL = Record(
     "cell", "",
     Member("code", Text(r"[0-7][0-9A-F]"), "The 7-bit code, in hexadecimal."),
-    Member("character", Maybe(Text()), "null: a spacing attribute."))
+    Member("character", Maybe(Text()), "The character; null for a spacing attribute."))
 
 FAULT = Record(
     "fault", "",
     Member("part", PART),
-    Member("line", Text(r"refused [ -~]+", 200), "The line of check --all."),
+    Member("line", Text(r"refused [ -~]+", 200), "The line that check --all prints."),
     Member("number", Maybe(Integer(FIRST_FAULT, LAST_FAULT)),
-           "null: a fault without a number."),
-    Member("name", Text(r"[A-Za-z]+( [a-z]+)?", 40), "Its name, as check prints it."),
-    Member("severity", OneOf("error", "warning"), "By --severity."),
+           "The fault number; null if the fault has none."),
+    Member("name", Text(r"[A-Za-z]+( [a-z]+)?", 40), "The name that check prints."),
+    Member("severity", OneOf("error", "warning"), "The severity that --severity gives."),
     Member("file", OneOf("stl", "pes"), "The faulty file: stl, or pes for the recording."),
-    Member("block", Maybe(COUNT), "The TTI block, from 1; 0: the GSI block."),
+    Member("block", Maybe(COUNT), "The TTI block, from 1; 0 for the GSI block."),
     Member("subtitle", Maybe(SUBTITLE),
-           "The subtitle of the block, or the expected one at the frame."),
-    Member("byte", Maybe(Text(r"[0-9A-F]{2}")), "For 50 and 51: the byte, in hexadecimal."),
-    Member("character", Maybe(Text()), "Its character; after an accent, with the letter; null: a "
-           "control code."),
-    Member("text_offset", Maybe(COUNT), "For 50 and 51 that byte's offset in the text, for 52 to "
-           "55 the line, from 0."),
-    Member("pes", Maybe(COUNT), "The PES packet, from 0 (of a feed: of its judged part); null: "
-           "between two. Of several in a frame, the one with the packet, or the last."),
-    Member("pes_pts", Maybe(PTS), "Its PTS."),
-    Member("pes_time", Maybe(TIME), "The time of its PTS."),
-    Member("packet", Maybe(COUNT), "The Teletext packet of the frame, from 0."),
-    Member("frame", Maybe(Integer(0, FRAMES_OF_A_DAY - 1)), "The frame of the day, from 0."),
+           "The subtitle of the block, or the expected subtitle at the frame."),
+    Member("byte", Maybe(Text(r"[0-9A-F]{2}")), "For faults 50 and 51, the byte in "
+           "hexadecimal."),
+    Member("character", Maybe(Text()), "The character of this byte, with its accent if any; null "
+           "for a control code."),
+    Member("text_offset", Maybe(COUNT), "For faults 50 and 51, the offset of this byte in the "
+           "text; for faults 52 to 55, the line. Both count from 0."),
+    Member("pes", Maybe(COUNT), "The PES packet, from 0 (in a feed: from the start of the judged "
+           "part); null if the fault is between PES packets."),
+    Member("pes_pts", Maybe(PTS), "The PTS of this PES packet."),
+    Member("pes_time", Maybe(TIME), "The time of this PTS."),
+    Member("packet", Maybe(COUNT), "The Teletext packet in the frame, from 0."),
+    Member("frame", Maybe(Integer(0, FRAMES_OF_A_DAY - 1)), "The frame, counted from "
+           "midnight."),
     Member("time", Maybe(TIME), "The time of the frame."),
     Member("row", Maybe(Integer(1, 24)), "The row, 1 to 24."),
     Member("column", Maybe(Integer(0, 39)), "The column, 0 to 39."),
-    Member("expected", Maybe(CELL), "For 72: the expected code."),
-    Member("decoded", Maybe(CELL), "For 72: the decoded code; null: none was sent."),
+    Member("expected", Maybe(CELL), "For fault 72, the expected code."),
+    Member("decoded", Maybe(CELL), "For fault 72, the decoded code; null if the row was "
+           "not sent."),
     Member("last_time", Maybe(TIME),
-           "For 72, 73, 77 and 78: the last frame at whose end the fault lasted."),
+           "For faults 72, 73, 77 and 78, the last frame with the fault."),
     Member("last_pes", Maybe(COUNT),
-           "For 33 to 40, 45 and 61: the last skipped PES packet."),
-    Member("meaning", Text(), "What is wrong, as in the manual."),
-    Member("remedy", Text(), "What to do, as in the manual."),
-    Member("cause", Maybe(CAUSE), "For 72; also for 63 and 74, if the recording goes on there."))
+           "For faults 33 to 40, 45 and 61, the last skipped PES packet."),
+    Member("meaning", Text(), "The manual's text about what is wrong."),
+    Member("remedy", Text(), "The manual's text about what to do."),
+    Member("cause", Maybe(CAUSE), "The cause of a fault 72, or of a fault 63 or 74 "
+           "if the recording does not begin or end there."))
 
 REQUEST = Record(
     "request", "",
@@ -118,10 +124,10 @@ REQUEST = Record(
 CLOCK_OF_PART = Record(
     "clock", "",
     Member("origin", PTS, "The PTS of 00:00:00:00."),
-    Member("source", OneOf(*SOURCES), "recording: estimated; origin: --origin; start: --start "
-           "TIME; tcp: --start tcp."),
-    Member("delay_frames", Maybe(Integer(-FRAMES_OF_A_DAY, FRAMES_OF_A_DAY)), "By how many "
-           "frames cues are later than this clock; null: unknown, as if estimated."))
+    Member("source", OneOf(*SOURCES), "How the clock was found: recording (estimated), origin "
+           "(--origin), start (--start TIME) or tcp (--start tcp)."),
+    Member("delay_frames", Maybe(Integer(-FRAMES_OF_A_DAY, FRAMES_OF_A_DAY)), "The number of "
+           "frames by which cues are later than this clock; null if it is unknown."))
 
 
 class PartOf(NamedTuple):
@@ -144,42 +150,45 @@ JUDGED_PART = Record(
     Member("origin", Maybe(PTS), "The PTS of 00:00:00:00.", lambda of: of.part.origin),
     Member("from", Maybe(TIME), "The first judged time.", lambda of: of.part.time_codes()[0]),
     Member("to", Maybe(TIME), "The last judged time.", lambda of: of.part.time_codes()[1]),
-    Member("verdict", OneOf("accepted", "refused", "not judged"), "not judged: a signal ended "
-           "the call, and its faults up to then are here.",
+    Member("verdict", OneOf("accepted", "refused", "not judged"), "The verdict; not judged if a "
+           "signal ended the call. The result then has the faults up to this signal.",
            lambda of: of.part.check_output.verdict),
-    Member("line", Text(), "The line of check without --all.",
+    Member("line", Text(), "The last line of check without --all.",
            lambda of: of.part.check_output.line),
-    Member("frames", Maybe(COUNT), "Judged frames.", lambda of: of.part.check_output.frames),
-    Member("transmissions", Maybe(COUNT), "Page transmissions.",
+    Member("frames", Maybe(COUNT), "The number of judged frames.",
+           lambda of: of.part.check_output.frames),
+    Member("transmissions", Maybe(COUNT), "The number of page transmissions.",
            lambda of: of.part.check_output.transmissions),
-    Member("fault_count", COUNT, "Its faults.", lambda of: of.part.check_output.fault_count),
+    Member("fault_count", COUNT, "The number of its faults.",
+           lambda of: of.part.check_output.fault_count),
     Member("pid", Maybe(PID), "The judged PID; null for PES packets.",
            lambda of: (of.part.stream or (None, None))[0]),
-    Member("packet_size", OneOf(*PACKET_SIZES, None), "Bytes from one TS packet to the next; null "
-           "for PES packets.", lambda of: (of.part.stream or (None, None))[1]),
+    Member("packet_size", OneOf(*PACKET_SIZES, None), "The packet size in bytes; null for PES "
+           "packets.", lambda of: (of.part.stream or (None, None))[1]),
     Member("pes", Maybe(Text(r"[0-9]+-[0-9]+", 40)), "The first and the last judged PES packet, as "
            "for --pes; null if all of a feed was judged.", lambda of: of.part.pes_argument),
-    Member("pace", Maybe(Integer(1, MOST_EVERY)), "The longest PES interval in frames, given or "
-           "measured; null: not checked.", lambda of: of.part.request.pace),
+    Member("pace", Maybe(Integer(1, MOST_EVERY)), "The longest allowed PES interval in frames; "
+           "null if it is not checked.", lambda of: of.part.request.pace),
     Member("judged_file", Maybe(FILE), "The judged PES packets of a feed."),
     Member("clock", Maybe(CLOCK_OF_PART), of=lambda of: of.part.clock))
 
 LOSS = Record(
     "loss", "",
     Member("from", Maybe(TIME), "The time of the previous PES packet.", lambda gap: gap.after),
-    Member("to", Maybe(TIME), "The time of the next one.", lambda gap: gap.before),
+    Member("to", Maybe(TIME), "The time of the next PES packet.", lambda gap: gap.before),
     Member("from_pts", Maybe(PTS), "The PTS of the previous PES packet.",
            lambda gap: gap.place.before),
-    Member("to_pts", Maybe(PTS), "The PTS of the next one.", lambda gap: gap.place.after),
+    Member("to_pts", Maybe(PTS), "The PTS of the next PES packet.", lambda gap: gap.place.after),
     Member("gap_marker", Maybe(COUNT), "The number of the gap marker (45) among the PES packets; "
-           "null: only the PCR shows the loss.", lambda gap: gap.place.gap_marker),
-    Member("lost_ts_packets", COUNT, "By their counters, which do not show multiples of 16.",
+           "null if only the PCR shows the loss.", lambda gap: gap.place.gap_marker),
+    Member("lost_ts_packets", COUNT, "The number of lost TS packets by the counters, which do "
+           "not show multiples of 16.",
            lambda gap: gap.place.lost),
-    Member("scrambled_ts_packets", COUNT, "Scrambled TS packets.",
+    Member("scrambled_ts_packets", COUNT, "The number of scrambled TS packets.",
            lambda gap: gap.place.scrambled),
-    Member("missing_ticks", COUNT, "90 kHz ticks that the PCR misses; 0: it does not show the "
-           "loss.", lambda gap: gap.place.missing),
-    Member("judged", Flag(), "Whether the verdict covers the frames between.",
+    Member("missing_ticks", COUNT, "The length of the loss by the PCR, in 90 kHz ticks; 0 if the "
+           "PCR does not show it.", lambda gap: gap.place.missing),
+    Member("judged", Flag(), "Whether the verdict covers the frames between these times.",
            lambda gap: gap.is_judged))
 
 WARNING = Record(
@@ -192,7 +201,7 @@ WARNING = Record(
            "(frames without a PES packet); blocks, subtitles (TNB, TNS); cut (within a PES "
            "packet); hidden (part of a row, by some receivers)."),
     Member("line", Text(), "The warning as printed."),
-    Member("time", Maybe(TIME), "The first place."))
+    Member("time", Maybe(TIME), "The time of the first occurrence."))
 
 TRUSTED = Record("trusted_frames", "", Member("part", PART),
                  Member("from", TIME, "The first frame."), Member("to", TIME, "The last frame."))
@@ -201,58 +210,61 @@ DELAY = Maybe(Integer(-FRAMES_OF_A_DAY, FRAMES_OF_A_DAY))
 CUE = Record(
     "cue", "",
     Member("part", PART),
-    Member("position", Integer(1, MOST_NUMBER), "Its position in the file, from 1."),
+    Member("position", Integer(1, MOST_NUMBER), "The position in the subtitle file, from 1."),
     Member("number", Integer(0, 65535), "SN."),
-    Member("recording_offset", Maybe(Text(r"[0-9]+:[0-9]{2}:[0-9]{2}")), "Its TCI, "
-           "counted from the recording's beginning: H:MM:SS."),
+    Member("recording_offset", Maybe(Text(r"[0-9]+:[0-9]{2}:[0-9]{2}")), "The TCI, "
+           "counted from the recording's beginning, as H:MM:SS."),
     Member("expected_in", CODE_TIME, "TCI."),
     Member("expected_out", CODE_TIME, "TCO."),
-    Member("actual_in", Maybe(TIME), "The first frame at whose end a receiver has its page, or "
-           "another one in its place; null: none."),
-    Member("actual_out", Maybe(TIME), "The first frame at whose end it has not."),
-    Member("delay_in", DELAY, "How many frames late the in-cue is; negative: early."),
+    Member("actual_in", Maybe(TIME), "The first frame at whose end a receiver has the page, or "
+           "another page in its place; null if there is none."),
+    Member("actual_out", Maybe(TIME), "The first frame at whose end a receiver no longer has "
+           "the page."),
+    Member("delay_in", DELAY, "The number of frames by which the in-cue is late; negative if it is "
+           "early."),
     Member("delay_out", DELAY, "The same for the out-cue."),
-    Member("expected_text", Maybe(Text()), "Its text, the rows joined by a slash; null: it is "
-           "refused."),
+    Member("expected_text", Maybe(Text()), "The subtitle's text, with a slash between rows; null "
+           "if the subtitle is refused."),
     Member("decoded_text", Maybe(Text()), "The received text."),
-    Member("verdict", OneOf(RIGHT, WRONG, WAIVED, NOT_KNOWN), "waived: its faults are warnings. "
-           "not known: it was not received completely, or can't be judged."),
-    Member("reason", Maybe(Text()), "Why it is not right."),
-    Member("complete_after", Maybe(COUNT), "Frames from its TCI until its page was complete, and "
-           "with --complete closed; null: never before its TCO, or unknown."))
+    Member("verdict", OneOf(RIGHT, WRONG, WAIVED, NOT_KNOWN), "The verdict: waived if all its "
+           "faults are warnings, not known if the subtitle can't be judged."),
+    Member("reason", Maybe(Text()), "The reason why the subtitle is not right."),
+    Member("complete_after", Maybe(COUNT), "The number of frames from the TCI until the page was "
+           "complete, and with --complete closed; null if it was not, or if this is unknown."))
 
 CHOICE = Record(
     "choice", "",
-    Member("part", Maybe(PART), "null: all."),
-    Member("option", OneOf(*CHOICES), "The option for it, without dashes.",
+    Member("part", Maybe(PART), "The part, from 1; null for all parts."),
+    Member("option", OneOf(*CHOICES), "The option that sets this value, without dashes.",
            lambda choice: choice.what),
-    Member("value", Maybe(Text()), "Its value; null: none."),
-    Member("matches", Maybe(COUNT), "For pid PES packets with a header of the page, for origin "
-           "matching cues, for pes PES packets in the time of the subtitles, for pace places "
-           "where a loss would take longer.",
+    Member("value", Maybe(Text()), "The chosen value; null if there is none."),
+    Member("matches", Maybe(COUNT), "The number of matches: for pid, PES packets with a header of "
+           "the page; for origin, cues; for pes, PES packets in the time of the subtitles; for "
+           "pace, positions where a loss would take longer.",
            lambda choice: choice.agree),
-    Member("total", Maybe(COUNT), "Of how many.", lambda choice: choice.among),
+    Member("total", Maybe(COUNT), "The number that was compared.", lambda choice: choice.among),
     Member("line", Text(), "The evidence as printed."))
 
 PROGRAM = Record(
     "program", "",
-    Member("version", Text(), "Its version."),
+    Member("version", Text(), "The version."),
     Member("sha256", SUM),
-    Member("proof", Maybe(Text()), "The prover's line, if it is stored with the program.",
+    Member("proof", Maybe(Text()), "The prover's line, if it is installed with the program.",
            lambda program: program.proved))
 
 SPREAD = Record(
     "spread", "",
-    Member("minimum", COUNT, "In frames.", lambda delays: delays.minimum),
-    Member("median", COUNT, "In frames.", lambda delays: delays.median),
-    Member("maximum", COUNT, "In frames.", lambda delays: delays.maximum),
-    Member("never_complete", COUNT, "Subtitles that were never complete.",
+    Member("minimum", COUNT, "The fewest frames.", lambda delays: delays.minimum),
+    Member("median", COUNT, "The median, in frames.", lambda delays: delays.median),
+    Member("maximum", COUNT, "The most frames.", lambda delays: delays.maximum),
+    Member("never_complete", COUNT, "The number of subtitles that were never complete.",
            lambda delays: delays.never_complete))
 
 COUNTS = Record(
     "counts", "",
-    Member("judged", COUNT, "Judged subtitles."),
-    Member("refused", COUNT, "Of them refused, or overlapped or preceded by the next one."))
+    Member("judged", COUNT, "The number of judged subtitles."),
+    Member("refused", COUNT, "The number of these that were refused, or that overlap the next "
+           "subtitle or come after it."))
 
 FORMAT = 7
 MOST_LISTED = 20_000  # items of a list
@@ -302,11 +314,11 @@ def sum_of_parts(known: Writing, name: str) -> int | None:
 
 
 FILES_AT_START = Record(
-    "files_at_start", "The files when judging began: --resume and --watch compare them.", *(
+    "files_at_start", "The files when judging began, which --resume and --watch compare.", *(
         Member(name, Maybe(FILE_AT_START)) for name in ("stl", "recording", "severity")))
 INPUTS = Record("inputs", "The files as they were read.",
                 Member("stl", Maybe(FILE)), Member("recording", Maybe(FILE)))
-CAUSE_COUNTS = Record("cause_counts", "The number of causes of each name.", *(
+CAUSE_COUNTS = Record("cause_counts", "The number of causes for each name.", *(
     Member(name, COUNT) for name in CAUSE_NAMES))
 
 # Verdict, status, last line and reason belong together.
@@ -327,77 +339,80 @@ TIMED = Rules([
 
 # The lists, written item by item; `omitted` counts the rest of each.
 LISTS = (
-    Member("parts", Listed(JUDGED_PART, MOST_LISTED), "Each is judged by itself, with its "
-           "own clock. Frames between parts are not judged.",
+    Member("parts", Listed(JUDGED_PART, MOST_LISTED), "The parts. Each has its own clock "
+           "and verdict. Frames between parts are not judged.",
            lambda known: (PartOf(part, known.verdict.is_kept) for part in known.verdict.parts)),
-    Member("losses", Listed(LOSS, MOST_LISTED), "Losses in the recording.",
+    Member("losses", Listed(LOSS, MOST_LISTED), "The losses in the recording.",
            lambda known: known.verdict.gaps),
     Member("notes", Listed(Text(), MOST_LISTED),
-           "As printed.",
+           "The notes as printed.",
            lambda known: known.verdict.list_notes()),
-    Member("hints", Listed(Text(), MOST_LISTED), "About the first fault of some numbers, as "
-           "printed.",
+    Member("hints", Listed(Text(), MOST_LISTED), "The hints as printed, about the first fault with "
+           "some numbers.",
            lambda known: known.verdict.hints),
-    Member("warnings", Listed(WARNING, MOST_LISTED), "What is unusual in the files.",
+    Member("warnings", Listed(WARNING, MOST_LISTED), "Unusual values in the files.",
            lambda known: known.verdict.warnings),
-    Member("commands", Listed(Text(), MOST_LISTED), "The commands that judged, as typed.",
+    Member("commands", Listed(Text(), MOST_LISTED), "The check commands that qc ran.",
            lambda known: known.verdict.commands),
-    Member("choices", Listed(CHOICE, MOST_LISTED), "What qc chose, in order.",
+    Member("choices", Listed(CHOICE, MOST_LISTED), "The values that qc chose, in order.",
            lambda known: known.verdict.selections),
     Member("trusted_frames", Listed(TRUSTED, MOST_LISTED), "Frames without a fault; "
-           "with --within N, right within N frames.", trusted_of),
-    Member("faults", Listed(FAULT, MOST_LISTED), "Those without a number, then in the order of "
-           "check --all.",
+           "with --within N, frames that become right within N frames.", trusted_of),
+    Member("faults", Listed(FAULT, MOST_LISTED), "The faults: first those without a number, then "
+           "the others in the order of check --all.",
            lambda known: make_faults(known.verdict)),
-    Member("causes", Listed(LISTED_CAUSE, MOST_LISTED), "One for each subtitle with 72, in their "
-           "order; also for the first (63) and last one (74), if the recording goes on there. "
-           "Each has its part.", cause_rows),
-    Member("subtitles", Listed(CUE, MOST_SUBTITLES), "All subtitles, refused ones included. A "
-           "fault between two belongs to neither.",
+    Member("causes", Listed(LISTED_CAUSE, MOST_LISTED), "The cause for each subtitle with a fault "
+           "72, and for the first and last subtitle with a fault 63 or 74. Each cause also has a "
+           "key part.", cause_rows),
+    Member("subtitles", Listed(CUE, MOST_SUBTITLES), "All subtitles, including refused subtitles. "
+           "A fault between two subtitles belongs to neither.",
            lambda known: subtitle_rows(known.verdict)))
-OMITTED = Record("omitted", "How many items each list lacks, if it was too long.", *(
+OMITTED = Record("omitted", "The number of items that were left out of each list.", *(
     Member(one.name, COUNT) for one in LISTS))
 
 VERDICT = Record(
     "verdict", "",
-    Member("format", OneOf(FORMAT), "The number of this format.", lambda _: FORMAT),
+    Member("format", OneOf(FORMAT), "The format number.", lambda _: FORMAT),
     Member("verdict", WORD, of=lambda known: known.verdict.word),
     Member("status", STATUS, of=lambda known: known.verdict.status),
     Member("line", Maybe(Text()), "The last line on standard output.",
            lambda known: known.verdict.line),
-    Member("worst_fault", Maybe(Text()), "The same with the worst fault that is not waived.",
+    Member("worst_fault", Maybe(Text()), "The last line with the worst fault that is not waived.",
            lambda known: known.verdict.worst_line),
     Member("sentence", Text(), "The verdict in one sentence.",
            lambda known: known.verdict.sentence),
-    Member("reason", Maybe(Text()), "Why it was not judged.",
+    Member("reason", Maybe(Text()), "The reason why the pair was not judged.",
            lambda known: known.verdict.unjudged_reason),
-    Member("scope", OneOf("transmission", "subtitle file"), "What was judged.",
+    Member("scope", OneOf("transmission", "subtitle file"),
+           "Whether a transmission or a subtitle file alone was judged.",
            lambda known: "subtitle file" if known.verdict.request.recording is None
            else "transmission"),
-    Member("frames", Maybe(COUNT), "Judged frames.", lambda known: sum_of_parts(known, "frames")),
-    Member("transmissions", Maybe(COUNT), "Page transmissions.",
+    Member("frames", Maybe(COUNT), "The number of judged frames.",
+           lambda known: sum_of_parts(known, "frames")),
+    Member("transmissions", Maybe(COUNT), "The number of page transmissions.",
            lambda known: sum_of_parts(known, "transmissions")),
-    Member("fault_count", COUNT, "All faults, omitted ones included.",
+    Member("fault_count", COUNT, "The number of all faults, including omitted faults.",
            lambda known: known.verdict.fault_count),
     Member("subtitle_counts", Maybe(COUNTS), of=lambda known: known.verdict.subtitle_counts),
     Member("request", REQUEST, of=lambda known: known.verdict.request),
     Member("files_at_start", FILES_AT_START, of=lambda known: known.verdict.files_at_start),
     Member("inputs", INPUTS, of=lambda known: known.verdict),
     Member("program", PROGRAM),
-    Member("date", DATE, "When it was judged, in UTC.", lambda known: known.verdict.date),
-    Member("seconds", Number(MOST_SECONDS), "How long that took.",
+    Member("date", DATE, "The time of judging, in UTC.", lambda known: known.verdict.date),
+    Member("seconds", Number(MOST_SECONDS), "The time that judging took.",
            lambda known: known.verdict.seconds),
     Member("cause_counts", CAUSE_COUNTS, of=lambda known: count_causes(
         part.causes for part in known.verdict.parts if part.causes)),
-    Member("complete_after", Maybe(SPREAD), "After how many frames subtitles were complete.",
+    Member("complete_after", Maybe(SPREAD),
+           "The number of frames after which subtitles were complete.",
            lambda known: known.verdict.delays),
     *LISTS,
     Member("omitted", OMITTED),
     rules=[TOGETHER, TIMED])
 
 NO_PAIR = Record(
-    "no_pair", "What was not judged and has no request: a file or a line of a batch that is no "
-    "pair, a killed call, or one that ended early, as by a usage error.",
+    "no_pair", "A result without a request: a file or a line of a batch that is not a pair, or a "
+    "call that ended early.",
     Member("format", OneOf(FORMAT)),
     Member("verdict", OneOf(NOT_JUDGED)),
     Member("status", OneOf(STATUSES[NOT_JUDGED])),
@@ -405,7 +420,7 @@ NO_PAIR = Record(
     Member("reason", Text(least=1)))
 
 BATCH = Record(
-    "batch", "The results of many pairs, in `pairs`; qc does not read it back.",
+    "batch", "The results for many pairs, in `pairs`.",
     Member("format", OneOf(FORMAT)),
     Member("status", STATUS),
     Member("date", DATE))
