@@ -212,7 +212,7 @@ class FirstPictures(Case):
                  f"earlier than {ends}"),
                 (("--start", "23:00:00:00"), "--start 23:00:00:00 is 2 h 45 min 1 s later than "
                  f"{ends}"),
-                (("--origin", f"{90_000 * 3600}"), "by --origin 324000000 all subtitles are 1 h "
+                (("--origin", f"{90_000 * 3600}"), "with --origin 324000000 all subtitles are 1 h "
                  "early: none is in the recording at its time")):
             found = self.judge(data, *words)
             self.must(f"{words}", found.word == "not judged" and found.told == [reported],

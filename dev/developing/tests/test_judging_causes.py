@@ -456,7 +456,7 @@ class WorkedRows(unittest.TestCase):
                                if name in together)
             self.assertEqual((list_cause_counts(several), format_cause_counts(several),
                               count_causes(several)), (
-                wanted, f"causes of {counted(len(together), 'subtitle')}: {wanted}",
+                wanted, f"causes of faults in {counted(len(together), 'subtitle')}: {wanted}",
                 {name: together.count(name) for name in CAUSE_NAMES}), count)
 
 

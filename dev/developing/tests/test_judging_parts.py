@@ -129,7 +129,7 @@ class SeveralParts(ProgrammeCase):
             self.must(f"{changes}: each", [
                 one["complete_after"] for one in found.result["subtitles"]] == [
                     changes.get(number, 0) for number in range(1, 25)])
-            self.must(f"{changes}: counts", found.lines("causes of ") == [
+            self.must(f"{changes}: counts", found.lines("causes of faults in ") == [
                 f"{len(changes)} subtitle{'s' * (len(changes) > 1)}: {len(changes)} late"])
 
     def test_sums_up_the_delays_of_all_parts(self) -> None:

@@ -362,7 +362,7 @@ class Losses(ProgrammeCase):
             self.must(f"{count}", judged.word == ("refused" if count else "accepted") and bool(
                 count) == ("refused 79 Silent frame 10:00:26:11" in judged.listed), judged.listed)
             self.must(f"{count}: said", judged.lines("pace: ") == ["at most 1 frame from one PES "
-                      "packet to the next, in which three may come: --pace 2"] and sum(
+                      "packet to the next, and three may come in that time: --pace 2"] and sum(
                           line.startswith(note) for line in judged.told) == 1, judged.said)
         without_one = [one for at, one in enumerate(both) if at // 2 not in (510, 610)]
         judged = self.judge_stream(self.multiplexed(without_one, 400), "--within", "1")

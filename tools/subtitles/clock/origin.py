@@ -260,7 +260,7 @@ def explain_mismatch(packets: Packets, page: Page) -> Iterator[str]:
 def offset_text(ticks: int) -> str:
     """Return a delay in ticks as text, such as `2 frames late`."""
     frames, rest = divmod(abs(ticks), TICKS)
-    more = f" and {rest} ticks" if rest else ""
+    more = f" and {counted(rest, 'tick')}" if rest else ""
     return f"{counted(frames, 'frame')}{more} {'late' if ticks > 0 else 'early'}"
 
 
@@ -362,7 +362,7 @@ def break_lines(parts: Sequence[EstimatedPart]) -> Iterator[str]:
     """Yield a line for each later part: its begin, and the length of the break before it."""
     for number, (before, part) in enumerate(zip(parts, parts[1:]), 2):
         frames, rest = divmod(abs(away := ticks_between(before.origin, part.origin)), TICKS)
-        length = time_of(frames) + (f" and {rest} ticks" if rest else "")
+        length = time_of(frames) + (f" and {counted(rest, 'tick')}" if rest else "")
         where = "where PTS go back" if part.base != before.base else \
             f"after a break of {length}" if away > 0 else f"where the recording lacks {length}"
         yield f"part {number} begins at {time_of(part.begin)}, {where}"

@@ -293,8 +293,9 @@ class CauseFinder(PageTransmissions):
         following = self.subtitles[place + 1:place + 2]
         if following and following[0].begin <= until and \
                 self.pages[place + 1] == self.timeline.pages[number]:
-            return f"it stays for {counted(following[0].begin - end, 'frame')}, until " \
-                f"{following[0].name}, which has the same page"
+            frames = following[0].begin - end
+            return (f"it stays for {counted(frames, 'frame')}, until {following[0].name}, which has"
+                    if frames else f"{following[0].name} follows at once with") + " the same page"
         if until == self.timeline.last or self.timeline.halt is not None:
             return ""
         return f"it disappears {counted(until + 1 - end, 'frame')} later"
@@ -550,7 +551,7 @@ class CauseDescriber:
 def format_cause_counts(several: list[Causes]) -> str:
     """Return a line with the number of subtitles that have a cause, and the count of each cause."""
     count = sum(len(one.by_index) for one in several)
-    return f"causes of {counted(count, 'subtitle')}: {list_cause_counts(several)}"
+    return f"causes of faults in {counted(count, 'subtitle')}: {list_cause_counts(several)}"
 
 
 def list_cause_counts(several: list[Causes]) -> str:

@@ -169,7 +169,7 @@ def refuse_wrong_clock(search: PartSearch, recording: Recording, part: TimedPart
 def describe_wrong_clock(request: Request, clock: Clock, delay: int) -> str:
     """Describe how far a given clock is from the subtitles, which are `delay` frames late."""
     if clock.source == GIVEN:
-        return f"by --origin {clock.origin} all subtitles are {duration_text(abs(delay))} " \
+        return f"with --origin {clock.origin} all subtitles are {duration_text(abs(delay))} " \
             f"{'late' if delay > 0 else 'early'}: none is in the recording at its time"
     given = read_start_frame(request)
     estimated = wrapped(clock.origin + TICKS * delay)
@@ -295,7 +295,7 @@ def make_pace_selection(pace: Pace, is_stream: bool, part: int) -> Selection:
 
 def describe_pace(pace: Pace, is_stream: bool) -> str:
     """Describe how regular the PES packets are, and the pace chosen from that."""
-    more = ", in which three may come" if pace.is_dense else \
+    more = ", and three may come in that time" if pace.is_dense else \
         f", at least {pace.loss_interval} after a loss of 16 TS packets" if is_stream else ""
     return f"pace: at most {counted(pace.interval, 'frame')} from one PES packet to the next" \
         f"{more}: --pace {pace.frames}"
