@@ -15,14 +15,14 @@ COMPILED = use_compiled_tools()
 
 
 def pytest_configure() -> None:
-    """Prepare the machine as dev/check-tools does before its first test."""
+    """Prepare the tests in the same way as dev/check-tools."""
     BENCH.chosen = os.path.realpath(os.environ.get("SUBTTX") or built_program(None))
     COMPILED.__enter__()
     BENCH.make_top()
 
 
 def pytest_runtest_call() -> None:
-    """Print to the process's own output, which forked processes share."""
+    """Let tests print to the standard output of the process, which forked processes share."""
     sys.stdout, sys.stderr = sys.__stdout__, sys.__stderr__
 
 
@@ -32,6 +32,6 @@ def pytest_unconfigure() -> None:
 
 
 def pytest_terminal_summary() -> None:
-    """List the tests that were skipped, since this machine lacks something."""
+    """List the tests that were skipped because this machine lacks something."""
     if BENCH.over:
         print("skipped: " + "; ".join(dict.fromkeys(BENCH.over)))

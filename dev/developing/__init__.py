@@ -28,8 +28,8 @@ every_place   the second implementation; on purpose it shares only codes, times 
 surveying     the second implementation of `survey`, written from its manual page
 tests         the unittest modules of check-tools, one for each tool or idea
 
-It uses the packages of tools/subtitles, which do not use it. A script imports its module from here
-first: that puts tools/ on the import path.
+These modules use the packages of tools/subtitles. A script imports `developing` first, which puts
+tools/ on the import path.
 """
 from __future__ import annotations
 

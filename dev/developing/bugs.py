@@ -1,12 +1,12 @@
-"""Make the variants of a module's text with one typical slip each."""
+"""Make mutants of a module, each with one typical mistake."""
 from __future__ import annotations
 
 import ast
 from types import CodeType
 from typing import Any, Callable, Iterator, NamedTuple
 
-MODULE = "<module>"  # name for code outside of functions
-LONG_TABLE = 12  # elements; the numbers of longer tables are not changed
+MODULE = "<module>"  # name for the code outside of functions
+LONG_TABLE = 12  # largest number of elements in a table whose numbers are changed
 OPERATORS = ((ast.Lt, ast.LtE), (ast.Gt, ast.GtE), (ast.Eq, ast.NotEq), (ast.In, ast.NotIn),
              (ast.Is, ast.IsNot), (ast.And, ast.Or), (ast.Add, ast.Sub))
 OPPOSITE_OPERATORS: dict[type[ast.AST], type[Any]] = {
@@ -33,7 +33,7 @@ def make_constant(value: object) -> ast.Constant:
 
 
 def replace_part(node: ast.AST, name: str, value: object) -> ast.AST:
-    """Return a copy of a node with another part."""
+    """Return a copy of a syntax node in which one field is replaced."""
     parts = {field: getattr(node, field, None) for field in node._fields}
     return ast.copy_location(type(node)(**{**parts, name: value}), node)
 
@@ -155,14 +155,14 @@ RULES: dict[type[ast.AST], Callable[[Any], Changes]] = {
     ast.Expr: change_statement,
     ast.Assign: change_statement, ast.AugAssign: change_statement, ast.Break: change_jump,
     ast.Continue: change_jump}
-SKIPPED = ("annotation", "returns", "decorator_list", "exc", "cause", "msg")  # parts of nodes
+SKIPPED = ("annotation", "returns", "decorator_list", "exc", "cause", "msg")  # node fields
 
 
 def find_places(node: ast.AST, names: str = "", inside: str = MODULE
                 ) -> Iterator[tuple[ast.AST, str, int | None, str]]:
-    """Yield each place for a bug: a node, one of its parts, an index in it, and its function.
+    """Yield each place for a bug: a node, one of its fields, an index in it, and the function.
 
-    Types and raised exceptions are skipped, and printed text except for the values in it.
+    Type hints, raised exceptions and constant text are skipped.
     """
     for name in node._fields:
         value = getattr(node, name, None)
@@ -176,7 +176,7 @@ def find_places(node: ast.AST, names: str = "", inside: str = MODULE
             is_function = isinstance(child, ast.FunctionDef)
             name_inside = f"{names}.{getattr(child, 'name')}".lstrip(".") \
                 if is_function or isinstance(child, ast.ClassDef) else names
-            is_default = isinstance(child, ast.arguments)  # computed outside of the function
+            is_default = isinstance(child, ast.arguments)  # evaluated outside of the function
             function = name_inside if is_function else MODULE if is_default else inside
             yield from find_places(child, name_inside, function)
 
@@ -189,7 +189,7 @@ def set_part(node: ast.AST, name: str, at: int | None, new: ast.AST) -> None:
 
 
 def list_nested_codes(code: CodeType) -> Iterator[CodeType]:
-    """Yield a code object and all those inside, as of functions and classes."""
+    """Yield a code object and the code objects of all functions and classes inside it."""
     yield code
     for constant_value in code.co_consts:
         if isinstance(constant_value, CodeType):
@@ -197,7 +197,7 @@ def list_nested_codes(code: CodeType) -> Iterator[CodeType]:
 
 
 def compile_comparable(text: str) -> list[tuple[bytes, str]] | None:
-    """Compile a text to values that can be compared; return `None` for invalid text."""
+    """Compile source text to a list that can be compared; return `None` for invalid source."""
     try:
         made = list_nested_codes(compile(text, "", "exec"))
         return [(code.co_code, repr([value for value in code.co_consts

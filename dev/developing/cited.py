@@ -1,7 +1,7 @@
 """Check names and numbers in the documents.
 
-Names in backquotes must be names of the sources. The numbers of lines to be read for a promise, and
-the numbers of the proof, must be those that are counted here.
+Names in backquotes must be names in the sources. The numbers of lines to be read for a promise, and
+the numbers about the proof, must equal the numbers that this module counts.
 """
 from __future__ import annotations
 
@@ -15,22 +15,22 @@ from .definitions import Library, count_lines_to_read
 from .promises import ROW as INDEX, find_index
 from .proved import parse_proved
 
-# The documents, and the beginning of the lines that are checked.
+# The checked documents, and how the checked lines of each begin.
 DOCUMENTS = {"docs/HEADLINE.md": "", "docs/ASSURANCE.md": "", "docs/CLAUSES.md": "",
              "docs/DECISIONS.md": "", "docs/GLOSSARY.md": "",
              "docs/ARCHITECTURE.md": "|"}
-# A row of the table of lines to be read: the promise, its name, and the counts.
+# A row of the table about lines to be read: a promise, its name, and the counts.
 ROW = re.compile(r"^\| (.*) \| `(\S+)` \| (\d+) \| (\d+) \|$", re.M)
-# The most lines that may have to be read for these promises.
+# The largest allowed number of lines to be read for each of these promises.
 MAX_LINES = {"run_in_memory.headline": 450, "run_in_memory.acceptance": 800}
 # The number of lines to be read in README.
 IN_README = {"run_in_memory.headline": re.compile(r"\[(\d+)\s+lines\]")}
 NUMBERS = re.compile(r"^## The proof in numbers$.*?(?=^## )", re.M | re.S)
-NUMBER = re.compile(r"^\| (.*) \| ([\d,]+) \|$", re.M)  # a row: what is counted, and the number
-PARTS = ("src", "specs", "must-fail", "release-edits")  # folders of a crate whose words count
+NUMBER = re.compile(r"^\| (.*) \| ([\d,]+) \|$", re.M)  # a table row with a count
+PARTS = ("src", "specs", "must-fail", "release-edits")  # folders of a crate whose words are names
 WRITTEN_BY_GATE = ("out", ".git", "__pycache__")
 TOOLS = ("tools", "dev")
-MADE = ("out/", "dist/")  # written by the gate and by dev/release
+MADE = ("out/", "dist/")  # files that the gate and dev/release write
 BLOCK = re.compile(r"^```.*?^```$", re.M | re.S)
 QUOTED = re.compile(r"(?<!`)`([^`]+)`(?!`)")
 PATH = re.compile(r"[\w.-]+(?:/[\w.-]+)+/?|[\w-]+/")
@@ -50,7 +50,7 @@ class SourceNames:
                 self.add_path(top, os.path.relpath(os.path.join(place, name), top))
 
     def add_path(self, top: str, path: str) -> None:
-        """Add the path of a file or folder, from the top and from its crate, and its words."""
+        """Add a file or folder: its paths from the top and from its crate, and the words in it."""
         parts = path.split(os.sep)
         for start in {0, *((1, 2) if parts[0] == "crates" else ())}:
             self.paths |= {"/".join(parts[start:]), os.path.splitext("/".join(parts[start:]))[0]}
@@ -61,7 +61,7 @@ class SourceNames:
             self.read(os.path.join(top, path))
 
     def read(self, path: str) -> None:
-        """Add the words of a file, without comments. Of a mutant only the name counts."""
+        """Add the words of a file without comments; of a mutant add only the file name."""
         ending = os.path.splitext(path)[1]
         if ending != ".edit":
             with open(path, encoding="utf-8", errors="replace") as file:
@@ -70,7 +70,7 @@ class SourceNames:
             self.words.update(WORD.findall(text))
 
     def find_missing_names(self, quoted: str) -> list[str]:
-        """Return the names in a quoted text that the sources do not have.
+        """Return the names in a quoted text that do not occur in the sources.
 
         A word in capitals in a path matches any name. A word before `=`, as in a line of the
         prover, is not checked.
@@ -92,14 +92,14 @@ class SourceNames:
 
 
 def find_unknown_names(top: str) -> dict[str, list[str]]:
-    """Return by document `DOCUMENT:LINE: NAME` of each quoted name that no source has."""
+    """Return `DOCUMENT:LINE: NAME` for each quoted name that no source has, by document."""
     sources = SourceNames(top)
     found: dict[str, list[str]] = {}
     for name, start in DOCUMENTS.items():
         with open(os.path.join(top, name), encoding="utf-8") as file:
             text = file.read()
         text = BLOCK.sub(lambda block: "\n" * block[0].count("\n"), text)
-        index = find_index(text)  # its clauses have a test of their own
+        index = find_index(text)  # another test checks the clauses in it
         text = text.replace(index, INDEX.sub(lambda row: row[0].replace(row[2], ""), index))
         if start:
             text = "\n".join(line if line.startswith(start) else "" for line in text.split("\n"))
@@ -110,7 +110,7 @@ def find_unknown_names(top: str) -> dict[str, list[str]]:
 
 
 def correct_count_rows(top: str) -> Iterator[tuple[str, str]]:
-    """Yield the rows of the table in ASSURANCE, each with the correct row."""
+    """Yield each row about lines to be read in ASSURANCE, and the correct row."""
     with open(os.path.join(top, "docs", "ASSURANCE.md"), encoding="utf-8") as file:
         rows, library = list(ROW.finditer(file.read())), Library(top)
     for row in rows:
@@ -119,7 +119,7 @@ def correct_count_rows(top: str) -> Iterator[tuple[str, str]]:
 
 
 def correct_readme_counts(top: str) -> Iterator[tuple[str, str]]:
-    """Yield the numbers of lines to be read in README, each with the correct one."""
+    """Yield each number of lines to be read in README, and the correct number."""
     text, library = read(os.path.join(top, "README.md")) or "", Library(top)
     for name, form in IN_README.items():
         shown = form.search(text)
@@ -128,7 +128,7 @@ def correct_readme_counts(top: str) -> Iterator[tuple[str, str]]:
 
 
 def find_long_readings(top: str, most_lines: Mapping[str, int]) -> Iterator[Optional[str]]:
-    """Yield for each promise `None`, or a message if too many lines have to be read."""
+    """Yield for each promise a message if it needs more lines than allowed, else `None`."""
     library = Library(top)
     for name, most in most_lines.items():
         lines = count_lines_to_read(*library.list_reading(name))[1]
@@ -137,7 +137,7 @@ def find_long_readings(top: str, most_lines: Mapping[str, int]) -> Iterator[Opti
 
 
 def count_proof_numbers(top: str) -> list[int]:
-    """Count what the rows of ASSURANCE on the proof in numbers name, in their order."""
+    """Count the numbers in ASSURANCE's table about the proof, in the order of its rows."""
     def files(*names: str) -> list[str]:
         return glob.glob(os.path.join(glob.escape(top), *names), recursive=True)
 
@@ -156,7 +156,7 @@ def count_proof_numbers(top: str) -> list[int]:
 
 
 def correct_number_rows(top: str) -> Iterator[tuple[str, str]]:
-    """Yield the rows of that table, each with the correct row."""
+    """Yield each row of ASSURANCE's table about the proof, and the correct row."""
     found = NUMBERS.search(read(os.path.join(top, "docs", "ASSURANCE.md")) or "")
     rows, numbers = list(NUMBER.finditer(found[0] if found else "")), count_proof_numbers(top)
     assert len(rows) == len(numbers), f"{len(rows)} rows of numbers in docs/ASSURANCE.md"

@@ -1,6 +1,6 @@
 """Compile the tools once for the calls of many tests.
 
-A tool outside a checkout writes no bytecode, so each call would compile all of its modules.
+Without this, each call would compile all modules again: installed tools write no bytecode.
 """
 from __future__ import annotations
 
@@ -28,7 +28,7 @@ def compile_in_place(folder: str) -> None:
 
 
 def share_compiled(folder: str) -> None:
-    """Let a copy of the tools, whose files have the same times, use the compiled modules."""
+    """Let a copy of the tools use the compiled modules; its files must have the same times."""
     if PREFIX in os.environ:
         place = os.environ[PREFIX] + os.path.realpath(folder)
         os.makedirs(os.path.dirname(place), exist_ok=True)
@@ -36,7 +36,7 @@ def share_compiled(folder: str) -> None:
 
 
 def make_plain_environment() -> dict[str, str]:
-    """Return the environment without the variables about compiled modules."""
+    """Return the environment without the variables that control bytecode."""
     return {name: value for name, value in os.environ.items() if name not in (PREFIX, WRITES_NONE)}
 
 
@@ -50,7 +50,7 @@ def use_compiled_tools() -> Iterator[None]:
         yield
         return
     with tempfile.TemporaryDirectory() as folder:
-        os.chmod(folder, 0o755)  # tests run as another user read it
+        os.chmod(folder, 0o755)  # tests that run as another user read this folder
         subprocess.run([sys.executable, "-c", IMPORT_ALL], check=False,
                        env={**make_plain_environment(), PREFIX: folder, "PYTHONPATH": TOOLS})
         os.environ[PREFIX] = folder

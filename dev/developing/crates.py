@@ -9,7 +9,7 @@ from subtitles.common.program import TOP
 CRATES = os.path.join(TOP, "crates")
 LIST = os.path.join(TOP, "crates.txt")
 
-Lines = dict[str, list[str]]  # the crates that each crate uses, with the toolchain's libraries
+Lines = dict[str, list[str]]  # crate or toolchain library: the crates that it uses
 
 
 def read_lines(path: str = LIST) -> Lines:
@@ -34,13 +34,13 @@ def list_dependencies(crate: str, lines: Lines) -> list[str]:
 
 
 def write_lines(folder: str, crates: list[str], lines: Lines) -> None:
-    """Write a crates.txt with these crates alone into a folder."""
+    """Write a crates.txt that lists only these crates into a folder."""
     with open(os.path.join(folder, "crates.txt"), "w", encoding="utf-8") as file:
         file.writelines(f"{name}: {' '.join(lines[name])}\n" for name in crates)
 
 
 def copy_crates(folder: str, crates: list[str], lines: Lines, *left_out: str) -> None:
-    """Copy crates into a new repository, without files and folders named in `left_out`."""
+    """Copy crates into a new repository, except files and folders named in `left_out`."""
     write_lines(folder, crates, lines)
     shutil.copy2(os.path.join(TOP, "HANDLES"), folder)
     for name in crates:

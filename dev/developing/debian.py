@@ -30,12 +30,12 @@ Copyright 2026 the authors of subttx
 
 This package states no licence. Ask whoever gave it to you what you may do with it.
 """
-# The modules of the tools are compiled by the Python that is installed, and removed with them.
+# The installed Python compiles the tools; their bytecode is removed with the package.
 FOLDER = f"/usr/lib/{NAME}/tools/subtitles"
 SCRIPTS = {
     "postinst": f"python3 -m compileall -q --invalidation-mode unchecked-hash {FOLDER}",
     "prerm": f"find {FOLDER} -depth -name __pycache__ -exec rm -r {{}} +"}
-# A stripped program would not have the SHA-256 in PROVED.
+# Stripping the program would change its SHA-256, which is in PROVED.
 OVERRIDES = f"{NAME}: unstripped-binary-or-object [usr/bin/subttx]\n"
 
 
@@ -48,7 +48,7 @@ def find_maintainer() -> str:
 
 
 def write_gzip(path: str, data: bytes) -> None:
-    """Write a gzip file; the same data give the same bytes."""
+    """Write a gzip file that depends on the data alone."""
     os.makedirs(os.path.dirname(path), exist_ok=True)
     with open(path, "wb") as file, gzip.GzipFile("", "wb", 9, file, 0) as packed:
         packed.write(data)
@@ -79,7 +79,7 @@ def add_documents(root: str, version: str, proved: str, date: str) -> None:
 
 
 def add_control(root: str, version: str) -> None:
-    """Write the description of the package, and a checksum of each of its files."""
+    """Write the control file of the package, and the checksums of its files."""
     size = sum(os.path.getsize(os.path.join(root, name)) for name in list_files_below(root))
     sums = list_checksums(root, "md5")
     fields = {"Package": NAME, "Version": version, "Section": "video", "Priority": "optional",
@@ -95,7 +95,7 @@ def add_control(root: str, version: str) -> None:
 
 
 def set_modes_and_times(root: str, time: int) -> None:
-    """Set the modes and times that the files have on every machine."""
+    """Set the modes and times of all files to fixed values."""
     for place, _, names in os.walk(root, topdown=False):
         for name in names:
             path = os.path.join(place, name)
@@ -141,7 +141,7 @@ def list_files_below(folder: str) -> list[str]:
 
 
 def list_checksums(folder: str, kind: str) -> str:
-    """Return a line with path and checksum (md5 or sha256) for each file of a folder."""
+    """Return a line with the checksum (md5 or sha256) and the path of each file in a folder."""
     lines = []
     for name in list_files_below(folder):
         with open(os.path.join(folder, name), "rb") as file:

@@ -20,7 +20,7 @@ BETWEEN = ("use ", "pub use ", "mod ", "pub mod ", "infix")
 HEAD = re.compile(r"(?:(?:pub|abbrev|unfoldable|record|data) )+([^\s:(]+)")
 USE = re.compile(r"^ *(pub |ghost )?use (\S+?)(?:\.\{([^}]*)\}| as (\w+))?;?$", re.M)
 TOKEN = re.compile(r"[^\s()\[\]{},;]+")
-# Forms that bind names: (x y : A), λ x y. e, let x = e in, and x ← e.
+# Expressions that bind names: (x y : A), λ x y. e, let x = e in, and x ← e.
 BINDS = [re.compile(form) for form in (r"[({]([^(){}:]*) : ", r"λ ([^.]*)\.", r"\blet (\S+) =",
                                        r"(\S+) ←")]
 CONSTRUCTOR = re.compile(r"^  (\S+) :", re.M)
@@ -105,7 +105,7 @@ class SpecsFile(File):
                              for name in definition.constructors()}
 
     def read_definitions(self) -> dict[str, Definition]:
-        """Return the definitions by name. A definition's comment ends on the line above it."""
+        """Return the definitions of a file by name, each with the comment directly above it."""
         found: dict[str, Definition] = {}
         comment: list[str] = []
         now: Definition | None = None
@@ -123,7 +123,7 @@ class SpecsFile(File):
 
 
 def list_files(top: str, crate: str, part: str, ending: str) -> Iterator[tuple[str, str]]:
-    """Yield the files of one part of a crate, each with its module."""
+    """Yield the files in one folder of a crate, each with its module name."""
     start = os.path.join(top, "crates", crate, part)
     for folder, _, names in sorted(os.walk(start)):
         for path in (os.path.join(folder, name) for name in sorted(names)):
@@ -133,7 +133,7 @@ def list_files(top: str, crate: str, part: str, ending: str) -> Iterator[tuple[s
 
 
 class Library:
-    """All files of specs/ of a folder crates/, with the crates in the order of crates.txt."""
+    """All files in specs/ of all crates, with the crates in the order of crates.txt."""
 
     def __init__(self, top: str) -> None:
         self.top = top
@@ -183,7 +183,7 @@ class Library:
 
     @functools.lru_cache(None)
     def list_meanings_used(self, definition: Definition) -> list[Meaning]:
-        """Return what a definition names."""
+        """Return the meanings of the names in a definition."""
         first, *equations = definition.parts()
         found = self.list_uses(definition.file, first, find_bound_names(first))
         for text in equations:
@@ -194,14 +194,14 @@ class Library:
         return [other for other in dict.fromkeys(found) if other is not definition]
 
     def is_constructor(self, file: File, name: str) -> bool:
-        """Return whether a name in a pattern is a constructor, not a variable."""
+        """Return whether a name in a pattern is a constructor instead of a variable."""
         if "." in name:
             return True
         meaning = self.resolve_in(file, name)
         return bool(meaning) and not (isinstance(meaning, Definition) and meaning.is_function)
 
     def resolve_clauses(self, name: str) -> list[Meaning]:
-        """Return what the clause FUNCTION.CLAUSE, or all clauses of FUNCTION, name."""
+        """Return the meanings of the names in the clause FUNCTION.CLAUSE, or in all of FUNCTION."""
         return [meaning for file, _, text in self.find_clauses(name)
                 for meaning in self.list_uses(file, text, find_bound_names(text))]
 
@@ -252,7 +252,7 @@ class Library:
         raise Stop(f"{outside.crate} declares no {outside.name}")
 
     def find_dependencies(self, name: str) -> dict[Meaning, list[Meaning]]:
-        """Return all that a name depends on, each with what it names."""
+        """Return everything that a name depends on, with the direct dependencies of each."""
         used: dict[Meaning, list[Meaning]] = {}
         left = collections.deque(self.find_roots(name))
         while left:
@@ -310,7 +310,7 @@ class Library:
         ready = {definition for definition, count in lacking.items() if not count}
         while left:
             now = done[-1].file if done else None
-            # Definitions that need each other are in one file, and keep its order.
+            # Definitions that depend on each other are in one file; keep the order of the file.
             definition = min(ready or left, key=lambda candidate: (
                 ranks[candidate.file.module][0], candidate.file is not now,
                 ranks[candidate.file.module], candidate.line))
@@ -328,7 +328,7 @@ def list_names(file: File, own: Iterable[str], text: str, bound: Iterable[str] =
              ) -> Iterator[tuple[str | None, str]]:
     """Yield the names in a text of a file that are not bound, each with its module after an alias.
 
-    `own` are the names that the file defines.
+    `own` contains the names that the file defines.
     """
     tokens = [token.lstrip("λ") for token in TOKEN.findall(text)]
     for before, token, after in zip(["", *tokens], tokens, [*tokens[1:], ""]):
@@ -344,13 +344,13 @@ def list_names(file: File, own: Iterable[str], text: str, bound: Iterable[str] =
 
 
 def find_bound_names(text: str) -> set[str]:
-    """Return the names that a text binds."""
+    """Return the names that a text binds as variables."""
     groups = [found for form in BINDS for found in form.findall(text)]
     return {name for group in groups for name in group.split()}
 
 
 def list_clauses(text: str, function: str, clause: str) -> Iterator[tuple[str, str]]:
-    """Yield the name and text of each clause of a function, or of the clause of that name."""
+    """Yield the name and text of each clause of a function, or of the one named `clause`."""
     for found in FUNCTION.finditer(text):
         if found[2] != function:
             continue
@@ -362,7 +362,7 @@ def list_clauses(text: str, function: str, clause: str) -> Iterator[tuple[str, s
 
 
 def read_braced_text(text: str, start: int) -> str:
-    """Return the text from `start` up to the brace that closes the one before it."""
+    """Return the text from `start` up to the matching closing brace."""
     depth = 1
     for at in range(start, len(text)):
         depth += {"{": 1, "}": -1}.get(text[at], 0)
@@ -373,6 +373,6 @@ def read_braced_text(text: str, start: int) -> str:
 
 def count_lines_to_read(definitions: list[Definition], outside: Iterable[ExternalName]
                   ) -> tuple[int, int, int]:
-    """Count the definitions, their lines, and the names of std."""
+    """Return the number of definitions, of their lines, and of names from std."""
     lines = sum(len(item.code()) for item in definitions)
     return len(definitions), lines, sum(item.module is None for item in outside)

@@ -18,7 +18,7 @@ from .crates import CRATES
 
 GATE_FOLDER = "must-fail"
 RELEASE_FOLDER = "release-edits"
-TEST_FOLDER = "test-edits"  # the contracts accept these
+TEST_FOLDER = "test-edits"  # the contracts accept these edits
 FOLDERS = (GATE_FOLDER, RELEASE_FOLDER, TEST_FOLDER)
 NAME = re.compile(r"[A-Za-z0-9_-]+\.edit")
 PARTS = ("src/", "specs/", "proofs/")  # folders of a crate that an edit may change
@@ -27,7 +27,7 @@ TEST = re.compile(r"(?:#\[rattlefmt::skip\]\n)?#\[test\]\nfn (\w+)\(.*?\n}\n", r
 
 
 class Edit(NamedTuple):
-    """An edit; its text is CRATE/FOLDER/NAME."""
+    """An edit file. `str` returns CRATE/FOLDER/NAME."""
 
     crate: str
     folder: str
@@ -58,18 +58,18 @@ def list_edits(folder: str) -> list[Edit]:
     return found
 
 
-Lines = list[tuple[str, str]]  # key before the colon, text after it
+Lines = list[tuple[str, str]]  # the key before the colon, and the text after it
 
 
 def read_edit(path: str) -> Lines:
-    """Return the lines of an edit's file that are not empty."""
+    """Return the lines of an edit file, without empty lines."""
     with open(path, encoding="utf-8") as file:
         lines = [line.partition(":") for line in file.read().split("\n") if line.strip()]
     return [(kind, rest.removeprefix(" ")) for kind, _, rest in lines]
 
 
 def find_test(name: str, lines: Lines) -> str | None:
-    """Return the test that the edit `name` names, if any."""
+    """Return the test that these lines of the edit `name` name, if any."""
     names = [rest.strip() for kind, rest in lines if kind == "test"]
     if len(names) > 1:
         raise Stop(f"{name}: more than one line `test:`")
@@ -88,7 +88,7 @@ def apply_edit(edit: Edit) -> dict[str, str]:
 
 @contextlib.contextmanager
 def replace_files(top: str, texts: dict[str, str]) -> Iterator[None]:
-    """Give files below a folder these texts inside the context, then restore them."""
+    """Replace the texts of files below a folder inside the context, then restore them."""
     originals = {}
     for path, text in texts.items():
         file_name = os.path.join(top, path)
@@ -146,7 +146,7 @@ def replace_once(name: str, text: str, old: str, new: str) -> str:
 
 
 def find_stored_tests() -> dict[str, tuple[str, str]]:
-    """Return the crate and the path in src/ of each test whose name no other test has."""
+    """Return the crate and the path in src/ of each test with a unique name."""
     found: dict[str, list[tuple[str, str]]] = {}
     for crate in sorted(os.listdir(CRATES)):
         top = os.path.join(CRATES, crate, "src")
@@ -158,7 +158,7 @@ def find_stored_tests() -> dict[str, tuple[str, str]]:
 
 
 def count_applicable_edits() -> tuple[int, int]:
-    """Print each edit that can't be applied; return how many can be and how many can't."""
+    """Print the edits that can't be applied; return the counts of applicable and other edits."""
     edits = [edit for folder in FOLDERS for edit in list_edits(folder)]
     tests = find_stored_tests()
     failed = 0

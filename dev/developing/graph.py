@@ -1,4 +1,4 @@
-"""Which definitions, lemmas and functions of all crates use which, and which promises they serve.
+"""Find which definitions, lemmas and functions use which, and which promises they serve.
 
 Files are read as text, with their `use` lines: a variable with the name of something that the file
 imports counts as a use, and a method call as a use of each method of that name in the crate and in
@@ -20,21 +20,21 @@ CALL = re.compile(r"(\.|\b\w+::)?\b([a-z_]\w*)(?:::<[^()]*?>)?\(")
 METHOD = re.compile(r"\( ?&?(?:'\w+ )?(?:mut )?self\b")
 GOAL = re.compile(r"-clause-(\w+)$")
 LAW = re.compile(r"(?:law|laws|example|examples)_of_\w+$")
-PROOF_FILES = ("Answers", "Invariants", "Given", "Walk", "Proof")  # in the folder of a function
+PROOF_FILES = ("Answers", "Invariants", "Given", "Walk", "Proof")  # in proofs/ of a function
 
 
 class UseGraph:
-    """All that the folder crates/ of a repository defines."""
+    """The definitions, lemmas and functions of all crates, and their uses."""
 
     def __init__(self, top: str) -> None:
         lines = read_lines(os.path.join(top, "crates.txt"))
         self.below = {crate: list_dependencies(crate, lines) for crate in lines}
         self.files: dict[str, Source] = {}
-        self.nodes: list[Node] = []  # without functions
+        self.nodes: list[Node] = []  # definitions by name, without functions
         self.functions: list[Node] = []
         self.functions_by_name: dict[tuple[str, str], list[Node]] = collections.defaultdict(list)
         self.bodies: dict[Node, Node] = {}
-        other_text: list[tuple[Source, str]] = []  # text of src/ outside of functions
+        other_text: list[tuple[Source, str]] = []  # the text in src/ outside of functions
         for part, ending in (("specs", ".antt"), ("proofs", ".antt"), ("src", ".rt")):
             for crate in self.below:
                 for path, module in list_files(top, crate, part, ending):
@@ -80,7 +80,7 @@ class UseGraph:
         return self.resolve(*file.names[name]) if name in file.names else None
 
     def link(self, node: Node, text: str) -> None:
-        """Let a node use what a text of its file names."""
+        """Add uses from a node to everything that a text of its file names."""
         for source, name in list_names(node.file, node.file.own, text):
             node.add(self.resolve(source, name) if source else self.resolve_in(node.file, name))
 
@@ -113,7 +113,7 @@ class UseGraph:
                     body.add(callee)
 
     def add_lemmas(self, node: Node, text: str) -> None:
-        """Let a node use the lemmas that the tactics of a text name, as crate::proofs::M::law."""
+        """Add uses from a node to the lemmas that tactics name, as crate::proofs::M::law."""
         for path in filter(None, map(str.strip, ",".join(USING.findall(text)).split(","))):
             crate, *inner = path.split("::")
             if len(inner) > 1:
@@ -121,7 +121,7 @@ class UseGraph:
                 node.add(self.resolve(".".join(["Rattle", crate, *inner[:-1]]), inner[-1]))
 
     def find_callees(self, caller: Node, prefix: str, name: str) -> list[Node]:
-        """Return the functions that a call in a body may mean, by the prefix of its name."""
+        """Return the functions that a call in a body may mean, given the prefix of its name."""
         crate, text = caller.file.crate, caller.file.text
         found = [function for lower in [crate, *self.below[crate]]
                  for function in self.functions_by_name.get((lower, name), ())
@@ -140,7 +140,7 @@ class UseGraph:
         """Link a node of a function's folder in proofs/ to the clause that it names or the body."""
         _, crate, _, *inner, name, _ = node.file.module.split(".")
         functions = self.functions_by_name.get((crate, name), [])
-        # A method's folder has the place of its type, which another file may define.
+        # A method's folder follows the module of its type, which another file may define.
         nearest = [function for function in functions
                    if function.file.module.split(".")[3:] in (inner, inner[:-1])]
         for function in nearest or functions:
@@ -166,7 +166,7 @@ class UseGraph:
                 and node.file.crate == (crate or node.file.crate)]
 
     def list_promised_definitions(self) -> list[Node]:
-        """Return the definitions that a reader of the public clauses and of the laws meets."""
+        """Return the definitions that a reader of public clauses and laws needs."""
         found: dict[Node, None] = {}
         left = [node for node in self.nodes if node.kind == "clause"
                 and (node.is_promise or node.function is not None and node.function.is_promise)]
@@ -178,8 +178,8 @@ class UseGraph:
         return list(found)
 
     def find_unknown_head_names(self) -> dict[Source, list[str]]:
-        """Return, for each file of proofs/, the names in its first comment that nothing has."""
-        names = {part for node in [*self.nodes, *self.functions]  # a clause also without function
+        """Return the names in the first comment of each file of proofs/ that do not exist."""
+        names = {part for node in [*self.nodes, *self.functions]  # also the name of a clause alone
                  for part in (node.name, node.name.partition(".")[2])}
         return {file: sorted(find_head_names(file.text) - names)
                 for file in self.files.values() if ".proofs." in file.module}
@@ -201,7 +201,7 @@ class UseGraph:
         return list(found)
 
     def find_nodes(self, name: str) -> list[Node]:
-        """Return the nodes of a name, which may be CRATE/NAME; clauses only for FUNCTION.CLAUSE."""
+        """Return the nodes named NAME or CRATE/NAME; a clause is named FUNCTION.CLAUSE."""
         crate, slash, last = name.rpartition("/")
         return [node for node in [*self.nodes, *self.functions]
                 if node.name == last and (not slash or node.file.crate == crate)

@@ -1,7 +1,7 @@
 """Check how a report looks in a browser: contrast, clipped elements, words broken over two lines.
 
-The contrast of the style's colours is computed by WCAG 2. For the rest headless Chromium opens the
-report in a frame, with a script that the report itself does not have.
+The contrast of the style's colours is computed by WCAG 2. For the other checks headless Chromium
+opens the report in a frame, together with a script that is not part of the report.
 """
 from __future__ import annotations
 
@@ -16,9 +16,9 @@ from typing import NamedTuple, Sequence
 from subtitles.common.program import TOP
 
 LEAST_CONTRAST = 4.5
-SECONDS = 600  # for a browser on a busy machine
+SECONDS = 600  # time limit for a browser on a busy machine
 BROWSERS = ("chromium", "chromium-browser", "google-chrome")
-# Text colours and their backgrounds, as variables of the style.
+# Pairs of text colour and background colour, as variables of the style sheet.
 PAIRS = [(text, ground) for text in ("words", "soft", "link", "bad")
          for ground in ("ground", "shade")]
 PAIRS += [("words", "tint"), ("bad", "tint"), ("words", "unsure"), ("words", "mark"),
@@ -101,7 +101,7 @@ def compute_contrast(text_colour: str, ground_colour: str) -> float:
 
 
 def read_colour_schemes() -> dict[str, dict[str, str]]:
-    """Return the variables of the style, light and dark."""
+    """Return the colour variables of the light and the dark style."""
     path = os.path.join(TOP, "tools", "subtitles", "report", "style.css")
     with open(path, encoding="utf-8") as file:
         light, dark = (dict(re.findall(r"--([\w-]+): #(\w+);", block))
@@ -125,7 +125,7 @@ def find_browser() -> str | None:
 
 
 class BrowserView(NamedTuple):
-    """A report in a window of some width, light or dark."""
+    """A report in a browser window: its path, the window's width, and whether it is dark."""
 
     path: str
     width: int
@@ -158,7 +158,8 @@ def write_framed(look: BrowserView, folder: str, number: int) -> str:
         text = file.read()
     name = f"measured-{number}.html"
     text = re.sub(r"<details(?! open)", '<details open="open"', text)
-    text = re.sub(r'<meta http-equiv="Content-Security-Policy"[^>]*/>', "", text)  # for the script
+    # Let the script run.
+    text = re.sub(r'<meta http-equiv="Content-Security-Policy"[^>]*/>', "", text)
     # Lazy layout would be repeated for each measured place.
     text = text.replace("content-visibility: auto", "content-visibility: visible")
     if look.is_dark:

@@ -8,9 +8,9 @@ SYNC, PACKET, BEGINS, PAYLOAD = 0x47, 188, 0x40, 0x10
 
 PROGRAMME, PMT_PID, PCR_PID = 1, 0x100, 0x1FF0
 RESERVED_PIDS = {PMT_PID, PCR_PID}
-FULL = 184  # bytes of a packet without its header
+FULL = 184  # bytes of a packet after its header
 TENTH = 9000  # a tenth of a second at 90 kHz
-LONG = 120 * 10 * TENTH  # the clock jumps over a longer pause
+LONG = 120 * 10 * TENTH  # the clock skips longer pauses
 SUBTITLES = 2  # teletext_type in a Teletext descriptor
 ADAPTATION_ALONE = 0x20
 COUNTERS = range(16)
@@ -39,13 +39,13 @@ def make_pmt_body(pid: int, language: bytes, page: Page) -> bytes:
 
 
 class Multiplex:
-    """Packets of the stream, `size` bytes of them, until they are taken."""
+    """A writer of the stream: it collects packets until the caller takes them."""
 
     def __init__(self, pid: int, language: bytes, page: Page) -> None:
         pat = make_section(0, 1, PROGRAMME.to_bytes(2, "big") +
                            (0xE000 | PMT_PID).to_bytes(2, "big"))
         pmt = make_section(2, PROGRAMME, make_pmt_body(pid, language, page))
-        # PAT and PMT, and the heads of packets of the PID, by continuity counter.
+        # PAT, PMT and packet headers for each value of the continuity counter.
         self.tables = [b"".join((make_head(table_pid, BEGINS, PAYLOAD | counter) + data)
                                 .ljust(PACKET, b"\xff")
                                 for table_pid, data in ((0, pat), (PMT_PID, pmt)))
@@ -59,7 +59,7 @@ class Multiplex:
         self.base: int | None = None
 
     def add_pes_packet(self, data: bytes, pts: int) -> None:
-        """Add a PES packet, after the tables and the clock up to it."""
+        """Add the tables, the clock up to the PTS, and a PES packet."""
         parts, counter = self.parts, self.counter
         parts.append(self.tables[self.count & 15])
         self.count += 1
@@ -84,14 +84,14 @@ class Multiplex:
         self.base = end
 
     def take_packets(self) -> bytes:
-        """Return the packets since the last call."""
+        """Return the packets that were added since the last call."""
         data = b"".join(self.parts)
         self.parts, self.size = [], 0
         return data
 
 
 def compute_crc(data: bytes) -> int:
-    """Return the CRC-32 of a section (annex A); 0 if the section ends with its own."""
+    """Return the CRC-32 of a section (annex A), which is 0 for a section with a correct CRC."""
     value = 0xFFFFFFFF
     for byte in data:
         value ^= byte << 24

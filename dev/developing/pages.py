@@ -29,7 +29,7 @@ TABLE = os.path.join("docs", "manual", "reference.md")
 PROGRAM_PAGE, QC_PAGE = os.path.join("docs", "subttx.1"), os.path.join("docs", "subttx-qc.1")
 AIR_PAGE = os.path.join("docs", "subttx-air.1")
 SCHEMA = os.path.join("docs", "verdict.schema.json")
-NUMBERS = os.path.join("docs", "ASSURANCE.md")  # the rows of the proof in numbers
+NUMBERS = os.path.join("docs", "ASSURANCE.md")  # names of the rows about the proof
 QC_CHAPTER = os.path.join("docs", "manual", "qc.md")
 RESULTS_CHAPTER = os.path.join("docs", "manual", "results.md")
 MADE = re.compile(r'^((?:\.\\"|#|<!--) made: (\w+)(?: -->)?\n)(.*?)'
@@ -38,14 +38,15 @@ COMMAND = re.compile(r"^  ([a-z]+) ([A-Z]\S*(?: (?:[A-Z]\S*|--\w+))*) +(?=[a-z])
 ROW = re.compile(r"^\| `(--[\w-]+)(?: (\S+))?` \| (`.*?`) \| (.*) \| (.*) \|$", re.M)
 ENTRY_LINE = re.compile(
     r"^  ((?:--?[\w-]+)(?: .*?)??)(?:, (--?[\w-]+)(?: .*?)??)?(?:  +|\n +)(\S.*)$", re.M)
-FILES = re.compile(r"FILE|DIR|FOLDER|LIST|STL|PES|OUT|IN|PROGRAM|FEED|TS|WORD")  # in file values
+# Names of option values that are files.
+FILES = re.compile(r"FILE|DIR|FOLDER|LIST|STL|PES|OUT|IN|PROGRAM|FEED|TS|WORD")
 LINK = re.compile(r"\[([^]]*)\]\([^)]*\)")
 WIDTH = 100
-PAGE_REFERENCE = "All of it: "  # begins a help text's reference to its page
+PAGE_REFERENCE = "All of it: "  # begins the reference from a help text to its manual page
 
 
 class Command(NamedTuple):
-    """A command of the program: its files, its required options, what it does."""
+    """A command of the program: its files, its required options, and its purpose."""
 
     name: str
     files: str
@@ -91,7 +92,7 @@ def parse_options(text: str) -> list[Option]:
 
 
 def run_help(tool: str, *command: str) -> str:
-    """Return what a tool prints with --help, one option a line."""
+    """Return the help text of a tool, with each option on one line."""
     done = subprocess.run([sys.executable, os.path.join(TOP, "tools", tool), *command, "--help"],
                           text=True, env=dict(os.environ, COLUMNS="2000"),
                           stdin=subprocess.DEVNULL, stdout=subprocess.PIPE, check=True)
@@ -141,7 +142,7 @@ def to_sentence(text: str) -> str:
 
 
 def format_synopsis(commands_of_program: list[Command], table: list[Option]) -> str:
-    """Return the calls of all commands."""
+    """Return the synopsis of all commands."""
     page = ""
     for command in commands_of_program:
         own_options = [option for option in table if command.name in option.commands]
@@ -210,8 +211,8 @@ def make_air_parts(text: str, help_texts: dict[str, str]) -> dict[str, str]:
 def make_chapter_parts(table: str = "") -> dict[str, str]:
     """Return the table of options in qc's chapter.
 
-    It omits options that take another one back, and those of `check`, which have a table of their
-    own.
+    It omits options that cancel another option, and the options of `check`, which have their own
+    table.
     """
     of_check = {option.name for option in parse_options(table) if "check" in option.commands}
     rows = ["| Option | What it does |", "|---|---|"]
@@ -222,14 +223,13 @@ def make_chapter_parts(table: str = "") -> dict[str, str]:
     return {"options": "\n".join(rows) + "\n"}
 
 
-# Objects of JSON results: what is before a key in the column of CSV that has its value.
+# Objects of JSON results: the prefix of the CSV columns with their values.
 PREFIXES = {"verdict": "", "fault": "", "request": "", "subtitle": "subtitle_", "cause": "cause_",
             "part": "part_", "counts": "subtitle_counts_"}
 
 
 def make_results_parts() -> dict[str, str]:
-    """Return the lists of the keys of JSON results, an object each, with a mark after the keys that
-    are columns of CSV."""
+    """Return a list of keys for each object of JSON results, with marks at CSV columns."""
     lines = list[str]()
     for record in filter(needs_table, list_records(VERDICT)):
         lines += ["", f"## {to_title(record)}", ""]
@@ -252,7 +252,7 @@ def to_title(record: Record) -> str:
 
 
 def format_key(record: Record, member: Member) -> str:
-    """Return a key, with a link to its object, and a mark if it is a column of CSV."""
+    """Return a key with a link to its object, and with a mark if it is a CSV column."""
     inner = find_record(member)
     key = f"`{member.name}`" + "\\*" * (record is not CUE and bool(find_column(record, member)))
     return f"[{key}](#{inner.name.replace('_', '-')})" if inner and needs_table(inner) else key
@@ -266,7 +266,7 @@ def find_record(member: Member) -> Record | None:
 
 
 def list_records(shape: Shape, found: tuple[Record, ...] = ()) -> tuple[Record, ...]:
-    """Return the objects of which a result is made, each behind the first one that has it."""
+    """Return the objects in a result, each after the first object that contains it."""
     if isinstance(shape, Record):
         if shape in found:
             return found
@@ -277,12 +277,12 @@ def list_records(shape: Shape, found: tuple[Record, ...] = ()) -> tuple[Record, 
 
 
 def needs_table(record: Record) -> bool:
-    """Return whether an object has a table of its own: its keys say more than their names."""
+    """Return whether an object needs its own table because its keys need an explanation."""
     return record is not LISTED_CAUSE and any(member.meaning for member in record.members)
 
 
 def find_column(record: Record, member: Member) -> str:
-    """Return the column of CSV that has a member's value, if one has it."""
+    """Return the CSV column with a member's value, if any."""
     if record is CUE:
         return member.name
     column = PREFIXES.get(record.name, "-") + member.name
@@ -290,7 +290,7 @@ def find_column(record: Record, member: Member) -> str:
 
 
 def describe_member(member: Member) -> str:
-    """Return what a member is: the meaning of its shape, unless that has a list, and its own."""
+    """Return the description of a member, after that of its shape if this has no list."""
     shape = next((shape for shape in (member.shape, *member.shape.inner()) if shape.name), None)
     inner = find_record(member)
     of_shape = "" if shape is None or inner and needs_table(inner) else shape.meaning
@@ -326,7 +326,7 @@ def make_completion_parts(usage: str, table: str, help_texts: list[str]) -> dict
 
 
 def format_json(value: object, indent: str = "") -> str:
-    """Write a value as JSON: in one line if it is short, else one line for each item."""
+    """Format a value as JSON, on one line if it is short, else with one line for each item."""
     line = json.dumps(value)
     if not isinstance(value, (dict, list)) or len(indent) + len(line) < WIDTH - 20:
         return line

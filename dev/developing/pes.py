@@ -9,25 +9,25 @@ from subtitles.formats.teletext import CODE_WORDS, NUMBER, START, is_odd
 HEAD = 6  # bytes of a PES packet up to the end of PES_packet_length
 FIRST_LINE = 7
 UNIT = 46  # bytes of a data unit
-DATA = 46  # place of the first data unit in PES packets that `subttx` writes
+DATA = 46  # offset of the first data unit in PES packets that `subttx` writes
 STUFFING_UNIT = b"\xff\x2c" + b"\xff" * 44
-# Gap marker for missing PES packets, or parts of them, of a recording: `check` refuses it as 45.
+# Gap marker for missing PES packets or parts of them. `check` refuses it with fault 45.
 GAP_MARKER = START + b"\0\xb2" + b"\xff" * 178
-READ_SIZE = 1 << 18  # bytes of one read
-NATIONAL = 12, 13, 14  # control bits
+READ_SIZE = 1 << 18  # bytes to read at once
+NATIONAL = 12, 13, 14  # control bits of a header
 
-# Each byte with its bits reversed: a data unit sends bit 1 first.
+# Table of bytes with reversed bits: a data unit sends bit 1 first.
 MIRROR = bytes(int(f"{byte:08b}"[::-1], 2) for byte in range(256))
 
 # The places of the 18 data bits in three Hamming 24/18 bytes, counted from 1: all except powers of
 # 2, which are checks, and the last.
 DATA_BITS = tuple(at for at in range(1, 24) if at & at - 1)
 
-Header = tuple[int, int, bytes]  # a page's magazine and number, and a header's eight numbers
+Header = tuple[int, int, bytes]  # magazine, page, and eight numbers
 
 
 class Source(Protocol):
-    """A file to read; only its end returns nothing."""
+    """A file to read; `read` returns nothing only at the end."""
 
     def read(self, size: int, /) -> bytes:
         """Return at most `size` bytes."""
@@ -44,8 +44,7 @@ def reverse_bits(data: bytes) -> bytes:
 
 
 def make_packet(magazine: int, number: int, numbers: Iterable[int], codes: Iterable[int]) -> bytes:
-    """Return a packet: its address, the eight numbers of a header, and text bytes with odd parity.
-    """
+    """Return a Teletext packet: address, eight numbers if it is a header, text with odd parity."""
     address = magazine + 8 * number
     coded = bytes(CODE_WORDS[value] for value in (address & 15, address >> 4, *numbers))
     return coded + bytes(map(add_odd_parity, codes))
@@ -113,7 +112,7 @@ def make_pes_packet(pts: int, packets: Sequence[bytes]) -> bytes:
 
 
 def find_starts(data: bytes) -> list[int]:
-    """Return where the PES packets at the start of `data` begin, and where the last one ends."""
+    """Return the offset of each PES packet at the start of `data`, and the end of the last one."""
     begins = [0]
     while data.startswith(START, begins[-1]) and len(data) - begins[-1] >= HEAD:
         length = HEAD + int.from_bytes(data[begins[-1] + 4:begins[-1] + HEAD], "big")
@@ -157,7 +156,7 @@ def has_pts(data: bytes) -> bool:
 
 
 def get_data_field(data: bytes) -> bytes:
-    """Return what follows the header of a PES packet: a data_identifier, then data units."""
+    """Return the bytes after a PES header: a data_identifier, then data units."""
     return data[9 + data[8]:] if len(data) > 9 else b""
 
 

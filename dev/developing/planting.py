@@ -28,8 +28,8 @@ from .edits import replace_files
 from .tests import bench, runner
 
 COPIED_FOLDERS = ("tools", "dev")
-TOO_LONG = "too long"  # a test did not end in its time
-CALLS = "SUBTTX_CALLS"  # environment variable: file for the names of called functions
+TOO_LONG = "too long"  # reason if a test exceeds its time limit
+CALLS = "SUBTTX_CALLS"  # environment variable with the file for names of called functions
 # Code of each traced process: write the name of each function when it is first called.
 TRACE_CODE = """
 import os, sys, threading
@@ -51,7 +51,7 @@ Answer = dict[str, Any]
 
 
 class StopAtFailure(runner.Counts):
-    """Silent counts that stop at the first failure."""
+    """A test result that prints nothing and stops at the first failure."""
 
     by = ""
 
@@ -74,7 +74,7 @@ def get_qualified_name(code: CodeType) -> str:
 
 
 def strip_nested(name: str) -> str:
-    """Remove the parts of a function's name for comprehensions and lambdas."""
+    """Remove comprehensions and lambdas from a function's qualified name."""
     return ".".join(part for part in name.split(".") if not part.startswith("<"))
 
 
@@ -86,10 +86,10 @@ def get_module_level_code(codes_of_module: list[CodeType]) -> list[object]:
 
 
 def patch_functions(path: str, before: str, text: str) -> bool:
-    """Replace the code of a loaded module's functions by that of its new text.
+    """Replace the code of functions in a loaded module by the code from its new text.
 
-    `before` is the text that was loaded. Return False if some function can't get its new code, or
-    if other code changed.
+    `before` is the loaded text. Return `False` if a function can't be replaced, or if code outside
+    of functions changed.
     """
     old, others = (list(list_nested_codes(compile(item, path, "exec"))) for item in (before, text))
     if sys.version_info < (3, 11) or get_module_level_code(old) != get_module_level_code(others):
@@ -133,14 +133,14 @@ class LoadedCopy:
         for passed, name in enumerate(names):
             counts = StopAtFailure(False)
             with contextlib.redirect_stdout(io.StringIO()), \
-                    contextlib.redirect_stderr(sys.__stderr__):  # forked processes too
+                    contextlib.redirect_stderr(sys.__stderr__):  # also applies to forked processes
                 unittest.TestSuite(self.select_tests(name)).run(counts)
             if counts.failed:
                 return {"passed": passed, "failed": name, "by": counts.by}
         return {"passed": len(names), "failed": "", "by": ""}
 
     def select_tests(self, name: str) -> list[unittest.TestCase]:
-        """Return the tests of a unit, or those whose names contain `name`."""
+        """Return the tests in a unit, or the tests whose names contain `name`."""
         found = self.units.get(name) or [test for unit in self.units.values() for test in unit
                                          if name in runner.name_of(test)]
         if not found:
@@ -148,7 +148,7 @@ class LoadedCopy:
         return list(found)
 
     def run_changed(self, texts: dict[str, str], names: Sequence[str], seconds: float) -> Answer:
-        """Run tests while files of the copy have other texts."""
+        """Run tests with changed files in the copy, then restore the files."""
         before = {path: read(os.path.join(self.top, path)) or "" for path in texts}
 
         def planted() -> Answer:
@@ -161,7 +161,7 @@ class LoadedCopy:
             return run_forked(planted, seconds)
 
     def trace_calls(self, name: str, seconds: float) -> Answer:
-        """Run a test; return the functions that it calls, its seconds, and its failure."""
+        """Run a test; return the called functions, its duration in seconds, and its failure."""
         folder = os.path.join(self.top, "watch")
         os.makedirs(folder, exist_ok=True)
         with open(os.path.join(folder, "sitecustomize.py"), "w", encoding="utf-8") as file:
@@ -193,7 +193,7 @@ def run_forked(serve: Callable[[], Answer], seconds: float) -> Answer:
             os.setsid()
             os.dup2(os.open(os.devnull, os.O_WRONLY), 2)
             os.write(writing, json.dumps(serve()).encode())
-        except BaseException as error:  # the bug made loading fail
+        except BaseException as error:  # the module can't be loaded with the bug
             os.write(writing, json.dumps(
                 {"passed": 0, "failed": "loading", "by": type(error).__name__}).encode())
         finally:
@@ -202,7 +202,7 @@ def run_forked(serve: Callable[[], Answer], seconds: float) -> Answer:
     output = b""
     if select.select([reading], [], [], seconds)[0]:
         output = os.read(reading, 65536)
-    for kill in (os.killpg, os.kill):  # it may not have its own group yet
+    for kill in (os.killpg, os.kill):  # its process group may not exist yet
         with contextlib.suppress(OSError):
             kill(child, signal.SIGKILL)
     os.waitpid(child, 0)
@@ -211,10 +211,10 @@ def run_forked(serve: Callable[[], Answer], seconds: float) -> Answer:
 
 
 class Worker:
-    """A copy of the repository, and a process that does tasks there. Unchanged parts are links."""
+    """A copy of the repository (partly links), and a process that performs tasks in it."""
 
     def __init__(self, folder: str, program: str) -> None:
-        os.chmod(folder, 0o755)  # some tests run as another user
+        os.chmod(folder, 0o755)  # some tests run as another user, who must read the copy
         for name in os.listdir(TOP):
             source, target = os.path.join(TOP, name), os.path.join(folder, name)
             if name in COPIED_FOLDERS:
@@ -243,7 +243,7 @@ class Worker:
 
 def serve(folder: str, program: str) -> None:
     """Do the tasks of standard input in a copy: trace a test, or run tests with changed files."""
-    sys.dont_write_bytecode = False  # the copy changes only by bugs
+    sys.dont_write_bytecode = False  # nothing except bugs changes the copy
     copy = LoadedCopy(folder, program)
     sys.dont_write_bytecode = True
     out = os.fdopen(os.dup(1), "w")

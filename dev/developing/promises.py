@@ -12,7 +12,7 @@ HEAD = "\n## The index of clauses\n"
 
 
 def find_index(text: str) -> str:
-    """Return the index of a document; the whole text if it has no heading of the index."""
+    """Return the index in a document, or the entire text if the index has no heading."""
     return text.rpartition(HEAD)[2].partition("\n## ")[0]
 
 

@@ -6,7 +6,7 @@
     crate NAME SUM LINE     for each crate, lowest first: the line of `tools/sources --crates` and
                             the prover's line, logic=proved .., of the run that proved it
 
-out/ has the program that was proved and built here, dist/ that of the repository. If `rt ci` reuses
+out/ has the program that was proved and built here, dist/ the committed program. If `rt ci` reuses
 an earlier proof of a crate, it prints no line for it. So each line is stored in out/lines, with the
 checksum of the sources that were proved, and taken from there or from dist/PROVED.
 """
@@ -23,7 +23,7 @@ from subtitles.common.program import TOP, copy, read, write
 OUT, DIST = os.path.join(TOP, "out"), os.path.join(TOP, "dist")
 LINES_FILE = os.path.join(OUT, "lines")
 BUILT_PROGRAM = os.path.join(TOP, "crates", "subttx", "out",
-                             "subttx")  # where rt leaves the program
+                             "subttx")  # the program as rt builds it
 
 Crates = dict[str, tuple[str, str]]
 
@@ -66,7 +66,7 @@ def read_proved(folder: str) -> Proved:
 def list_crate_sums(text: str | None = None) -> dict[str, str]:
     """Return the checksum of each crate's sources by name, lowest crate first.
 
-    `text` is the output of `tools/sources --crates`; without it the script is called.
+    `text` is the output of `tools/sources --crates`; if it is `None`, the script is called.
     """
     if text is None:
         command = [os.path.join(TOP, "tools", "sources"), "--crates"]
@@ -90,7 +90,7 @@ def read_toolchain_version() -> str:
 
 
 def parse_log(log: str) -> dict[str, str]:
-    """Return by name the prover's line of each crate that `rt ci` proved, without its tests."""
+    """Return the prover's line of each crate that `rt ci` proved, by name, without test crates."""
     found: dict[str, str] = {}
     crate: str | None = None
     proof: str | None = None
@@ -113,7 +113,7 @@ def store_lines(lines: dict[str, str], sums: dict[str, str]) -> None:
 
 
 def list_known_lines(version: str | None) -> dict[tuple[str, str], str]:
-    """Return the lines of this toolchain's prover, here or in dist/, by crate and checksum."""
+    """Return the stored lines of this toolchain's prover, by crate and checksum."""
     found: dict[tuple[str, str], str] = {}
     for proved in (read_proved(DIST), parse_proved(read(LINES_FILE))):
         if proved.toolchain == version:

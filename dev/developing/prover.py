@@ -1,4 +1,4 @@
-"""The toolchain's prover, which proves a crate over the statements of the crates that it uses.
+"""Call the toolchain's prover, which proves a crate from the statements of the crates it uses.
 
 `rattle build` checks each function of a crate. If all are proved, it writes the crate's library, or
 for the program an object file, which `rattle-link` links. `rt ci` does the same, but gives a crate
@@ -19,7 +19,7 @@ from .proved import read_toolchain_version
 
 PROGRAM = "subttx"
 TARGET = "x86_64-unknown-linux-gnu"
-# The words that a line may have: another word would name something that is not proved.
+# The words that may occur in a prover's line: any other word names something unproved.
 WORDS = {"functions", "axioms", "target", "cpu", "sum", "native", "logic-built", "libraries-built",
          "statements"}
 LINE = re.compile(r"^logic=proved .*$", re.M)
@@ -79,8 +79,8 @@ class Prover:
 def parse_prover_line(output: str) -> str | None:
     """Return the prover's line at the end of its output about a crate.
 
-    Return `None` if something weakens it: an unknown word, or a warning, such as that no call can
-    meet a contract, or that a term was not written.
+    Return `None` if the line has an unknown word, or if the output has a warning, for example that
+    no call can meet a contract.
     """
     found = [] if WARNING.search(output) else LINE.findall(output)
     words = {word.partition("=")[0] for word in found[-1].split()[1:]} if found else set[str]()

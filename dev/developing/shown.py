@@ -4,7 +4,7 @@ from __future__ import annotations
 import re
 import subprocess
 
-SECONDS = 600  # time limit of one command line, on a busy machine
+SECONDS = 600  # time limit for one command line on a busy machine
 
 
 class Line:

@@ -13,22 +13,22 @@ from subtitles.formats.stl import GSI, TTI
 
 NO_MEMORY = re.compile(rb"fault (91 Memory|58 Memory block \d+)\n")
 ANOTHER_USER = 65534
-SECONDS = 2  # processor time of a run
+SECONDS = 2  # seconds of processor time for one run
 MAX_SECONDS = 600  # seconds of a run on a busy machine
-MAX_LOG_BYTES = 1 << 20  # bytes of strace's log: a longer run does not end
-END_FORMAT = "\\0ended\\0"  # for printf, after the output of a run, which has no zero byte
-RUNS_PER_SHELL = 16  # runs of one shell
+MAX_LOG_BYTES = 1 << 20  # bytes of strace's log; a run with a longer log is considered endless
+END_FORMAT = "\\0ended\\0"  # printf's format for the end of a run's output, which has no zero byte
+RUNS_PER_SHELL = 16  # number of runs that one shell starts
 
 CALL = re.compile(r"^\d+ +(\w+)\((.*)\) += (-?\w+)(.*)$")
 CALLS = "trace=openat,read,write,fsync,close,statx,mmap,brk,rt_sigaction"
 STRACE = ["strace", "-f", "--seccomp-bpf", "-y", "-s", "0", "-e", CALLS]
-# Lines of standard error from the shell that starts a run, and from strace.
+# Lines on standard error that come from the shell or from strace.
 SHELL_MESSAGES = re.compile(r"(sh|strace): ")
-# Printed faults that standard error explains, and how the explanation begins.
+# Printed faults that standard error must explain, and how each explanation begins.
 EXPLANATIONS = [(re.compile(rb"^fault \d+ (Open|Read|Write)\b", re.MULTILINE), "subttx: "),
                 (re.compile(rb"^usage 0 Words$", re.MULTILINE), "error: ")]
 UNREAD = "subttx: cannot read the command line: "  # if memory runs out
-# Faults that `check --all` reports for each PES packet of an input but the last.
+# Number of faults that `check --all` reports for each PES packet of an input except the last.
 FAULTS_PER_PACKET = {"long.pes": 0, "even.pes": 2, "unread.pes": 1}
 
 
@@ -103,7 +103,7 @@ int close(int fd) {
 
 
 class Command(NamedTuple):
-    """A command line, its output file, and its result if nothing fails."""
+    """A command line, its output file, and its result if no call fails."""
 
     name: str
     program_args: list[str]
@@ -113,15 +113,15 @@ class Command(NamedTuple):
     written: bytes | None
 
     def with_output(self, path: str) -> Command:
-        """Return the same command with another output."""
+        """Return the same command with another output file."""
         return self._replace(program_args=[*self.program_args[:2], path], out=path)
 
 
 class Call(NamedTuple):
     """A system call in a log of strace.
 
-    `on` is its descriptor, or the file name of openat and statx; `number` counts the calls of its
-    name from 1.
+    `on` is the descriptor, or the file name of openat and statx. `number` counts the calls with
+    the same name from 1.
     """
 
     name: str
@@ -147,7 +147,7 @@ class RunResult(NamedTuple):
     changed: tuple[str, ...] = ()
 
 
-# Name, run and faults of a case; a function that runs cases; an expected status and output.
+# The name, run and faults of a case; a function that runs cases; an expected status and output.
 Found = tuple[str, Union[RunResult, Command], list[str]]
 Case = Callable[[], list[Found]]
 End = tuple[int, bytes]
@@ -227,7 +227,7 @@ class Trial:
         self.inputs: dict[str, bytes] = {}
         self.skipped: list[str] = []
         self.has_strace = self.can_run([*STRACE, "-o", os.devnull, "true"])
-        # Root may read every file, so another user runs the tests of permissions.
+        # Root may read every file, so another user runs the tests about permissions.
         self.as_user: dict[str, int] = {} if os.geteuid() else {"user": ANOTHER_USER}
         self.has_user = self.can_run(["test", "-x", program], **self.as_user)
 
@@ -240,13 +240,13 @@ class Trial:
             return False
 
     def add_input(self, name: str, data: bytes) -> None:
-        """Write an input; its name in each run is ../NAME."""
+        """Write an input file, which each run can read as ../NAME."""
         self.inputs[name] = data
         with open(os.path.join(self.folder, name), "wb") as file:
             file.write(data)
 
     def build_library(self, name: str, source: bytes) -> str | None:
-        """Build a library to load before the C library; return `None` without a C compiler."""
+        """Build a library to load before the C library; return `None` if there is no C compiler."""
         if not shutil.which("cc"):
             self.skipped.append(f"{name}: there is no C compiler (cc)")
             return None
@@ -311,7 +311,7 @@ class Trial:
             for injection in injections])
 
     def list_own_calls(self, command: Command) -> list[Call]:
-        """Return the system calls of the program itself, without those of the loader."""
+        """Return the system calls of the program itself, without the calls of the loader."""
         calls = self.run_traced(command, [""])[0].calls
         start = next(at for at, call in enumerate(calls) if call.name == "rt_sigaction")
         return calls[start + 1:]
@@ -354,14 +354,14 @@ def size(data: bytes | None) -> str:
 
 
 def compare_with_normal_run(command: Command, run_result: RunResult) -> list[str]:
-    """Compare a run with the one in which nothing fails."""
+    """Compare a run with the run of the same command in which no call fails."""
     return find_faults(run_result, command.status, command.printed, command.written)
 
 
 def check_memory_failure(command: Command, run_result: RunResult) -> list[str]:
-    """Return faults unless a run is as if nothing fails, or reports that memory ran out.
+    """Return faults unless a run is normal or reports that memory ran out.
 
-    Without memory wrong arguments may not be explained, or only in part.
+    If memory runs out, the explanation of wrong arguments may be missing or incomplete.
     """
     found = NO_MEMORY.search(run_result.printed or b"")
     if not found or run_result.printed is None:
@@ -397,13 +397,13 @@ def parse_block(line: bytes) -> int:
 
 
 def expect_read_fault(trial: Trial, command: Command, name: str, offset: int) -> bytes:
-    """Return the expected output if the read at an offset of an input fails."""
+    """Return the expected output if reading an input fails at an offset."""
     lines = command.printed.splitlines(True)
     if name.endswith(".stl"):
         block = 0 if offset < GSI else (offset - GSI) // TTI + 1
         before = lines[:max(block - 1, 0)] if command.program_args[0] == "show" else []
         if "--all" in command.program_args:
-            # Faults of the blocks before do not stop reading.
+            # Faults in earlier blocks do not stop reading.
             before = [line for line in lines if b" block " in line and parse_block(line) < block]
         return b"".join(before) + b"fault 26 Read block %d\n" % block
     index = count_packets_before(trial.inputs[name], offset)
@@ -424,14 +424,13 @@ def expect_read_fault(trial: Trial, command: Command, name: str, offset: int) ->
 
 
 def count_bytes_before(calls: list[Call], call: Call) -> int:
-    """Return the bytes that earlier calls of the same kind moved on its descriptor."""
+    """Return the bytes that earlier calls of the same name moved on the same descriptor."""
     return sum(other.result or 0 for other in calls[:calls.index(call)]
                if (other.name, other.on, other.file) == (call.name, call.on, call.file))
 
 
 def is_output_check(calls: list[Call], call: Call) -> bool:
-    """Return whether a call comes after the output was stored: it, and its folder, are opened
-    again."""
+    """Return whether a call comes after the output was stored, to check it and its folder."""
     return call.name != "write" and any(
         other.name == "fsync" for other in calls[:calls.index(call)])
 
@@ -442,7 +441,7 @@ def is_explanation(call: Call) -> bool:
 
 
 def judge(trial: Trial, command: Command, run_result: RunResult) -> list[str]:
-    """Return the faults of a run under strace, by the calls that were made to fail in it.
+    """Return the faults of a run under strace in which some calls were made to fail.
 
     A failed write to standard error changes nothing else.
     """

@@ -10,11 +10,11 @@ from .pes import DATA, UNIT, find_starts
 from .stl import box_line, make_tti_block
 from .trial import Trial, read
 
-SUBTITLES = 1700  # enough to fill each buffer of 64 KiB three times
+SUBTITLES = 1700  # subtitles: enough to fill each buffer of 64 KiB three times
 FLAGS = 6  # the byte of a PES packet that begins with the bits 10
 HEADER = "1515d0d015d015d00215" + "20" * 32
 
-# Commands with their status if nothing fails; an output file is the third argument.
+# Commands with their status if no call fails; an output file is the third argument.
 COMMANDS = [
     ("packet", 0, ["packet", HEADER]),
     ("usage", 2, ["check", "../long.stl"]),
@@ -39,7 +39,7 @@ COMMANDS = [
 
 
 def make_subtitle(number: int) -> bytes:
-    """Return a TTI block with two double-height lines, in the second of that number."""
+    """Return a TTI block with two double-height lines, shown in second `number`."""
     lines = [box_line((b"%s line %5d " % (word, number)).ljust(34, b"x"))
              for word in (b"Upper", b"Lower")]
     return make_tti_block(number, 25 * number, 25 * number + 25, 20, 2,
@@ -60,7 +60,7 @@ def set_even_parity(sent: bytes) -> bytes:
 
 
 def make_unreadable(sent: bytes) -> bytes:
-    """Make each PES packet of the transmission unreadable, for two reasons in turn."""
+    """Make each PES packet of the transmission unreadable, for two alternating reasons."""
     data = bytearray(sent)
     for number, begin in enumerate(find_starts(sent)[:-1]):
         data[begin + (DATA - 1 if number % 2 else FLAGS)] ^= 0x40
@@ -72,7 +72,7 @@ def prepare(trial: Trial) -> None:
     gsi = (read(os.path.join(TOP, "examples", "hello.stl")) or b"")[:GSI]
     blocks = [make_subtitle(number) for number in range(1, SUBTITLES + 1)]
     trial.add_input("long.stl", gsi + b"".join(blocks))
-    blocks[-5] = blocks[-5][:4] + b"\1" + blocks[-5][5:]  # a cumulative subtitle
+    blocks[-5] = blocks[-5][:4] + b"\1" + blocks[-5][5:]  # make the subtitle cumulative
     trial.add_input("bad.stl", gsi + b"".join(blocks))
     for name, status, program_args in COMMANDS:
         command = trial.commands[name] = trial.make_command(name, program_args)

@@ -24,8 +24,8 @@ START_MEMORY = 8192  # KiB: the program must start with this much
 STACK_SIZE = 64  # KiB: each command takes less than 48
 SURVEY_STACK_SIZE = 160  # KiB: survey takes between 144 and 152
 MAX_SUBTITLES = 99_999  # subtitles of one block each: the most that a file may have
-MEMORY_BESIDE_TEXTS = 10_000_000  # bytes for them, without their texts
-TOO_LITTLE_MEMORY = 1_000_000  # bytes: not enough for them
+MEMORY_BESIDE_TEXTS = 10_000_000  # bytes of memory for MAX_SUBTITLES subtitles without their texts
+TOO_LITTLE_MEMORY = 1_000_000  # bytes: not enough for MAX_SUBTITLES subtitles
 # Commands whose requests for memory are refused, one after the other, with files of examples/.
 REFUSED_REQUESTS = [line.split() for line in f"""
 packet {HEADER}
@@ -56,7 +56,7 @@ listen recording.ts --pid 257 --at 10:00:00:10""".strip().split("\n")]
 
 def run_parallel(trial: Trial, command: Command, numbers: Iterable[int], setup: Callable[[int], str]
                  ) -> Iterator[tuple[int, RunResult]]:
-    """Run a command with each number, AT_ONCE at a time."""
+    """Run a command with each number, RUNS_PER_SHELL at a time."""
     waiting = iter(numbers)
     while some := list(itertools.islice(waiting, RUNS_PER_SHELL)):
         yield from zip(some, trial.run_each(command, [Setup(setup(one)) for one in some]))
@@ -68,7 +68,7 @@ def run_with_less_memory(trial: Trial) -> Iterator[Case]:
         for size, run_result in run_parallel(trial, command, KIBIBYTES,
                                              lambda size: f"ulimit -v {size};"):
             name = f"{command.name} in {size} KiB"
-            # With less the loader ends it, with 127 or a signal, before its first own call.
+            # With too little memory the loader ends the program before its first call.
             if run_result.status in (127, -9, -11) and not run_result.printed:
                 found.append((name, run_result, [] if size < START_MEMORY else ["not started"]))
                 break
@@ -90,7 +90,7 @@ def run_with_small_stack(trial: Trial) -> Iterator[Case]:
     for command in [*trial.commands.values(), *others]:
         def run(command: Command = command) -> list[Found]:
             size = SURVEY_STACK_SIZE if command.program_args[0] == "survey" else STACK_SIZE
-            # The environment is on the stack too.
+            # Clear the environment, which is on the stack too.
             run_result = trial.run(command, before=["env", "-i"], setup=f"ulimit -s {size};")
             return [(f"{command.name} in a stack of {size} KiB", run_result,
                      compare_with_normal_run(command, run_result))]

@@ -13,21 +13,21 @@ MAX_WITHIN = 50
 COMPLETE, OPEN, KEEPING = FLAGS = "--complete", "--open", "--keeping"
 DEFAULTS = {"--page": "888", "--every": "250", "--origin": "0", "--option": "english",
             "--within": "0", "--packet-size": "188", "--pes": "0-"}
-MAX_PID = 8190  # 8191 is for null packets
+MAX_PID = 8190  # PID 8191 is for null packets
 
 
 class UsageFault(Exception):
-    """The number and name of the first fault of the arguments."""
+    """The number and name of the first fault in the arguments."""
 
 
 class Options(NamedTuple):
     """The options of `check`.
 
-    `within` is by how many frames a page may be late. With a PID the file is a transport stream,
-    with a packet every `size` bytes. PES packets from `first` to `last` are read, `None` for no
-    end. Only subtitles with a TCI from `from_frame` on and before `to_frame` are taken, also of
-    open subtitles if `is_open`. Headers may keep the page if `may_keep`; with `pace` a PES packet
-    must come within so many frames.
+    `within` is the number of frames by which a page may be late. With a PID the file is a transport
+    stream with a packet every `size` bytes. Only the PES packets from `first` to `last` (`None`: to
+    the end) are read, and only subtitles with a TCI from `from_frame` on and before `to_frame` are
+    used; `is_open` allows open subtitles. Headers may keep the page if `may_keep`; `pace` is the
+    largest number of frames between PES packets.
     """
 
     page: Page
@@ -61,8 +61,7 @@ def parse_pid(text: str) -> int | None:
 
 
 def parse_arguments(arguments: list[str]) -> dict[str, str]:
-    """Return option values by name, with defaults. `--name=text` is allowed, a repeated name is
-    not."""
+    """Return option values by name, with defaults. A repeated option is a fault."""
     parts = [part for word in arguments for part in (
         word.split("=", 1) if word.startswith("--") else [word]) if word not in FLAGS]
     names = parts[::2]

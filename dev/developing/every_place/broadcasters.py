@@ -1,7 +1,7 @@
-"""Make random requests of a broadcaster, beyond page and repeat bound.
+"""Make random options and transmissions of a broadcaster, beyond page and repeat bound.
 
-They are about the layout of texts, a part of the file, headers that keep the page, the distance of
-PES packets, and refused subtitles next to a transmission of all.
+They concern text layouts, parts of the file, headers that keep the page, the largest distance of
+PES packets, and refused subtitles that are transmitted all the same.
 """
 from __future__ import annotations
 
@@ -18,12 +18,12 @@ from subtitles.formats.stl import GSI, TTI
 from subtitles.formats.teletext import CODE_WORDS, NUMBER
 from .broken import LETTERS, MAX_PACKETS, read_teletext
 
-DISPLAY_CODE = 11  # place of DSC in the GSI block
+DISPLAY_CODE = 11  # offset of DSC in the GSI block
 CODES = [0x0A, 0x0B, 0x0B, 0x0D, 0x07, 0x03, 0x01, 0x0C]
 WRONG_LAYOUTS = ["", "fit,fit", "Fit", "before=0", "left=40", "after=0A*", "row=+1", "strip=20"]
 WRONG_PACES = ["0", "2160001", "", "x", "+1", "00000000001"]
 WRONG_TIMES = ["", "24:00:00:00", "1:00:00:00", "10:00:00:25", "10:00:00"]
-SUBCODE, S2_C4, S4_C6 = 4, 5, 7  # places in a header
+SUBCODE, S2_C4, S4_C6 = 4, 5, 7  # offsets in a page header
 
 
 def make_codes(rng: Random, most: int, some: list[int]) -> str:
@@ -31,7 +31,7 @@ def make_codes(rng: Random, most: int, some: list[int]) -> str:
 
 
 def make_layout(rng: Random) -> str:
-    """Return a layout, rarely an invalid one."""
+    """Return a random layout option, rarely an invalid one."""
     if rng.random() < 0.04:
         return rng.choice(WRONG_LAYOUTS)
     items = [name for name in FLAGS if rng.random() < 0.2]
@@ -56,7 +56,7 @@ def split_blocks(stl: bytes) -> list[bytearray]:
 
 
 def make_part_options(rng: Random, stl: bytes) -> list[str]:
-    """Return --from and --to, near the start of some subtitles."""
+    """Return --from and --to with times near the start of some subtitles."""
     arguments: list[str] = []
     begins = [frame for block in split_blocks(stl)
               if (frame := frame_of_code(bytes(block[5:9]))) is not None] or [0]
@@ -70,13 +70,12 @@ def make_part_options(rng: Random, stl: bytes) -> list[str]:
 
 
 def mark_as_open(stl: bytes, rng: Random) -> bytes:
-    """Mark the file as open subtitles, rarely as something else."""
+    """Set the display code of a subtitle file to open subtitles, rarely to another code."""
     return stl[:DISPLAY_CODE] + rng.choice([b"0", b"0", b" ", b"3"]) + stl[DISPLAY_CODE + 1:]
 
 
 class RepeatSettings(NamedTuple):
-    """How pages are repeated: how often a header keeps the page or has its rows changed, and
-    subcodes."""
+    """Probabilities for repeated pages: a header keeps the page, or its rows change."""
 
     repeat_probability: float
     change_probability: float
@@ -85,8 +84,7 @@ class RepeatSettings(NamedTuple):
 
 
 def change_header(rng: Random, teletext: list[bytes], subcode: int, keeps_page: bool) -> None:
-    """Give the first header this subcode, and C4 clear if it keeps the page; rarely C6 clear too.
-    """
+    """Set the subcode of the first header; clear C4 if it keeps the page, and rarely C6 too."""
     head = bytearray(teletext[0])
     head[SUBCODE] = CODE_WORDS[subcode]
     if keeps_page:
@@ -97,8 +95,7 @@ def change_header(rng: Random, teletext: list[bytes], subcode: int, keeps_page: 
 
 
 def change_page_body(rng: Random, teletext: list[bytes]) -> None:
-    """Change what follows a header: fewer or more rows, another byte, no closing header, and so on.
-    """
+    """Change the packets after a header: remove or add rows, change a byte, and so on."""
     at, way = rng.randrange(1, len(teletext)), rng.randrange(9)
     one = bytearray(teletext[at])
     if way < 3:
@@ -112,7 +109,7 @@ def change_page_body(rng: Random, teletext: list[bytes]) -> None:
     elif way == 5:
         text = rng.choice([b" " * 40, bytes(rng.choices(LETTERS, k=40))])
         teletext.insert(at, teletext_packet(0, rng.randrange(1, 25), [], text))
-    elif way == 6:  # the page ends early, or not at all
+    elif way == 6:  # the closing header comes early or is missing
         teletext.insert(rng.randrange(len(teletext)), teletext.pop())
     elif way == 7:
         teletext.pop()
@@ -121,7 +118,7 @@ def change_page_body(rng: Random, teletext: list[bytes]) -> None:
 
 
 def keep_pages(rng: Random, pes: bytes) -> bytes:
-    """Let headers keep the page, usually in repeats; rarely change what follows, or the subcode."""
+    """Clear C4 of headers, usually in repeats; rarely change the rows or the subcode too."""
     packets: list[bytes] = []
     previous_packets: list[bytes] = []
     repeats = RepeatSettings(rng.choice([0.3, 0.9, 1.0]), rng.choice([0, 0, 0, 0.08, 1.0]),
@@ -146,7 +143,7 @@ def keep_pages(rng: Random, pes: bytes) -> bytes:
 
 
 def spoil_subtitles(rng: Random, stl: bytes) -> bytes:
-    """Make one or two subtitles refused: by a letter, a field of the first block, or the order."""
+    """Add a fault to one or two subtitles: in the text, a field of a block, or the order."""
     blocks = split_blocks(stl)
     for _ in range(rng.choice([1, 1, 2])):
         if not blocks:
@@ -158,7 +155,7 @@ def spoil_subtitles(rng: Random, stl: bytes) -> bytes:
         elif way == 2:
             field, value = rng.choice([(14, 4), (4, 1), (8, 25), (12, 25), (9, 23), (13, 24)])
             block[field] = value
-        elif way == 3:  # ends within the next one, or after it
+        elif way == 3:  # the subtitle ends during the next one, or after it
             tco = frame_of_code(bytes(block[9:13])) or 0
             block[9:13] = encode_time_code(min(tco + rng.randrange(1, 90), FRAMES_OF_A_DAY - 1))
         elif way == 4:

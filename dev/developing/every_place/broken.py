@@ -10,13 +10,13 @@ from developing.pes import (
 from subtitles.common.times import CLOCK, FRAMES_OF_A_DAY, TICKS
 from subtitles.formats.teletext import CODE_WORDS
 
-PACKET_OFFSET = 4  # place of the Teletext packet in a data unit
+PACKET_OFFSET = 4  # offset of the Teletext packet in a data unit
 MAX_PACKETS = 16  # Teletext packets that `make_pes_packet` can hold
 LETTERS = b"ABCDEFGHIJKLMNOPQRSTUVWXYZabcdefghijklmnopqrstuvwxyz 0123456789.,?!'"
 
 
 def find_units(packet: bytes | bytearray) -> list[int]:
-    """Return where the data units of a PES packet with Teletext begin."""
+    """Return the offsets of the Teletext data units in a PES packet."""
     return [at for at in range(DATA, len(packet), UNIT) if packet[at] in (2, 3)]
 
 
@@ -26,7 +26,7 @@ def read_teletext(packet: bytes | bytearray) -> list[bytes]:
 
 
 def make_random_header(rng: Random) -> bytes:
-    """Return a header of the page, another page or another magazine, with any control bits."""
+    """Return a header for the page, another page or another magazine, with random control bits."""
     units, tens = rng.choice([8, 8, 15]), rng.choice([8, 8, 15])
     numbers = [units, tens, 0, rng.choice([8, 8, 0]), 0, rng.choice([8, 8, 12]),
                rng.choice([1, 1, 9]), rng.choice([0, 0, 8, 1])]
@@ -41,19 +41,19 @@ def make_random_packet(rng: Random) -> bytes:
     return teletext_packet(rng.choice([0, 0, 0, 2]), number, [], rng.choices(LETTERS, k=40))
 
 
-# Changes of a PES packet, and their weights.
+# Kinds of changes to a PES packet; a frequent kind occurs several times.
 CHANGE_KINDS = ["bit", "bit", "code", "code", "code", "drop", "add", "add", "enhancement", "swap",
                 "frame", "byte", "field"]
 
 
 def change_pes_packet(way: str, rng: Random, packet: bytearray) -> None:
-    """Change something in a PES packet with Teletext."""
+    """Change a PES packet with Teletext in the given way."""
     units, teletext = find_units(packet), read_teletext(packet)
     if way == "bit":
         at = rng.choice(units)
         place = rng.choice([rng.randrange(2), rng.randrange(10), rng.randrange(42)])
         packet[at + PACKET_OFFSET + place] ^= 1 << rng.randrange(8)
-    elif way == "code":  # of an address or a header, or a letter of a row
+    elif way == "code":  # a byte of an address or header, or a character of a row
         at = rng.choice(units) + PACKET_OFFSET
         place = rng.choice([rng.randrange(2, 10), rng.randrange(10, 42)])
         code = rng.choice([CODE_WORDS[rng.randrange(16)],
@@ -65,7 +65,7 @@ def change_pes_packet(way: str, rng: Random, packet: bytearray) -> None:
     elif way == "add" and len(teletext) < MAX_PACKETS:
         add_packet(rng, teletext)
         packet[:] = make_pes_packet(decode_pts(packet), teletext)
-    elif way == "enhancement" and len(teletext) < MAX_PACKETS:  # X/25 to X/28, at the second place
+    elif way == "enhancement" and len(teletext) < MAX_PACKETS:  # X/25 to X/28, placed second
         teletext[1:1] = [teletext_packet(0, rng.randrange(25, 29), [], b" " * 40)]
         packet[:] = make_pes_packet(decode_pts(packet), teletext)
     elif way == "swap":  # a row before its header, or rows after the closing header
@@ -83,16 +83,16 @@ def change_pes_packet(way: str, rng: Random, packet: bytearray) -> None:
 
 
 def change_field(rng: Random, packet: bytearray) -> None:
-    """Flip a bit of a field: flags, header length, PTS, data_identifier, or of a unit."""
+    """Flip a bit of the flags, header length, PTS or data_identifier, or of a data unit."""
     unit = rng.choice(find_units(packet))
     at = rng.choice([6, 7, 8, 9, DATA - 1, unit, unit + 1, unit + 2, unit + 3])
-    # A high bit of the PTS is rare: each frame of the hours between is checked.
+    # Rarely change a high bit of the PTS: the checker visits each frame of the skipped hours.
     bits = [0, 4, 5, 6, 7] if at == 9 and rng.random() < 0.9 else range(8)
     packet[at] ^= 1 << rng.choice(bits)
 
 
 def add_packet(rng: Random, teletext: list[bytes]) -> None:
-    """Insert a Teletext packet: a new one, or a copy, changed or not."""
+    """Insert a Teletext packet: a new packet, a copy, or a changed copy."""
     made, way = make_random_packet(rng), rng.random()
     if way < 0.6:
         made = rng.choice(teletext)
@@ -103,7 +103,7 @@ def add_packet(rng: Random, teletext: list[bytes]) -> None:
 
 
 def shift_pts(packet: bytearray, ticks: int) -> None:
-    """Change the PTS."""
+    """Move the PTS of a PES packet by some ticks."""
     packet[9:14] = encode_pts((decode_pts(packet) + ticks) % CLOCK)
 
 
@@ -124,7 +124,7 @@ def change_order(rng: Random, packets: list[bytearray]) -> None:
 
 
 def change_packets(rng: Random, packets: list[bytearray]) -> None:
-    """Change a PES packet, or several in a row in the same ways."""
+    """Change one PES packet, or several consecutive ones in the same way."""
     ways = [(rng.choice(CHANGE_KINDS), rng.random()) for _ in range(rng.choice([1, 1, 1, 2, 3]))]
     first = rng.randrange(len(packets))
     count = rng.choice([1, 1, 1, 2, 3, len(packets)])
@@ -134,14 +134,13 @@ def change_packets(rng: Random, packets: list[bytearray]) -> None:
                 change_pes_packet(way, Random(seed), packet)
 
 
-# Bits that make a PES packet unreadable, by byte of its head or its data units.
+# Bits that make a PES packet unreadable: offset in its head or in a data unit, and mask.
 HEAD_BITS = [(6, 0xC0), (7, 0x40), (7, 0x80), (8, 1), (9, 0x10), (11, 1), (13, 1), (DATA - 1, 0x30)]
 UNIT_BITS = [(1, 1), (1, 0x80), (3, 1), (2, 0x1E), (2, 0x20)]
 
 
 def damage_packet(rng: Random, packet: bytearray) -> None:
-    """Make a PES packet unreadable or without a frame, sometimes for two reasons; rarely fail to.
-    """
+    """Make a PES packet unreadable, or move its PTS between frames; sometimes do both."""
     for _ in range(rng.choice([1, 1, 1, 1, 2])):
         way = rng.random()
         if way < 0.25:
@@ -155,10 +154,9 @@ def damage_packet(rng: Random, packet: bytearray) -> None:
 
 
 def damage_packets(rng: Random, packets: list[bytearray]) -> None:
-    """Damage several PES packets in a row, alike or not.
+    """Damage several consecutive PES packets, all in the same way or each in its own.
 
-    Some may stay intact, and an earlier packet may be repeated next to them, with a frame that does
-    not rise.
+    Some packets may stay intact, and an earlier packet may be repeated next to them.
     """
     first = rng.randrange(len(packets))
     count = rng.choice([1, 1, 2, 3, 4, 8, len(packets)])
@@ -172,7 +170,7 @@ def damage_packets(rng: Random, packets: list[bytearray]) -> None:
 
 
 def damage_head(rng: Random, packets: list[bytearray]) -> None:
-    """Change the start code or the length, to an invalid one or one that ends elsewhere."""
+    """Change the start code or the length of a PES packet."""
     packet = rng.choice(packets)
     if rng.random() < 0.3:
         packet[rng.randrange(4)] ^= 1 << rng.randrange(8)
@@ -183,7 +181,7 @@ def damage_head(rng: Random, packets: list[bytearray]) -> None:
 
 
 def break_transmission(rng: Random, data: bytes) -> bytes:
-    """Change some packets of a transmission, their order, or its length."""
+    """Change some packets of a transmission, or the order of its packets, or its length."""
     packets = list(map(bytearray, read_pes_packets(io.BytesIO(data))))
     for _ in range(rng.choice([0, 1, 1, 2, 3, 6, 12])):
         if packets:

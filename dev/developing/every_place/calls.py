@@ -15,15 +15,14 @@ ALL = "--all"
 
 
 class Answer(NamedTuple):
-    """The lines that are printed, and the file that is written, if any. The last line implies the
-    status."""
+    """The printed lines, and the written file, if any. The last line implies the status."""
 
     lines: list[str]
     written: bytes | None = None
 
 
 class Call(NamedTuple):
-    """A command with its input files and arguments. The last file may fail at its end."""
+    """A command with its input files and arguments. Reading the last file may fail at its end."""
 
     name: str
     command: str
@@ -45,18 +44,18 @@ class KnownCall(NamedTuple):
 
 def make_check_call(stl: bytes, pes: bytes, arguments: str, is_failing: bool = False,
                     name: str = "") -> Call:
-    """Return the call of `check --all` for a pair."""
+    """Return a call of `check --all` for a pair of files."""
     return Call(name, "check", (stl, pes), f"{arguments} {ALL}".lstrip(), is_failing)
 
 
 def make_known_check(name: str, stl: bytes, pes: bytes, arguments: str, lines: list[str],
                      is_failing: bool = False) -> KnownCall:
-    """Return a pair with the output of `check --all`."""
+    """Return a call of `check --all` for a pair of files, with the expected output."""
     return KnownCall(make_check_call(stl, pes, arguments, is_failing, name), Answer(lines))
 
 
 def add_first_fault_call(call: Call, answer: Answer) -> Iterator[KnownCall]:
-    """Yield a call with its output, and for `check --all` also the call without `--all`."""
+    """Yield a call with its output; after `check --all` also yield `check` for the same files."""
     yield KnownCall(call, answer)
     if ALL in call.options:
         arguments = shlex.join(word for word in call.options if word != ALL)
@@ -64,7 +63,7 @@ def add_first_fault_call(call: Call, answer: Answer) -> Iterator[KnownCall]:
 
 
 def find_first_fault(lines: list[str]) -> list[str]:
-    """Return the line of `check`, from those of `check --all`."""
+    """Return the line that `check` prints, given the lines of `check --all`."""
     return [line for line in lines if not line.startswith(("trusted ", "ended "))][:1]
 
 
@@ -83,7 +82,7 @@ def extract_items(data: bytes, options: Options, is_failing: bool) -> Answer:
 
 
 def define_answer(call: Call) -> Answer:
-    """Return the output by the definitions."""
+    """Return the output of a call as the second implementation defines it."""
     arguments, data = [word for word in call.options if word not in (ALL, SERIAL)], call.files[-1]
     try:
         if call.command == "extract" and "--pid" not in parse_arguments(arguments):

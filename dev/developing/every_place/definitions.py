@@ -1,4 +1,4 @@
-"""What `check --all` must print, by the definitions: a second implementation, simple and slow.
+"""Compute the lines that `check --all` must print: a second implementation, simple and slow.
 
 It stores the list of all Teletext packets, and decodes the page from it at the end of each frame.
 """
@@ -19,24 +19,26 @@ from .arguments import Options
 
 
 class Transmission:
-    """The PES packets and gap markers of a file, in order, and their faults; `first` is their
-    index."""
+    """The PES packets and gap markers of a file, in order, and their faults.
+
+    `first` is the index of the first one in its file.
+    """
 
     def __init__(self, due: ExpectedPages, options: Options, first: int) -> None:
         self.due, self.options, self.first = due, options, first
         self.event_log, self.ends = EventLog(), FrameEnds(due, options)
-        self.frames: list[int] = []  # of readable PES packets
+        self.frames: list[int] = []  # frames of the readable PES packets
         self.packets: list[Packet] = []
-        self.headers: list[int] = []  # the frames with a header of the page
+        self.headers: list[int] = []  # frames with a header of the page
         # PES packets of one frame: the last one, if the frame has not ended; how many Teletext
         # packets they have; whether the frame is the first one.
         self.sending: int | None = None
         self.count, self.is_first = 0, True
-        # The last run of skipped items: their fault, the first and the last one.
+        # The last consecutive unreadable items: their fault, the first and the last item.
         self.skipped: tuple[int, int, int] | None = None
 
     def describe_place(self, pes: int) -> str:
-        """Return the place of an item."""
+        """Return the place of an item as it is printed."""
         return f"pes {self.first + pes}"
 
     def report_fault(self, number: int, place: str, pes: int | None,
@@ -44,12 +46,12 @@ class Transmission:
         self.add_event(Event(format_refused(number, place), number, pes, frame))
 
     def add_event(self, event: Event) -> None:
-        """Add an event, after the end of skipped items."""
+        """Add an event; first report the end of the unreadable items before it."""
         self.end_skipped()
         self.event_log.events.append(event)
 
     def skip(self, pes: int, number: int) -> None:
-        """Skip an unreadable item; report the first of a run with the same fault."""
+        """Skip an unreadable item; report it unless the item before has the same fault."""
         self.event_log.skipped.append(pes)
         if self.skipped and (self.skipped[0], self.skipped[2]) == (number, pes - 1):
             self.skipped = number, self.skipped[1], pes
@@ -58,7 +60,7 @@ class Transmission:
             self.skipped = number, pes, pes
 
     def end_skipped(self) -> None:
-        """Report the end of a run of skipped items with more than one."""
+        """Report the last of several consecutive unreadable items."""
         if self.skipped and self.skipped[1] < self.skipped[2]:
             number, _, last = self.skipped
             self.event_log.events.append(Event(format_ended(number, self.describe_place(last)),
@@ -66,7 +68,7 @@ class Transmission:
         self.skipped = None
 
     def receive(self, pes: int, frame: int, teletext: list[bytes]) -> None:
-        """Take a PES packet. If pages may be late, those of one frame belong together."""
+        """Receive a PES packet. If pages may be late, PES packets of one frame belong together."""
         if self.options.within == 0 or self.frames[-1:] != [frame]:
             self.end_current_frame()
             self.begin_frame(pes, frame)
@@ -80,7 +82,7 @@ class Transmission:
             self.end_current_frame()
 
     def begin_frame(self, pes: int, frame: int) -> None:
-        """Report what is due before the packets of a frame."""
+        """Report the faults that are known before the packets of a frame are decoded."""
         begin = self.due.first()
         if not self.frames:
             self.ends.first = frame
@@ -93,7 +95,7 @@ class Transmission:
         self.end_frames(pes, range(max(self.frames) + 1, frame))
 
     def receive_packets(self, pes: int, frame: int, teletext: list[bytes]) -> bool:
-        """Take its Teletext packets; return whether one is a header that erases the page."""
+        """Receive Teletext packets; return whether one of them is a header that erases the page."""
         page, has_erased = self.options.page, False
         for one in teletext:
             packet = Packet(one, decode_address(one), decode_header(one))
@@ -107,7 +109,7 @@ class Transmission:
         return has_erased
 
     def end_current_frame(self) -> None:
-        """End the frame that was read last, if it has not ended."""
+        """End the frame of the last PES packet if it has not ended yet."""
         if self.sending is None:
             return
         pes, frame, self.sending = self.sending, self.frames[-1], None
@@ -117,7 +119,7 @@ class Transmission:
         self.end_frames(pes, [frame])
 
     def end_frames(self, pes: int, frames: Iterable[int]) -> None:
-        """End frames: those without packets before a PES packet, or its own."""
+        """End the frames without packets before a PES packet, or the frame of the packet itself."""
         decoded, ends = decode(self.packets, self.options), self.ends
         for frame in frames:
             for number, line in ends.at(frame, decoded, self.headers, self.frames):
@@ -127,7 +129,7 @@ class Transmission:
                     FrameEnd(frame, bool(ends.active), ends.incomplete_since, ends.is_late))
 
     def end_file(self, end_fault: int | None, pes: int) -> None:
-        """End the file after `pes` items; `end_fault` is the fault of the bytes after them."""
+        """End the file after `pes` items; `end_fault` is the fault of the remaining bytes."""
         self.end_current_frame()
         self.end_skipped()
         for number, line in self.ends.list_final_lines():
@@ -143,24 +145,24 @@ class Transmission:
             self.report_fault(74, f"frame {time_of(self.frames[-1])}", None)
 
     def format_accepted(self) -> str:
-        """Return the line for a transmission without faults."""
+        """Return the line that accepts a transmission."""
         count = self.frames[-1] - self.frames[0] + 1
         return f"accepted {count} frames {len(self.headers)} transmissions"
 
 
 def find_failure_line(selection: Range, count: int, end_fault: int | None,
                       is_failing: bool) -> str | None:
-    """Return the line of a failing source, `None` if the failure is not reached.
+    """Return the line about a read failure, or `None` if reading stops before it.
 
-    The source fails where its bytes end, after `count` items; `end_fault` is the fault of the bytes
-    after them.
+    The read fails at the end of the bytes, after `count` items; `end_fault` is the fault of the
+    remaining bytes.
     """
     is_so = is_failing and selection.is_end and end_fault in (None, CUT)
     return f"fault 41 Read pes {selection.first + count}" if is_so else None
 
 
 def select_data(data: bytes, options: Options) -> Range:
-    """Return what is read of a PES file or a transport stream with these options."""
+    """Return the part of a PES file or transport stream that these options select."""
     pes = data if options.pid is None else read_stream(data, options.pid, options.size).data
     return select_range(pes, options.first, options.last)
 
@@ -168,7 +170,7 @@ def select_data(data: bytes, options: Options) -> Range:
 def check_all(stl: bytes, pes: bytes, options: Options, is_failing: bool = False) -> list[str]:
     """Return the lines of `check --all`.
 
-    A PES file, or a transport stream, may fail where its bytes end.
+    If `is_failing`, reading the PES file or transport stream fails at its end.
     """
     subtitles = judge_subtitles(stl, options)
     subtitle_lines = subtitles.lines
@@ -184,7 +186,7 @@ def check_all(stl: bytes, pes: bytes, options: Options, is_failing: bool = False
             transmission.skip(number, sending)
         else:
             transmission.receive(number, *sending)
-    # After a failure of the source nothing more is reported, and nothing ends.
+    # After a read failure nothing more is reported, and no fault ends.
     event_log, is_refused = transmission.event_log, bool(subtitle_lines)
     if failure := find_failure_line(read, len(pieces), end_fault, is_failing):
         return [*subtitle_lines, *list_lines(event_log, True, is_refused), failure]

@@ -10,7 +10,7 @@ from .arguments import Options
 
 
 class Subtitles(NamedTuple):
-    """The faults of a subtitle file, and its correct records.
+    """The faults of a subtitle file, and the records that can be checked.
 
     `has_fault_before` says for each record, and for the end of the file, whether a subtitle with a
     fault comes directly before it.
@@ -23,7 +23,7 @@ class Subtitles(NamedTuple):
 
 
 def record_faults(record: Record, before: Record | None, options: Options) -> Iterator[str]:
-    """Yield a line for each fault of a record."""
+    """Yield a line for each fault of a subtitle's record."""
     if before and record.tci < before.tci:
         yield format_refused(56, f"block {record.block}")
     elif before and record.tci < before.tco:
@@ -39,10 +39,10 @@ def is_order_fault(line: str) -> bool:
 
 
 def judge_subtitles(data: bytes, options: Options) -> Subtitles:
-    """Return the faults of a file, and the records that can be checked in spite of them."""
+    """Return the faults of a subtitle file, and the records that can be checked despite them."""
     lines: list[str] = []
-    groups: list[Record | None] = []  # requested subtitles, `None` for one with a fault
-    faults: dict[int, list[str]] = {}  # of records, by their index in `groups`
+    groups: list[Record | None] = []  # requested subtitles, `None` for a faulty one
+    faults: dict[int, list[str]] = {}  # fault lines of each record, by index in `groups`
     before: Record | None = None
     found: list[Record | StlFault | OutsideSubtitle] = list(
         read_subtitles(data, options.is_open, options.from_frame, options.to_frame))
@@ -70,7 +70,7 @@ def judge_subtitles(data: bytes, options: Options) -> Subtitles:
 
 
 class ExpectedPages:
-    """The expected page of each frame, and the frames where it is undecided."""
+    """The expected page of each frame, and the frames for which it is unknown."""
 
     def __init__(self, records: list[Record], has_fault_before: list[bool],
                  options: Options) -> None:
@@ -82,7 +82,7 @@ class ExpectedPages:
         return next((page for tci, tco, page in self.pages if tci <= frame < tco), BLANK)
 
     def is_undecided(self, frame: int) -> bool:
-        """Return whether no page is expected, but the file has a subtitle with a fault there."""
+        """Return whether a faulty subtitle could be on air and no other page is expected."""
         count = sum(tci <= frame for tci, _, _ in self.pages)
         return self.has_fault_before[count] and not any(tci <= frame < tco for tci, tco,
                                                         _ in self.pages)

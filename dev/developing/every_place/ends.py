@@ -1,4 +1,4 @@
-"""Find the faults at the end of each frame."""
+"""Find the faults that exist at the end of a frame."""
 from __future__ import annotations
 
 from typing import Iterator
@@ -10,25 +10,25 @@ from .rows import COLUMNS, SPACE
 from .told import format_ended, format_refused
 from .arguments import Options
 
-NO_CELL = -1  # of faults without a cell
+NO_CELL = -1  # for faults that concern no cell
 
 
 class FrameEnds:
-    """The active faults at the end of a frame, to compare with those at the end before."""
+    """The active faults at the end of the previous frame, to compare with the next frame's."""
 
     def __init__(self, due: ExpectedPages, options: Options) -> None:
         self.due, self.options = due, options
         self.first = self.frame = 0  # the first frame, and the previous one
         self.active: dict[int, int] = {}  # the cell of each active fault (72 alone has one)
-        # First of the frames in a row, up to now, at whose ends the page was not complete.
+        # The first of the consecutive frames up to now at whose ends the page was incomplete.
         self.incomplete_since: int | None = None
-        self.is_late = False  # at the last end
+        self.is_late = False  # at the end of the previous frame
 
     def find_active_faults(self, frame: int, decoded: Decoded, headers: list[int], sent: list[int]
                       ) -> dict[int, int]:
         """Return the active faults at the end of a frame, each with its cell.
 
-        `headers` are the frames with a header of the page, `sent` those of PES packets.
+        `headers` are the frames with a header of the page, `sent` the frames with PES packets.
         """
         options = self.options
         is_open = options.is_complete and decoded.is_open
@@ -53,13 +53,13 @@ class FrameEnds:
                 for number, is_so in found.items() if is_so}
 
     def list_allowed_frames(self, frame: int) -> list[int]:
-        """Return a frame and those before it whose page is still allowed."""
+        """Return the frame and the earlier frames whose expected page is still allowed."""
         return [frame, *range(max(self.first, frame - self.options.within), frame)]
 
     def is_overdue(self, frame: int) -> bool:
         """Return whether the page is incomplete and late.
 
-        It is late after `within` frames, or if a subtitle ends that was never complete.
+        A page is late after `within` frames, or if a subtitle ends before it was complete.
         """
         start, within = self.incomplete_since, self.options.within
         return start is not None and (within == 0 or frame >= start + within or any(
@@ -67,10 +67,9 @@ class FrameEnds:
             for begin in self.due.list_starts(frame + 1)))
 
     def find_unexpected_cell(self, page: bytes, frame: int) -> int | None:
-        """Return the first cell with neither a space nor a code that is, or was lately, expected
-        there.
+        """Return the first cell with a code that no allowed page has there, except spaces.
 
-        Return `None` if one of these frames is undecided.
+        Return `None` if the expected page of an allowed frame is unknown.
         """
         frames = self.list_allowed_frames(frame)
         if any(map(self.due.is_undecided, frames)):
@@ -83,7 +82,7 @@ class FrameEnds:
 
     def at(self, frame: int, decoded: Decoded, headers: list[int], sent: list[int]
            ) -> Iterator[tuple[int, str]]:
-        """Yield the lines of faults that begin or end at the end of a frame, with their numbers."""
+        """Yield the number and line of each fault that begins or ends at the end of a frame."""
         found = self.find_active_faults(frame, decoded, headers, sent)
         for number in (72, 73, 77, 78, 79):
             now, before = found.get(number), self.active.get(number)
@@ -102,6 +101,6 @@ class FrameEnds:
             else arguments
 
     def list_final_lines(self) -> Iterator[tuple[int, str]]:
-        """Yield the lines that end the faults active after the last frame."""
+        """Yield a line for the end of each fault that is active after the last frame."""
         for number in sorted(self.active):
             yield number, format_ended(number, f"frame {time_of(self.frame)}")

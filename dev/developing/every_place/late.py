@@ -1,8 +1,8 @@
-"""Make random transmissions as an inserter and a multiplexer send them.
+"""Make random transmissions like those of a subtitle inserter and a multiplexer.
 
 A page is sent in several PES packets, in two fields or in consecutive frames, later than expected,
-with a PTS off by some ticks, or repeated while it is sent: usually within the allowed frames,
-sometimes beyond. Unreadable PES packets are inserted.
+with an inexact PTS, or repeated while it is sent: usually within the allowed frames, sometimes
+later. Unreadable PES packets are inserted.
 """
 from __future__ import annotations
 
@@ -16,25 +16,25 @@ from .broken import LETTERS, MAX_PACKETS, damage_packet, make_random_packet, rea
 
 
 class Part(NamedTuple):
-    """A PES packet: its time in ticks after the first one, and its Teletext packets."""
+    """A PES packet: its time in ticks after the first PES packet, and its Teletext packets."""
 
     time: int
     packets: list[bytes]
 
 
 FIELD = TICKS // 2
-EARLIEST, LATEST = -(TICKS // 4), TICKS - TICKS // 4 - 1  # range of a PTS within its frame
+EARLIEST, LATEST = -(TICKS // 4), TICKS - TICKS // 4 - 1  # range of a PTS in its frame, in ticks
 
 
 def find_frame_start(time: int) -> int:
-    """Return the start of the frame at a time."""
+    """Return the start time of the frame that contains a time."""
     return (time - EARLIEST) // TICKS * TICKS
 
 
-# How each page is sent
+# Sending a page
 
 def spread_page(rng: Random, part: Part, most: int) -> list[Part]:
-    """Spread a page over one to four PES packets, in fields up to so many frames later."""
+    """Spread a page over one to four PES packets, at most `most` frames late."""
     count = len(part.packets)
     ways = [rng.randrange(count + 1) for _ in range(rng.choice([0, 0, 1, 1, 2, 3]))]
     cuts = [0, *sorted(ways), count]
@@ -46,8 +46,7 @@ def spread_page(rng: Random, part: Part, most: int) -> list[Part]:
 
 
 def send_pages(rng: Random, parts: list[Part], most: int) -> list[Part]:
-    """Send all pages, each in its own way or all alike; after a late page or interleaved with it.
-    """
+    """Spread all pages; a page follows the late page before it, or is interleaved with it."""
     seed = rng.random() if rng.random() < 0.5 else None
     made: list[Part] = []
     for part in parts:
@@ -60,24 +59,24 @@ def send_pages(rng: Random, parts: list[Part], most: int) -> list[Part]:
 
 
 def move_parts(rng: Random, parts: list[Part]) -> None:
-    """Change each PTS a little, within its frame; rarely more."""
+    """Move each PTS inside its frame, rarely out of it."""
     first, last = rng.choice([(EARLIEST, LATEST)] * 6 + [(EARLIEST - 1, LATEST + 1), (-2000, 0)])
     for at, part in enumerate(parts):
         ticks = rng.choice([first, last, rng.randrange(first, last + 1)])
         parts[at] = part._replace(time=find_frame_start(part.time) + ticks)
 
 
-# Faults and additions, and their weights.
+# Kinds of faults and additions; a frequent kind occurs several times.
 ACCIDENTS = ["leave out", "leave out", "empty the last", "empty the last", "open", "hold back",
              "hold back", "send again", "send again", "erase", "erase", "misspell", "misspell"]
 
 
 def add_accident(rng: Random, parts: list[Part]) -> None:
-    """Make a fault or an addition; parts stay in order of time."""
+    """Add a fault or another PES packet; the parts stay in order of time."""
     way, count = rng.choice(ACCIDENTS), len(parts)
-    if way == "leave out":  # often the first PES packet, seldom the last
+    if way == "leave out":  # often the first PES packet, rarely the last
         del parts[rng.choice([0, rng.randrange(max(1, count - 1))])]
-    elif way == "empty the last":  # the last page is not sent, or a part of it
+    elif way == "empty the last":  # the last page, or a part of it, is not sent
         for at in range(max(0, count - rng.choice([1, 1, 1, 2])), count):
             packets = parts[at].packets
             packets = packets[len(packets) - rng.choice([0, 0, 1]):]
@@ -85,16 +84,16 @@ def add_accident(rng: Random, parts: list[Part]) -> None:
     elif way == "open":  # a page without its closing header
         at = rng.choice([-1, rng.randrange(count)])
         parts[at] = parts[at]._replace(packets=parts[at].packets[:-1])
-    elif way == "hold back":  # frames later or earlier, and seldom all that follow too
+    elif way == "hold back":  # some frames later or earlier, rarely with all later parts
         at, by = rng.randrange(count), TICKS * rng.choice([1, 1, 2, 3, 4, 5, 6, -1, -2])
         end = count if rng.random() < 0.2 else at + 1
         parts[at:end] = [part._replace(time=part.time + by) for part in parts[at:end]]
-    elif way == "send again":  # a PES packet of now or of before
+    elif way == "send again":  # this PES packet or an earlier one
         at = rng.randrange(count)
         old = parts[max(0, at - rng.choice([0, 0, 1, 1, 2, 3]))]
         again = parts[at].time + FIELD * rng.choice([0, 1, 1, 2, 2, 3, 4, 6])
         parts.append(Part(again, list(old.packets)))
-    elif way == "erase":  # the header of a page alone, or no Teletext, or any packet
+    elif way == "erase":  # a page header alone, a PES packet without Teletext, or any packet
         at = rng.randrange(count)
         header, none = parts[at].packets[:1], parts[at].packets[:0]
         packets = rng.choice([header, header, none, [make_random_packet(rng)]])
@@ -106,7 +105,7 @@ def add_accident(rng: Random, parts: list[Part]) -> None:
 
 
 def misspell_row(rng: Random, parts: list[Part]) -> None:
-    """Change a letter in a row, or its parity; often send the original PES packet next to it."""
+    """Change a character of a row, or its parity; often also send the original PES packet."""
     at = rng.randrange(len(parts))
     rows = [place for place, one in enumerate(parts[at].packets) if one[1] not in (0x15, 0xEA)]
     if not rows:
@@ -129,7 +128,7 @@ def misspell_row(rng: Random, parts: list[Part]) -> None:
         parts.insert(at + 1, other._replace(time=time + FIELD * rng.choice([1, 1, 2, 3])))
 
 
-# Transmissions
+# Whole transmissions
 
 def split_parts(data: bytes) -> list[Part]:
     packets = list(read_pes_packets(io.BytesIO(data)))
@@ -138,13 +137,13 @@ def split_parts(data: bytes) -> list[Part]:
 
 
 def join_parts(parts: list[Part], first: int) -> list[bytearray]:
-    """Return the PES packets, from the PTS of the first on."""
+    """Return the PES packets of all parts; the first part gets the PTS `first`."""
     return [bytearray(make_pes_packet((first + part.time) % CLOCK, part.packets[:MAX_PACKETS]))
             for part in parts]
 
 
 def insert_unreadable_packets(rng: Random, packets: list[bytearray], origin: int) -> None:
-    """Make PES packets unreadable or without a frame; usually insert them."""
+    """Insert PES packets that are unreadable or have no frame, or replace others by them."""
     for _ in range(rng.choice([1, 1, 2])):
         at = rng.randrange(len(packets))
         count = rng.choice([1, 1, 1, 2, 3])
@@ -158,7 +157,7 @@ def insert_unreadable_packets(rng: Random, packets: list[bytearray], origin: int
 
 
 def delay_transmission(rng: Random, data: bytes, within: int, origin: int) -> bytes:
-    """Return a transmission that is late by some frames, sometimes with faults."""
+    """Return the transmission some frames late, sometimes with faults."""
     parts = split_parts(data)
     if not parts:
         return data

@@ -1,4 +1,4 @@
-"""What `packets` and `listen` print about PES packets, by the definitions: simple and slow."""
+"""Compute the lines that `packets` and `listen` must print, simply and slowly."""
 from __future__ import annotations
 
 from typing import Iterator, NamedTuple
@@ -15,21 +15,21 @@ from .rows import COLUMNS, ROWS, SPACE
 from .told import format_refused
 from .arguments import Options, parse_arguments
 
-NOT_RECEIVED = 0x3F  # code of each cell before the first page
+NOT_RECEIVED = 0x3F  # code of each cell before a page is received
 
 
 def find_end_fault(selection: Range, count: int, end_fault: int | None,
                    is_failing: bool) -> str | None:
-    """Return the line of the fault after so many items; `None` if there is none."""
+    """Return the line about the fault after `count` items, or `None` without a fault."""
     failure = find_failure_line(selection, count, end_fault, is_failing)
     return failure or (None if end_fault is None
                        else format_refused(end_fault, f"pes {selection.first + count}"))
 
 
-# `packets`
+# The command `packets`
 
 def list_unit_lines(piece: bytes) -> Iterator[str]:
-    """Yield a line for each data unit with Teletext."""
+    """Yield a line for each Teletext data unit of a PES packet."""
     units = (piece[at:at + 46] for at in range(46, len(piece), 46))
     teletext = [unit for unit in units if unit[0] in (2, 3)]
     for number, (unit, packet) in enumerate(zip(teletext, read_units(piece)[0])):
@@ -38,7 +38,7 @@ def list_unit_lines(piece: bytes) -> Iterator[str]:
 
 
 def list_packets_lines(data: bytes, options: Options, is_failing: bool) -> Iterator[str]:
-    """Yield the lines of `packets`, which stops at the first fault."""
+    """Yield the lines of `packets`; it stops at the first fault."""
     selection = select_data(data, options)
     pieces, end_fault = split_packets(selection.data)
     for pes, piece in enumerate(pieces, selection.first):
@@ -51,11 +51,10 @@ def list_packets_lines(data: bytes, options: Options, is_failing: bool) -> Itera
     yield find_end_fault(selection, len(pieces), end_fault, is_failing) or f"{len(pieces)} pes"
 
 
-# `listen`
+# The command `listen`
 
 class ListenOptions(NamedTuple):
-    """The options of `listen` alone: last frame, packets to skip, wrong bits, lost packets,
-    receiver."""
+    """The options that only `listen` has."""
 
     last: int
     skip: int
@@ -65,7 +64,7 @@ class ListenOptions(NamedTuple):
     is_complete: bool
 
     def flip_bits(self, number: int, packet: bytes) -> bytes:
-        """Return a packet with its wrong bits."""
+        """Return a packet with the bits flipped that --flip names."""
         changed = bytearray(packet)
         for which, at, bit in self.flips:
             if which == number:
@@ -86,7 +85,7 @@ def parse_listen_options(arguments: list[str]) -> ListenOptions:
 
 
 class Receiver:
-    """A receiver tuned to a page: `decoded` is its page, `shown` the one on its screen, if any."""
+    """A receiver: `decoded` is the page in its memory, `shown` the page on its screen, if any."""
 
     def __init__(self, options: Options, kind: str) -> None:
         self.page, self.kind = options.page, kind
@@ -95,7 +94,7 @@ class Receiver:
         self.shown: list[bytes] | None = None
 
     def receive(self, packet: bytes) -> None:
-        """Take a packet (EN 300 706)."""
+        """Receive a Teletext packet as EN 300 706 requires."""
         address, header = decode_address(packet), decode_header(packet)
         if header and header[0] == self.page:
             self.is_heard = self.is_open = True
@@ -109,7 +108,7 @@ class Receiver:
             self.store(address[1], packet[2:])
 
     def store(self, row: int, data: bytes) -> None:
-        """Store a row; what bytes of even parity do depends on the kind of receiver."""
+        """Store a row. The kind of receiver decides how it treats bytes with even parity."""
         if self.kind == "drop" and not all(map(is_odd, data)):
             return
         old = self.decoded[row - 1]
@@ -118,7 +117,7 @@ class Receiver:
             for at, byte in enumerate(data))
 
     def list_lines(self, is_complete: bool) -> Iterator[str]:
-        """Yield the lines printed about it."""
+        """Yield the printed lines about this receiver."""
         yield "heard yes" if self.is_heard else "heard no"
         if not self.is_heard:
             return
@@ -137,12 +136,12 @@ class Receiver:
 
 def list_receiver_lines(data: bytes, options: Options, arguments: list[str],
                         is_failing: bool) -> list[str]:
-    """Return the lines of `listen`, about a receiver or the first fault."""
+    """Return the lines of `listen`: the state of the receiver, or the first fault."""
     heard, selection = parse_listen_options(arguments), select_data(data, options)
     receiver = Receiver(options, heard.receiver)
     pieces, end_fault = split_packets(selection.data)
-    before = -1  # the frame of the PES packet before
-    number = place = 0  # of the next Teletext packet, and that of the next one in its frame
+    before = -1  # the frame of the previous PES packet
+    number = place = 0  # numbers of the next Teletext packet, in all and in its frame
     for pes, piece in enumerate(pieces, selection.first):
         sending = read_packet(piece, options.origin, options.within)
         if isinstance(sending, int):

@@ -12,7 +12,7 @@ BITS: dict[str, set[int]] = {
     "spanish": {12, 14}, "czech": {12, 13}}
 ALL_BITS = {12, 13, 14}
 
-# Bytes with the same cell in each sub-set: spacing attributes, digits, letters, symbols.
+# Bytes that give the same cell in each sub-set: spacing attributes, digits, letters, symbols.
 SAME_IN_ALL = (*range(0x01, 0x0E), 0x1C, 0x1D, *range(0x20, 0x23), *range(0x25, 0x40),
                *range(0x41, 0x5B), *range(0x61, 0x7B))
 
@@ -36,7 +36,7 @@ CELL_TEXTS = """
 
 
 def map_cells_by_option() -> dict[str, dict[bytes, int]]:
-    """Return the cell of each byte or pair of bytes, by sub-set."""
+    """Return a table from text bytes to cells for each sub-set."""
     found = {option: {bytes([code]): code for code in SAME_IN_ALL} for option in BITS}
     for line in CELL_TEXTS.split("\n")[1:-1]:
         cell, *columns = line.split()

@@ -14,7 +14,7 @@ WITHOUT_PARITY = bytes(byte & 0x7F for byte in range(256))
 
 
 class Packet(NamedTuple):
-    """A Teletext packet; `header` is `None` if it is no header, or an undecodable one."""
+    """A Teletext packet; `header` is `None` if the packet is no header or can't be decoded."""
 
     data: bytes
     address: tuple[int, int] | None
@@ -22,8 +22,7 @@ class Packet(NamedTuple):
 
 
 def find_page_span(packets: Sequence[Packet], page: Page) -> tuple[Sequence[Packet], bool]:
-    """Return the packets from the last header of the page to its end, and whether the page is open.
-    """
+    """Return the packets from the page's last header to its end, and whether the page is open."""
     begin = find_last_header(packets, page)
     if begin is None:
         return [], False
@@ -35,13 +34,13 @@ def find_page_span(packets: Sequence[Packet], page: Page) -> tuple[Sequence[Pack
 
 def find_last_header(packets: Sequence[Packet], page: Page,
                      has_to_erase: bool = False) -> int | None:
-    """Return the index of the last header of the page, or of the last one that erases it."""
+    """Return the index of the last header of the page, or of the last header that erases it."""
     return next((at for at in reversed(range(len(packets))) if get_page(packets[at]) == page
                  and (erases_page(packets[at]) or not has_to_erase)), None)
 
 
 def ends_open_page(packet: Packet, page: Page) -> bool:
-    """Return whether a packet is a header that ends an open page."""
+    """Return whether a packet is a header that closes an open page."""
     header = packet.header
     return header is not None and (header[0][0] == page[0] or SERIAL in header[1])
 
@@ -49,8 +48,8 @@ def ends_open_page(packet: Packet, page: Page) -> bool:
 def find_kept_span(packets: Sequence[Packet], page: Page, may_keep: bool) -> list[Packet]:
     """Return the packets of the page since it was last erased.
 
-    If no header erases it, start at the first header if headers may keep the page, else at the
-    last.
+    If no header erases the page, start at its first header if headers may keep the page, else at
+    its last header.
     """
     first = find_last_header(packets, page, may_keep)
     if first is None:
@@ -81,7 +80,7 @@ def is_row(packet: Packet, page: Page) -> bool:
 
 
 def read_rows(span: Sequence[Packet], page: Page) -> dict[int, bytes]:
-    """Return the codes of the first packet of each row."""
+    """Return the codes of each row, from the first packet with this row."""
     rows: dict[int, bytes] = {}
     for packet in span:
         if packet.address and is_row(packet, page) and packet.address[1] not in rows:
@@ -94,7 +93,7 @@ def get_codes(packet: Packet) -> bytes:
 
 
 class Decoded(NamedTuple):
-    """The 960 codes of a page, whether it is open, and the rows received since its last header."""
+    """A decoded page: 960 codes, whether it is open, and the rows since its last header."""
 
     page: bytes
     is_open: bool
@@ -112,28 +111,28 @@ class Decoded(NamedTuple):
 
 
 def decode(packets: Sequence[Packet], options: Options) -> Decoded:
-    """Return the page that a receiver has after the packets, if it was blank before."""
+    """Return the page that a receiver decodes from the packets, starting with a blank page."""
     span, is_open = find_page_span(packets, options.page)
     rows = read_rows(find_kept_span(packets, options.page, options.may_keep), options.page)
     return Decoded(b"".join(rows.get(row, BLANK[:COLUMNS]) for row in range(1, 25)), is_open,
                    {*read_rows(span, options.page)})
 
 
-# The rules of a packet
+# Rules for packets
 
 def is_exact(codes: bytes) -> bool:
     return all(byte in CODE_WORDS for byte in codes)
 
 
 def is_plain_subtitle_header(control: set[int], option: str) -> bool:
-    """Return whether C6 and C7 are set, C5 and C10 clear, and C12 to C14 those of the option."""
+    """Return whether C6, C7 are set, C5, C10 clear, and C12 to C14 select the national option."""
     return control >= {6, 7} and not control & {5, 10} and control & ALL_BITS == BITS[option]
 
 
 def is_repeat(packet: Packet, before: Sequence[Packet], is_open: bool, options: Options) -> bool:
     """Return whether a header may keep the page.
 
-    It must have the subcode of the previous header, and, with --complete, the page must have ended.
+    It must have the subcode of the previous header. With --complete the page must be closed too.
     """
     last = next((one for one in reversed(before) if get_page(one) == options.page), None)
     return (options.may_keep and not (options.is_complete and is_open)
@@ -141,7 +140,7 @@ def is_repeat(packet: Packet, before: Sequence[Packet], is_open: bool, options: 
 
 
 def find_packet_faults(packet: Packet, before: Sequence[Packet], options: Options) -> list[int]:
-    """Return the rules that a packet breaks after the packets before it."""
+    """Return the numbers of the rules that a packet breaks, given the packets before it."""
     address, header, page = packet.address, packet.header, options.page
     _, is_open = find_page_span(before, page)
     is_stored = is_open and is_row(packet, page)

@@ -1,8 +1,8 @@
 """Subtitle files with the lines of `check --all`, worked out by hand.
 
-They are at bounds that no test of the crates has, and that random pairs do not reach. A refused
-block is reported at its block; an accepted file is checked with an empty PES file, whose fault is
-reported. Each drawn text is checked with a transmission of exactly these cells, which is accepted.
+They test limits that neither the crates' tests nor random pairs reach. A refused file is reported
+at its block; an accepted file is checked with an empty PES file, which is refused. Each text is
+also checked with a transmission of exactly its cells, which is accepted.
 """
 from __future__ import annotations
 
@@ -17,13 +17,13 @@ from .known import replace_bytes, add_count_line
 from .one_rule import CLOSING, FIRST, HEADER
 from .reading import FIRST_BLOCK_FAULTS
 
-EBN, CS, TCI, TCO, VP, JC, CF = 3, 4, 5, 9, 13, 14, 15  # where the fields of a block begin
+EBN, CS, TCI, TCO, VP, JC, CF = 3, 4, 5, 9, 13, 14, 15  # offsets of fields in a TTI block
 
 
 def expect_refused(fault: str) -> list[str]:
-    """Return the lines of a file with this fault.
+    """Return the expected lines for a file with this fault.
 
-    If it is a fault of a subtitle's first block, the other subtitle is checked too.
+    After a fault in a subtitle's first block the other subtitle is checked too.
     """
     is_read = int(fault.split()[0]) in FIRST_BLOCK_FAULTS
     return add_count_line(f"refused {fault}", *["refused 60 Empty"] * is_read)
@@ -32,9 +32,9 @@ def expect_refused(fault: str) -> list[str]:
 # Blocks
 
 def make_file() -> bytes:
-    """Return a comment, a subtitle of two blocks with user data between them, and one of one block.
+    """Return a file with a comment, a subtitle of two blocks and user data, and another subtitle.
 
-    Of comments and user data only EBN and CF are read.
+    The program reads only EBN and CF of comments and user data.
     """
     return b"".join([
         make_gsi_block(b"One file", 99_999, 88_888),
@@ -46,7 +46,7 @@ def make_file() -> bytes:
 
 
 WHOLE = make_file()
-TWO, LAST_OF_TWO = GSI + TTI, GSI + 3 * TTI  # where the blocks of its first subtitle are
+TWO, LAST_OF_TWO = GSI + TTI, GSI + 3 * TTI  # offsets of the blocks of the first subtitle
 
 # Changed bytes and the reported fault: limits that no test of the crates has, and the first of two
 # faults in a block, in order of the checks. CS, times, VP and JC of a further block are ignored.
@@ -69,7 +69,7 @@ BLOCK_CASES: list[tuple[str, dict[int, int]]] = [
 # Texts
 
 class Line(NamedTuple):
-    """The cells of a row from a column on; the others are spaces."""
+    """Some cells of a row, beginning at a column; all other cells are spaces."""
 
     row: int
     column: int
@@ -77,17 +77,17 @@ class Line(NamedTuple):
 
 
 def make_box(cells: bytes) -> bytes:
-    """Return the cells of a line in a box."""
+    """Return the cells of a boxed line."""
     return b"\x0b\x0b" + cells + b"\x0a\x0a"
 
 
 def make_name(text: bytes, what: str) -> str:
-    """Return the name of a pair and its files."""
+    """Return a name for a pair of files."""
     return f"{text[:8].hex()} of {len(text)} bytes {what}"
 
 
 def make_text_file(text: bytes, row: int, justify: int) -> bytes:
-    """Return a file with one subtitle of one frame."""
+    """Return a subtitle file with one subtitle, which lasts one frame."""
     return make_gsi_block(b"One text", 1, 1) + make_subtitle_blocks(1, FIRST, FIRST + 1, row,
                                                                     justify, text)
 
@@ -98,26 +98,25 @@ def make_row_packet(line: Line) -> bytes:
 
 
 def make_transmission(lines: Iterable[Line]) -> bytes:
-    """Return a transmission of exactly these lines in the first frame, and a blank page in the
-    next."""
+    """Return a transmission of exactly these lines in one frame, and a blank page in the next."""
     return b"".join(make_pes_packet((FIRST + frame) * TICKS, [HEADER, *rows, CLOSING])
                     for frame, rows in enumerate((map(make_row_packet, lines), [])))
 
 
 def expect_drawn(text: bytes, row: int, justify: int, *lines: Line) -> KnownCall:
-    """Return a text with a transmission of exactly these lines."""
+    """Return a call with a text and a transmission of exactly these lines."""
     return make_known_check(make_name(text, f"drawn at row {row}, JC {justify}"),
                             make_text_file(text, row, justify), make_transmission(lines), "",
                             ["accepted 2 frames 2 transmissions"])
 
 
 def expect_refused_text(text: bytes, row: int, fault: str, at: int) -> KnownCall:
-    """Return a refused text."""
+    """Return a call with a text that is refused."""
     return make_known_check(make_name(text, f"refused at row {row}"), make_text_file(text, row, 0),
                             b"", "", expect_refused(f"{fault} block 1 at {at}"))
 
 
-FULL = b"A" * 36  # fills a row with its box
+FULL = b"A" * 36  # a text that fills a row, with its box
 DRAWN = [
     expect_drawn(b"\x80A\x81", 5, 1, Line(5, 0, make_box(b"A"))),
     expect_drawn(FULL, 5, 2, Line(5, 0, make_box(FULL))),

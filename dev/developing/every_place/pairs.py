@@ -21,14 +21,13 @@ from .late import delay_transmission
 from .national import BITS, CELLS, SAME_IN_ALL
 from .arguments import UsageFault, parse_options
 
-Schedule = Callable[[bytes, list[str]], bytes]  # subtitle file and options to transmission
+Schedule = Callable[[bytes, list[str]], bytes]  # returns a file's transmission
 OPTIONS = [*BITS]  # national options
-MAX_TRIES = 20  # to make a file with refused subtitles
+MAX_TRIES = 20  # tries to make a file with refused subtitles
 
 
 class Pair(NamedTuple):
-    """Two files and options of `check`. If `is_failing`, also try a source that fails at its end.
-    """
+    """Two files and options of `check`. If `is_failing`, reading may also fail at the end."""
 
     stl: bytes
     pes: bytes
@@ -53,8 +52,7 @@ class Subtitle(NamedTuple):
 # Subtitle files
 
 def add_letters(rng: Random, text: bytes, option: str) -> bytes:
-    """Replace some letters by those of a national option; rarely of another one, or by half a pair.
-    """
+    """Replace some letters by letters of a national option, rarely by invalid bytes."""
     if rng.random() < 0.1:
         option = rng.choice(OPTIONS)
     own = [letter for letter, cell in CELLS[option].items()
@@ -66,7 +64,7 @@ def add_letters(rng: Random, text: bytes, option: str) -> bytes:
 
 
 def make_random_text(rng: Random, row: int, option: str) -> bytes:
-    """Return lines that fit at a row, sometimes with letters of the national option."""
+    """Return text lines that fit at a row, sometimes with letters of the national option."""
     lines = []
     for _ in range(rng.choice([1, 1, 2, 3])):
         line = bytes(rng.choices(LETTERS, k=rng.randrange(1, 30)))
@@ -81,7 +79,7 @@ def make_random_text(rng: Random, row: int, option: str) -> bytes:
 
 
 def make_random_subtitles(rng: Random, option: str) -> list[Subtitle]:
-    """Return subtitles in order, at any time of the day, some of them adjacent."""
+    """Return subtitles in order of time, some of them adjacent."""
     frame = rng.choice([0, 25, 900_000, rng.randrange(FRAMES_OF_A_DAY - 2000)])
     made = []
     for _ in range(rng.choice([1, 1, 2, 3, 4, 6])):
@@ -108,7 +106,7 @@ def make_stl_file(rng: Random, subtitles: list[Subtitle]) -> bytes:
 
 
 def change_subtitle(rng: Random, subtitles: list[Subtitle], option: str) -> list[Subtitle]:
-    """Change a subtitle, so that a transmission of the original shows another page."""
+    """Change a subtitle, so that the original's transmission is wrong for it."""
     subtitles = list(subtitles)
     at = rng.randrange(len(subtitles))
     one = subtitles[at]
@@ -135,7 +133,7 @@ CODES = [0x00, 0x0B, 0x0D, 0x0E, 0x23, 0x24, 0x40, 0x5B, 0x80, 0x8A, 0x8F, 0xA7,
 
 
 def corrupt_block(rng: Random, data: bytearray, block: int) -> None:
-    """Change a byte of a block: a field, or its text."""
+    """Change a field or a text byte of a block."""
     way = rng.random()
     if way < 0.5:
         data[block + 16 + rng.randrange(20)] = rng.choice([*CODES, rng.randrange(256)])
@@ -147,7 +145,7 @@ def corrupt_block(rng: Random, data: bytearray, block: int) -> None:
 
 
 def repeat_block(rng: Random, block: bytearray) -> bytearray:
-    """Remove or repeat a block, sometimes as blocks of one subtitle."""
+    """Remove a block, or repeat it, sometimes as several blocks of one subtitle."""
     count = rng.choice([0, 2, 2, 3, 10])
     if rng.random() < 0.6:
         block[3] = rng.choice([0, 1])
@@ -157,7 +155,7 @@ def repeat_block(rng: Random, block: bytearray) -> bytearray:
 
 
 def corrupt_stl_file(rng: Random, whole: bytes) -> bytes:
-    """Change bytes, blocks or the length of a subtitle file."""
+    """Change some bytes, the blocks or the length of a subtitle file."""
     data = bytearray(whole)
     for _ in range(rng.choice([1, 1, 2, 5])):
         blocks = (len(data) - GSI) // TTI
@@ -192,7 +190,7 @@ def make_random_options(rng: Random) -> dict[str, str]:
 
 
 def change_options(rng: Random, arguments: dict[str, str]) -> dict[str, str]:
-    """Rarely change one of the options."""
+    """Return the options, rarely with a different value."""
     if rng.random() >= 0.25:
         return arguments
     name = rng.choice(["--every"] * 4 + ["--page", "--origin", "--origin", "--option"])
@@ -211,7 +209,7 @@ WRONG_NUMBERS = ["51", "x", "", "+1", "1 ", "4294967297", "00000000001"]
 
 
 def make_within_option(rng: Random, within: int) -> list[str]:
-    """Return --within with a number; rarely nothing, or no valid number."""
+    """Return --within with a number; rarely omit it, or return an invalid number."""
     if rng.random() < 0.02:
         return ["--within", rng.choice(WRONG_NUMBERS)]
     if within == 0 and rng.random() < 0.8:
@@ -221,8 +219,7 @@ def make_within_option(rng: Random, within: int) -> list[str]:
 
 def add_refused_subtitles(broadcaster_rng: Random, stl: bytes, arguments: list[str],
                           is_sure: bool) -> bytes:
-    """Return the file, sometimes with refused subtitles; always if `is_sure`, unless none can be.
-    """
+    """Return the subtitle file with refused subtitles: sometimes, or always if `is_sure`."""
     if not is_sure:
         return spoil_subtitles(broadcaster_rng, stl) if broadcaster_rng.random() < 0.15 else stl
     for _ in range(MAX_TRIES):
@@ -235,7 +232,7 @@ def add_refused_subtitles(broadcaster_rng: Random, stl: bytes, arguments: list[s
 
 def make_random_pair(seed: int, schedule: Schedule, is_refused: bool = False,
                      keeps_pages: bool = False) -> Pair:
-    """Return a random pair; on request with refused subtitles, or headers that keep the page.
+    """Return a random pair, on request with refused subtitles or headers that keep the page.
 
     `schedule` returns the transmission of a subtitle file.
     """
@@ -251,7 +248,7 @@ def make_random_pair(seed: int, schedule: Schedule, is_refused: bool = False,
     stl = mark_as_open(stl, broadcaster_rng) if flags else stl
     mode = rng.choice(modes)
     pes = schedule(stl, [*list_arguments(arguments), *draw_page, *part, *flags, *mode])
-    if not pes:  # these options send nothing
+    if not pes:  # with these options nothing is sent
         draw_page = part = []
         pes = schedule(stl, [*list_arguments(arguments), *flags, *mode])
     if keeps := keeps_pages or broadcaster_rng.random() < 0.2:
@@ -262,7 +259,7 @@ def make_random_pair(seed: int, schedule: Schedule, is_refused: bool = False,
         pes = delay_transmission(rng, pes, within or rng.randrange(3), int(arguments["--origin"]))
         if rng.random() < 0.7:
             arguments["--every"] = str(int(arguments["--every"]) + within)
-    # Late pairs, kept pages and refused files often have no other fault.
+    # Pairs with late pages, kept pages or refused subtitles often get no other fault.
     is_broken = not (is_late or is_refused or keeps and broadcaster_rng.random() < 0.6) \
         or rng.random() < 0.4
     if is_broken and rng.random() < 0.3:

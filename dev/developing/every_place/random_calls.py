@@ -15,8 +15,8 @@ from .recordings import SIZES
 from .streams import make_random_stream
 from .arguments import UsageFault, parse_options
 
-MAX_PACKETS = 40  # PES packets of a stream
-MAX_BYTES = 65_535  # of a stream whose end may fail: it is read in one step
+MAX_PACKETS = 40  # most PES packets in a stream
+MAX_BYTES = 65_535  # size of a stream that is read at once, so that only its end can fail
 LISTEN_OPTIONS = ("--page", "--origin", "--within")  # options that `listen` has too
 
 
@@ -28,7 +28,7 @@ def format_pid(rng: Random, pid: int) -> str:
 
 
 def make_range_options(rng: Random, count: int) -> list[str]:
-    """Return a range of PES packets, usually none, rarely an invalid one."""
+    """Return --pes with a range, usually nothing, rarely an invalid range."""
     way = rng.random()
     if way < 0.6:
         return []
@@ -40,7 +40,7 @@ def make_range_options(rng: Random, count: int) -> list[str]:
 
 
 def make_recording_options(rng: Random, pid: int, size: int, count: int) -> list[str]:
-    """Return the options of a recording, rarely with another PID or packet size."""
+    """Return the options for a recording, rarely with a wrong PID or packet size."""
     asked = pid ^ 1 if rng.random() < 0.03 else pid
     arguments = ["--pid", format_pid(rng, asked)]
     if size != SIZES[0] or rng.random() < 0.2:
@@ -50,14 +50,14 @@ def make_recording_options(rng: Random, pid: int, size: int, count: int) -> list
 
 
 def make_bit_flips(rng: Random, count: int) -> str:
-    """Return some wrong bits, at most one in a byte."""
+    """Return a value of --flip: some wrong bits, at most one in a byte."""
     places = {(rng.randrange(count + 2), rng.choice([0, 5, 20, rng.randrange(42)]))
               for _ in range(rng.randrange(1, 9))}
     return ",".join(f"{packet}:{byte}:{rng.randrange(1, 9)}" for packet, byte in sorted(places))
 
 
 def make_listen_options(rng: Random, arguments: list[str], packets: list[bytes]) -> list[str]:
-    """Return options of `listen`: a time near a PES packet, wrong bits, lost packets."""
+    """Return options of `listen`: a time near a PES packet, wrong bits and lost packets."""
     frames = [0]
     with contextlib.suppress(UsageFault):
         options = parse_options(arguments)
@@ -79,14 +79,14 @@ def make_listen_options(rng: Random, arguments: list[str], packets: list[bytes])
 
 
 def make_accepted_pair(rng: Random, schedule: Schedule) -> Pair:
-    """Return a subtitle file with its accepted transmission."""
+    """Return a subtitle file with a transmission that is accepted."""
     arguments = make_random_options(rng)
     stl = make_stl_file(rng, make_random_subtitles(rng, arguments["--option"]))
     return Pair(stl, schedule(stl, list_arguments(arguments)), list_arguments(arguments))
 
 
 def make_random_calls(seed: int, schedule: Schedule, keeps_pages: bool = False) -> list[Call]:
-    """Return random calls on a stream with a random transmission; on request headers keep the page.
+    """Return random calls on a stream with a random transmission.
 
     `schedule` returns the transmission of a subtitle file.
     """

@@ -1,8 +1,8 @@
-"""Parse subtitle files, PES packets and page headers as the standards say, and find their faults.
+"""Parse subtitle files, PES packets and page headers by the standards, and find their faults.
 
 EBU Tech 3264 is for subtitle files, EN 300 472 for PES packets, EN 300 706 for Teletext packets,
-docs/manual/reference.md for limits. Fault numbers are those of the manual's tables. Nothing here
-was written from the program's sources.
+docs/manual/reference.md for limits. Fault numbers are the numbers in the manual's tables. Nothing
+here was written from the program's sources.
 """
 from __future__ import annotations
 
@@ -14,18 +14,17 @@ from subtitles.formats.stl import GSI, LAST, TTI, USER_DATA
 from subtitles.formats.teletext import NUMBER, Page
 
 HEAD = 6  # bytes of a PES packet up to the end of PES_packet_length
-CUT, START, LENGTH = 30, 31, 32  # faults of bytes that are not a PES packet
+CUT, START, LENGTH = 30, 31, 32  # fault numbers for bytes that are no PES packet
 MAX_BLOCKS, MAX_SUBTITLE_BLOCKS, MAX_PES_PACKETS = 99_999, 9, 2_160_000
 
-ReadPacket = tuple[int, list[bytes]]  # a readable PES packet: its frame, its Teletext packets
-Header = tuple[Page, set[int]]  # a header's page, and which control bits of C4 to C14 are set
+ReadPacket = tuple[int, list[bytes]]  # the frame and the Teletext packets of a readable PES packet
+Header = tuple[Page, set[int]]  # the page of a header, and its control bits C4 to C14 that are set
 
 
 class Record(NamedTuple):
     """A subtitle, from its TTI blocks.
 
-    `block` is the number of its last block, `text` its text fields before their unused space,
-    joined.
+    `block` is the number of its last block. `text` joins its text fields without unused space.
     """
 
     block: int
@@ -43,12 +42,12 @@ class StlFault(NamedTuple):
     block: int
 
 
-# Faults of fields in a subtitle's first block: CS, JC, VP, TCI and TCO.
+# Numbers of faults in a subtitle's first block: CS, JC, VP, TCI and TCO.
 FIRST_BLOCK_FAULTS = {16, 18, 19, 20, 21}
 
 
 class OutsideSubtitle(NamedTuple):
-    """A subtitle outside of the requested part, by the number of its last block: it is skipped."""
+    """A skipped subtitle outside of the requested part: the number of its last block."""
 
     block: int
 
@@ -82,7 +81,7 @@ def find_first_block_fault(block: bytes) -> int | None:
 def find_block_fault(block: bytes, group: list[bytes], is_outside: bool) -> int | None:
     """Return the fault of a block after the blocks `group` of its subtitle, if any.
 
-    Skipped blocks, user data and comments, have none.
+    User data and comments are skipped, and have no fault.
     """
     extension, comment = block[3], block[15]
     if extension == USER_DATA:
@@ -105,7 +104,7 @@ def make_record(group: list[bytes], number: int) -> Record:
     head = group[0]
     text = b"".join(block[16:].partition(b"\x8f")[0] for block in group)
     tci, tco = frame_of_code(head[5:9]), frame_of_code(head[9:13])
-    assert tci is not None and tco is not None  # else its first block has a fault
+    assert tci is not None and tco is not None  # otherwise the first block has a fault
     return Record(number, tci, tco, head[13], head[14], text)
 
 
@@ -113,8 +112,8 @@ def read_subtitles(data: bytes, accepts_open: bool = False, begin: int = 0,
                    end: int = FRAMES_OF_A_DAY ) -> Iterator[Record | StlFault | OutsideSubtitle]:
     """Yield the subtitles of a file and its faults, by block.
 
-    After a fault of OF_FIRST_BLOCK the subtitle is no record, and reading goes on; any other fault
-    is the last. A subtitle is in the requested part if its TCI is from `begin` on and before `end`,
+    After a fault in FIRST_BLOCK_FAULTS reading continues with the next subtitle; any other fault is
+    the last. A subtitle is in the requested part if its TCI is from `begin` on and before `end`,
     or is not a time.
     """
     number = find_gsi_fault(data, accepts_open)
@@ -152,17 +151,17 @@ def read_subtitles(data: bytes, accepts_open: bool = False, begin: int = 0,
 # PES packets
 
 def is_valid_pts(field: bytes) -> bool:
-    """Return whether five bytes are a PTS: 0010, and the marker bits between its parts."""
+    """Return whether five bytes are a PTS: they begin with 0010 and have all marker bits."""
     return field[0] >> 4 == 2 and field[0] & field[2] & field[4] & 1 == 1
 
 
 def is_gap_marker(packet: bytes) -> bool:
-    """Return whether all bytes after the length are FF: such a packet marks lost PES packets."""
+    """Return whether all bytes after the length are FF, as in a gap marker for lost PES packets."""
     return packet[6:] == b"\xff" * len(packet[6:])
 
 
 def find_head_fault(packet: bytes) -> int | None:
-    """Return the fault of a complete packet before its data units, if any."""
+    """Return the fault of a complete PES packet before its data units, if any."""
     questions = [(45, not is_gap_marker(packet)), (33, packet[6] >> 4 == 8),
                  (34, packet[7] >> 6 == 2), (35, packet[8] == 0x24),
                  (36, is_valid_pts(packet[9:14])), (37, 0x10 <= packet[45] <= 0x1F)]
@@ -170,7 +169,7 @@ def find_head_fault(packet: bytes) -> int | None:
 
 
 def find_unit_fault(unit: bytes, last_line: tuple[int, int]) -> int | None:
-    """Return the fault of a data unit after a line of the field, if any."""
+    """Return the fault of a data unit after `last_line`, if any."""
     if unit[1] != 0x2C:
         return 38
     if unit[0] not in (2, 3):
@@ -181,13 +180,12 @@ def find_unit_fault(unit: bytes, last_line: tuple[int, int]) -> int | None:
 
 
 def get_line(unit: bytes) -> tuple[int, int]:
-    """Return the field and line of a data unit, in ascending order; the first field has the bit
-    set."""
+    """Return the field (0 for the first) and the line of a data unit."""
     return (0 if unit[2] & 32 else 1, unit[2] & 31)
 
 
 def read_units(packet: bytes) -> tuple[list[bytes], int | None]:
-    """Return the Teletext packets of the data units, and the fault of one, if any."""
+    """Return the Teletext packets of the data units, and the first fault of a unit, if any."""
     packets: list[bytes] = []
     last_line = 0, 0
     for at in range(46, len(packet), 46):
@@ -203,9 +201,9 @@ def read_units(packet: bytes) -> tuple[list[bytes], int | None]:
 
 
 def read_length(data: bytes, begin: int = 0) -> int | None:
-    """Return the length of the PES packet that begins there, 184 bytes or more.
+    """Return the length in bytes of the PES packet at an offset, at least 184.
 
-    Return 31 or 32 for another start or length, `None` if six bytes are missing.
+    Return fault 31 for a wrong start, 32 for a wrong length, and `None` if bytes are missing.
     """
     head = data[begin:begin + HEAD]
     if len(head) < HEAD:
@@ -217,7 +215,7 @@ def read_length(data: bytes, begin: int = 0) -> int | None:
 
 
 def read_packet_at(data: bytes, begin: int) -> bytes | int:
-    """Return the PES packet that begins there, or a fault."""
+    """Return the PES packet at an offset, or a fault."""
     length = read_length(data, begin)
     if length is None or length in (START, LENGTH):
         return length or CUT
@@ -226,8 +224,7 @@ def read_packet_at(data: bytes, begin: int) -> bytes | int:
 
 
 def split_packets(data: bytes) -> tuple[list[bytes], int | None]:
-    """Return the PES packets and gap markers at the start of a file, and the fault of the bytes
-    after them."""
+    """Return the PES packets and gap markers of a file, and the fault of the remaining bytes."""
     found: list[bytes] = []
     begin = 0
     while begin < len(data):
@@ -240,8 +237,7 @@ def split_packets(data: bytes) -> tuple[list[bytes], int | None]:
 
 
 def find_frame(pts: int, origin: int) -> int | None:
-    """Return the frame of the day of a PTS up to a quarter frame early or less than three quarters
-    late."""
+    """Return the frame of a PTS that is up to 1/4 frame early or less than 3/4 frame late."""
     frame = (pts - origin + TICKS // 4) % CLOCK // TICKS
     return frame if frame < FRAMES_OF_A_DAY else None
 
@@ -267,7 +263,7 @@ def decode_subcode(packet: bytes) -> tuple[int, ...]:
 
 
 def decode_header(packet: bytes) -> Header | None:
-    """Return the page and control bits of a corrected packet X/0, `None` for other packets."""
+    """Return the page and control bits of a page header, `None` for other packets."""
     address = decode_address(packet)
     numbers = [number for number in map(NUMBER.__getitem__, packet[2:10]) if number is not None]
     if address is None or address[1] != 0 or len(numbers) < 8:

@@ -1,12 +1,14 @@
-"""Transport streams and ranges of PES packets that no test of the crates has, with the output
-worked out by hand."""
+"""Calls on transport streams and PES ranges, with output worked out by hand.
+
+No test of the crates has these cases.
+"""
 from __future__ import annotations
 
 from .calls import Answer, Call, KnownCall
 from .known import HELLO, SENT, replace_bytes
 from .recordings import GAP_MARKER
 
-TIME, LATER = "10:00:00:00", "10:00:02:00"  # of the two PES packets of SENT
+TIME, LATER = "10:00:00:00", "10:00:02:00"  # starts of the two PES packets in SENT
 ACCEPTED = "accepted 51 frames 2 transmissions"
 LOST = "refused 45 Lost pes 1"
 PID = "--pid 257"
@@ -14,29 +16,29 @@ PID = "--pid 257"
 FIRST, SECOND = SENT[:184], SENT[184:]
 X0, X1 = b"\x47\x41\x01\x10" + FIRST, b"\x47\x41\x01\x11" + SECOND
 NULL = b"\x47\x1f\xff\x10" + b"\xff" * 184
-# A packet of the PID without payload that announces a jump.
+# A packet of the PID that has no payload and announces a jump of the continuity counter.
 JUMP = b"\x47\x01\x01\x20\xb7\x80" + b"\0" * 182
 
 
 def set_counter(packet: bytes, counter: int) -> bytes:
-    """Return the packet with this counter."""
+    """Return the TS packet with this continuity counter."""
     return replace_bytes(packet, {3: packet[3] & 0xF0 | counter})
 
 
 def make_adaptation_packet(packet: bytes, payload: bytes, flags: int = 0) -> bytes:
-    """Return the packet with an adaptation field, followed by this payload."""
+    """Return the TS packet with an adaptation field before this payload."""
     length = 183 - len(payload)
     field = bytes([length, flags] + [0] * length)[:length + 1]
     return packet[:3] + bytes([packet[3] | 0x20]) + field + payload
 
 
 def make_first_packet(counter: int, flags: int = 0) -> bytes:
-    """Return a first packet of X1's PES packet."""
+    """Return a TS packet with the first half of X1's PES packet."""
     return make_adaptation_packet(set_counter(X1, counter), SECOND[:100], flags)
 
 
 def make_second_packet(counter: int) -> bytes:
-    """Return the packet after it."""
+    """Return the TS packet with the second half of X1's PES packet."""
     return replace_bytes(make_adaptation_packet(set_counter(X1, counter), SECOND[100:]), {1: 0x01})
 
 

@@ -1,9 +1,8 @@
-"""Read the PES packets of a transport stream, by the definitions: simple and slow.
+"""Read the PES packets of a transport stream, simply and slowly.
 
 A recording is a transport stream (ISO/IEC 13818-1): packets of 188 bytes, every 188, 192 or 204
-bytes. The payloads of a PID are cut into parts, each a PES packet or a fragment. A gap marker,
-which is no valid PES packet, replaces anything missing. The whole stream is examined before any
-result.
+bytes. The payloads of a PID are cut into parts, each a PES packet or a fragment. A gap marker, an
+invalid PES packet, replaces missing PES packets.
 """
 from __future__ import annotations
 
@@ -13,23 +12,23 @@ from .reading import HEAD, LENGTH, START, read_length, read_packet_at
 
 SYNC = 0x47
 PACKET = 188
-SIZES = PACKET, 192, 204  # distances of packets
-TIME_STAMP = 4  # bytes before each packet if the distance is 192
-MAX_PACKET_BYTES = 2**48  # more are not read
-MAX_UNSEEN_PACKETS = 15  # packets: more skipped bytes may hide a complete turn of the counter
+SIZES = PACKET, 192, 204  # possible packet sizes in bytes
+TIME_STAMP = 4  # bytes before each packet if the packet size is 192
+MAX_RECORDING_BYTES = 2**48  # largest number of bytes that are read
+MAX_UNSEEN_PACKETS = 15  # packets: the counter may wrap in more skipped bytes
 GAP_MARKER = b"\0\0\1\xbd\0\xb2" + b"\xff" * 178  # gap marker
 
 
 # Packets
 
 class Skipped(NamedTuple):
-    """Consecutive bytes outside of any packet."""
+    """Consecutive bytes between packets."""
 
     length: int
 
 
 class TransportPacket:
-    """A packet (2.4.3.2), from its 188 bytes."""
+    """A transport packet of 188 bytes (ISO/IEC 13818-1, 2.4.3.2)."""
 
     def __init__(self, data: bytes) -> None:
         self.data = data
@@ -50,10 +49,10 @@ class TransportPacket:
 def find_packets(data: bytes, size: int) -> Iterator[TransportPacket | Skipped]:
     """Yield the packets of a stream, and the bytes skipped between them.
 
-    After each packet the next one is expected at its distance; otherwise two sync bytes that far
-    apart are searched.
+    The next packet is expected one packet size later. If it is not there, search for two sync bytes
+    at this distance.
     """
-    data = data[:MAX_PACKET_BYTES]
+    data = data[:MAX_RECORDING_BYTES]
     place = TIME_STAMP if size == 192 else 0
     is_in_step, skipped = True, 0
     while len(data) - place >= PACKET:
@@ -76,13 +75,12 @@ def find_packets(data: bytes, size: int) -> Iterator[TransportPacket | Skipped]:
         yield Skipped(skipped)
 
 
-# Good packets of a PID
+# Intact packets of a PID
 
 class GoodPacket(NamedTuple):
-    """An intact packet, and what precedes it.
+    """An intact packet, and how it follows the intact packet before it.
 
-    A break means that packets may be missing; a seam is an announced jump of the counter, with
-    nothing missing.
+    After a break packets may be missing; at an announced jump of the counter no packet is missing.
     """
 
     packet: TransportPacket
@@ -91,7 +89,7 @@ class GoodPacket(NamedTuple):
 
 
 class Stretch:
-    """The packets between an intact packet and the next one."""
+    """The packets between two intact packets."""
 
     def __init__(self, before: TransportPacket | None) -> None:
         self.before = before
@@ -100,7 +98,7 @@ class Stretch:
     def is_repeat(self, packet: TransportPacket) -> bool:
         """Return whether a packet is the first duplicate (2.4.3.3) of the one before.
 
-        It must not announce a jump that the one before did not.
+        A packet that announces a new jump is no duplicate.
         """
         before = self.before
         return before is not None and not self.has_repeat and not self.has_jump \
@@ -108,7 +106,7 @@ class Stretch:
             and (before.announces_jump or not packet.announces_jump)
 
     def make_good_packet(self, packet: TransportPacket) -> GoodPacket:
-        """Return the intact packet that ends the stretch."""
+        """Return the next intact packet, which ends the stretch."""
         if self.before is None:
             return GoodPacket(packet, False, False)
         is_announced = self.has_jump or packet.announces_jump
@@ -141,24 +139,24 @@ def find_good_packets(data: bytes, pid: int, size: int) -> tuple[list[GoodPacket
 # Parts
 
 class Part:
-    """Intact packets that belong together; the first one may begin a PES packet."""
+    """Consecutive intact packets; a PES packet may begin in the first."""
 
     def __init__(self, packets: list[GoodPacket]) -> None:
         self.has_break = packets[0].is_break
         payloads = [one.packet.payload for one in packets]
         self.payload = b"".join(payloads)
         found = read_length(self.payload) if packets[0].packet.begins else None
-        # The fault of the PES packet's first six bytes, or its length; `None` if unknown.
+        # The length of the PES packet, or the fault of its first six bytes; `None` if unknown.
         self.wrong_head = found if found in (START, LENGTH) else None
         self.length = None if self.wrong_head else found
         self.is_whole = self.length is not None and len(self.payload) >= self.length
-        self.head = b""  # payloads up to the one with the sixth byte
+        self.head = b""  # number of payloads that contain the first six bytes
         for payload in payloads:
             self.head += payload if len(self.head) < HEAD else b""
 
 
 def cut_parts(good_packets: list[GoodPacket]) -> list[Part]:
-    """Cut intact packets at each start of a PES packet, each break and each seam."""
+    """Split intact packets at each start of a PES packet, each break and each announced jump."""
     parts: list[list[GoodPacket]] = []
     for one in good_packets:
         if not parts or one.packet.begins or one.is_break or one.is_announced_jump:
@@ -167,10 +165,10 @@ def cut_parts(good_packets: list[GoodPacket]) -> list[Part]:
     return [Part(packets) for packets in parts]
 
 
-# What is carried
+# Contents of a stream
 
 class StreamContent(NamedTuple):
-    """The PES packets and gap markers of a stream, and which are markers.
+    """The PES packets and gap markers of a stream, and which of them are gap markers.
 
     `rest` and `end_fault` are the part with another start or length, and its fault.
     """
@@ -186,7 +184,7 @@ class StreamContent(NamedTuple):
 
 
 def read_stream(data: bytes, pid: int, size: int) -> StreamContent:
-    """Return the PES packets of a PID, with a gap marker after each one that a gap follows."""
+    """Return the PES packets of a PID, with a gap marker wherever packets may be missing."""
     good_packets, is_wrong_last = find_good_packets(data, pid, size)
     parts = cut_parts(good_packets)
     pieces: list[bytes] = []
@@ -215,22 +213,21 @@ def read_stream(data: bytes, pid: int, size: int) -> StreamContent:
     return StreamContent(pieces, marks, b"", None)
 
 
-# A range of it
+# Ranges of PES packets
 
 class Range(NamedTuple):
     """A range of PES packets and gap markers, and the index of the first.
 
-    The data include the bytes after the last one, if the end was reached.
+    If the range reaches the end, the data include the bytes after the last PES packet.
     """
 
     data: bytes
     first: int
-    is_end: bool  # the end of the data was reached
+    is_end: bool  # the range reaches the end of the data
 
 
 def select_range(data: bytes, first: int, last: int | None) -> Range:
-    """Return the items from `first` to `last`, `None` for no end, and the rest if no item follows.
-    """
+    """Return the items from `first` to `last`; if `last` is `None`, up to the end of the data."""
     place, count, begin = 0, 0, 0
     while last is None or count <= last:
         if count == first:

@@ -1,8 +1,8 @@
-"""Make random transport streams: a multiplexer's output, with losses, and with worse faults.
+"""Make random transport streams: the output of a multiplexer, with losses and other faults.
 
-`multiplex` sends PES packets as a multiplexer may. `lose_units` removes and corrupts units, as
-in a recording that lost packets. `make_random_stream` also repeats, moves and changes units,
-inserts bytes and cuts the ends.
+`multiplex` sends PES packets as a multiplexer does. `lose_units` removes and corrupts units as in a
+recording that lost packets. `make_random_stream` also repeats, moves and changes units, inserts
+bytes and cuts the ends.
 """
 from __future__ import annotations
 
@@ -11,15 +11,15 @@ from typing import NamedTuple
 
 from .recordings import PACKET, SYNC, TIME_STAMP, MAX_UNSEEN_PACKETS
 
-MOST = 184  # bytes of payload of a packet
-JUMP, BEGINS, WRONG = 0x80, 0x40, 0x80  # bits of b5, b1 and b1
+MOST = 184  # largest payload of a packet in bytes
+JUMP, BEGINS, WRONG = 0x80, 0x40, 0x80  # bits of bytes 5, 1 and 1 of a packet
 NULL_PID = 0x1FFF
 
 
 class Unit(NamedTuple):
-    """A packet of a stream.
+    """A TS packet of a random stream.
 
-    For the PID it has the number of its PES packet, and its own among packets with a payload.
+    Packets of the PID have the number of their PES packet; if they have a payload, also their own.
     """
 
     packet: bytes
@@ -28,12 +28,12 @@ class Unit(NamedTuple):
 
     @property
     def is_wrong(self) -> bool:
-        """Return whether it was corrupted."""
+        """Return whether this unit was corrupted."""
         return bool(self.packet[1] & WRONG or self.packet[3] & 0xC0)
 
 
 def make_random_bytes(rng: Random, count: int) -> bytes:
-    """Return bytes, many of them with a meaning to a reader."""
+    """Return random bytes, often with values that mean something to a reader."""
     if rng.random() < 0.5:
         return bytes([rng.choice([0, 0xFF, SYNC])]) * count
     return bytes(rng.choices([0, 1, 0x47, 0xBD, 0xFF, *range(256)], k=count))
@@ -42,7 +42,7 @@ def make_random_bytes(rng: Random, count: int) -> bytes:
 # Packets
 
 def make_adaptation_field(rng: Random, length: int, is_jump: bool) -> bytes:
-    """Return an adaptation field of this length; a jump needs one byte."""
+    """Return an adaptation field of this length; announcing a jump needs at least one byte."""
     if length == 0:
         return b"\0"
     flags = rng.choice([0, 0, 0x40, 0x10]) | JUMP * is_jump
@@ -51,7 +51,7 @@ def make_adaptation_field(rng: Random, length: int, is_jump: bool) -> bytes:
 
 def make_packet(rng: Random, pid: int, counter: int, payload: bytes, begins: bool = False,
                 is_jump: bool = False) -> bytes:
-    """Return a packet with a payload; a short one is after an adaptation field."""
+    """Return a packet with a payload; an adaptation field precedes a short payload."""
     field = b""
     if len(payload) < MOST:
         field = make_adaptation_field(rng, MOST - 1 - len(payload), is_jump)
@@ -62,13 +62,13 @@ def make_packet(rng: Random, pid: int, counter: int, payload: bytes, begins: boo
 
 
 def make_packet_without_payload(rng: Random, pid: int, is_jump: bool) -> bytes:
-    """Return a packet with an adaptation field alone; its counter may be anything."""
+    """Return a packet that has only an adaptation field, and a random counter."""
     head = bytes([SYNC, pid >> 8, pid & 255, rng.randrange(16) | 0x20])
     return head + make_adaptation_field(rng, MOST - 1, is_jump)
 
 
 def make_packet_of_other_pid(rng: Random, pid: int) -> bytes:
-    """Return a packet of another PID, of any form."""
+    """Return a random packet of another PID."""
     other = rng.choice([NULL_PID, pid ^ 1, pid ^ 0x1000, rng.randrange(0x2000)])
     if other == pid:
         other ^= 1
@@ -80,7 +80,7 @@ def make_packet_of_other_pid(rng: Random, pid: int) -> bytes:
 # A multiplexer
 
 class Multiplexer:
-    """Sends the PES packets of a PID. The counter may jump between two of them, if announced."""
+    """A sender of the PES packets of a PID. The counter may jump between two, if announced."""
 
     def __init__(self, rng: Random, pid: int, has_jumps: bool) -> None:
         self.rng, self.pid, self.has_jumps = rng, pid, has_jumps
@@ -91,14 +91,14 @@ class Multiplexer:
         self.empty = rng.choice([0.0, 0.1, 0.3])
 
     def send_other_packets(self, pes: int | None) -> None:
-        """Send packets of other PIDs, and those of this one without a payload."""
+        """Send packets of other PIDs, and packets of this PID without a payload."""
         while self.rng.random() < self.others:
             self.units.append(Unit(make_packet_of_other_pid(self.rng, self.pid)))
         while self.rng.random() < self.empty:
             self.units.append(Unit(make_packet_without_payload(self.rng, self.pid, False), pes))
 
     def announce_jump(self, pes: int) -> bool:
-        """Sometimes announce a jump; return whether the next packet must announce it."""
+        """Sometimes announce a counter jump; return whether the next packet must do so too."""
         if not self.has_jumps or self.rng.random() < 0.6:
             return False
         self.counter = self.rng.choice([self.counter, self.rng.randrange(16)])
@@ -124,7 +124,7 @@ class Multiplexer:
             for turn in range(times):
                 made = make_packet(rng, self.pid, self.counter, payload, place == 0,
                                    is_jump and place == 0 and (turn == 0 or rng.random() < 0.7))
-                if turn:  # b1 to b3 are those of the first one
+                if turn:  # bytes 1 to 3 equal those of the original packet
                     made = self.get_last_packet(pes)[:4] + made[4:]
                 self.units.append(Unit(made, pes, self.number))
                 self.send_other_packets(pes)
@@ -139,7 +139,7 @@ class Multiplexer:
 
 
 def multiplex(rng: Random, packets: list[bytes], pid: int, has_jumps: bool) -> list[Unit]:
-    """Return PES packets as a multiplexer sends them."""
+    """Return PES packets as TS packets in the order of a multiplexer."""
     sender = Multiplexer(rng, pid, has_jumps)
     for number, data in enumerate(packets):
         sender.send(number, data)
@@ -148,8 +148,7 @@ def multiplex(rng: Random, packets: list[bytes], pid: int, has_jumps: bool) -> l
 
 
 def join_units(rng: Random, units: list[Unit], size: int) -> bytes:
-    """Return the bytes of units, with a time stamp before or 16 bytes after each; the last may lack
-    them."""
+    """Return the bytes of units, with time stamps for size 192 or 16 more bytes for 204."""
     before, behind = (TIME_STAMP, 0) if size == 192 else (0, size - PACKET)
     data = b"".join(make_random_bytes(rng, before) + one.packet + make_random_bytes(rng, behind)
                     for one in units)
@@ -159,7 +158,7 @@ def join_units(rng: Random, units: list[Unit], size: int) -> bytes:
 # Losses
 
 def corrupt_unit(rng: Random, unit: Unit) -> Unit:
-    """Return the unit with a bit that says that it is corrupt."""
+    """Return the unit with transport_error_indicator or scrambling bits set."""
     changed = bytearray(unit.packet)
     at, bits = rng.choice([(1, WRONG), (3, 0x40), (3, 0x80), (3, 0xC0)])
     changed[at] |= bits
@@ -167,7 +166,7 @@ def corrupt_unit(rng: Random, unit: Unit) -> Unit:
 
 
 def lose_units(rng: Random, units: list[Unit]) -> list[Unit]:
-    """Remove and corrupt units of the PID, fewer than 15 in a row with a payload."""
+    """Remove and corrupt units of the PID, but fewer than 15 consecutive units with a payload."""
     lost = rng.choice([0.02, 0.1, 0.4, 0.8])
     wrong = rng.choice([0.0, 0.0, 0.05, 0.3])
     made: list[Unit] = []
@@ -190,25 +189,25 @@ def lose_units(rng: Random, units: list[Unit]) -> list[Unit]:
 
 
 def gone(number: int, kept: set[int]) -> bool:
-    """Return whether too many packets in a row would be lost with this one."""
+    """Return whether losing this packet too would lose too many consecutive packets."""
     return number >= MAX_UNSEEN_PACKETS - 1 and kept.isdisjoint(range(number - MAX_UNSEEN_PACKETS +
                                                                       1, number + 1))
 
 
-# Worse
+# Worse faults
 
-# Changes of a unit, and their weights.
+# Kinds of changes to units; a frequent kind occurs several times.
 CHANGES = ["leave out", "leave out", "leave out", "again", "again", "wrong", "wrong", "head",
            "head", "head", "length", "jump", "jump", "counters", "payload", "bytes", "bytes"]
 
 
 def is_packet(unit: Unit) -> bool:
-    """Return whether a unit is a packet, not bytes between packets."""
+    """Return whether a unit is a packet instead of bytes between packets."""
     return len(unit.packet) == PACKET
 
 
 def choose_packet(rng: Random, units: list[Unit]) -> int:
-    """Return the index of a packet, usually of the PID."""
+    """Return the index of a random packet, usually of the PID."""
     places = [at for at, one in enumerate(units) if one.pes is not None]
     if places and rng.random() < 0.9:
         return rng.choice(places)
@@ -218,7 +217,7 @@ def choose_packet(rng: Random, units: list[Unit]) -> int:
 def change_units(rng: Random, units: list[Unit], size: int) -> None:
     """Make a random change to the units."""
     way = rng.choice(CHANGES)
-    if way == "bytes":  # between two units: few, a packet's, or so many that packets may be there
+    if way == "bytes":  # a few bytes between two units, or enough to hide packets
         unseen = MAX_UNSEEN_PACKETS * size
         count = rng.choice([1, 5, 187, 188, size, *[unseen - 1, unseen] * 3, 15 * 188, 3000])
         units.insert(choose_packet(rng, units), Unit(make_random_bytes(rng, count)))
@@ -228,20 +227,20 @@ def change_units(rng: Random, units: list[Unit], size: int) -> None:
     if way == "leave out":
         del units[at:at + rng.choice([1, 1, 2, 3, 14, 15, 16])]
         return
-    if way == "again":  # once or twice more, at once or a few units later
+    if way == "again":  # repeat the unit once or twice, immediately or a few units later
         for _ in range(rng.choice([1, 1, 2])):
             units.insert(min(at + rng.choice([1, 1, 1, 2, 3]), len(units)), units[at])
         return
     if way == "wrong":
         changed = bytearray(corrupt_unit(rng, units[at]).packet)
-    elif way == "head":  # another bit there, or in the first bytes behind it
+    elif way == "head":  # flip a bit of the packet header or of the first bytes behind it
         changed[rng.choice([0, 1, 1, 2, 3, 3, 3, 3, 4, 5, 5, 6, 7, 8, 9])] ^= \
             1 << rng.randrange(8)
-    elif way == "length":  # of an adaptation field, up to more than there are bytes
+    elif way == "length":  # change the length of an adaptation field, also to one that is too long
         changed[3] |= 0x20
         changed[4] = rng.choice([0, 1, 7, 181, 182, 183, 184, 255])
         changed[5] = rng.choice([0, 0, JUMP, 0xFF])
-    elif way == "payload":  # other bytes at the end of a packet, or fewer or more of them there
+    elif way == "payload":  # change bytes at the end of a packet, or remove or add some there
         count = rng.choice([1, 16, 100])
         changed[-count:] = make_random_bytes(rng, count)
     units[at] = units[at]._replace(packet=bytes(changed))
@@ -252,7 +251,7 @@ def change_units(rng: Random, units: list[Unit], size: int) -> None:
 
 
 def insert_jump(rng: Random, units: list[Unit], at: int) -> None:
-    """Announce a jump anywhere, in a packet of any PID."""
+    """Insert a packet without payload that announces a jump."""
     one = bytearray(make_packet_without_payload(rng, 0, True))
     one[1] |= units[at].packet[1] & 0x1F
     one[2] = units[at].packet[2]
@@ -262,7 +261,7 @@ def insert_jump(rng: Random, units: list[Unit], at: int) -> None:
 
 
 def move_counters(rng: Random, units: list[Unit], at: int) -> None:
-    """Change the counters from a unit on, with or without an announcement."""
+    """Shift all counters from a unit on, with or without announcing the jump."""
     more = rng.randrange(1, 16)
     for place in filter(lambda place: is_packet(units[place]), range(at, len(units))):
         changed = bytearray(units[place].packet)
@@ -273,7 +272,7 @@ def move_counters(rng: Random, units: list[Unit], at: int) -> None:
 
 
 def make_random_stream(rng: Random, packets: list[bytes], pid: int, size: int) -> bytes:
-    """Return a multiplexer's stream with losses and random changes."""
+    """Return the stream of a multiplexer with losses and random changes."""
     units = multiplex(rng, packets, pid, rng.random() < 0.5)
     if rng.random() < 0.3:
         units = lose_units(rng, units)

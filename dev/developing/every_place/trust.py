@@ -1,4 +1,4 @@
-"""Find the frames that can be trusted in spite of faults, and where the list says so.
+"""Find the frames that can be trusted despite faults, and where the list reports them.
 
 An `EventLog` collects events and PES packets; runs of clean frames are found when it is complete.
 """
@@ -9,16 +9,16 @@ from typing import Iterator, NamedTuple
 
 from subtitles.common.times import time_of
 
-# Faults that no PES packet of a clean frame may have; a receiver depends on these rules.
+# Faults that make a PES packet's frame unclean, because a receiver depends on these rules.
 PACKET_FAULTS = {64, 65, 67, 68, 69}
 ORDER = 62
-SKIPPED = {*range(33, 41), 45, 61}  # faults of skipped items
+SKIPPED = {*range(33, 41), 45, 61}  # fault numbers of unreadable items
 
 
 class Event(NamedTuple):
-    """A line of the list, with its fault and its frame, if it has one.
+    """A printed line, with its fault number and its frame, if any.
 
-    `pes` is the PES packet at which it is reported, even if it is about the end of a frame before;
+    `pes` is the PES packet at which the line is reported, even if it concerns an earlier frame;
     `None` after the last frame. `is_frame_end` is whether it is reported at the end of its frame.
     """
 
@@ -30,7 +30,7 @@ class Event(NamedTuple):
 
 
 class SentPacket(NamedTuple):
-    """A PES packet: its index, its frame, and whether it has a header that erases the page."""
+    """A readable PES packet: index, frame, and whether it has a header that erases the page."""
 
     pes: int
     frame: int
@@ -38,8 +38,7 @@ class SentPacket(NamedTuple):
 
 
 class FrameEnd(NamedTuple):
-    """The end of a frame: whether a fault is active, since when the page is incomplete, if it is
-    late."""
+    """The state at the end of a frame: active faults, and since when the page is incomplete."""
 
     frame: int
     has_active: bool
@@ -73,7 +72,7 @@ class EventLog:
 
 
 class TrustedFrames:
-    """The clean frames before the first PES packet whose frame does not rise.
+    """Finds trusted frames before the first PES packet whose frame does not rise.
 
     `is_refused` is whether the subtitle file has faults.
     """
@@ -98,7 +97,7 @@ class TrustedFrames:
                 self.unclean |= {before[-1], *range(before[-1], end)}
 
     def find_runs(self) -> Iterator[CleanRun]:
-        """Yield the runs of clean frames, as long as possible."""
+        """Yield each longest run of consecutive clean frames."""
         begin = self.first
         for frame in range(self.first, self.last + 2):
             if frame in self.unclean or frame > self.last:
@@ -107,8 +106,7 @@ class TrustedFrames:
                 begin = frame + 1
 
     def find_trusted_frames(self) -> Iterator[tuple[int, CleanRun]]:
-        """Yield the trusted part of each run, from its first header on, and the event before its
-        line."""
+        """Yield the trusted frames of each run, and the index of the event before their line."""
         for run in self.find_runs():
             headers = [packet.frame for packet in self.sent
                        if packet.has_header and run.first <= packet.frame <= run.last]
@@ -124,7 +122,7 @@ class TrustedFrames:
     def find_report_place(self, last: int) -> int:
         """Return the index of the event before which trust up to a frame is reported.
 
-        It is the first that makes the next frame unclean, or that comes after all frames before it.
+        This is the first event that makes the next frame unclean or concerns a later frame.
         """
         after = last + 1
         pes = [packet.pes for packet in self.sent if packet.frame == after]
@@ -156,9 +154,9 @@ class TrustedFrames:
 
 
 def list_lines(event_log: EventLog, has_failed: bool, is_refused: bool) -> Iterator[str]:
-    """Yield the lines of a course, with those about trusted frames if there is any fault.
+    """Yield the printed lines, including lines about trusted frames if there is any fault.
 
-    If the source failed, the end of the last run is unknown.
+    After a read failure the end of the last run is unknown.
     """
     before: dict[int, list[str]] = {}
     if (event_log.events or is_refused) and event_log.sent:

@@ -1,4 +1,4 @@
-"""Call the program, and compare its output with that of the definitions."""
+"""Call the program, and compare its output with the second implementation's output."""
 from __future__ import annotations
 
 import os
@@ -9,26 +9,26 @@ import subprocess
 
 from .calls import Answer, Call, KnownCall, add_first_fault_call
 
-WRITING_COMMANDS = ("extract", "schedule")  # the commands that write a file
-READ_SIZE = 65536  # bytes: the second read of a shorter file is at its end
+WRITING_COMMANDS = ("extract", "schedule")  # commands that write a file
+READ_SIZE = 65536  # bytes of one read: a second read of a shorter file reaches its end
 
 
 def make_reads_fail(path: str, data: bytes) -> list[str]:
-    """Return a command prefix that makes reads at the end of a file fail."""
+    """Return a command prefix (strace) that makes reads at the end of a file fail."""
     when = 2 if data else 1
     return ["strace", "-qq", "-o", os.devnull, "-P", path, "-e", "trace=read",
             "-e", f"inject=read:error=EIO:when={when}+"]
 
 
 def get_status(line: str) -> int:
-    """Return the status of a call, from its last line."""
+    """Return the exit status that the last line of a call implies."""
     if re.fullmatch(r"refused .*|\d+ faults", line):
         return 1
     return 2 if line.split()[0] in ("fault", "usage") else 0
 
 
 def find_first_difference(printed: list[str], expected: list[str]) -> str:
-    """Return a message about the first difference of two lists of lines."""
+    """Return a message about the first difference between two lists of lines."""
     for number, (one, other) in enumerate(zip(printed, expected), 1):
         if one != other:
             return f"line {number}: {one}, expected: {other}"

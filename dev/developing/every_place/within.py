@@ -1,4 +1,4 @@
-"""Pairs with the lines of `check --all` with `--within N` or `--keeping`, worked out by hand.
+"""Pairs of files for `check --all` with `--within N` or `--keeping`, with output by hand.
 
 Transmissions are written as in `one_rule`: `o` is row 22 with o for its i, `r2` that row on row 20,
 `k` a header that keeps the page.
@@ -26,7 +26,7 @@ def make_pes_file(packets: str) -> bytes:
 
 def expect_lines(name: str, pes: bytes, *asked: tuple[str, ...], stl: bytes = HELLO
             ) -> list[KnownCall]:
-    """Return a pair with each set of options, and its lines."""
+    """Return a call for each set of options, with its expected lines."""
     return [make_known_check(f"{name}: check {arguments}".rstrip(), stl, pes, arguments,
                              add_count_line(*lines))
             for arguments, *lines in asked]
@@ -34,7 +34,7 @@ def expect_lines(name: str, pes: bytes, *asked: tuple[str, ...], stl: bytes = HE
 
 ONE = "--within 1"
 
-# The first and the last PTS of the day, and one tick before and after them.
+# PTS at the limits of the day: one tick inside and one tick outside.
 DAY = [
     *[known for ticks in (-900, TICKS * FRAMES_OF_A_DAY - 901) for known in expect_lines(
         f"a PTS of {ticks}", make_pes_packet(ticks % CLOCK, PAGE),
@@ -44,7 +44,7 @@ DAY = [
         (ONE, "refused 61 OffFrame pes 0"), stl=HELLO[:GSI])],
 ]
 
-# The most frames by which a page may be late.
+# The largest allowed value of --within.
 MOST = [
     *expect_lines("a frame that does not rise before an end is late",
                   make_pes_file("0 h r c, 10 h c, 12 h c, 5 h r c, 50 h c"),
@@ -68,8 +68,8 @@ TICK_CASES = [
 
 WITHIN = [*MOST, *TICK_CASES, *DAY]
 
-# Headers that keep the page: rows after a first header, rows while the page is not open, and no
-# known expected page.
+# Headers that keep the page, with rows after a first header, rows outside an open page, and an
+# unknown expected page.
 KEEPING = "--keeping"
 AFTER_BAD = make_stl_file((0, 50, 22, HI.replace(b"i", b"\xe6")), (50, 100, 22, HI))
 BAD = "refused 50 Character block 1 at 4"
